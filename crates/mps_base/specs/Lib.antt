@@ -1,3 +1,4 @@
 pub mod Address
 pub mod Run
 pub mod Placement
+pub mod Record
