@@ -1,0 +1,9 @@
+pub mod Any
+pub mod Blocks
+pub mod Fields
+pub mod Front
+pub mod Layout
+pub mod Laws
+pub mod Leaf
+pub mod Mapped
+pub mod References
