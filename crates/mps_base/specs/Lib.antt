@@ -1,4 +1,5 @@
 pub mod Address
+pub mod Desk
 pub mod Run
 pub mod Placement
 pub mod Record

@@ -1,13 +1,15 @@
 //! What every layer of the memory pool system speaks of: addresses and zones, names and slots, the moves of a
-//! collection, and the refusals of a call.
+//! collection, the refusals of a call, and the outside world as a program sees it.
 #![tactic(auto)]
 
 mod address;
+mod desk;
 mod moves;
 mod names;
 mod refusal;
 
 pub use address::{Addr, ZoneSet};
+pub use desk::{Desk, Failed};
 pub use moves::Move;
 pub use names::{Kind, Name, Rank, Slot};
 pub use refusal::{Flipped, Refusal};

@@ -1,0 +1,136 @@
+-- What a desk tells of the outside world, and how its calls change it. A desk is where a program gets its input and
+-- leaves its output: it opens one input at a time, writes one log, and prints and reports.
+use Rattle.std.specs.Prelude.{ℕ, ◌≡◌, ◌≢◌, ◌-◌, ◌^◌, ◌<◌, ◌≤◌, ◌⊎◌, if◌then◌else◌, Option, Some, None, unwrap_or, List, [], ◌∷◌, ◌++◌, take, refl}
+use Rattle.std.specs.Option.{option_map}
+use Rattle.std.specs.Str.{bytes_eq}
+
+-- a file, by the bytes of its name
+pub record File : Type 0 where
+  pub name : List ℕ
+  pub bytes : List ℕ
+
+-- All that a desk tells. A desk may tell some of it and not the rest: what it doesn't tell is None.
+pub record Outside : Type 0 where
+  -- the files; standard input is the file `-`
+  pub files : Option (List File)
+  -- what an accepted open of a name gives as the input
+  pub text : List ℕ → Option (List ℕ)
+  -- the input that is left to read
+  pub input : Option (List ℕ)
+  -- the bytes taken so far: by the log, as printed, and as reported
+  pub logged : Option (List ℕ)
+  pub printed : Option (List ℕ)
+  pub reported : Option (List ℕ)
+  -- how often the outside failed: at opening and reading, at the log, at printing, at reporting
+  pub in_faults : ℕ
+  pub log_faults : ℕ
+  pub out_faults : ℕ
+  pub err_faults : ℕ
+
+-- the name of standard input
+abbrev pub standard_input : List ℕ
+standard_input = 45 ∷ []
+
+-- the bytes of the file of this name
+abbrev pub file_named : List File → List ℕ → Option (List ℕ)
+file_named [] name = None
+file_named (f ∷ fs) name = if bytes_eq f.name name then Some f.bytes else file_named fs name
+
+-- the files with these bytes as the file of this name, which is new or takes the place of the one there
+abbrev pub with_file : List File → List ℕ → List ℕ → List File
+with_file [] name bytes = record { name = name; bytes = bytes } ∷ []
+with_file (f ∷ fs) name bytes =
+    if bytes_eq f.name name then record { name = f.name; bytes = bytes } ∷ fs else f ∷ with_file fs name bytes
+
+-- what opening a name gives over these files: without a file `-` standard input is empty
+abbrev pub text_in : List File → List ℕ → Option (List ℕ)
+text_in files name =
+    if bytes_eq name standard_input then Some (unwrap_or (file_named files name) []) else file_named files name
+
+-- the bytes told, and the first n of a piece behind them
+abbrev pub added : Option (List ℕ) → List ℕ → ℕ → Option (List ℕ)
+added told piece n = option_map (λ before. before ++ take n piece) told
+
+-- the last value of a count, which a u64 holds
+abbrev pub last_count : ℕ
+last_count = 2 ^ 64 - 1
+
+-- a count rose, or stands at its last value
+abbrev pub HasRisen : ℕ → ℕ → Type 0
+HasRisen before now = (before < now) ⊎ (last_count ≤ now)
+
+-- only the input and its count may have changed
+pub record OnlyReads (old new : Outside) : Type 0 where
+  pub files : new.files ≡ old.files
+  pub text : new.text ≡ old.text
+  pub logged : new.logged ≡ old.logged
+  pub log_faults : new.log_faults ≡ old.log_faults
+  pub printed : new.printed ≡ old.printed
+  pub out_faults : new.out_faults ≡ old.out_faults
+  pub reported : new.reported ≡ old.reported
+  pub err_faults : new.err_faults ≡ old.err_faults
+
+-- only the files, the bytes logged and their count may have changed
+pub record OnlyLogs (old new : Outside) : Type 0 where
+  pub input : new.input ≡ old.input
+  pub in_faults : new.in_faults ≡ old.in_faults
+  pub printed : new.printed ≡ old.printed
+  pub out_faults : new.out_faults ≡ old.out_faults
+  pub reported : new.reported ≡ old.reported
+  pub err_faults : new.err_faults ≡ old.err_faults
+
+-- only the bytes printed and their count may have changed
+pub record OnlyPrints (old new : Outside) : Type 0 where
+  pub files : new.files ≡ old.files
+  pub text : new.text ≡ old.text
+  pub input : new.input ≡ old.input
+  pub in_faults : new.in_faults ≡ old.in_faults
+  pub logged : new.logged ≡ old.logged
+  pub log_faults : new.log_faults ≡ old.log_faults
+  pub reported : new.reported ≡ old.reported
+  pub err_faults : new.err_faults ≡ old.err_faults
+
+-- only the bytes reported and their count may have changed
+pub record OnlyReports (old new : Outside) : Type 0 where
+  pub files : new.files ≡ old.files
+  pub text : new.text ≡ old.text
+  pub input : new.input ≡ old.input
+  pub in_faults : new.in_faults ≡ old.in_faults
+  pub logged : new.logged ≡ old.logged
+  pub log_faults : new.log_faults ≡ old.log_faults
+  pub printed : new.printed ≡ old.printed
+  pub out_faults : new.out_faults ≡ old.out_faults
+
+-- the files are as they were
+pub record SameFiles (old new : Outside) : Type 0 where
+  pub files : new.files ≡ old.files
+  pub text : new.text ≡ old.text
+
+-- every name but this one opens what it opened before
+abbrev pub SameElsewhere : List ℕ → Outside → Outside → Type 0
+SameElsewhere name old new = (other : List ℕ) → other ≢ name → new.text other ≡ old.text other
+
+-- files named `a` and `b`
+abbrev two_files : List File
+two_files = record { name = 97 ∷ []; bytes = 1 ∷ [] } ∷ record { name = 98 ∷ []; bytes = 2 ∷ [] } ∷ []
+
+pub a_file_by_its_name : file_named two_files (98 ∷ []) ≡ Some (2 ∷ [])
+a_file_by_its_name = refl
+
+pub no_file_by_another_name : file_named two_files (98 ∷ 98 ∷ []) ≡ None
+no_file_by_another_name = refl
+
+pub a_file_takes_the_place : file_named (with_file two_files (97 ∷ []) []) (97 ∷ []) ≡ Some []
+a_file_takes_the_place = refl
+
+pub the_others_stay : file_named (with_file two_files (97 ∷ []) []) (98 ∷ []) ≡ Some (2 ∷ [])
+the_others_stay = refl
+
+pub standard_input_may_be_missing : text_in two_files standard_input ≡ Some []
+standard_input_may_be_missing = refl
+
+pub a_missing_file_has_no_text : text_in two_files (99 ∷ []) ≡ None
+a_missing_file_has_no_text = refl
+
+pub a_piece_is_taken_from_its_front : added (Some (1 ∷ [])) (2 ∷ 3 ∷ []) 1 ≡ Some (1 ∷ 2 ∷ [])
+a_piece_is_taken_from_its_front = refl
