@@ -1,4 +1,5 @@
 pub mod Any
+pub mod AnyFormat
 pub mod Blocks
 pub mod Fields
 pub mod Front

@@ -2,9 +2,15 @@
 //! `leaf`.
 #![tactic(auto)]
 
+mod any;
 mod format;
 mod front;
 mod head_word;
+mod leaf;
+mod mapped;
 
+pub use any::AnyFormat;
 pub use format::Format;
 pub use front::Front;
+pub use leaf::Leaf;
+pub use mapped::Mapped;
