@@ -4,12 +4,16 @@
 
 mod address;
 mod desk;
+mod host_desk;
 mod moves;
 mod names;
+mod quiet_desk;
 mod refusal;
 
 pub use address::{Addr, ZoneSet};
 pub use desk::{Desk, Failed};
+pub use host_desk::HostDesk;
 pub use moves::Move;
 pub use names::{Kind, Name, Rank, Slot};
+pub use quiet_desk::QuietDesk;
 pub use refusal::{Flipped, Refusal};

@@ -1,0 +1,8 @@
+-- A desk over one lent text.
+use Rattle.std.specs.Prelude.{ℕ, List}
+
+pub record LentText : Type 0 where
+  -- what every name opens as
+  pub text : List ℕ
+  -- the input that is left to read
+  pub left : List ℕ
