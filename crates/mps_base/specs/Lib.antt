@@ -5,3 +5,6 @@ pub mod Run
 pub mod Placement
 pub mod QuietDesk
 pub mod Record
+pub mod Zones
+pub mod Staleness
+pub mod Generation
