@@ -1,0 +1,4 @@
+pub mod Answer
+pub mod Step
+pub mod Log
+pub mod Replay
