@@ -1,0 +1,9 @@
+use Rattle.std.proofs.Common.{◌≡◌, ◌<◌, ◌^◌, drop}
+use Rattle.mps_script.specs.Number.{value_behind, digits_value}
+use Rattle.mps_script.proofs.number.value.Given as goal
+
+abbrev pub invariant-loop-b : goal.invariant-loop-b
+invariant-loop-b l = record {
+  so_far : digits_value l.base l.digits ≡ value_behind l.base l.n (drop l.b-index l.digits);
+  fits : l.n < 2 ^ 64;
+}

@@ -1,0 +1,58 @@
+-- The words of a line: what stands between its spaces. No other byte is white space.
+use Rattle.std.specs.Prelude.{ℕ, ◌≡◌, ◌==◌, nat_lt, length, if◌then◌else◌, Bool, true, false, filter, codes, Option, Some, None, List, [], ◌∷◌, refl}
+use Rattle.std.specs.List.{slice_split, position_or_len, before_first, after_first}
+
+-- the byte is a space
+abbrev pub is_space : ℕ → Bool
+is_space b = b == 32
+
+-- what stands before and behind the first such byte, where there is one
+abbrev pub cut_at : ℕ → List ℕ → Option (List ℕ × List ℕ)
+cut_at byte word =
+    if nat_lt (position_or_len (λ b. b == byte) word) (length word)
+    then Some (before_first (λ b. b == byte) word, after_first (λ b. b == byte) word) else None
+
+-- there is something in it
+abbrev pub is_nonempty : List ℕ → Bool
+is_nonempty [] = false
+is_nonempty (b ∷ bs) = true
+
+-- the words, in order
+abbrev pub words : List ℕ → List (List ℕ)
+words line = filter is_nonempty (slice_split is_space line)
+
+-- the one word, where there is one and no other
+abbrev pub only_word : List (List ℕ) → Option (List ℕ)
+only_word [] = None
+only_word (a ∷ []) = Some a
+only_word (a ∷ _ ∷ _) = None
+
+-- two words and no other
+abbrev pub two_words : List (List ℕ) → Option (List ℕ × List ℕ)
+two_words [] = None
+two_words (a ∷ []) = None
+two_words (a ∷ b ∷ []) = Some (a, b)
+two_words (a ∷ b ∷ _ ∷ _) = None
+
+-- three words and no other
+abbrev pub three_words : List (List ℕ) → Option (List ℕ × List ℕ × List ℕ)
+three_words [] = None
+three_words (a ∷ []) = None
+three_words (a ∷ b ∷ []) = None
+three_words (a ∷ b ∷ c ∷ []) = Some (a, b, c)
+three_words (a ∷ b ∷ c ∷ _ ∷ _) = None
+
+pub spaces_around_and_between : words (codes "  num  t.0 2 ") ≡ codes "num" ∷ codes "t.0" ∷ codes "2" ∷ []
+spaces_around_and_between = refl
+
+pub cut_at_the_first_dot : cut_at 46 (codes "t.1.2") ≡ Some (codes "t", codes "1.2")
+cut_at_the_first_dot = refl
+
+pub no_dot_to_cut_at : cut_at 46 (codes "t1") ≡ None
+no_dot_to_cut_at = refl
+
+pub a_tab_is_no_space : words (9 ∷ 32 ∷ []) ≡ (9 ∷ []) ∷ []
+a_tab_is_no_space = refl
+
+pub spaces_alone_are_no_word : words (codes "   ") ≡ []
+spaces_alone_are_no_word = refl

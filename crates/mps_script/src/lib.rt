@@ -1,0 +1,11 @@
+//! The script language: the call of a line, and the answer line of a reply.
+#![tactic(auto)]
+
+mod forms;
+mod head;
+mod line;
+mod names;
+mod number;
+mod words;
+
+pub use line::{BadLine, LONGEST_LINE, call_of};
