@@ -1,0 +1,30 @@
+use Rattle.std.proofs.Common.{◌+◌, arith}
+use Rattle.mps_bits.proofs.Row.{IsChunk, place_below, set_at, clear_join, clear_below, clear_of_zero}
+use Rattle.mps_bits.proofs.words.lowest_set.Goals as goal
+
+pub returns-then-bits-ne0 : goal.returns-then-bits-ne0
+returns-then-bits-ne0 c =
+    let words = c.args.words.now in
+    let at = c.loop-at.at in
+    let width = c.width_at-width.result in
+    let bits = c.chunk-bits.result in
+    let p = c.lowest_one.result in
+    let chunk : IsChunk words at width bits = record { inside = c.chunk-bits.ensures.inside; above = c.chunk-bits.ensures.above } in
+    let within = place_below words at width bits p chunk c.lowest_one.ensures.set in
+    record {
+      above = omega arith;
+      below = omega (arith, within, c.width_at-width.ensures.in_range);
+      set = set_at words at width bits p chunk c.lowest_one.ensures.set;
+      lower = clear_join words c.args.from at (at + p) c.loop-at.invariant.clear (clear_below words at width bits p chunk (omega (arith, within)) c.lowest_one.ensures.below);
+    }
+
+pub loop-at-preserved : goal.loop-at-preserved
+loop-at-preserved c =
+    let words = c.args.words.now in
+    let at = c.loop-at.at in
+    let width = c.width_at-width.result in
+    let chunk : IsChunk words at width c.chunk-bits.result = record { inside = c.chunk-bits.ensures.inside; above = c.chunk-bits.ensures.above } in
+    record {
+      from_on = omega arith;
+      clear = clear_join words c.args.from at (at + width) c.loop-at.invariant.clear (clear_of_zero words at width c.chunk-bits.result chunk c.if-bits-ne0.false);
+    }

@@ -1,0 +1,124 @@
+// The table itself.
+#![tactic(auto)]
+
+ghost use Rattle.std.specs.Prelude.{◌≡◌, ◌+◌, ◌^◌, ◌<◌, ◌≤◌, Bool, true, false, length, replicate, IfOk, slice_set};
+ghost use Rattle.mps_bits.specs.Table.{bit, with_range, next_set, previous_set, lowest_clear_run, count_set};
+
+use crate::words::{self, is_set, write_bit, write_range};
+use std::alloc::{AllocError, Global};
+use std::marker::Model;
+
+/// A table of a fixed number of bits, all clear at first. Clauses see it as the list of its bits.
+#[derive(Drop)]
+pub struct Bits {
+    words: Vec<u64>,
+    len: usize,
+}
+
+impl Model for Bits {
+    ghost use Rattle.std.specs.Prelude.{List, Bool, ◌*◌, ◌^◌, ◌≤◌, ◌<◌, vec_len};
+    ghost use Rattle.mps_bits.specs.Table.{table_of};
+
+    ghost Value = { List Bool };
+
+    ghost view = { λ b. table_of b.words.items b.len };
+
+    ghost invariant = { λ b. (b.len ≤ 64 * vec_len b.words) × (b.len < 2 ^ 63) };
+}
+
+impl Bits {
+    /// A table of `len` clear bits. This is the only call that allocates.
+    pub fn new(alloc: Global, len: usize) -> Result<Bits, AllocError>
+        requires { len < 2 ^ 63 }
+        ensures { IfOk result (λ bits. bits ≡ replicate len false) }
+    {
+        let words = vec![in alloc; 0u64; (len + 63) / 64]?;
+        Ok(Bits { words, len })
+    }
+
+    /// How many bits the table has.
+    pub fn len(&self) -> usize
+        ensures { result ≡ length self.now }
+    {
+        self.len
+    }
+
+    /// The bit at `at`.
+    pub fn test(&self, at: usize) -> bool
+        requires { at < length self.now }
+        ensures { result ≡ bit self.now at }
+    {
+        is_set(&self.words, at)
+    }
+
+    /// Sets the bit at `at`.
+    pub fn set(&mut self, at: usize)
+        requires { at < length self.old }
+        ensures bits { self.new ≡ slice_set self.old at true }
+        ensures len { length self.new ≡ length self.old }
+    {
+        write_bit(&mut self.words, at, true);
+    }
+
+    /// Clears the bit at `at`.
+    pub fn clear(&mut self, at: usize)
+        requires { at < length self.old }
+        ensures bits { self.new ≡ slice_set self.old at false }
+        ensures len { length self.new ≡ length self.old }
+    {
+        write_bit(&mut self.words, at, false);
+    }
+
+    /// Sets the bits from `from` up to, but not at, `to`.
+    pub fn set_range(&mut self, from: usize, to: usize)
+        requires ordered { from ≤ to }
+        requires within { to ≤ length self.old }
+        ensures bits { self.new ≡ with_range self.old from to true }
+        ensures len { length self.new ≡ length self.old }
+    {
+        write_range(&mut self.words, from, to, true);
+    }
+
+    /// Clears the bits from `from` up to, but not at, `to`.
+    pub fn clear_range(&mut self, from: usize, to: usize)
+        requires ordered { from ≤ to }
+        requires within { to ≤ length self.old }
+        ensures bits { self.new ≡ with_range self.old from to false }
+        ensures len { length self.new ≡ length self.old }
+    {
+        write_range(&mut self.words, from, to, false);
+    }
+
+    /// The lowest set bit at or above `from`.
+    pub fn next_set(&self, from: usize) -> Option<usize>
+        ensures { result ≡ next_set self.now from }
+    {
+        words::lowest_set(&self.words, from, self.len)
+    }
+
+    /// The highest set bit at or below `at`.
+    pub fn previous_set(&self, at: usize) -> Option<usize>
+        requires { at < length self.now }
+        ensures { result ≡ previous_set self.now at }
+    {
+        words::highest_set(&self.words, at + 1)
+    }
+
+    /// The first place of the lowest run of `count` clear bits among those from `from` up to, but not at, `to`.
+    pub fn lowest_clear_run(&self, from: usize, to: usize, count: usize) -> Option<usize>
+        requires some { 0 < count }
+        requires within { to ≤ length self.now }
+        ensures { result ≡ lowest_clear_run self.now from to count }
+    {
+        words::lowest_clear_run(&self.words, from, to, count)
+    }
+
+    /// How many bits from `from` up to, but not at, `to` are set.
+    pub fn count_set(&self, from: usize, to: usize) -> usize
+        requires ordered { from ≤ to }
+        requires within { to ≤ length self.now }
+        ensures { result ≡ count_set self.now from to }
+    {
+        words::count_set(&self.words, from, to)
+    }
+}

@@ -1,0 +1,12 @@
+//! A table of a fixed number of bits, which its callers see as a list of booleans. After it is made no call allocates, and each search
+//! and each write goes 64 bits a step.
+#![tactic(auto)]
+
+mod bits;
+mod word;
+mod words;
+
+pub use bits::Bits;
+
+#[cfg(test)]
+mod tests;
