@@ -1,6 +1,7 @@
 pub mod Address
 pub mod Desk
 pub mod HostDesk
+pub mod MemDesk
 pub mod Run
 pub mod Placement
 pub mod QuietDesk

@@ -3,16 +3,20 @@
 #![tactic(auto)]
 
 mod address;
+mod calls;
 mod desk;
 mod host_desk;
+mod mem_desk;
 mod moves;
 mod names;
 mod quiet_desk;
 mod refusal;
+mod stored_file;
 
 pub use address::{Addr, ZoneSet};
 pub use desk::{Desk, Failed};
 pub use host_desk::HostDesk;
+pub use mem_desk::{DeskCall, MemDesk};
 pub use moves::Move;
 pub use names::{Kind, Name, Rank, Slot};
 pub use quiet_desk::QuietDesk;

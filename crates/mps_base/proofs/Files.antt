@@ -1,0 +1,46 @@
+-- Files by their names and places.
+use Rattle.std.proofs.Common.{◌≡◌, ℕ, zero, suc, ◌<◌, ◌≤◌, ◌≢◌, Some, None, List, [], ◌∷◌, ◌++◌, length, get_or, set, refl, ap, arith}
+use Rattle.std.proofs.lemmas.Slice.Eq.{bytes_eq-Decides}
+use Rattle.mps_base.specs.Desk.{File, file_named, with_file, text_in}
+use Rattle.mps_base.specs.MemDesk.{place_of, extended_at}
+
+pub file_named-at_place : (fs : List File) (name : List ℕ) (d : File) → place_of fs name < length fs → file_named fs name ≡ Some (get_or fs (place_of fs name) d).bytes
+file_named-at_place [] name d short = absurd (omega (arith, short))
+file_named-at_place (f ∷ fs) name d short = grind (arith, file_named-at_place fs name d)
+
+pub file_named-absent : (fs : List File) (name : List ℕ) → length fs ≤ place_of fs name → file_named fs name ≡ None
+file_named-absent [] name long = refl
+file_named-absent (f ∷ fs) name long = grind (arith, file_named-absent fs name)
+
+pub with_file-at_place : (fs : List File) (name bytes : List ℕ) (d : File) → place_of fs name < length fs → with_file fs name bytes ≡ set fs (place_of fs name) (record (get_or fs (place_of fs name) d) { bytes = bytes })
+with_file-at_place [] name bytes d short = absurd (omega (arith, short))
+with_file-at_place (f ∷ fs) name bytes d short = grind (arith, with_file-at_place fs name bytes d)
+
+pub with_file-new : (fs : List File) (name bytes : List ℕ) → length fs ≤ place_of fs name → with_file fs name bytes ≡ fs ++ record { name = name; bytes = bytes } ∷ []
+with_file-new [] name bytes long = refl
+with_file-new (f ∷ fs) name bytes long = grind (arith, with_file-new fs name bytes)
+
+pub extended_at-is : (fs : List File) (place : ℕ) (bytes : List ℕ) (d : File) → place < length fs → extended_at fs place bytes ≡ set fs place (record (get_or fs place d) { bytes = (get_or fs place d).bytes ++ bytes })
+extended_at-is [] place bytes d short = absurd (omega (arith, short))
+extended_at-is (f ∷ fs) zero bytes d short = refl
+extended_at-is (f ∷ fs) (suc place) bytes d short = ap (λ (rest : List File). f ∷ rest) (extended_at-is fs place bytes d (omega (arith, short)))
+
+pub place_of-le : (fs : List File) (name : List ℕ) → place_of fs name ≤ length fs
+place_of-le [] name = omega arith
+place_of-le (f ∷ fs) name = grind (arith, place_of-le fs name)
+
+pub length-with_file-le : (fs : List File) (name bytes : List ℕ) → length fs ≤ length (with_file fs name bytes)
+length-with_file-le [] name bytes = omega arith
+length-with_file-le (f ∷ fs) name bytes = grind (arith, length-with_file-le fs name bytes)
+
+-- a file of another name is as it was
+pub file_named-with_file_other : (fs : List File) (name other bytes : List ℕ) → other ≢ name → file_named (with_file fs name bytes) other ≡ file_named fs other
+file_named-with_file_other [] name other bytes differ = grind (arith, bytes_eq-Decides name other)
+file_named-with_file_other (f ∷ fs) name other bytes differ = grind (arith, bytes_eq-Decides f.name name, bytes_eq-Decides f.name other, file_named-with_file_other fs name other bytes)
+
+-- and so is what it opens as
+pub text_stays : (fs : List File) (name other bytes : List ℕ) → other ≢ name → text_in (with_file fs name bytes) other ≡ text_in fs other
+text_stays fs name other bytes differ = let same = file_named-with_file_other fs name other bytes differ in cc
+
+-- what a place says
+pub ruleset at_places = (file_named-at_place, file_named-absent, with_file-at_place, with_file-new, extended_at-is, place_of-le, length-with_file-le)

@@ -1,0 +1,139 @@
+// A file that a desk in memory keeps.
+ghost use Rattle.std.specs.Prelude.{◌≡◌, ◌<◌, ◌≤◌, [], ◌++◌, length, IfOk, OnOk, OnErr};
+ghost use Rattle.std.specs.Option.{option_copied, ForSome};
+ghost use Rattle.std.specs.Str.{bytes_eq};
+ghost use Rattle.mps_base.specs.Desk.{file_named, with_file};
+ghost use Rattle.mps_base.specs.MemDesk.{place_of, files_logged};
+
+use std::alloc::{AllocError, Global};
+use std::marker::Model;
+
+/// A name and the bytes under it.
+#[derive(Drop)]
+pub struct StoredFile {
+    name: String,
+    bytes: Vec<u8>,
+}
+
+impl Model for StoredFile {
+    ghost use Rattle.std.specs.Prelude.{string_bytes};
+    ghost use Rattle.mps_base.specs.Desk.{File};
+
+    ghost Value = { File };
+
+    ghost view = { λ f. record { name = string_bytes f.name; bytes = f.bytes.items } };
+}
+
+impl StoredFile {
+    pub fn new(alloc: Global, name: &str, bytes: &[u8]) -> Result<StoredFile, AllocError>
+        ensures { IfOk result (λ f. f ≡ record { name = name.now; bytes = bytes.now }) }
+    {
+        Ok(StoredFile {
+            name: String::from_str(alloc, name)?,
+            bytes: Vec::from_slice(alloc, bytes)?,
+        })
+    }
+
+    pub fn is_named(&self, name: &str) -> bool
+        ensures { result ≡ bytes_eq self.now.name name.now }
+    {
+        self.name.as_str() == name
+    }
+
+    pub fn bytes(&self) -> &[u8]
+        ensures { result.now ≡ self.now.bytes }
+    {
+        &self.bytes
+    }
+
+    pub fn extend(&mut self, bytes: &[u8]) -> Result<(), AllocError>
+        ensures ok { OnOk result (self.new ≡ record self.old { bytes = self.old.bytes ++ bytes.now }) }
+        ensures err { OnErr result (self.new ≡ self.old) }
+    {
+        self.bytes.extend_from_slice(bytes)
+    }
+
+    pub fn replace(&mut self, bytes: Vec<u8>)
+        ensures { self.new ≡ record self.old { bytes = bytes.items } }
+    {
+        self.bytes = bytes;
+    }
+}
+
+/// The place of the first file of this name, or behind the last where there is none.
+pub fn find_place(files: &[StoredFile], name: &str) -> usize
+    ensures { result ≡ place_of files.now name.now }
+{
+    for (place, file) in files.iter().enumerate() {
+        if file.is_named(name) {
+            return place;
+        }
+    }
+    files.len()
+}
+
+/// The bytes of the file of this name, where there is one.
+#[tactic(auto, using(crate::proofs::Files::at_places))]
+pub fn find_bytes<'a>(files: &'a [StoredFile], name: &str) -> Option<&'a [u8]>
+    ensures { option_copied result ≡ file_named files.now name.now }
+{
+    let place = find_place(files, name);
+    if place >= files.len() {
+        return None;
+    }
+    let file = &files[place];
+    Some(file.bytes())
+}
+
+/// Makes these the bytes of the file of this name, and answers its place.
+#[tactic(auto, using(crate::proofs::Files::at_places))]
+pub fn put_file(
+    alloc: Global,
+    files: &mut Vec<StoredFile>,
+    name: &str,
+    bytes: &[u8],
+) -> Result<usize, AllocError>
+    ensures put { OnOk result (files.new.items ≡ with_file files.old.items name.now bytes.now) }
+    ensures place { IfOk result (λ place. place ≡ place_of files.old.items name.now) }
+    ensures there { IfOk result (λ place. place < length files.new.items) }
+    ensures grows { length files.old.items ≤ length files.new.items }
+    ensures err { OnErr result (files.new.items ≡ files.old.items) }
+{
+    let place = find_place(files, name);
+    if place < files.len() {
+        let bytes = Vec::from_slice(alloc, bytes)?;
+        let file = &mut files[place];
+        file.replace(bytes);
+    } else {
+        files.push(StoredFile::new(alloc, name, bytes)?)?;
+    }
+    Ok(place)
+}
+
+/// Adds the bytes to all that was logged, and to the log's file where there is one.
+#[tactic(auto, using(crate::proofs::Files::at_places))]
+pub fn add_to_log(
+    logged: &mut Vec<u8>,
+    files: &mut Vec<StoredFile>,
+    log_file: Option<usize>,
+    bytes: &[u8],
+) -> Result<(), AllocError>
+    requires { ForSome log_file (λ place. place < length files.old.items) }
+    ensures logged { OnOk result (logged.new.items ≡ logged.old.items ++ bytes.now) }
+    ensures files { OnOk result (files.new.items ≡ files_logged files.old.items log_file bytes.now) }
+    ensures kept { length files.new.items ≡ length files.old.items }
+    ensures err { OnErr result (logged.new.items ≡ logged.old.items) }
+    ensures err_files { OnErr result (files.new.items ≡ files.old.items) }
+{
+    let before = logged.len();
+    logged.extend_from_slice(bytes)?;
+    let Some(place) = log_file else {
+        return Ok(());
+    };
+    let file = &mut files[place];
+    if let Err(failed) = file.extend(bytes) {
+        logged.truncate(before);
+        return Err(failed);
+    }
+    Ok(())
+}
