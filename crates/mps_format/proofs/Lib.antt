@@ -1,1 +1,5 @@
+pub mod Buffers
+pub mod Colons
+pub mod Decimals
+pub mod Heads
 pub mod Masks

@@ -1,8 +1,10 @@
 pub mod Any
 pub mod AnyFormat
 pub mod Blocks
+pub mod Decimal
 pub mod Fields
 pub mod Front
+pub mod HeadText
 pub mod Layout
 pub mod Laws
 pub mod Leaf

@@ -3,14 +3,20 @@
 #![tactic(auto)]
 
 mod any;
+mod decimal;
 mod format;
 mod front;
+mod head;
 mod head_word;
 mod leaf;
 mod mapped;
+mod pair;
+mod put;
 
 pub use any::AnyFormat;
+pub use decimal::{decimal_number, put_decimal};
 pub use format::Format;
 pub use front::Front;
+pub use head::{Head, put_head_text};
 pub use leaf::Leaf;
 pub use mapped::Mapped;

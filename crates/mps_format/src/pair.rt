@@ -1,0 +1,68 @@
+// The numbers in a head text, behind its letter and a colon.
+ghost use Rattle.std.specs.Prelude.{◌≡◌, List, ℕ, ◌^◌, ◌<◌, ◌∷◌, ◌++◌, decimal, position, IfSome, IsSome};
+ghost use Rattle.mps_format.specs.Decimal.{is_colon};
+
+use crate::decimal::decimal_number;
+
+/// The place of the first colon.
+fn first_colon(text: &[u8]) -> Option<usize>
+    ensures { result ≡ position is_colon text.now }
+{
+    text.iter().position(|byte| *byte == b':')
+}
+
+/// Two decimal numbers, each in its text.
+fn two_texts(first: &[u8], second: &[u8]) -> Option<(u64, u64)>
+    ensures found { IfSome result (λ p. (first.now ≡ decimal p.0) × (second.now ≡ decimal p.1)) }
+    ensures exact { (a b : ℕ) → a < 2 ^ 64 → b < 2 ^ 64 → first.now ≡ decimal a → second.now ≡ decimal b → result ≡ Some (a, b) }
+{
+    match (decimal_number(first), decimal_number(second)) {
+        (Some(a), Some(b)) => Some((a, b)),
+        _ => None,
+    }
+}
+
+/// Two decimal numbers with a colon between them.
+fn two_numbers(text: &[u8]) -> Option<(u64, u64)>
+    ensures found { IfSome result (λ p. text.now ≡ decimal p.0 ++ 58 ∷ decimal p.1) }
+    ensures exact { (a b : ℕ) → a < 2 ^ 64 → b < 2 ^ 64 → text.now ≡ decimal a ++ 58 ∷ decimal b → result ≡ Some (a, b) }
+{
+    match first_colon(text) {
+        Some(colon) => two_texts(&text[..colon], &text[colon + 1..]),
+        None => None,
+    }
+}
+
+/// What stands behind this letter and a colon.
+fn behind(letter: u8, text: &[u8]) -> Option<&[u8]>
+    ensures found { IfSome result (λ rest. text.now ≡ letter ∷ 58 ∷ rest.now) }
+    ensures exact { (rest : List ℕ) → text.now ≡ letter ∷ 58 ∷ rest → IsSome result }
+{
+    match text {
+        [first, b':', rest @ ..] if *first == letter => Some(rest),
+        _ => None,
+    }
+}
+
+/// The number of the text `LETTER:NUMBER`.
+pub fn number_behind(letter: u8, text: &[u8]) -> Option<u64>
+    ensures found { IfSome result (λ n. text.now ≡ letter ∷ 58 ∷ decimal n) }
+    ensures exact { (n : ℕ) → n < 2 ^ 64 → text.now ≡ letter ∷ 58 ∷ decimal n → result ≡ Some n }
+{
+    match behind(letter, text) {
+        Some(rest) => decimal_number(rest),
+        None => None,
+    }
+}
+
+/// The numbers of the text `LETTER:NUMBER:NUMBER`.
+pub fn pair_behind(letter: u8, text: &[u8]) -> Option<(u64, u64)>
+    ensures found { IfSome result (λ p. text.now ≡ letter ∷ 58 ∷ (decimal p.0 ++ 58 ∷ decimal p.1)) }
+    ensures exact { (a b : ℕ) → a < 2 ^ 64 → b < 2 ^ 64
+        → text.now ≡ letter ∷ 58 ∷ (decimal a ++ 58 ∷ decimal b) → result ≡ Some (a, b) }
+{
+    match behind(letter, text) {
+        Some(rest) => two_numbers(rest),
+        None => None,
+    }
+}
