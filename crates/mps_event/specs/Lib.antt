@@ -1,0 +1,4 @@
+pub mod Event
+pub mod Name
+pub mod Grammar
+pub mod Reading

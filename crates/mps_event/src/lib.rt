@@ -1,0 +1,20 @@
+//! The records of a log, both ways: written into lent bytes, and read where they lie. A log is a header of 8 bytes and
+//! then records without gaps. There are two versions of it; the second also interns names and labels addresses.
+#![tactic(auto)]
+
+mod event;
+mod fault;
+mod headers;
+mod name;
+mod reading;
+mod record;
+mod version;
+mod writing;
+
+pub use event::Event;
+pub use fault::{BadMagic, LogFault};
+pub use headers::{header, header_of};
+pub use reading::first;
+pub use record::RecordRef;
+pub use version::Version;
+pub use writing::put;
