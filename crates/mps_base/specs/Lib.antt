@@ -9,3 +9,4 @@ pub mod Record
 pub mod Zones
 pub mod Staleness
 pub mod Generation
+pub mod Trail

@@ -12,6 +12,7 @@ mod names;
 mod quiet_desk;
 mod refusal;
 mod stored_file;
+mod trail;
 
 pub use address::{Addr, ZoneSet};
 pub use desk::{Desk, Failed};
@@ -21,3 +22,4 @@ pub use moves::Move;
 pub use names::{Kind, Name, Rank, Slot};
 pub use quiet_desk::QuietDesk;
 pub use refusal::{Flipped, Refusal};
+pub use trail::Trail;
