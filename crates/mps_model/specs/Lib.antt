@@ -2,3 +2,15 @@ pub mod Answer
 pub mod Step
 pub mod Log
 pub mod Replay
+pub mod Graph
+pub mod Reachable
+pub mod Collection
+pub mod World
+pub mod Placement
+pub mod Image
+pub mod Checked
+pub mod Making
+pub mod Allocating
+pub mod Accessing
+pub mod Collecting
+pub mod Reply

@@ -1,0 +1,157 @@
+-- The commands of collection: what they answer and leave, beside what their moves do.
+use Rattle.std.specs.Prelude.{ℕ, ◌+◌, ◌-◌, nat_lt, nat_le, if◌then◌else◌, min, bit_or, Option, Some, option_map, List, [], ◌∷◌, ◌++◌, length, slice_set, sum_by, Ok}
+use Rattle.std.specs.Option.{option_map_or}
+use Rattle.mps_base.specs.Zones.{zone_bit_of}
+use Rattle.mps_base.specs.Staleness.{is_stale}
+use Rattle.mps_base.specs.declared.names.Name.{Name}
+use Rattle.mps_base.specs.declared.names.Slot.{Slot}
+use Rattle.mps_base.specs.declared.refusal.Refusal.TheVariants as refusal
+use Rattle.mps_model.specs.declared.reply.Reply.TheVariants as reply
+use Rattle.mps_model.specs.Answer.{Dumped}
+use Rattle.mps_model.specs.Graph.{with_last, first_place, without_first, object_at, size_of}
+use Rattle.mps_model.specs.Collection.{Collection}
+use Rattle.mps_model.specs.World.{World, ArenaState, Unclamped, Clamped, Parked, Dependency, is_running, is_unclamped, live_ids, id_at}
+use Rattle.mps_model.specs.Image.{image_of}
+use Rattle.mps_model.specs.Checked.{Act, Checked, Found, ◌>>=◌, ◌>>◌, required, refuse_when, says, done, tells, chain_named, dependency_named, slot_in, object_in, with_graph}
+use Rattle.mps_model.specs.Allocating.{with_slot}
+use Rattle.mps_model.specs.Accessing.{address_of}
+
+-- ---- the arena's state
+
+abbrev pub with_state : World → ArenaState → World
+with_state w s = record w { state = s }
+
+abbrev pub act_start : (judged after : World) → Checked Act
+act_start judged after = do
+  refuse_when (is_running judged) refusal.Running
+  done (with_state after Unclamped)
+
+abbrev pub act_start_chain : (judged after : World) → Name → (generation : ℕ) → Checked Act
+act_start_chain judged after chain generation = do
+  on ← chain_named judged chain
+  refuse_when (nat_le (length on.value) generation) refusal.BadIndex
+  refuse_when (is_running judged) refusal.Running
+  done (with_state after Unclamped)
+
+-- a collection of which so many units more were asked
+abbrev pub asked_more : (units : ℕ) → Collection → Collection
+asked_more units c = record c { spent = c.spent + units }
+
+-- units that were asked of the running collection, where there is one
+abbrev pub with_spent : (units : ℕ) → World → World
+with_spent units w = record w { collection = option_map (asked_more units) w.collection }
+
+-- the units that a `step` asks of a running collection: none in a clamped or parked arena
+abbrev pub units_asked : World → (units : ℕ) → ℕ
+units_asked w units = if is_unclamped w then units else 0
+
+abbrev pub act_step : (judged after : World) → (units : ℕ) → Checked Act
+act_step judged after units =
+    if is_running after then says reply.More (with_spent (units_asked judged units) after) else says reply.Idle after
+
+abbrev pub act_collect : (after : World) → Checked Act
+act_collect after = done (with_state after Parked)
+
+abbrev pub act_clamp : World → Checked Act
+act_clamp w = done (with_state w Clamped)
+
+abbrev pub act_park : (after : World) → Checked Act
+act_park after = done (with_state after Parked)
+
+abbrev pub act_release : World → Checked Act
+act_release w = done (with_state w Unclamped)
+
+-- ---- finalization
+
+-- so many registrations and waiting messages together
+abbrev pub most_registrations : ℕ
+most_registrations = 65536
+
+abbrev pub act_finalize : World → Slot → Checked Act
+act_finalize w slot = do
+  from ← slot_in w slot
+  object ← object_in w from.value
+  refuse_when (nat_le most_registrations (length w.graph.registered + length w.graph.messages)) (refusal.TooMany most_registrations)
+  done (with_graph w (record w.graph { registered = with_last w.graph.registered object.number }))
+
+-- one less where a place before it was taken away
+abbrev pub without_place : (count place : ℕ) → ℕ
+without_place count place = if nat_lt place count then count - 1 else count
+
+-- a running collection, where the registration at this place was taken away
+abbrev pub without_registration : (place : ℕ) → Collection → Collection
+without_registration place c = record c {
+  registered_before = without_place c.registered_before place;
+  examined = without_place c.examined place;
+}
+
+abbrev pub act_definalize : World → Slot → Checked Act
+act_definalize w slot = do
+  from ← slot_in w slot
+  object ← object_in w from.value
+  place ← required (first_place w.graph.registered object.number) refusal.NotRegistered
+  done (record w {
+    graph = record w.graph { registered = without_first w.graph.registered object.number };
+    collection = option_map (without_registration place) w.collection;
+  })
+
+-- the first message goes into a slot
+abbrev pub act_message_in : World → Found (Option ℕ) → List ℕ → Checked Act
+act_message_in w into [] = says reply.None_ w
+act_message_in w into (id ∷ ids) = done (with_graph w (with_slot (record w.graph { messages = ids }) into (Some id)))
+
+abbrev pub act_message : World → Slot → Checked Act
+act_message w slot = do
+  into ← slot_in w slot
+  act_message_in w into w.graph.messages
+
+-- ---- dependencies
+
+abbrev pub with_dependency : World → (number : ℕ) → Dependency → World
+with_dependency w number d = record w { dependencies = slice_set w.dependencies number d }
+
+abbrev pub act_dependency_reset : World → Name → Checked Act
+act_dependency_reset w name = do
+  d ← dependency_named w name
+  done (with_dependency w d.number (record { epoch = length w.flips; zones = 0; blocks = [] }))
+
+-- an object is added, at the address where it is now
+abbrev pub with_added : Dependency → (id address : ℕ) → Dependency
+with_added d id address = record d { zones = bit_or d.zones (zone_bit_of address); blocks = with_last d.blocks (id, address) }
+
+abbrev pub act_dependency_add : World → Name → Slot → Checked Act
+act_dependency_add w name slot = do
+  d ← dependency_named w name
+  from ← slot_in w slot
+  object ← object_in w from.value
+  done (with_dependency w d.number (with_added d.value object.number (address_of w object.number)))
+
+-- the earlier epoch, and the zones and blocks of both
+abbrev pub merged : Dependency → Dependency → Dependency
+merged d e = record { epoch = min d.epoch e.epoch; zones = bit_or d.zones e.zones; blocks = d.blocks ++ e.blocks }
+
+abbrev pub act_dependency_merge : World → Name → Name → Checked Act
+act_dependency_merge w name source = do
+  d ← dependency_named w name
+  e ← dependency_named w source
+  done (with_dependency w d.number (merged d.value e.value))
+
+abbrev pub act_dependency_stale : World → Name → Checked Act
+act_dependency_stale w name = do
+  d ← dependency_named w name
+  tells (is_stale w.flips d.value.epoch d.value.zones) w
+
+-- ---- what lives
+
+abbrev pub words_of_id : World → (id : ℕ) → ℕ
+words_of_id w id = option_map_or size_of (object_at w.graph id) 0
+
+-- how many blocks live, and the sum of their words
+abbrev pub act_live : World → Checked Act
+act_live w = says (reply.Pair (length (live_ids w)) (sum_by (words_of_id w) (live_ids w))) w
+
+abbrev pub act_dump : World → (address : ℕ) → Checked Act
+act_dump w address = do
+  refuse_when (is_running w) refusal.Running
+  id ← required (id_at w address) refusal.NotABlock
+  Ok (record { answer = Dumped (image_of w id); world = w })

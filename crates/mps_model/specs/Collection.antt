@@ -1,0 +1,63 @@
+-- What a running collection remembers.
+use Rattle.std.specs.Prelude.{ℕ, Bool, ◌||◌, ◌⊎◌, List, [], ◌∷◌}
+use Rattle.mps_model.specs.Graph.{Graph, contains}
+use Rattle.mps_model.specs.Reachable.{IsLinked}
+
+-- how far a collection is. It only goes forward
+pub data Phase : Type 0 where
+  -- until its first splat
+  Tracing : Phase
+  -- until the first block is swept or the first condemned segment given back
+  Splatting : Phase
+  Reclaiming : Phase
+
+-- a graph as it was, and ids in it
+pub record Origin : Type 0 where
+  pub graph : Graph
+  pub ids : List ℕ
+
+pub record Collection : Type 0 where
+  -- the bases of the condemned segments that are still held
+  pub condemned_segments : List ℕ
+  -- the automatic objects that lay in condemned segments at the flip
+  pub condemned : List ℕ
+  -- the condemned objects in which an area word lay at the flip
+  pub pinned : List ℕ
+  -- the objects that were moved, or told to stay
+  pub placed : List ℕ
+  -- the objects that were posted, and those that the client held after some call since the flip
+  pub had : List ℕ
+  -- from where what may survive is linked: the roots at the flip, and then each posted object at its post
+  pub origins : List Origin
+  -- of the registrations, so many from the front on were made before the flip
+  pub registered_before : ℕ
+  -- of the registrations, so many from the front on were examined
+  pub examined : ℕ
+  pub phase : Phase
+  -- the segment that was reclaimed last; 0 where none was
+  pub reclaimed_to : ℕ
+  -- how many units the collection may take: live automatic objects, registrations and segments of automatic pools at the flip
+  pub units : ℕ
+  -- how many units were asked of it by steps and polls
+  pub spent : ℕ
+
+abbrev pub is_condemned : Collection → (id : ℕ) → Bool
+is_condemned c id = contains c.condemned id
+
+-- pinned, or with a place: what the client may hold of a copying pool
+abbrev pub is_kept_in_place : Collection → (id : ℕ) → Bool
+is_kept_in_place c id = contains c.pinned id || contains c.placed id
+
+-- settled: it won't be moved or freed by this collection any more
+abbrev pub is_settled : Collection → (id : ℕ) → Bool
+is_settled c id = contains c.pinned id || (contains c.placed id || contains c.had id)
+
+-- an id to which some origin links
+abbrev pub IsLinkedFromSome : List Origin → (id : ℕ) → Type 0
+IsLinkedFromSome [] id = ⊥
+IsLinkedFromSome (o ∷ os) id = IsLinked o.graph o.ids id ⊎ IsLinkedFromSome os id
+
+-- what may survive this collection: whatever a path led to, through any references, from the roots at the flip or from a
+-- posted object at its post. All else that was condemned must be gone at the end
+abbrev pub MaySurvive : Collection → (id : ℕ) → Type 0
+MaySurvive c id = IsLinkedFromSome c.origins id

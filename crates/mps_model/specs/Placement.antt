@@ -1,0 +1,65 @@
+-- Where a block is placed: a function of the extents of blocks, reservations and segments.
+use Rattle.std.specs.Prelude.{ℕ, Bool, true, false, ◌&&◌, ◌==◌, nat_le, if◌then◌else◌, List, filter, slice_get}
+use Rattle.std.specs.List.{flat_map}
+use Rattle.std.specs.Option.{option_map_or}
+use Rattle.mps_base.specs.Address.{grains_needed}
+use Rattle.mps_base.specs.Run.{Run, lowest_fitting}
+use Rattle.mps_base.specs.Placement.{Placement, Place, run_placement}
+use Rattle.mps_base.specs.declared.names.Rank.{Rank}
+use Rattle.mps_base.specs.declared.names.Rank.TheVariants as rank
+use Rattle.mps_model.specs.Graph.{Point, entry_at, object_at, size_of}
+use Rattle.mps_model.specs.World.{World, Segment, is_copying_pool, is_weak_kind, pool_is, held_grains, gaps_in, tail_of, target_of, generation_of, empty_run}
+
+-- what is to be placed
+pub data Request : Type 0 where
+  -- a reservation of so many words at a point
+  ForReserve : (point words : ℕ) → Request
+  -- an object that a collection moves
+  ForMove : (id : ℕ) → Request
+  -- a block of so many words of a manual pool
+  ForAlloc : (pool words : ℕ) → Request
+
+abbrev pub same_rank : Rank → Rank → Bool
+same_rank rank.Exact rank.Exact = true
+same_rank rank.Weak rank.Weak = true
+same_rank _ _ = false
+
+-- whether a segment is one in whose gaps a block of a pool may lie: in a pool of weak references it has the point's rank
+abbrev pub is_open_to : World → (pool : ℕ) → Rank → Segment → Bool
+is_open_to w pool at_rank s = s.pool == pool && (if pool_is is_weak_kind w pool then same_rank s.rank at_rank else true)
+
+-- the gaps in which a block of a pool may lie, in ascending order
+abbrev pub gaps_of : World → (pool : ℕ) → Rank → List Run
+gaps_of w pool at_rank = flat_map (gaps_in w) (filter (is_open_to w pool at_rank) w.segments)
+
+-- at the lowest free run of grains, where there is no place in what is held
+abbrev pub new_segment_for : World → (words : ℕ) → Placement
+new_segment_for w words = run_placement w.grains w.limit (held_grains w) (grains_needed words)
+
+-- in the lowest gap that fits, else in a new segment
+abbrev pub placement_in_gaps : World → List Run → (words : ℕ) → Placement
+placement_in_gaps w free words = option_map_or Place (lowest_fitting words free) (new_segment_for w words)
+
+-- at the front of the words at hand, where there are enough, else in a new segment
+abbrev pub placement_at_front : World → Run → (words : ℕ) → Placement
+placement_at_front w at_hand words = if nat_le words at_hand.count then Place at_hand.from else new_segment_for w words
+
+-- the words at hand at a point
+abbrev pub buffer_of : World → (point : ℕ) → Run
+buffer_of w point = option_map_or (λ place. place.buffer) (slice_get w.point_places point) empty_run
+
+-- where a reservation of a pool is placed
+abbrev pub placement_at_point : World → (number : ℕ) → Point → (words : ℕ) → Placement
+placement_at_point w number p words =
+    if is_copying_pool w p.pool then placement_at_front w (buffer_of w number) words
+    else placement_in_gaps w (gaps_of w p.pool p.rank) words
+
+-- where something is placed in a world
+abbrev pub placement_of : World → Request → Placement
+placement_of w (ForReserve point words) =
+    option_map_or (λ p. placement_at_point w point p words) (entry_at w.graph.points point) (new_segment_for w words)
+placement_of w (ForMove id) =
+    option_map_or (λ o. placement_at_front w (tail_of w o.pool (target_of w o.pool (generation_of w id))) (size_of o))
+    (object_at w.graph id)
+    (new_segment_for w 0)
+placement_of w (ForAlloc pool words) = placement_in_gaps w (gaps_of w pool rank.Exact) words

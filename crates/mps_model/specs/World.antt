@@ -1,0 +1,363 @@
+-- The world: an object graph with the places of its objects in an arena, and what the arena and its collector remember.
+-- Addresses are in bytes, runs in words or grains as they say.
+use Rattle.std.specs.Prelude.{ℕ, ◌+◌, ◌*◌, Bool, true, false, not, ◌&&◌, ◌==◌, nat_lt, nat_le, if◌then◌else◌, Option, Some, None, option_map, option_and_then, is_some, List, [], ◌∷◌, ◌++◌, map, length, slice_get, find, sum_by, filter}
+use Rattle.std.specs.List.{list_any, flat_map}
+use Rattle.std.specs.Option.{option_map_or}
+use Rattle.mps_base.specs.Address.{word_of, grain_of}
+use Rattle.mps_base.specs.Run.{Run, gaps}
+use Rattle.mps_base.specs.Generation.{target_generation}
+use Rattle.mps_base.specs.declared.names.Kind.{Kind}
+use Rattle.mps_base.specs.declared.names.Kind.TheVariants as kind
+use Rattle.mps_base.specs.declared.names.Rank.{Rank}
+use Rattle.mps_format.specs.Layout.{Layout}
+use Rattle.mps_format.specs.Any.{numbered_layout}
+use Rattle.mps_model.specs.Graph.{Graph, Object, Point, Reservation, AreaWord, PlainWord, Hold, entry_at, object_at, size_of, is_automatic, is_live_reservation, empty_graph}
+use Rattle.mps_model.specs.Collection.{Collection}
+
+-- the kind of a pool
+pub data PoolKind : Type 0 where
+  -- an automatic pool
+  Collected : (kind : Kind) → PoolKind
+  -- a manual pool of blocks of so many words
+  OneSize : (words : ℕ) → PoolKind
+  -- a manual pool of blocks of any sizes
+  AnySize : PoolKind
+
+pub record Pool : Type 0 where
+  pub kind : PoolKind
+  -- the number of its object format; a manual pool has none, and 0 stands here
+  pub format : ℕ
+  -- the number of its chain
+  pub chain : Option ℕ
+
+-- a run of whole grains that the arena holds for a pool
+pub record Segment : Type 0 where
+  -- the address at which it begins
+  pub base : ℕ
+  pub grains : ℕ
+  pub pool : ℕ
+  pub generation : ℕ
+  -- the rank of the point whose reserve took it; exact where no reserve took it
+  pub rank : Rank
+
+-- where a point allocates
+pub record PointPlace : Type 0 where
+  -- the address of its open reservation, where it has one
+  pub reserved_at : ℕ
+  -- the words at hand: what is left of the segment that its last new segment gave, in a copying pool
+  pub buffer : Run
+
+-- the words at hand for blocks that move to a generation of a pool: what is left of the last segment taken for them
+pub record Tail : Type 0 where
+  pub pool : ℕ
+  pub generation : ℕ
+  pub words : Run
+
+pub data ArenaState : Type 0 where
+  Unclamped : ArenaState
+  Clamped : ArenaState
+  Parked : ArenaState
+
+-- a location dependency
+pub record Dependency : Type 0 where
+  -- how many flips there were when it was reset
+  pub epoch : ℕ
+  pub zones : ℕ
+  -- the objects that were added, each with its address at that moment
+  pub blocks : List (ℕ × ℕ)
+
+pub record World : Type 0 where
+  pub graph : Graph
+  -- the grains of the arena, numbered from 1; 0 before it is made
+  pub grains : ℕ
+  -- the commit limit, in grains
+  pub limit : ℕ
+  -- what each number of an object format means
+  pub formats : ℕ → Layout
+  -- the pools, by their numbers
+  pub pools : List Pool
+  -- the capacities of the generations of each chain, in grains
+  pub chains : List (List ℕ)
+  -- the held segments, in ascending order
+  pub segments : List Segment
+  -- the address of each object, by its id; none where it isn't live
+  pub places : List (Option ℕ)
+  -- by the number of the point
+  pub point_places : List PointPlace
+  pub tails : List Tail
+  pub state : ArenaState
+  -- the zones of all flips since the arena was made, the first flip first
+  pub flips : List ℕ
+  pub dependencies : List Dependency
+  -- the collection that runs
+  pub collection : Option Collection
+
+abbrev pub empty_run : Run
+empty_run = record { from = 0; count = 0 }
+
+-- the world before the arena is made
+abbrev pub empty_world : World
+empty_world = record {
+  graph = empty_graph;
+  grains = 0;
+  limit = 0;
+  formats = numbered_layout;
+  pools = [];
+  chains = [];
+  segments = [];
+  places = [];
+  point_places = [];
+  tails = [];
+  state = Unclamped;
+  flips = [];
+  dependencies = [];
+  collection = None;
+}
+
+-- whether a collection runs
+abbrev pub is_running : World → Bool
+is_running w = is_some w.collection
+
+abbrev pub is_unclamped_state : ArenaState → Bool
+is_unclamped_state Unclamped = true
+is_unclamped_state Clamped = false
+is_unclamped_state Parked = false
+
+abbrev pub is_unclamped : World → Bool
+is_unclamped w = is_unclamped_state w.state
+
+-- ---- pools
+
+abbrev pub is_automatic_kind : PoolKind → Bool
+is_automatic_kind (Collected kind) = true
+is_automatic_kind (OneSize words) = false
+is_automatic_kind AnySize = false
+
+-- whether a collection moves blocks of this kind of pool
+abbrev pub is_copying_kind : PoolKind → Bool
+is_copying_kind (Collected kind.Amc) = true
+is_copying_kind (Collected kind.Amcz) = true
+is_copying_kind _ = false
+
+-- whether blocks of this kind of pool have no references
+abbrev pub is_leaf_kind : PoolKind → Bool
+is_leaf_kind (Collected kind.Amcz) = true
+is_leaf_kind (Collected kind.Lo) = true
+is_leaf_kind _ = false
+
+-- whether this kind of pool may hold weak references
+abbrev pub is_weak_kind : PoolKind → Bool
+is_weak_kind (Collected kind.Awl) = true
+is_weak_kind _ = false
+
+-- whether an empty segment of this kind of pool is given back at once
+abbrev pub is_any_size_kind : PoolKind → Bool
+is_any_size_kind AnySize = true
+is_any_size_kind _ = false
+
+abbrev pub pool_at : World → (number : ℕ) → Option Pool
+pool_at w number = slice_get w.pools number
+
+-- whether there is a pool of this number, and its kind passes a test
+abbrev pub pool_is : (PoolKind → Bool) → World → (number : ℕ) → Bool
+pool_is test w number = option_map_or (λ p. test p.kind) (pool_at w number) false
+
+abbrev pub is_copying_pool : World → (number : ℕ) → Bool
+is_copying_pool w number = pool_is is_copying_kind w number
+
+-- how many generations the chain of a pool has, where it is on one
+abbrev pub generations_of : World → (pool : ℕ) → Option ℕ
+generations_of w pool = option_map length (option_and_then (λ chain. slice_get w.chains chain) (option_and_then (λ p. p.chain) (pool_at w pool)))
+
+-- the generation to which a block of this pool and generation moves
+abbrev pub target_of : World → (pool generation : ℕ) → ℕ
+target_of w pool generation = target_generation (generations_of w pool) generation
+
+-- ---- segments
+
+-- the address behind a segment
+abbrev pub end_of_segment : Segment → ℕ
+end_of_segment s = s.base + 4096 * s.grains
+
+-- whether an address lies in a segment
+abbrev pub is_in_segment : Segment → (address : ℕ) → Bool
+is_in_segment s address = nat_le s.base address && nat_lt address (end_of_segment s)
+
+-- the held segment that begins at an address
+abbrev pub segment_at : World → (base : ℕ) → Option Segment
+segment_at w base = find (λ s. s.base == base) w.segments
+
+-- the held segment in which an address lies
+abbrev pub segment_of : World → (address : ℕ) → Option Segment
+segment_of w address = find (λ s. is_in_segment s address) w.segments
+
+-- one more held segment, in ascending order
+abbrev pub with_segment : Segment → List Segment → List Segment
+with_segment new [] = new ∷ []
+with_segment new (s ∷ ss) = if nat_lt new.base s.base then new ∷ s ∷ ss else s ∷ with_segment new ss
+
+abbrev pub without_segment : List Segment → (base : ℕ) → List Segment
+without_segment ss base = filter (λ s. not (s.base == base)) ss
+
+-- the words of a segment
+abbrev pub words_of_segment : Segment → Run
+words_of_segment s = record { from = word_of s.base; count = 512 * s.grains }
+
+-- the grains of a segment
+abbrev pub grains_of_segment : Segment → Run
+grains_of_segment s = record { from = grain_of s.base; count = s.grains }
+
+-- the runs of grains that are held, in ascending order
+abbrev pub held_grains : World → List Run
+held_grains w = map grains_of_segment w.segments
+
+-- how many grains are held
+abbrev pub committed : World → ℕ
+committed w = sum_by (λ s. s.grains) w.segments
+
+-- ---- blocks and reservations
+
+-- the address of an object, where it is live
+abbrev pub place_of : World → (id : ℕ) → Option ℕ
+place_of w id = entry_at w.places id
+
+abbrev pub is_live : World → (id : ℕ) → Bool
+is_live w id = is_some (place_of w id)
+
+abbrev pub is_at : (address : ℕ) → Option ℕ → Bool
+is_at address None = false
+is_at address (Some place) = place == address
+
+-- the numbers, from the first one on, of the entries that pass a test
+abbrev pub numbers_of : {X : Type 0} → (X → Bool) → (first : ℕ) → List X → List ℕ
+numbers_of test first [] = []
+numbers_of test first (x ∷ xs) = if test x then first ∷ numbers_of test (first + 1) xs else numbers_of test (first + 1) xs
+
+-- the ids of all live objects, in ascending order
+abbrev pub live_ids : World → List ℕ
+live_ids w = numbers_of is_some 0 w.places
+
+abbrev pub first_of : List ℕ → Option ℕ
+first_of [] = None
+first_of (n ∷ ns) = Some n
+
+-- the live object at an address
+abbrev pub id_at : World → (address : ℕ) → Option ℕ
+id_at w address = first_of (numbers_of (is_at address) 0 w.places)
+
+-- whether the object passes a test
+abbrev pub object_is : (Object → Bool) → World → (id : ℕ) → Bool
+object_is test w id = option_map_or test (object_at w.graph id) false
+
+-- the ids of all live objects of automatic pools, in ascending order
+abbrev pub live_automatic_ids : World → List ℕ
+live_automatic_ids w = filter (object_is is_automatic w) (live_ids w)
+
+-- whether a collection moves this object
+abbrev pub is_copying_object : World → (id : ℕ) → Bool
+is_copying_object w id = object_is (λ o. is_copying_pool w o.pool) w id
+
+abbrev pub extent : (address words : ℕ) → Run
+extent address words = record { from = word_of address; count = words }
+
+-- the words of the live blocks, of these objects at these places
+abbrev pub extents_of : List Object → List (Option ℕ) → List Run
+extents_of [] places = []
+extents_of (o ∷ os) [] = []
+extents_of (o ∷ os) (None ∷ places) = extents_of os places
+extents_of (o ∷ os) (Some place ∷ places) = extent place (size_of o) ∷ extents_of os places
+
+-- the words of a live reservation at a place
+abbrev pub extent_of_reservation : Option Reservation → PointPlace → List Run
+extent_of_reservation None place = []
+extent_of_reservation (Some r) place = if is_live_reservation r then extent place.reserved_at (length r.cells) ∷ [] else []
+
+-- the words of the live reservations, of these points at these places
+abbrev pub reserved_extents : List (Option Point) → List PointPlace → List Run
+reserved_extents [] places = []
+reserved_extents (p ∷ ps) [] = []
+reserved_extents (None ∷ ps) (place ∷ places) = reserved_extents ps places
+reserved_extents (Some p ∷ ps) (place ∷ places) = extent_of_reservation p.reservation place ++ reserved_extents ps places
+
+-- the words of all live blocks and live reservations
+abbrev pub covered : World → List Run
+covered w = extents_of w.graph.objects w.places ++ reserved_extents w.graph.points w.point_places
+
+-- one more run, in ascending order
+abbrev pub with_run : Run → List Run → List Run
+with_run new [] = new ∷ []
+with_run new (r ∷ rs) = if nat_lt new.from r.from then new ∷ r ∷ rs else r ∷ with_run new rs
+
+-- runs in ascending order
+abbrev pub in_order : List Run → List Run
+in_order [] = []
+in_order (r ∷ rs) = with_run r (in_order rs)
+
+-- whether a run of words begins in a segment. A block or reservation lies in one segment
+abbrev pub begins_in : Segment → Run → Bool
+begins_in s r = is_in_segment s (8 * r.from)
+
+-- the words that blocks and reservations cover in a segment, in ascending order
+abbrev pub covered_in : World → Segment → List Run
+covered_in w s = in_order (filter (begins_in s) (covered w))
+
+-- the gaps of a segment, in ascending order
+abbrev pub gaps_in : World → Segment → List Run
+gaps_in w s = gaps (word_of s.base) (word_of (end_of_segment s)) (covered_in w s)
+
+-- whether no live block and no live reservation lies in a segment
+abbrev pub is_empty_segment : World → Segment → Bool
+is_empty_segment w s = not (list_any (begins_in s) (covered w))
+
+-- the generation of a live object: that of its segment
+abbrev pub generation_of : World → (id : ℕ) → ℕ
+generation_of w id = option_map_or (λ s. s.generation) (option_and_then (segment_of w) (place_of w id)) 0
+
+-- ---- area words
+
+-- the number that an area word shows: of a hold, the address that it holds
+abbrev pub shown_word : World → AreaWord → ℕ
+shown_word w (PlainWord number) = number
+shown_word w (Hold id offset) = option_map_or (λ place. place + offset) (place_of w id) 0
+
+abbrev pub shown_words : World → Option (List AreaWord) → List ℕ
+shown_words w None = []
+shown_words w (Some words) = map (shown_word w) words
+
+-- the numbers that all area words show
+abbrev pub area_words : World → List ℕ
+area_words w = flat_map (shown_words w) w.graph.areas
+
+-- whether a word lies in a block of so many words: in a copying pool by bytes, else exactly at its address
+abbrev pub is_word_in : (is_copying : Bool) → (place words word : ℕ) → Bool
+is_word_in true place words word = nat_le place word && nat_lt word (place + 8 * words)
+is_word_in false place words word = word == place
+
+-- whether a word lies in an object. It never lies in a manual block or in a reservation
+abbrev pub lies_in : World → (word id : ℕ) → Bool
+lies_in w word id =
+    object_is is_automatic w id
+    && option_map_or (λ place. object_is (λ o. is_word_in (is_copying_pool w o.pool) place (size_of o) word) w id) (place_of w id) false
+
+-- the live object in which a word lies
+abbrev pub block_of_word : World → (word : ℕ) → Option ℕ
+block_of_word w word = find (λ id. lies_in w word id) (live_ids w)
+
+-- whether an area word lies in an object
+abbrev pub has_area_word : World → (id : ℕ) → Bool
+has_area_word w id = list_any (λ word. lies_in w word id) (area_words w)
+
+-- ---- tails
+
+abbrev pub is_tail_of : (pool generation : ℕ) → Tail → Bool
+is_tail_of pool generation t = t.pool == pool && t.generation == generation
+
+-- the words at hand for blocks that move to a generation of a pool
+abbrev pub tail_of : World → (pool generation : ℕ) → Run
+tail_of w pool generation = option_map_or (λ t. t.words) (find (is_tail_of pool generation) w.tails) empty_run
+
+-- these words are at hand for a generation of a pool, in place of what was
+abbrev pub with_tail : World → (pool generation : ℕ) → Run → World
+with_tail w pool generation words = record w {
+  tails = record { pool = pool; generation = generation; words = words } ∷ filter (λ t. not (is_tail_of pool generation t)) w.tails;
+}
