@@ -1,2 +1,3 @@
 pub mod FirstWord
 pub mod Digits
+pub mod Hexadecimal

@@ -1,13 +1,11 @@
 -- The forms of commands: the call that a line of words makes. A line in no form that is built makes none.
-use Rattle.std.specs.Prelude.{ℕ, ◌≡◌, ◌==◌, nat_lt, Bool, true, false, if◌then◌else◌, codes, Option, Some, None, option_and_then, unwrap_or, List, [], ◌∷◌, refl}
+use Rattle.std.specs.Prelude.{ℕ, ◌==◌, Bool, false, if◌then◌else◌, codes, Option, Some, None, option_and_then, unwrap_or, List, [], ◌∷◌}
 use Rattle.std.specs.Str.{bytes_eq}
-use Rattle.mps_base.specs.declared.names.Kind.{Kind}
 use Rattle.mps_base.specs.declared.names.Kind.TheVariants.{Amc}
-use Rattle.mps_base.specs.declared.names.Rank.{Rank}
 use Rattle.mps_base.specs.declared.names.Rank.TheVariants.{Exact}
 use Rattle.mps_model.specs.declared.call.Call.{Call}
 use Rattle.mps_model.specs.declared.call.Call.TheVariants as variant
-use Rattle.mps_script.specs.Word.{words, two_words, three_words}
+use Rattle.mps_script.specs.Word.{two_words, three_words}
 use Rattle.mps_script.specs.Number.{decimal_number, number_of, number_within}
 use Rattle.mps_script.specs.Name.{name_of, slot_of}
 use Rattle.mps_script.specs.Head.{head_of}

@@ -1,9 +1,7 @@
 -- The lines of a script, and the call of each.
-use Rattle.std.specs.Prelude.{ℕ, ◌≡◌, ◌==◌, nat_lt, Bool, if◌then◌else◌, codes, Option, Some, None, Result, Ok, Err, List, [], ◌∷◌, ◌++◌, replicate, length, refl}
+use Rattle.std.specs.Prelude.{ℕ, ◌≡◌, ◌==◌, nat_lt, Bool, if◌then◌else◌, codes, Option, Result, Ok, Err, List, [], ◌∷◌, length, refl}
 use Rattle.std.specs.List.{slice_split}
-use Rattle.mps_base.specs.declared.names.Kind.TheVariants.{Amc}
 use Rattle.mps_model.specs.declared.call.Call.{Call}
-use Rattle.mps_model.specs.declared.call.Call.TheVariants as variant
 use Rattle.mps_script.specs.declared.line.BadLine.{BadLine}
 use Rattle.mps_script.specs.Word.{words}
 use Rattle.mps_script.specs.Form.{call_of_words}

@@ -1,10 +1,24 @@
 -- The answer line of a reply.
-use Rattle.std.specs.Prelude.{ℕ, ◌≡◌, ◌+◌, ◌/◌, ◌%◌, ◌^◌, ◌==◌, if◌then◌else◌, codes, decimal, false, List, [], ◌∷◌, ◌++◌, refl}
+use Rattle.std.specs.Prelude.{ℕ, zero, suc, ◌≡◌, ◌+◌, ◌/◌, ◌%◌, ◌==◌, nat_lt, if◌then◌else◌, codes, decimal, Bool, true, false, List, [], ◌∷◌, ◌++◌, refl}
 use Rattle.std.specs.Fmt.{digits}
 use Rattle.mps_base.specs.declared.refusal.Refusal.{Refusal}
 use Rattle.mps_base.specs.declared.refusal.Refusal.TheVariants as refusal
 use Rattle.mps_model.specs.declared.reply.Reply.{Reply}
 use Rattle.mps_model.specs.declared.reply.Reply.TheVariants as reply
+
+-- a hexadecimal digit, in lower case
+abbrev pub digit_byte : ℕ → ℕ
+digit_byte n = if nat_lt n 10 then 48 + n else 87 + n
+
+-- the last hexadecimal digits of a number, without leading zeros
+abbrev pub hexadecimal_digits : (most : ℕ) → ℕ → List ℕ
+hexadecimal_digits zero n = []
+hexadecimal_digits (suc most) n =
+    if nat_lt n 16 then digit_byte n ∷ [] else hexadecimal_digits most (n / 16) ++ (digit_byte (n % 16) ∷ [])
+
+-- a word in hexadecimal, behind `0x`
+unfoldable pub hexadecimal : ℕ → List ℕ
+hexadecimal n = codes "0x" ++ hexadecimal_digits 16 n
 
 -- a space and a number
 abbrev pub spaced : ℕ → List ℕ
@@ -47,24 +61,45 @@ head_text head =
     else codes "l:" ++ decimal (head_size head))
 
 -- what a reply prints, without the line feed. The words of a dump are printed from the arena.
-abbrev pub answer_of : Reply → List ℕ
-answer_of reply.Ok = codes "ok"
-answer_of reply.Flipped = codes "flipped"
-answer_of (reply.Number n) = decimal n
-answer_of (reply.Word n) = codes "0x" ++ digits 16 false n
-answer_of reply.Yes = codes "yes"
-answer_of reply.No = codes "no"
-answer_of reply.Block = codes "block"
-answer_of reply.Plain = codes "number"
-answer_of reply.More = codes "more"
-answer_of reply.Idle = codes "idle"
-answer_of reply.None_ = codes "none"
-answer_of (reply.Head head) = head_text head
-answer_of (reply.Pair a b) = decimal a ++ spaced b
-answer_of (reply.Words at words) = []
-answer_of (reply.Refused why) = codes "refused " ++ refusal_numbers why
-answer_of reply.Unsupported = codes "unsupported"
+abbrev pub plain_text_of : Reply → List ℕ
+plain_text_of reply.Ok = codes "ok"
+plain_text_of reply.Flipped = codes "flipped"
+plain_text_of (reply.Number n) = decimal n
+plain_text_of (reply.Word n) = hexadecimal n
+plain_text_of reply.Yes = codes "yes"
+plain_text_of reply.No = codes "no"
+plain_text_of reply.Block = codes "block"
+plain_text_of reply.Plain = codes "number"
+plain_text_of reply.More = codes "more"
+plain_text_of reply.Idle = codes "idle"
+plain_text_of reply.None_ = codes "none"
+plain_text_of (reply.Head head) = head_text head
+plain_text_of (reply.Pair a b) = decimal a ++ spaced b
+plain_text_of (reply.Words at words) = []
+plain_text_of (reply.Refused why) = codes "refused " ++ refusal_numbers why
+plain_text_of reply.Unsupported = codes "unsupported"
+
+-- whether the text of a reply is told by the reply alone, as it is but for the words of a dump
+abbrev pub is_printable : Reply → Bool
+is_printable (reply.Words at words) = false
+is_printable _ = true
 
 -- the answer line of a reply
 abbrev pub text_of : Reply → List ℕ
-text_of r = answer_of r ++ (10 ∷ [])
+text_of r = plain_text_of r ++ (10 ∷ [])
+
+pub a_refusal_with_its_numbers : text_of (reply.Refused (refusal.CommitLimit 1 1 1)) ≡ codes "refused 10 1 1 1\n"
+unfolding digits
+a_refusal_with_its_numbers = refl
+
+pub a_head_text : text_of (reply.Head 0x100000301) ≡ codes "f:3:1\n"
+unfolding digits
+a_head_text = refl
+
+pub a_word_in_hexadecimal : hexadecimal 0x1f00 ≡ codes "0x1f00"
+unfolding hexadecimal
+a_word_in_hexadecimal = refl
+
+pub a_number_in_decimal : text_of (reply.Number 31) ≡ codes "31\n"
+unfolding digits
+a_number_in_decimal = refl

@@ -6,6 +6,8 @@ mod head;
 mod line;
 mod names;
 mod number;
+mod text;
 mod words;
 
 pub use line::{BadLine, LONGEST_LINE, call_of};
+pub use text::{LONGEST_ANSWER, put_text};

@@ -1,4 +1,4 @@
-use Rattle.std.proofs.Common.{ℕ, ◌≡◌, ◌<◌, ◌≤◌, ◌+◌, ◌*◌, ◌^◌, ◌∙◌, ap, get_or, drop, arith}
+use Rattle.std.proofs.Common.{◌≡◌, ◌≤◌, ◌+◌, ◌*◌, ◌^◌, ◌∙◌, ap, get_or, drop, arith}
 use Rattle.mps_script.specs.Number.{digit_of, value_behind}
 use Rattle.mps_script.proofs.Digits.{overflows, value_step, all_read, at_least}
 use Rattle.mps_script.proofs.number.value.Goals as goal
