@@ -1,6 +1,6 @@
 -- Runs of consecutive numbers: of words, where blocks and reservations lie, or of grains, where segments do. The gaps
 -- between runs are where something new may be placed.
-use Rattle.std.specs.Prelude.{ℕ, ◌≡◌, ◌+◌, ◌-◌, ◌≤◌, ◌<◌, max, nat_le, nat_lt, sum_by, if◌then◌else◌, Option, Some, None, List, [], ◌∷◌, ◌++◌, refl}
+use Rattle.std.specs.Prelude.{ℕ, ◌≡◌, ◌+◌, ◌-◌, ◌≤◌, ◌<◌, max, ◌==◌, nat_le, nat_lt, sum_by, if◌then◌else◌, Option, Some, None, List, [], ◌∷◌, ◌++◌, refl}
 
 -- `count` numbers from `from` on
 pub record Run : Type 0 where
@@ -43,6 +43,16 @@ abbrev pub longest : List Run → ℕ
 longest [] = 0
 longest (r ∷ rs) = max r.count (longest rs)
 
+-- a run put at its place among ascending runs
+abbrev pub with_run : Run → List Run → List Run
+with_run r [] = r ∷ []
+with_run r (s ∷ rs) = if nat_lt r.from s.from then r ∷ s ∷ rs else s ∷ with_run r rs
+
+-- the runs without the one that begins at a number
+abbrev pub without_run : ℕ → List Run → List Run
+without_run from [] = []
+without_run from (r ∷ rs) = if from == r.from then rs else r ∷ without_run from rs
+
 -- two runs, at 1 and 2 and at 5
 abbrev example : List Run
 example = record { from = 1; count = 2 } ∷ record { from = 5; count = 1 } ∷ []
@@ -56,6 +66,17 @@ a_gap_one_short_does_not_fit = refl
 
 pub no_gap_of_four : lowest_fitting 4 (gaps 1 9 example) ≡ None
 no_gap_of_four = refl
+
+pub a_run_is_put_between :
+    with_run (record { from = 3; count = 2 }) example
+    ≡ record { from = 1; count = 2 } ∷ record { from = 3; count = 2 } ∷ record { from = 5; count = 1 } ∷ []
+a_run_is_put_between = refl
+
+pub the_first_run_is_taken_out : without_run 1 example ≡ record { from = 5; count = 1 } ∷ []
+the_first_run_is_taken_out = refl
+
+pub no_run_begins_there : without_run 2 example ≡ example
+no_run_begins_there = refl
 
 pub the_longest_gap : longest (gaps 1 9 example) ≡ 3
 the_longest_gap = refl
