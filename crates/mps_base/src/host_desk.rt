@@ -1,20 +1,27 @@
 // The desk over real files and the standard streams.
-ghost use Rattle.std.specs.Prelude.{◌≡◌, ◌≢◌, ◌<◌, ◌≤◌, ◌⊎◌, length, None, IfOk, OnErr};
-ghost use Rattle.mps_base.specs.Desk.{Outside, HasRisen};
+ghost use Rattle.std.specs.Prelude.{◌≡◌, ◌≤◌, ◌⊎◌, None};
+ghost use Rattle.mps_base.specs.Desk.{Outside};
 
+use crate::held::Held;
 use crate::{Desk, Failed};
 use std::alloc::Global;
 use std::fs::File;
-use std::io;
 use std::io::{Read, Stdin, Write};
 use std::marker::Model;
 
 /// A desk over real files and the standard streams. It tells no content: what a real file holds, no clause can say.
+///
+/// It holds back what is logged and printed and writes it in large pieces: before a read, before a report, where too
+/// many bytes wait, and in `finish`. The log's bytes are written first, and once that failed nothing more is printed,
+/// so no answer is seen whose records the log lacks. A fault that comes to light in another call is answered and
+/// counted by the next `log` or `out`, or answered by `finish`. A side that failed fails from then on.
 #[derive(Drop)]
 pub struct HostDesk {
     rt: HostRuntime,
     input: Input,
-    log: Option<File>,
+    log_file: Option<File>,
+    log: Held,
+    out: Held,
     in_faults: u64,
     log_faults: u64,
     out_faults: u64,
@@ -45,13 +52,15 @@ impl HostDesk {
     ghost use Rattle.mps_base.specs.HostDesk.{no_faults};
 
     /// A desk with no input and no log yet.
-    pub fn new(rt: &HostRuntime, _alloc: Global) -> HostDesk
+    pub fn new(rt: &HostRuntime, alloc: Global) -> HostDesk
         ensures { result ≡ no_faults }
     {
         HostDesk {
             rt: *rt,
             input: Input::Nothing,
-            log: None,
+            log_file: None,
+            log: Held::new(alloc),
+            out: Held::new(alloc),
             in_faults: 0,
             log_faults: 0,
             out_faults: 0,
@@ -59,13 +68,45 @@ impl HostDesk {
         }
     }
 
-    /// Writes what is left to write, and answers the status to end with: the given one, or where that is 0 and the
-    /// last bytes found no room 4 or 5, which is then reported.
-    pub fn finish(self, status: u8) -> u8
-        ensures kept { status ≢ 0 → result ≡ status }
-        ensures known { status ≡ 0 → (result ≡ 0) ⊎ (result ≡ 4) ⊎ (result ≡ 5) }
+    /// Writes what waits, and answers the status with which to end. That is the given one, but 5 or 4 where the log or
+    /// what was printed could not be written to its end, which is then reported. A status from 2 to 5 stays.
+    pub fn finish(mut self, status: u8) -> u8
+        ensures kept { 2 ≤ status → status ≤ 5 → result ≡ status }
+        ensures known { (result ≡ status) ⊎ (result ≡ 4) ⊎ (result ≡ 5) }
     {
-        status
+        self.write_held();
+        let (failed, report) = if self.log.has_failed() {
+            (5, "mps: log failed\n")
+        } else if self.out.has_failed() {
+            (4, "mps: write failed\n")
+        } else {
+            return status;
+        };
+        if 2 <= status && status <= 5 {
+            return status;
+        }
+        let _ = self.rt.stderr().write_all(report.as_bytes());
+        failed
+    }
+
+    // Writes the log's bytes and then, unless the log failed, what is to be printed.
+    fn write_held(&mut self)
+        ensures { self.new ≡ self.old }
+    {
+        self.write_log();
+        if self.log.has_failed() {
+            self.out.let_go();
+        } else {
+            self.out.write_to(&mut self.rt.stdout());
+        }
+    }
+
+    fn write_log(&mut self)
+        ensures { self.new ≡ self.old }
+    {
+        if let Some(file) = &mut self.log_file {
+            self.log.write_to(file);
+        }
     }
 }
 
@@ -88,80 +129,79 @@ impl Desk for HostDesk {
             self.input = Input::Standard(self.rt.stdin());
             return Ok(());
         }
-        match File::open(&self.rt, name) {
-            Ok(file) => {
-                self.input = Input::Named(file);
-                Ok(())
-            }
-            Err(_) => {
-                self.in_faults = self.in_faults.saturating_add(1);
-                Err(Failed)
-            }
-        }
+        let Ok(file) = File::open(&self.rt, name) else {
+            self.in_faults = self.in_faults.saturating_add(1);
+            return Err(Failed);
+        };
+        self.input = Input::Named(file);
+        Ok(())
     }
 
     fn read(&mut self, buf: &mut [u8]) -> Result<usize, Failed> {
+        self.write_held();
         let got = match &mut self.input {
             Input::Nothing => Ok(0),
             Input::Standard(stdin) => stdin.read(buf),
             Input::Named(file) => file.read(buf),
         };
-        match got {
-            Ok(count) => Ok(count),
-            Err(_) => {
-                self.in_faults = self.in_faults.saturating_add(1);
-                Err(Failed)
-            }
-        }
+        let Ok(count) = got else {
+            self.in_faults = self.in_faults.saturating_add(1);
+            return Err(Failed);
+        };
+        Ok(count)
     }
 
     fn create(&mut self, name: &str) -> Result<(), Failed> {
-        match File::create(&self.rt, name) {
-            Ok(file) => {
-                self.log = Some(file);
-                Ok(())
+        self.write_log();
+        if !self.log.has_failed() {
+            if let Ok(file) = File::create(&self.rt, name) {
+                self.log_file = Some(file);
+                return Ok(());
             }
-            Err(_) => {
-                self.log_faults = self.log_faults.saturating_add(1);
+        }
+        self.log_faults = self.log_faults.saturating_add(1);
+        Err(Failed)
+    }
+
+    fn log(&mut self, bytes: &[u8]) -> Result<usize, Failed> {
+        let taken = match &mut self.log_file {
+            Some(file) => self.log.take(bytes, file),
+            None => Some(bytes.len()),
+        };
+        let Some(count) = taken else {
+            self.log_faults = self.log_faults.saturating_add(1);
+            return Err(Failed);
+        };
+        Ok(count)
+    }
+
+    fn out(&mut self, bytes: &[u8]) -> Result<usize, Failed> {
+        if self.out.hold(bytes) {
+            return Ok(bytes.len());
+        }
+        self.write_log();
+        if self.log.has_failed() {
+            // What the log lacks isn't printed: the log's fault is answered by its own next call.
+            self.out.let_go();
+            return Ok(bytes.len());
+        }
+        let Some(count) = self.out.take(bytes, &mut self.rt.stdout()) else {
+            self.out_faults = self.out_faults.saturating_add(1);
+            return Err(Failed);
+        };
+        Ok(count)
+    }
+
+    fn err(&mut self, bytes: &[u8]) -> Result<usize, Failed> {
+        self.write_held();
+        match self.rt.stderr().write(bytes) {
+            Ok(count) if count > 0 || bytes.is_empty() => Ok(count),
+            _ => {
+                self.err_faults = self.err_faults.saturating_add(1);
                 Err(Failed)
             }
         }
     }
 
-    fn log(&mut self, bytes: &[u8]) -> Result<usize, Failed> {
-        let Some(file) = &mut self.log else {
-            return Ok(bytes.len());
-        };
-        let put = file.write(bytes);
-        taken(put, bytes, &mut self.log_faults)
-    }
-
-    fn out(&mut self, bytes: &[u8]) -> Result<usize, Failed> {
-        let put = self.rt.stdout().write(bytes);
-        taken(put, bytes, &mut self.out_faults)
-    }
-
-    fn err(&mut self, bytes: &[u8]) -> Result<usize, Failed> {
-        let put = self.rt.stderr().write(bytes);
-        taken(put, bytes, &mut self.err_faults)
-    }
-
     ghost text_of_files = { λ _ _. tt };
-}
-
-// What a write answered; one that took nothing of a piece that isn't empty is a fault.
-fn taken(put: io::Result<usize>, bytes: &[u8], faults: &mut u64) -> Result<usize, Failed>
-    requires { IfOk put (λ n. n ≤ length bytes.now) }
-    ensures within { IfOk result (λ n. n ≤ length bytes.now) }
-    ensures some { IfOk result (λ n. 0 < length bytes.now → 0 < n) }
-    ensures counted { faults.old ≤ faults.new }
-    ensures cause { OnErr result (HasRisen faults.old faults.new) }
-{
-    match put {
-        Ok(count) if count > 0 || bytes.is_empty() => Ok(count),
-        _ => {
-            *faults = faults.saturating_add(1);
-            Err(Failed)
-        }
-    }
 }

@@ -5,6 +5,7 @@
 mod address;
 mod calls;
 mod desk;
+mod held;
 mod host_desk;
 mod mem_desk;
 mod moves;
