@@ -14,3 +14,9 @@ pub mod Allocating
 pub mod Accessing
 pub mod Collecting
 pub mod Reply
+pub mod Effect
+pub mod LegalMove
+pub mod Flip
+pub mod Policy
+pub mod Units
+pub mod History
