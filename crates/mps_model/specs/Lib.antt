@@ -20,3 +20,4 @@ pub mod Flip
 pub mod Policy
 pub mod Units
 pub mod History
+pub mod Text
