@@ -26,6 +26,6 @@ pub record BeginsPad (f : Layout) (words : List ℕ) (pad : ℕ) : Type 0 where
 
 -- a whole block, forwarded block or pad begins the words
 pub data BeginsWhole (f : Layout) (words : List ℕ) : Type 0 where
-  block : BeginsBlock f words → BeginsWhole f words
-  forwarded : (size : ℕ) → BeginsForwarded f words size → BeginsWhole f words
-  pad : (pad : ℕ) → BeginsPad f words pad → BeginsWhole f words
+  whole_block : BeginsBlock f words → BeginsWhole f words
+  whole_forwarded : (size : ℕ) → BeginsForwarded f words size → BeginsWhole f words
+  whole_pad : (pad : ℕ) → BeginsPad f words pad → BeginsWhole f words

@@ -10,3 +10,4 @@ pub mod Laws
 pub mod Leaf
 pub mod Mapped
 pub mod References
+pub mod TailExample

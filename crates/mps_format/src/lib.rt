@@ -20,3 +20,6 @@ pub use front::Front;
 pub use head::{Head, put_head_text};
 pub use leaf::Leaf;
 pub use mapped::Mapped;
+
+#[cfg(test)]
+mod tests;
