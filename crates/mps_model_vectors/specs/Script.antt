@@ -1,0 +1,49 @@
+-- Short words for the histories of this crate.
+use Rattle.std.specs.Prelude.{ℕ, List, ◌∷◌, replicate}
+use Rattle.mps_base.specs.declared.address.Addr.{Addr}
+use Rattle.mps_base.specs.declared.names.Name.{Name}
+use Rattle.mps_base.specs.declared.names.Slot.{Slot}
+use Rattle.mps_base.specs.declared.moves.Move.{Move}
+use Rattle.mps_model.specs.declared.call.Call.{Call}
+use Rattle.mps_model.specs.declared.reply.Reply.{Reply}
+use Rattle.mps_model.specs.Answer.{Said}
+use Rattle.mps_model.specs.Step.{Step}
+
+-- the name of one letter
+abbrev pub letter : (code : ℕ) → Name
+letter code = record { len = 1; bytes = code ∷ replicate 15 0 }
+
+abbrev pub a : Name
+a = letter 97
+
+abbrev pub b : Name
+b = letter 98
+
+abbrev pub d : Name
+d = letter 100
+
+abbrev pub p : Name
+p = letter 112
+
+abbrev pub t : Name
+t = letter 116
+
+abbrev pub w : Name
+w = letter 119
+
+abbrev pub x : Name
+x = letter 120
+
+abbrev pub y : Name
+y = letter 121
+
+-- a slot, word or place
+abbrev pub at_index : Name → ℕ → Slot
+at_index name index = record { name = name; index = index }
+
+abbrev pub address : ℕ → Addr
+address n = record { 0 = n }
+
+-- a step that said this
+abbrev pub step : (line : ℕ) → Call → List Move → Reply → Step
+step line call moves said = record { line = line; call = call; moves = moves; answer = Said said }
