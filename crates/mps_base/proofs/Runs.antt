@@ -1,5 +1,5 @@
 -- Ascending runs: a run put at its place, the lowest gap, the longest one, and how many numbers the runs have.
-use Rattle.std.proofs.Common.{ℕ, ◌+◌, ◌-◌, ◌<◌, ◌≤◌, ◌≡◌, max, Bool, true, false, cond, ltb, leb, eqb, Option, Some, None, List, [], ◌∷◌, ◌++◌, refl, sym, ap, ◌∙◌, subst, inl, inr, arith}
+use Rattle.std.proofs.Common.{ℕ, zero, suc, ◌⊎◌, length, Contains, ◌+◌, ◌-◌, ◌<◌, ◌≤◌, ◌≡◌, max, Bool, true, false, cond, ltb, leb, eqb, Option, Some, None, List, [], ◌∷◌, ◌++◌, refl, sym, ap, ◌∙◌, subst, inl, inr, arith}
 use Rattle.std.proofs.lemmas.Bool.{cases_lt, cases_eq, cond-true, cond-false, lt-ltb, le-ltb, le-leb, lt-leb, eq-eqb, ne_eqb}
 use Rattle.std.proofs.lemmas.List.Sums.{sum_by-cons}
 use Rattle.mps_base.specs.Run.{Run, end_of, IsAscending, total, between, gaps, lowest_fitting, longest, with_run, without_run}
@@ -144,3 +144,58 @@ total-with_run r (s ∷ rs) =
 pub total-le : (low high : ℕ) (rs : List Run) → IsAscending low high rs → low + total rs ≤ high
 total-le low high [] ascending = omega (arith, ascending)
 total-le low high (r ∷ rs) ascending = omega (arith, ascending.0, total-cons r rs, total-le (end_of r) high rs ascending.2)
+
+-- ---- a run taken out
+
+pub contains_cases : (rs : List Run) (r s : Run) → Contains (s ∷ rs) r → (s ≡ r) ⊎ Contains rs r
+contains_cases rs r s (zero, within, is) = inl is
+contains_cases rs r s (suc k, within, is) = inr (k, omega arith, is)
+
+pub contains_first : (rs : List Run) (r : Run) → Contains (r ∷ rs) r
+contains_first rs r = (0, omega arith, refl)
+
+pub contains_later : (rs : List Run) (r s : Run) → Contains rs r → Contains (s ∷ rs) r
+contains_later rs r s (k, within, is) = (suc k, omega arith, is)
+
+contains_none : (r : Run) → ¬ Contains [] r
+contains_none r (k, within, is) = absurd (omega arith)
+
+-- where a run of ascending ones lies
+pub contained_bounds : (low high : ℕ) (rs : List Run) (r : Run) → IsAscending low high rs → Contains rs r → (low ≤ r.from) × (0 < r.count) × (end_of r ≤ high)
+contained_bounds low high [] r ascending there = absurd (contains_none r there)
+contained_bounds low high (s ∷ rs) r ascending there =
+    elim (contains_cases rs r s there) [
+      | inl same ↦
+          let from : s.from ≡ r.from = ap (λ (x : Run). x.from) same in
+          let count : s.count ≡ r.count = ap (λ (x : Run). x.count) same in
+          let bounds = IsAscending-bounds (end_of s) high rs ascending.2 in
+          (omega (arith, from, ascending.0), omega (arith, count, ascending.1), omega (arith, from, count, bounds))
+      | inr later ↦
+          let inner = contained_bounds (end_of s) high rs r ascending.2 later in
+          (omega (arith, inner.0, ascending.0), inner.1, inner.2)
+    ]
+
+pub IsAscending-without_run : (low high from : ℕ) (rs : List Run) → IsAscending low high rs → IsAscending low high (without_run from rs)
+IsAscending-without_run low high from [] ascending = ascending
+IsAscending-without_run low high from (r ∷ rs) ascending =
+    let P : List Run → Type 0 = λ x. IsAscending low high x in
+    elim (cases_eq from r.from) [
+      | inl here ↦ subst P (sym (without_run_first from r rs here)) (IsAscending-lower (end_of r) low high rs (omega (arith, ascending.0)) ascending.2)
+      | inr other ↦
+          subst P (sym (without_run_later from r rs other))
+          (ascending.0, ascending.1, IsAscending-without_run (end_of r) high from rs ascending.2)
+    ]
+
+pub total-without_run : (low high : ℕ) (rs : List Run) (r : Run) → IsAscending low high rs → Contains rs r → total (without_run r.from rs) + r.count ≡ total rs
+total-without_run low high [] r ascending there = absurd (contains_none r there)
+total-without_run low high (s ∷ rs) r ascending there =
+    elim (contains_cases rs r s there) [
+      | inl same ↦
+          let from : s.from ≡ r.from = ap (λ (x : Run). x.from) same in
+          let count : s.count ≡ r.count = ap (λ (x : Run). x.count) same in
+          omega (arith, ap total (without_run_first r.from s rs (sym from)), total-cons s rs, count)
+      | inr later ↦
+          let bounds = contained_bounds (end_of s) high rs r ascending.2 later in
+          let other = without_run_later r.from s rs (λ e. omega (arith, bounds.0, ascending.1)) in
+          omega (arith, ap total other, total-cons s (without_run r.from rs), total-cons s rs, total-without_run (end_of s) high rs r ascending.2 later)
+    ]

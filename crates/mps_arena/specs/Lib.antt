@@ -1,0 +1,4 @@
+pub mod Arena
+pub mod Grains
+pub mod Inside
+pub mod Lending

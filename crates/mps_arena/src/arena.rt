@@ -1,0 +1,137 @@
+// The arena itself.
+#![tactic(auto)]
+
+ghost use Rattle.std.specs.Prelude.{◌≡◌, ◌+◌, ◌*◌, ◌/◌, ◌%◌, ◌<◌, ◌≤◌, length, IfOk, IfErr, OnOk, Contains, slice_range, MatchResult};
+ghost use Rattle.mps_base.specs.Run.{total, with_run, without_run};
+ghost use Rattle.mps_base.specs.Address.{grain_of, word_of};
+ghost use Rattle.mps_arena.specs.Arena.{ArenaState, new_arena, placement_in, answer_of, held_after};
+ghost use Rattle.std.specs.Borrow.{sem};
+ghost use Rattle.mps_arena.specs.Lending.{LendsWords};
+
+use crate::grains::lowest_free;
+use mps_base::{Addr, Refusal};
+use std::alloc::{AllocError, Global};
+use std::marker::Model;
+
+/// The words of an arena and the runs of its grains that are held. Clauses see its words, its size and limit in grains, and the runs.
+#[derive(Drop)]
+pub struct Arena {
+    words: Vec<u64>,
+    runs: Vec<u32>,
+    committed: u32,
+    limit: u32,
+}
+
+impl Model for Arena {
+    ghost use Rattle.mps_arena.specs.Arena.{ArenaState};
+    ghost use Rattle.mps_arena.specs.Inside.{state_of, IsSound};
+
+    ghost Value = { ArenaState };
+
+    ghost view = { λ a. state_of a.words.items a.runs.items a.limit };
+
+    ghost invariant = { λ a. IsSound a.words.items a.runs.items a.committed a.limit };
+}
+
+impl Arena {
+    /// An arena of the grains 1 to `grains`, whose words are all 0, with a commit limit in grains. This is the only call that allocates.
+    pub fn new(alloc: Global, grains: u32, limit: u32) -> Result<Arena, AllocError>
+        requires some { 0 < grains }
+        requires few { grains ≤ 2048 }
+        ensures { IfOk result (λ arena. arena ≡ new_arena grains limit) }
+    {
+        let words = vec![in alloc; 0u64; 512 * (grains as usize + 1)]?;
+        let runs = vec![in alloc; 0u32; grains as usize + 1]?;
+        Ok(Arena {
+            words,
+            runs,
+            committed: 0,
+            limit,
+        })
+    }
+
+    /// Takes the lowest run of `grains` free grains and answers its address. Refuses `CommitLimit` where it would pass the limit, and
+    /// `NoRun` where the limit allows it and no run is that long.
+    pub fn take_run(&mut self, grains: u32) -> Result<Addr, Refusal>
+        requires { 0 < grains }
+        ensures answer { result ≡ answer_of (placement_in self.old grains) }
+        ensures state { self.new ≡ record self.old { held = held_after (placement_in self.old grains) self.old.held } }
+    {
+        if grains > self.limit - self.committed {
+            return Err(Refusal::CommitLimit {
+                committed: self.committed,
+                need: grains,
+                limit: self.limit,
+            });
+        }
+        match lowest_free(&self.runs, grains) {
+            Ok(grain) => {
+                self.runs[grain as usize] = grains;
+                self.committed += grains;
+                Ok(Addr(4096 * grain as u64))
+            }
+            Err(longest) => Err(Refusal::NoRun {
+                need: grains,
+                longest,
+            }),
+        }
+    }
+
+    /// Gives back a run that was taken whole. Its words stay as they are.
+    pub fn give_run(&mut self, base: Addr, grains: u32)
+        requires aligned { base.0 % 4096 ≡ 0 }
+        requires held { Contains self.old.held (record { from = grain_of base.0; count = grains }) }
+        ensures { self.new ≡ record self.old { held = without_run (grain_of base.0) self.old.held } }
+    {
+        self.runs[(base.0 / 4096) as usize] = 0;
+        self.committed -= grains;
+    }
+
+    /// Sets the commit limit, in grains. Refuses `BelowCommitted` where more grains are held.
+    pub fn set_limit(&mut self, limit: u32) -> Result<(), Refusal>
+        ensures state { MatchResult result (λ _. self.new ≡ record self.old { limit = limit }) (λ _. self.new ≡ self.old) }
+        ensures accepts { OnOk result (total self.old.held ≤ limit) }
+        ensures refuses { IfErr result (λ why. (why ≡ Refusal.BelowCommitted) × (limit < total self.old.held)) }
+    {
+        if limit < self.committed {
+            return Err(Refusal::BelowCommitted);
+        }
+        self.limit = limit;
+        Ok(())
+    }
+
+    /// How many grains are held.
+    pub fn committed(&self) -> u32
+        ensures { result ≡ total self.now.held }
+    {
+        self.committed
+    }
+
+    /// All words, by their address divided by 8.
+    pub fn words(&self) -> &[u64]
+        ensures { result.now ≡ self.now.words }
+    {
+        &self.words
+    }
+
+    /// The `words` words from `at` on.
+    pub fn lend(&self, at: Addr, words: u32) -> &[u64]
+        requires aligned { at.0 % 8 ≡ 0 }
+        requires inside { word_of at.0 + words ≤ length self.now.words }
+        ensures { result.now ≡ slice_range self.now.words (word_of at.0) (word_of at.0 + words) }
+    {
+        let from = (at.0 / 8) as usize;
+        &self.words[from..from + words as usize]
+    }
+
+    /// The `words` words from `at` on, to be written.
+    pub fn lend_mut(&mut self, at: Addr, words: u32) -> &mut [u64]
+        requires aligned { at.0 % 8 ≡ 0 }
+        requires inside { word_of at.0 + words ≤ length self.old.words }
+        ensures* writes_back { sem 𝓛 (LendsWords self.entry at.0 result) }
+        ensures value { result.now ≡ slice_range self.old.words (word_of at.0) (word_of at.0 + words) }
+    {
+        let from = (at.0 / 8) as usize;
+        self.words.slice_mut(from..from + words as usize)
+    }
+}

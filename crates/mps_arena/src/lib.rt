@@ -1,0 +1,10 @@
+//! The words of the arena, the grains that are held, and the commit limit.
+#![tactic(auto)]
+
+mod arena;
+mod grains;
+
+pub use arena::Arena;
+
+#[cfg(test)]
+mod tests;
