@@ -1,8 +1,6 @@
 -- The commands of collection: what they answer and leave, beside what their moves do.
-use Rattle.std.specs.Prelude.{ℕ, ◌+◌, ◌-◌, nat_lt, nat_le, if◌then◌else◌, min, bit_or, Option, Some, option_map, List, [], ◌∷◌, ◌++◌, length, slice_set, sum_by, Ok}
+use Rattle.std.specs.Prelude.{ℕ, ◌+◌, ◌-◌, nat_lt, nat_le, if◌then◌else◌, Option, Some, option_map, List, [], ◌∷◌, length, sum_by, Ok}
 use Rattle.std.specs.Option.{option_map_or}
-use Rattle.mps_base.specs.Zones.{zone_bit_of}
-use Rattle.mps_base.specs.Staleness.{is_stale}
 use Rattle.mps_base.specs.declared.names.Name.{Name}
 use Rattle.mps_base.specs.declared.names.Slot.{Slot}
 use Rattle.mps_base.specs.declared.refusal.Refusal.TheVariants as refusal
@@ -10,11 +8,10 @@ use Rattle.mps_model.specs.declared.reply.Reply.TheVariants as reply
 use Rattle.mps_model.specs.Answer.{Dumped}
 use Rattle.mps_model.specs.Graph.{with_last, first_place, without_first, object_at, size_of}
 use Rattle.mps_model.specs.Collection.{Collection}
-use Rattle.mps_model.specs.World.{World, ArenaState, Unclamped, Clamped, Parked, Dependency, is_running, is_unclamped, live_ids, id_at}
+use Rattle.mps_model.specs.World.{World, ArenaState, Unclamped, Clamped, Parked, is_running, is_unclamped, live_ids, id_at}
 use Rattle.mps_model.specs.Image.{image_of}
-use Rattle.mps_model.specs.Checked.{Act, Checked, Found, ◌>>=◌, ◌>>◌, required, refuse_when, says, done, tells, chain_named, dependency_named, slot_in, object_in, with_graph}
+use Rattle.mps_model.specs.Checked.{Act, Checked, Found, ◌>>=◌, ◌>>◌, required, refuse_when, says, done, chain_named, slot_in, object_in, with_graph}
 use Rattle.mps_model.specs.Allocating.{with_slot}
-use Rattle.mps_model.specs.Accessing.{address_of}
 
 -- ---- the arena's state
 
@@ -104,42 +101,6 @@ abbrev pub act_message : World → Slot → Checked Act
 act_message w slot = do
   into ← slot_in w slot
   act_message_in w into w.graph.messages
-
--- ---- dependencies
-
-abbrev pub with_dependency : World → (number : ℕ) → Dependency → World
-with_dependency w number d = record w { dependencies = slice_set w.dependencies number d }
-
-abbrev pub act_dependency_reset : World → Name → Checked Act
-act_dependency_reset w name = do
-  d ← dependency_named w name
-  done (with_dependency w d.number (record { epoch = length w.flips; zones = 0; blocks = [] }))
-
--- an object is added, at the address where it is now
-abbrev pub with_added : Dependency → (id address : ℕ) → Dependency
-with_added d id address = record d { zones = bit_or d.zones (zone_bit_of address); blocks = with_last d.blocks (id, address) }
-
-abbrev pub act_dependency_add : World → Name → Slot → Checked Act
-act_dependency_add w name slot = do
-  d ← dependency_named w name
-  from ← slot_in w slot
-  object ← object_in w from.value
-  done (with_dependency w d.number (with_added d.value object.number (address_of w object.number)))
-
--- the earlier epoch, and the zones and blocks of both
-abbrev pub merged : Dependency → Dependency → Dependency
-merged d e = record { epoch = min d.epoch e.epoch; zones = bit_or d.zones e.zones; blocks = d.blocks ++ e.blocks }
-
-abbrev pub act_dependency_merge : World → Name → Name → Checked Act
-act_dependency_merge w name source = do
-  d ← dependency_named w name
-  e ← dependency_named w source
-  done (with_dependency w d.number (merged d.value e.value))
-
-abbrev pub act_dependency_stale : World → Name → Checked Act
-act_dependency_stale w name = do
-  d ← dependency_named w name
-  tells (is_stale w.flips d.value.epoch d.value.zones) w
 
 -- ---- what lives
 

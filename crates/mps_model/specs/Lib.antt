@@ -12,6 +12,7 @@ pub mod Checked
 pub mod Making
 pub mod Allocating
 pub mod Accessing
+pub mod Dependency
 pub mod Collecting
 pub mod Reply
 pub mod Effect

@@ -1,12 +1,12 @@
 -- The commands that make and drop things. Each checks in its order, and makes the thing last of its kind.
-use Rattle.std.specs.Prelude.{ℕ, ◌+◌, Bool, true, false, not, ◌||◌, ◌&&◌, nat_lt, nat_le, Option, Some, None, is_some, List, [], length, take, replicate, slice_set, count_by, sum_by}
+use Rattle.std.specs.Prelude.{ℕ, ◌+◌, Bool, true, false, not, ◌||◌, ◌&&◌, nat_lt, nat_le, Option, Some, None, is_some, List, length, take, replicate, slice_set, count_by, sum_by}
 use Rattle.mps_base.specs.declared.names.Name.{Name}
 use Rattle.mps_base.specs.declared.names.Kind.{Kind}
 use Rattle.mps_base.specs.declared.names.Rank.{Rank}
 use Rattle.mps_base.specs.declared.names.Rank.TheVariants as rank
 use Rattle.mps_base.specs.declared.refusal.Refusal.TheVariants as refusal
 use Rattle.mps_model.specs.declared.reply.Reply.TheVariants as reply
-use Rattle.mps_model.specs.Graph.{Graph, PlainWord, Thing, ChainThing, PoolThing, TableThing, AreaThing, BlocksThing, PointThing, DependencyThing, is_taken, with_last, without_name, thing_named}
+use Rattle.mps_model.specs.Graph.{Graph, PlainWord, Thing, ChainThing, PoolThing, TableThing, AreaThing, BlocksThing, PointThing, is_taken, with_last, without_name, thing_named}
 use Rattle.mps_model.specs.World.{World, Pool, PoolKind, Collected, OneSize, AnySize, is_automatic_kind, is_weak_kind, committed, empty_run}
 use Rattle.mps_model.specs.Checked.{Act, Checked, ◌>>=◌, ◌>>◌, required, refuse_when, says, done, chain_named, pool_named, point_named, named, with_graph}
 
@@ -211,15 +211,3 @@ act_drop_point w name = do
   point ← point_named w name
   refuse_when (is_some point.value.reservation) refusal.Open
   done (without_point w name point.number)
-
--- ---- dependencies
-
--- a dependency that depends on nothing, as of now
-abbrev pub act_dependency : World → Name → Checked Act
-act_dependency w name = do
-  refuse_taken w name
-  refuse_at_limit (length w.dependencies) most_dependencies
-  done (record w {
-    graph = named w.graph name (DependencyThing (length w.dependencies));
-    dependencies = with_last w.dependencies (record { epoch = length w.flips; zones = 0; blocks = [] });
-  })

@@ -11,7 +11,7 @@ pub data PathLeads (next : ℕ → List ℕ) (seeds : List ℕ) : ℕ → Type 0
 abbrev pub IsReachable : Graph → (id : ℕ) → Type 0
 IsReachable g id = PathLeads (strong_targets g) (ids_of_client g) id
 
--- reachable, where these ids are roots too. With all live automatic blocks in which an area word lies it is wide reachability
+-- reachable, where these ids are roots too
 abbrev pub IsReachableWith : Graph → (more : List ℕ) → (id : ℕ) → Type 0
 IsReachableWith g more id = PathLeads (strong_targets g) (ids_of_client g ++ more) id
 

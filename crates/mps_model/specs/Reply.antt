@@ -11,10 +11,11 @@ use Rattle.mps_model.specs.Answer.{Answer, refused}
 use Rattle.mps_model.specs.Graph.{Graph}
 use Rattle.mps_model.specs.World.{World}
 use Rattle.mps_model.specs.Checked.{Act, Checked, says}
-use Rattle.mps_model.specs.Making.{act_arena, act_limit, act_committed, act_chain, act_pool, act_pool_on_chain, act_pool_mfs, act_pool_mvff, act_table, act_area, act_blocks, act_drop_root, act_point, act_drop_point, act_dependency}
+use Rattle.mps_model.specs.Making.{act_arena, act_limit, act_committed, act_chain, act_pool, act_pool_on_chain, act_pool_mfs, act_pool_mvff, act_table, act_area, act_blocks, act_drop_root, act_point, act_drop_point}
 use Rattle.mps_model.specs.Allocating.{act_reserve, act_init_number, act_init_reference, act_commit, act_alloc, act_free, act_load, act_store}
 use Rattle.mps_model.specs.Accessing.{act_get, act_put, act_number, act_set_number, act_copy, act_clear, act_same, act_null, act_head, act_address, act_poke, act_peek, act_pin, act_take}
-use Rattle.mps_model.specs.Collecting.{act_start, act_start_chain, act_step, act_collect, act_clamp, act_park, act_release, act_finalize, act_definalize, act_message, act_dependency_reset, act_dependency_add, act_dependency_merge, act_dependency_stale, act_live, act_dump}
+use Rattle.mps_model.specs.Dependency.{act_dependency, act_dependency_reset, act_dependency_add, act_dependency_merge, act_dependency_stale}
+use Rattle.mps_model.specs.Collecting.{act_start, act_start_chain, act_step, act_collect, act_clamp, act_park, act_release, act_finalize, act_definalize, act_message, act_live, act_dump}
 
 -- the first refusal whose condition holds, or the answer and the world after the call. `marked` counts for `poke` alone
 abbrev pub act : (marked : Bool) → (judged after : World) → Call → Checked Act

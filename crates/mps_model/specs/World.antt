@@ -12,6 +12,7 @@ use Rattle.mps_base.specs.declared.names.Rank.{Rank}
 use Rattle.mps_format.specs.Layout.{Layout}
 use Rattle.mps_format.specs.Any.{numbered_layout}
 use Rattle.mps_model.specs.Graph.{Graph, Object, Point, Reservation, AreaWord, PlainWord, Hold, entry_at, object_at, size_of, is_automatic, is_live_reservation, empty_graph}
+use Rattle.mps_model.specs.Reachable.{IsReachableWith}
 use Rattle.mps_model.specs.Collection.{Collection}
 
 -- the kind of a pool
@@ -361,3 +362,13 @@ abbrev pub with_tail : World → (pool generation : ℕ) → Run → World
 with_tail w pool generation words = record w {
   tails = record { pool = pool; generation = generation; words = words } ∷ filter (λ t. not (is_tail_of pool generation t)) w.tails;
 }
+
+-- ---- wide reachability
+
+-- the live automatic objects in which an area word lies
+abbrev pub ids_of_area_words : World → List ℕ
+ids_of_area_words w = filter (has_area_word w) (live_automatic_ids w)
+
+-- reachable, where the objects in which area words lie are roots too
+abbrev pub IsWidelyReachable : World → (id : ℕ) → Type 0
+IsWidelyReachable w id = IsReachableWith w.graph (ids_of_area_words w) id
