@@ -24,3 +24,6 @@ pub use names::{Kind, Name, Rank, Slot};
 pub use quiet_desk::QuietDesk;
 pub use refusal::{Flipped, Refusal};
 pub use trail::Trail;
+
+#[cfg(test)]
+mod tests;
