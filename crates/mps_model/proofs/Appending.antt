@@ -1,12 +1,12 @@
 -- Histories and logs that go on: what holds of a whole by its two parts.
-use Rattle.std.proofs.Common.{◌≡◌, ℕ, ◌+◌, refl, sym, ◌∙◌, ap, List, [], ◌∷◌, ◌++◌, add_assoc, add-zero, Option, Some, None}
+use Rattle.std.proofs.Common.{◌≡◌, ℕ, ◌+◌, refl, sym, ◌∙◌, ap, subst, List, [], ◌∷◌, ◌++◌, add_assoc, add-zero, Option, Some, None}
 use Rattle.std.specs.Prelude.{option_and_then}
 use Rattle.mps_base.specs.Record.{Record}
-use Rattle.mps_model.specs.Step.{History}
+use Rattle.mps_model.specs.Step.{Step, History}
 use Rattle.mps_model.specs.Log.{log_from, pools_made, pools_made_by, records_of_step}
 use Rattle.mps_model.specs.Replay.{Store, store_after, replay_from}
 use Rattle.mps_model.specs.World.{World}
-use Rattle.mps_model.specs.History.{IsLegalFrom, world_after, world_after_steps}
+use Rattle.mps_model.specs.History.{IsLegalFrom, IsLegalStep, world_after, world_after_steps}
 
 append_nil : {A : Type 0} (xs : List A) → xs ++ [] ≡ xs
 append_nil [] = refl
@@ -43,3 +43,18 @@ replay_on rs those each (Some s) = each s
 pub replay_from-append : (store : Store) (these those : List Record) → replay_from store (these ++ those) ≡ option_and_then (λ after. replay_from after those) (replay_from store these)
 replay_from-append store [] those = refl
 replay_from-append store (r ∷ rs) those = replay_on rs those (λ s. replay_from-append s rs those) (store_after store r)
+
+-- a legal history goes on by steps that are legal in the world that it leaves
+pub IsLegalFrom-then : (w v : World) (h more : History) → world_after_steps w h ≡ v → IsLegalFrom w h → IsLegalFrom v more → IsLegalFrom w (h ++ more)
+IsLegalFrom-then w v h more leaves first then_more =
+    IsLegalFrom-append w h more first (subst (λ left. IsLegalFrom left more) (sym leaves) then_more)
+
+-- where a history is legal, so is its later part, in the world that the first part leaves
+pub IsLegalFrom-later : (w : World) (h more : History) → IsLegalFrom w (h ++ more) → IsLegalFrom (world_after_steps w h) more
+IsLegalFrom-later w [] more legal = legal
+IsLegalFrom-later w (s ∷ ss) more legal = IsLegalFrom-later (world_after w s) ss more legal.1
+
+-- a history is not legal where its next step isn't, in the world that it leaves
+pub not_legal_then : (w v : World) (h : History) (s : Step) (more : History) → world_after_steps w h ≡ v → (IsLegalStep v s → ⊥) → IsLegalFrom w (h ++ s ∷ more) → ⊥
+not_legal_then w v h s more leaves refused legal =
+    refused (subst (λ left. IsLegalStep left s) leaves (IsLegalFrom-later w h (s ∷ more) legal).0)

@@ -1,2 +1,5 @@
 pub mod OneBlock
 pub mod Steps
+pub mod Copying
+pub mod Flipped
+pub mod Weak

@@ -1,2 +1,5 @@
 pub mod Script
 pub mod OneBlock
+pub mod Copying
+pub mod Flipped
+pub mod Weak

@@ -1,6 +1,7 @@
 -- Short words for the histories of this crate.
 use Rattle.std.specs.Prelude.{ℕ, List, ◌∷◌, replicate}
 use Rattle.mps_base.specs.declared.address.Addr.{Addr}
+use Rattle.mps_base.specs.declared.address.ZoneSet.{ZoneSet}
 use Rattle.mps_base.specs.declared.names.Name.{Name}
 use Rattle.mps_base.specs.declared.names.Slot.{Slot}
 use Rattle.mps_base.specs.declared.moves.Move.{Move}
@@ -47,3 +48,6 @@ address n = record { 0 = n }
 -- a step that said this
 abbrev pub step : (line : ℕ) → Call → List Move → Reply → Step
 step line call moves said = record { line = line; call = call; moves = moves; answer = Said said }
+
+abbrev pub zones : ℕ → ZoneSet
+zones set = record { 0 = set }

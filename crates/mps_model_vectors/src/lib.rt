@@ -3,8 +3,31 @@
 #![tactic(auto)]
 
 ghost use Rattle.mps_model_vectors.specs.OneBlock.{OneBlockIsLegal};
+ghost use Rattle.mps_model_vectors.specs.Copying.{CopyingIsLegal, CopyingIsReplayed};
+ghost use Rattle.mps_model_vectors.specs.Flipped.{FlippedIsLegal};
+ghost use Rattle.mps_model_vectors.specs.Weak.{WeakIsLegal};
 
 /// The history of a script that commits one block and prints 7 is legal.
 pub fn one_block_is_legal()
     ensures { OneBlockIsLegal }
+{}
+
+/// The history of a script whose one block a collection copies is legal.
+pub fn copying_is_legal()
+    ensures { CopyingIsLegal }
+{}
+
+/// Its log has 256 bytes, and replaying it gives the live blocks.
+pub fn copying_is_replayed()
+    ensures { CopyingIsReplayed }
+{}
+
+/// A history in which a flip ended a reservation, so that `commit` answers `flipped`, is legal.
+pub fn flipped_is_legal()
+    ensures { FlippedIsLegal }
+{}
+
+/// A history in which the second collection splats a weak reference is legal.
+pub fn weak_is_legal()
+    ensures { WeakIsLegal }
 {}
