@@ -11,7 +11,7 @@ use Rattle.mps_format.specs.Mapped.{is_mapped}
 use Rattle.mps_format.specs.Leaf.{is_leaf}
 use Rattle.mps_format.specs.Laws.{front_facts, mapped_facts, leaf_facts}
 use Rattle.mps_format.proofs.Colons.{has_colon, cut_at_colon}
-use Rattle.mps_format.specs.HeadText.{text_of, word_of, head_of_word, labelled_pair, front_word, mapped_word, leaf_word, IsInWords}
+use Rattle.mps_format.specs.HeadText.{text_of, word_of, head_of_word, head_text, labelled_pair, front_word, mapped_word, leaf_word, IsInWords}
 
 -- ---- the fields of a head word
 tag-head_word : (tag size extra : ℕ) → tag < 256 → tag_field (head_word tag size extra) ≡ tag
@@ -141,3 +141,7 @@ text_of-injective (Mapped a b) (Front c d) f k e = absurd (letters_differ 109 10
 text_of-injective (Mapped a b) (Leaf c) f k e = absurd (letters_differ 109 108 _ _ (λ q. omega arith) e)
 text_of-injective (Leaf a) (Front c d) f k e = absurd (letters_differ 108 102 _ _ (λ q. omega arith) e)
 text_of-injective (Leaf a) (Mapped c d) f k e = absurd (letters_differ 108 109 _ _ (λ q. omega arith) e)
+
+-- the text of a head word is the text of its head
+pub head_text-head_of_word : (h : ℕ) (head : Head) → head_of_word h ≡ Some head → head_text h ≡ text_of head
+head_text-head_of_word h head e = grind (arith, nat_tests, front_facts h, mapped_facts h, leaf_facts h)

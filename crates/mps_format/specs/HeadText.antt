@@ -1,10 +1,10 @@
 -- Heads as texts: `f:SIZE:REFERENCES`, `m:SIZE:MASK` and `l:SIZE`, with decimal numbers, and the words that they stand for.
-use Rattle.std.specs.Prelude.{◌≡◌, ℕ, ◌%◌, ◌^◌, ◌<◌, ◌==◌, nat_lt, nat_le, ◌&&◌, if◌then◌else◌, List, [], ◌∷◌, ◌++◌, codes, decimal, Option, Some, None, refl}
+use Rattle.std.specs.Prelude.{◌≡◌, ℕ, ◌%◌, ◌^◌, ◌<◌, ◌==◌, nat_lt, nat_le, ◌&&◌, if◌then◌else◌, List, ◌∷◌, ◌++◌, codes, decimal, Option, Some, None, refl}
 use Rattle.std.proofs.Common.{lit<, lit≤}
 use Rattle.std.proofs.lemmas.Fmt.{decimal_digit, decimal_step}
 use Rattle.mps_format.specs.declared.head.Head.{Head}
 use Rattle.mps_format.specs.declared.head.Head.TheVariants.{Front, Mapped, Leaf}
-use Rattle.mps_format.specs.Fields.{size_field, extra_field, head_word}
+use Rattle.mps_format.specs.Fields.{tag_field, size_field, extra_field, head_word}
 use Rattle.mps_format.specs.Front.{is_front}
 use Rattle.mps_format.specs.Mapped.{is_mapped}
 use Rattle.mps_format.specs.Leaf.{is_leaf}
@@ -45,19 +45,19 @@ word_of (Front size references) = front_word size references
 word_of (Mapped size mask) = mapped_word size mask
 word_of (Leaf size) = leaf_word size
 
--- ---- the head of a word, and its text: empty for a word that is no head
+-- ---- the head of a word, and its text
 abbrev pub head_of_word : ℕ → Option Head
 head_of_word word =
     if is_front word then Some (Front (size_field word) (extra_field word))
     else (if is_mapped word then Some (Mapped (size_field word) (extra_field word))
     else (if is_leaf word then Some (Leaf (size_field word)) else None))
 
-abbrev pub option_text : Option Head → List ℕ
-option_text (Some head) = text_of head
-option_text None = []
-
+-- the text of a head word, by its tag. A word that is no head has some text too
 abbrev pub head_text : ℕ → List ℕ
-head_text word = option_text (head_of_word word)
+head_text word =
+    if tag_field word == 1 then labelled_pair 102 (size_field word) (extra_field word)
+    else (if tag_field word == 2 then labelled_pair 109 (size_field word) (extra_field word)
+    else labelled 108 (size_field word))
 
 a_front_text : text_of (Front 3 1) ≡ codes "f:3:1"
 a_front_text = rw (decimal_digit 3 (lit< tt), decimal_digit 1 (lit< tt)) refl
@@ -89,5 +89,5 @@ a_mapped_word_as_text = rw (decimal_digit 3 (lit< tt), decimal_digit 6 (lit< tt)
 a_leaf_word_as_text : head_text 0x4003 ≡ codes "l:64"
 a_leaf_word_as_text = rw (decimal_step 64 (lit≤ tt) (lit< tt)) (rw (decimal_digit 6 (lit< tt)) refl)
 
-no_head : head_text 0x304 ≡ []
+no_head : head_of_word 0x304 ≡ None
 no_head = refl

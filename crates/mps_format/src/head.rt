@@ -2,7 +2,7 @@
 ghost use Rattle.std.specs.Prelude.{◌≡◌, ◌≤◌, take, drop, length};
 ghost use Rattle.mps_format.specs.HeadText.{head_text, front_word, mapped_word, leaf_word};
 
-use crate::head_word::{extra_of_head, size_of_head};
+use crate::head_word::{extra_of_head, size_of_head, tag_of_head};
 use crate::pair::{number_behind, pair_behind};
 use crate::put::{put_pair, put_single};
 use crate::{Format, Front, Leaf, Mapped};
@@ -90,17 +90,20 @@ impl Head {
     }
 }
 
-/// Writes the text of a head word to the front of `out`, and returns its length in bytes. A word that is no head has
-/// the empty text.
+/// Writes the text of a head word to the front of `out`, and returns its length in bytes. The tag decides the form of
+/// the text, so a word that is no head has a text too.
 pub fn put_head_text(word: u64, out: &mut [u8]) -> usize
     requires { 43 ≤ length out.old }
     ensures text { take result out.new ≡ head_text word }
     ensures rest { drop result out.new ≡ drop result out.old }
     ensures short { result ≤ 43 }
 {
-    match Head::of_word(word) {
-        Some(head) => head.put_text(out),
-        None => 0,
+    let size = u64::from(size_of_head(word));
+    let extra = u64::from(extra_of_head(word));
+    match tag_of_head(word) {
+        1 => put_pair(b'f', size, extra, out),
+        2 => put_pair(b'm', size, extra, out),
+        _ => put_single(b'l', size, out),
     }
 }
 

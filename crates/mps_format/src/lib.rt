@@ -14,7 +14,6 @@ mod pair;
 mod put;
 
 pub use any::AnyFormat;
-pub use decimal::{decimal_number, put_decimal};
 pub use format::Format;
 pub use front::Front;
 pub use head::{Head, put_head_text};
