@@ -1,8 +1,8 @@
 // The format whose references stand in front.
 use crate::Format;
 use crate::head_word::{
-    extra_of_head, size_of_head, tag_of_head, target_of_forwarded, target_of_word,
-    word_with_target, write_forwarded, write_pad,
+    FRONT, MAX_WORDS, extra_of_head, size_of_head, tag_of_head, target_of_forwarded,
+    target_of_word, word_with_target, write_forwarded, write_pad,
 };
 use mps_base::Addr;
 
@@ -18,7 +18,7 @@ impl Format for Front {
 
     fn accepts(&self, head: u64) -> bool {
         let size = size_of_head(head);
-        tag_of_head(head) == 1 && 2 <= size && size <= 65_536 && extra_of_head(head) < size
+        tag_of_head(head) == FRONT && 2 <= size && size <= MAX_WORDS && extra_of_head(head) < size
     }
 
     fn words(&self, head: u64) -> u32 {

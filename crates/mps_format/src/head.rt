@@ -2,7 +2,7 @@
 ghost use Rattle.std.specs.Prelude.{◌≡◌, ◌≤◌, take, drop, length};
 ghost use Rattle.mps_format.specs.HeadText.{head_text, front_word, mapped_word, leaf_word};
 
-use crate::head_word::{extra_of_head, size_of_head, tag_of_head};
+use crate::head_word::{FRONT, LEAF, MAPPED, MAX_WORDS, extra_of_head, size_of_head, tag_of_head};
 use crate::pair::{number_behind, pair_behind};
 use crate::put::{put_pair, put_single};
 use crate::{Format, Front, Leaf, Mapped};
@@ -77,10 +77,10 @@ impl Head {
 
     /// Writes the text to the front of `out`, and returns its length in bytes.
     pub fn put_text(&self, out: &mut [u8]) -> usize
-        requires { 43 ≤ length out.old }
+        requires { Self.MAX_TEXT ≤ length out.old }
         ensures text { take result out.new ≡ text_of self.now }
         ensures rest { drop result out.new ≡ drop result out.old }
-        ensures short { result ≤ 43 }
+        ensures short { result ≤ Self.MAX_TEXT }
     {
         match *self {
             Head::Front { size, references } => put_pair(b'f', size, references, out),
@@ -93,16 +93,16 @@ impl Head {
 /// Writes the text of a head word to the front of `out`, and returns its length in bytes. The tag decides the form of
 /// the text, so a word that is no head has a text too.
 pub fn put_head_text(word: u64, out: &mut [u8]) -> usize
-    requires { 43 ≤ length out.old }
+    requires { Head.MAX_TEXT ≤ length out.old }
     ensures text { take result out.new ≡ head_text word }
     ensures rest { drop result out.new ≡ drop result out.old }
-    ensures short { result ≤ 43 }
+    ensures short { result ≤ Head.MAX_TEXT }
 {
     let size = u64::from(size_of_head(word));
     let extra = u64::from(extra_of_head(word));
     match tag_of_head(word) {
-        1 => put_pair(b'f', size, extra, out),
-        2 => put_pair(b'm', size, extra, out),
+        FRONT => put_pair(b'f', size, extra, out),
+        MAPPED => put_pair(b'm', size, extra, out),
         _ => put_single(b'l', size, out),
     }
 }
@@ -111,8 +111,8 @@ pub fn put_head_text(word: u64, out: &mut [u8]) -> usize
 fn word_of_front(size: u64, references: u64) -> u64
     ensures { result ≡ front_word size references }
 {
-    if 2 <= size && size <= 65_536 && references < size {
-        1 + 0x100 * size + 0x1_0000_0000 * references
+    if 2 <= size && size <= u64::from(MAX_WORDS) && references < size {
+        FRONT + 0x100 * size + 0x1_0000_0000 * references
     } else {
         0
     }
@@ -123,7 +123,7 @@ fn word_of_mapped(size: u64, mask: u64) -> u64
     ensures { result ≡ mapped_word size mask }
 {
     if 2 <= size && size <= 32 && mask % 2 == 0 && mask < 1 << size {
-        2 + 0x100 * size + 0x1_0000_0000 * mask
+        MAPPED + 0x100 * size + 0x1_0000_0000 * mask
     } else {
         0
     }
@@ -133,8 +133,8 @@ fn word_of_mapped(size: u64, mask: u64) -> u64
 fn word_of_leaf(size: u64) -> u64
     ensures { result ≡ leaf_word size }
 {
-    if 2 <= size && size <= 65_536 {
-        3 + 0x100 * size
+    if 2 <= size && size <= u64::from(MAX_WORDS) {
+        LEAF + 0x100 * size
     } else {
         0
     }

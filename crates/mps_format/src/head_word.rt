@@ -6,6 +6,18 @@ ghost use Rattle.mps_format.specs.References.{target_of, with_target};
 
 use mps_base::Addr;
 
+/// The most words that a block or a pad has.
+pub const MAX_WORDS: u32 = 65_536;
+
+/// The tag of a head of the format `front`.
+pub const FRONT: u64 = 1;
+
+/// The tag of a head of the format `mapped`.
+pub const MAPPED: u64 = 2;
+
+/// The tag of a head of the format `leaf`.
+pub const LEAF: u64 = 3;
+
 /// The tag of a forwarded block's head.
 const FORWARDED: u64 = 4;
 
@@ -40,7 +52,7 @@ pub fn write_forwarded(block: &mut [u64], to: Addr)
     ensures head { slice_index block.new 0 ≡ forwarded_word (length block.old) }
     ensures target { slice_index block.new 1 ≡ to.0 }
 {
-    block[0] = FORWARDED + 0x100 * size_of_head(block[0]) as u64;
+    block[0] = FORWARDED + 0x100 * u64::from(size_of_head(block[0]));
     block[1] = to.0;
 }
 
@@ -52,9 +64,9 @@ pub fn target_of_forwarded(mem: &[u64]) -> Option<Addr>
         × (slice_index mem.now 0 ≡ forwarded_word size))) }
 {
     let head = *mem.first()?;
-    let size = size_of_head(head) as usize;
-    let whole = 2 <= size && size <= 65_536 && size <= mem.len();
-    if whole && head == FORWARDED + 0x100 * size as u64 {
+    let size = size_of_head(head);
+    let whole = 2 <= size && size <= MAX_WORDS && size as usize <= mem.len();
+    if whole && head == FORWARDED + 0x100 * u64::from(size) {
         Some(Addr(mem[1]))
     } else {
         None

@@ -1,7 +1,7 @@
 // The format without references.
 use crate::Format;
 use crate::head_word::{
-    extra_of_head, size_of_head, tag_of_head, target_of_forwarded, target_of_word,
+    LEAF, MAX_WORDS, extra_of_head, size_of_head, tag_of_head, target_of_forwarded, target_of_word,
     word_with_target, write_forwarded, write_pad,
 };
 use mps_base::Addr;
@@ -18,7 +18,7 @@ impl Format for Leaf {
 
     fn accepts(&self, head: u64) -> bool {
         let size = size_of_head(head);
-        tag_of_head(head) == 3 && 2 <= size && size <= 65_536 && extra_of_head(head) == 0
+        tag_of_head(head) == LEAF && 2 <= size && size <= MAX_WORDS && extra_of_head(head) == 0
     }
 
     fn words(&self, head: u64) -> u32 {

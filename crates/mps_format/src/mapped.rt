@@ -4,7 +4,7 @@ ghost use Rattle.std.specs.Int.{bit_at};
 
 use crate::Format;
 use crate::head_word::{
-    extra_of_head, size_of_head, tag_of_head, target_of_forwarded, target_of_word,
+    MAPPED, extra_of_head, size_of_head, tag_of_head, target_of_forwarded, target_of_word,
     word_with_target, write_forwarded, write_pad,
 };
 use mps_base::Addr;
@@ -46,7 +46,11 @@ impl Format for Mapped {
     fn accepts(&self, head: u64) -> bool {
         let size = size_of_head(head);
         let mask = extra_of_head(head);
-        tag_of_head(head) == 2 && 2 <= size && size <= 32 && mask % 2 == 0 && fits_bits(mask, size)
+        tag_of_head(head) == MAPPED
+            && 2 <= size
+            && size <= 32
+            && mask % 2 == 0
+            && fits_bits(mask, size)
     }
 
     fn words(&self, head: u64) -> u32 {
