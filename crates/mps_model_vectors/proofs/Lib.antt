@@ -3,3 +3,4 @@ pub mod Steps
 pub mod Copying
 pub mod Flipped
 pub mod Weak
+pub mod Finalized

@@ -6,6 +6,7 @@ ghost use Rattle.mps_model_vectors.specs.OneBlock.{OneBlockIsLegal};
 ghost use Rattle.mps_model_vectors.specs.Copying.{CopyingIsLegal, CopyingIsReplayed};
 ghost use Rattle.mps_model_vectors.specs.Flipped.{FlippedIsLegal};
 ghost use Rattle.mps_model_vectors.specs.Weak.{WeakIsLegal};
+ghost use Rattle.mps_model_vectors.specs.Finalized.{FinalizedIsLegal};
 
 /// The history of a script that commits one block and prints 7 is legal.
 pub fn one_block_is_legal()
@@ -30,4 +31,9 @@ pub fn flipped_is_legal()
 /// A history in which the second collection splats a weak reference is legal.
 pub fn weak_is_legal()
     ensures { WeakIsLegal }
+{}
+
+/// A history in which a block that was registered twice is posted twice, and then freed, is legal.
+pub fn finalized_is_legal()
+    ensures { FinalizedIsLegal }
 {}
