@@ -4,3 +4,5 @@ pub mod Copying
 pub mod Flipped
 pub mod Weak
 pub mod Finalized
+pub mod Refusing
+pub mod WrongAnswers

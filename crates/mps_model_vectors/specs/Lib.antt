@@ -4,3 +4,4 @@ pub mod Copying
 pub mod Flipped
 pub mod Weak
 pub mod Finalized
+pub mod WrongAnswers

@@ -1,0 +1,135 @@
+-- Histories that are not legal because of an answer.
+use Rattle.std.specs.Prelude.{[], ◌∷◌, ◌++◌}
+use Rattle.mps_base.specs.declared.moves.Move.TheVariants as moves
+use Rattle.mps_base.specs.declared.names.Kind.TheVariants as kind
+use Rattle.mps_base.specs.declared.names.Rank.TheVariants as rank
+use Rattle.mps_base.specs.declared.refusal.Refusal.TheVariants as refusal
+use Rattle.mps_model.specs.declared.call.Call.TheVariants as call
+use Rattle.mps_model.specs.declared.reply.Reply.TheVariants as reply
+use Rattle.mps_model.specs.Step.{Step, History}
+use Rattle.mps_model.specs.History.{IsLegalHistory}
+use Rattle.mps_model_vectors.specs.Script.{d, p, t, x, at_index, address, zones, step}
+use Rattle.mps_model_vectors.specs.OneBlock.{prelude, pair_head, one_block}
+use Rattle.mps_model_vectors.specs.Flipped.{flip_steps, commit_step}
+
+-- a history that a step can't follow
+abbrev pub CannotFollow : History → Step → Type 0
+CannotFollow history s = ¬ IsLegalHistory (history ++ s ∷ [])
+
+-- ---- commit
+
+-- a reservation that no flip ended
+abbrev pub reserved : History
+reserved = prelude ++ step 5 (call.Reserve x 0x201) (moves.Seg (address 0x1000) 1 0 0 ∷ []) reply.Ok ∷ []
+
+abbrev pub commit_flipped : Step
+commit_flipped = commit_step [] reply.Flipped
+
+-- `commit` answers `flipped` where no flip came
+abbrev pub FlippedWithoutFlip : Type 0
+FlippedWithoutFlip = CannotFollow reserved commit_flipped
+
+-- a reservation that a flip ended
+abbrev pub flipped_away : History
+flipped_away = prelude ++ flip_steps
+
+abbrev pub commit_with_move : Step
+commit_with_move = commit_step (moves.Commit (address 0x1000) 2 0 ∷ []) reply.Ok
+
+abbrev pub commit_without_move : Step
+commit_without_move = commit_step [] reply.Ok
+
+-- `commit` answers `ok` across a flip, with its move or without
+abbrev pub CommitAcrossFlip : Type 0
+CommitAcrossFlip =
+    CannotFollow flipped_away commit_with_move × CannotFollow flipped_away commit_without_move
+
+-- ---- refusals for want of room
+
+-- an arena of one grain, which holds a block of 4 words and a gap behind it
+abbrev pub one_grain : History
+one_grain =
+    step 1 (call.Arena 1 1) [] reply.Ok
+    ∷ step 2 (call.Table t 1) [] reply.Ok
+    ∷ step 3 (call.Pool p kind.Lo 3) [] reply.Ok
+    ∷ step 4 (call.Point x p rank.Exact) [] reply.Ok
+    ∷ step 5 (call.Reserve x 0x403) (moves.Seg (address 0x1000) 1 0 0 ∷ []) reply.Ok
+    ∷ step 6 (call.Commit x (at_index t 0)) (moves.Commit (address 0x1000) 4 0 ∷ []) reply.Ok
+    ∷ []
+
+abbrev pub limit_beside_gap : Step
+limit_beside_gap = step 7 (call.Reserve x 0x403) [] (reply.Refused (refusal.CommitLimit 1 1 1))
+
+-- refused by the commit limit while a gap fits
+abbrev pub LimitBesideGap : Type 0
+LimitBesideGap = CannotFollow one_grain limit_beside_gap
+
+abbrev pub limit_beside_run : Step
+limit_beside_run = step 5 (call.Reserve x 0x201) [] (reply.Refused (refusal.CommitLimit 0 1 8))
+
+abbrev pub no_run_beside_run : Step
+no_run_beside_run = step 5 (call.Reserve x 0x201) [] (reply.Refused (refusal.NoRun 1 0))
+
+-- refused by the commit limit, or for want of a run, while a run fits within the limit
+abbrev pub LimitBesideRun : Type 0
+LimitBesideRun =
+    CannotFollow prelude limit_beside_run × CannotFollow prelude no_run_beside_run
+
+-- ---- dependencies
+
+-- a dependency on a block, before anything moved
+abbrev pub depending : History
+depending =
+    one_block
+    ++ step 9 (call.Dependency d) [] reply.Ok
+    ∷ step 10 (call.DependencyAdd d (at_index t 0)) [] reply.Ok
+    ∷ []
+
+abbrev pub stale : Step
+stale = step 11 (call.DependencyStale d) [] reply.Yes
+
+-- `ldstale` can't always answer `yes`
+abbrev pub StaleWithoutFlip : Type 0
+StaleWithoutFlip = CannotFollow depending stale
+
+-- a dependency on a block that then moved
+abbrev pub moved_on : History
+moved_on =
+    depending
+    ++ step 11 call.Start (moves.Flip (zones 2) 16 0 ∷ moves.Seg (address 0x2000) 1 0 0 ∷ moves.Moved (address 0x1000) (address 0x2000) ∷ []) reply.Ok
+    ∷ []
+
+abbrev pub fresh : Step
+fresh = step 12 (call.DependencyStale d) [] reply.No
+
+-- and it can't always answer `no`
+abbrev pub FreshAfterMove : Type 0
+FreshAfterMove = CannotFollow moved_on fresh
+
+-- ---- the read barrier
+
+-- two linked blocks: the one in slot 0, at 0x1018, refers to the one at 0x1000, which no slot holds
+abbrev pub linked : History
+linked =
+    prelude
+    ++ step 5 (call.Reserve x pair_head) (moves.Seg (address 0x1000) 1 0 0 ∷ []) reply.Ok
+    ∷ step 6 (call.Commit x (at_index t 1)) (moves.Commit (address 0x1000) 3 0 ∷ []) reply.Ok
+    ∷ step 7 (call.Reserve x pair_head) [] reply.Ok
+    ∷ step 8 (call.InitReference x 1 (at_index t 1)) [] reply.Ok
+    ∷ step 9 (call.Commit x (at_index t 0)) (moves.Commit (address 0x1018) 3 0 ∷ []) reply.Ok
+    ∷ step 10 (call.Clear (at_index t 1)) [] reply.Ok
+    ∷ []
+
+-- a collection begins, and moves the block in slot 0
+abbrev pub linked_started : History
+linked_started =
+    linked
+    ++ step 11 call.Start (moves.Flip (zones 2) 16 0 ∷ moves.Seg (address 0x2000) 1 0 0 ∷ moves.Moved (address 0x1018) (address 0x2000) ∷ []) reply.Ok
+    ∷ []
+
+abbrev pub get_without_barrier : Step
+get_without_barrier = step 12 (call.Get (at_index t 1) (at_index t 0) 1) [] reply.Ok
+
+-- a `get` hands out a block at its old place
+abbrev pub GetOfOldPlace : Type 0
+GetOfOldPlace = CannotFollow linked_started get_without_barrier
