@@ -14,6 +14,7 @@ mod writing;
 pub use event::Event;
 pub use fault::{BadMagic, LogFault};
 pub use headers::{header, header_of};
+pub use name::is_padded_name;
 pub use reading::first;
 pub use record::RecordRef;
 pub use version::Version;

@@ -44,8 +44,8 @@ fn first_zero(bytes: &[u8]) -> Option<usize>
     bytes.iter().position(|byte| *byte == 0)
 }
 
-// Whether the bytes are a name and then zeros.
-pub(crate) fn is_padded_name(bytes: &[u8]) -> bool
+/// Whether the bytes are a name, a letter a to z and then letters a to z, digits or underscores, and then zeros.
+pub fn is_padded_name(bytes: &[u8]) -> bool
     ensures { result ≡ is_padded_name bytes.now }
 {
     let length = first_zero(bytes).unwrap_or(bytes.len());

@@ -1,0 +1,144 @@
+// `cnv`: the portable text of a log.
+
+ghost use Rattle.std.specs.Prelude.{◌≡◌, ◌≤◌, ◌<◌, ◌+◌, ◌*◌, ◌++◌, length, IfOk, IfSome};
+ghost use Rattle.mps_tools.specs.Causes.{IsCaused, IsTold, Works, Answers};
+ghost use Rattle.std.specs.List.{flat_map};
+ghost use Rattle.mps_event.specs.Event.{event_of};
+ghost use Rattle.mps_tools.specs.Portable.{record_line, field_text, is_wanted};
+ghost use Rattle.mps_tools.specs.KindSet.{bits_of};
+ghost use Rattle.mps_tools.specs.Streams.{Runs};
+
+use crate::input::Input;
+use crate::kinds::Kinds;
+use crate::output::Output;
+use crate::reading::{
+    MOST_OF_A_RECORD, after_the_last, flush_after, make_room, open_log, put_first_line,
+};
+use crate::stop::{Stop, finish};
+use mps_base::Desk;
+use mps_event::{Event, RecordRef, Version, first};
+use std::alloc::Global;
+
+/// Prints the portable text of the log of this name, of the records of these kinds, and answers the status of the
+/// program: 0, or with a report 3 where a read failed, 4 where a write failed, 6 at the first record that is wrong, 7
+/// where record 2^32 begins, 8 for want of memory.
+pub fn cnv<D: Desk>(alloc: Global, log: &str, kinds: Kinds, desk: &mut D) -> u8
+    ensures { Answers (D.outside desk.old) (D.outside desk.new) result }
+{
+    let ending = convert(alloc, log, kinds, desk);
+    finish(ending, desk)
+}
+
+fn convert<D: Desk>(alloc: Global, log: &str, kinds: Kinds, desk: &mut D) -> Result<(), Stop>
+    ensures cause { IsCaused (D.outside desk.old) (D.outside desk.new) result }
+    ensures runs { Runs (D.outside desk.old) (D.outside desk.new) }
+{
+    let mut input = match Input::new(alloc) {
+        Ok(input) => input,
+        Err(_) => return Err(Stop::OutOfMemory),
+    };
+    let mut output = match Output::new(alloc) {
+        Ok(output) => output,
+        Err(_) => return Err(Stop::OutOfMemory),
+    };
+    let version = open_log(log, &mut input, desk)?;
+    put_first_line(version, &mut output);
+    let ending = convert_records(version, kinds, &mut input, &mut output, desk);
+    flush_after(ending, &mut output, desk)
+}
+
+fn convert_records<D: Desk>(
+    version: Version,
+    kinds: Kinds,
+    input: &mut Input,
+    output: &mut Output,
+    desk: &mut D,
+) -> Result<(), Stop>
+    ensures { Works (D.outside desk.old) (D.outside desk.new) input.old input.new result }
+{
+    let mut offset: u64 = 8;
+    for _ in 0..u32::MAX {
+        match convert_next(version, kinds, input, offset, output, desk)? {
+            None => return Ok(()),
+            Some(size) => offset += size as u64,
+        }
+    }
+    after_the_last(input, desk)
+}
+
+// The next record, and its size; None at the end.
+fn convert_next<D: Desk>(
+    version: Version,
+    kinds: Kinds,
+    input: &mut Input,
+    offset: u64,
+    output: &mut Output,
+    desk: &mut D,
+) -> Result<Option<usize>, Stop>
+    ensures works { Works (D.outside desk.old) (D.outside desk.new) input.old input.new result }
+    ensures size { IfOk result (λ o. IfSome o (λ size. size ≤ 40)) }
+{
+    input.fill(MOST_OF_A_RECORD, desk);
+    make_room(output, desk)?;
+    let size = convert_record(version, kinds, input, offset, output)?;
+    input.take(size.unwrap_or(0));
+    Ok(size)
+}
+
+// The record at the front, and its size; None at the end.
+fn convert_record(
+    version: Version,
+    kinds: Kinds,
+    input: &Input,
+    offset: u64,
+    output: &mut Output,
+) -> Result<Option<usize>, Stop>
+    requires { length output.old + 512 ≤ 65536 }
+    ensures told { IsTold input.now result }
+    ensures size { IfOk result (λ o. IfSome o (λ size. (size ≤ 40) × (size ≤ length input.now.pending))) }
+{
+    match first(input.pending(), input.has_ended(), version) {
+        Err(fault) => Err(Stop::BadRecord(offset, fault)),
+        Ok(None) if input.has_failed() => Err(Stop::ReadFailed),
+        Ok(None) => Ok(None),
+        Ok(Some(entry)) => {
+            if is_wanted(&entry, version, kinds) {
+                put_record(&entry, output);
+            }
+            Ok(Some(entry.size()))
+        }
+    }
+}
+
+fn is_wanted(entry: &RecordRef<'_>, version: Version, kinds: Kinds) -> bool
+    ensures { result ≡ is_wanted (bits_of kinds) (event_of version entry.now.code) }
+{
+    match Event::of_code(entry.code(), version) {
+        Some(event) => kinds.has(event),
+        None => false,
+    }
+}
+
+// The line of a record.
+fn put_record(entry: &RecordRef<'_>, output: &mut Output)
+    requires room { length output.old + 512 ≤ 65536 }
+    requires count { length entry.now.fields ≤ 4 }
+    ensures { output.new ≡ output.old ++ record_line entry.now }
+{
+    output.decimal(u64::from(entry.line()));
+    output.text(b" ");
+    output.decimal(u64::from(entry.code()));
+    put_fields(entry, output);
+    output.text(b"\n");
+}
+
+fn put_fields(entry: &RecordRef<'_>, output: &mut Output)
+    requires room { length output.old + 17 * length entry.now.fields ≤ 65536 }
+    ensures text { output.new ≡ output.old ++ flat_map field_text entry.now.fields }
+    ensures size { length output.new ≤ length output.old + 17 * length entry.now.fields }
+{
+    for i in 0..entry.count() {
+        output.text(b" ");
+        output.hexadecimal(entry.field(i));
+    }
+}

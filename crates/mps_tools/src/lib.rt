@@ -1,0 +1,16 @@
+//! The tools that read a log, and the generator of workloads: portable text, readable text, the live blocks of a log,
+//! and scripts of any length. Each reads its input in pieces through one buffer and prints through another.
+#![tactic(auto)]
+
+mod convert;
+mod digits;
+mod input;
+mod kinds;
+mod notice;
+mod output;
+mod put;
+mod reading;
+mod stop;
+
+pub use convert::cnv;
+pub use kinds::Kinds;

@@ -1,0 +1,111 @@
+// What the tools that read a log share.
+
+ghost use Rattle.std.specs.Prelude.{◌≡◌, ◌≤◌, ◌+◌, ◌++◌, ◌⊎◌, true, false, length, OnOk, OnErr};
+ghost use Rattle.mps_base.specs.Desk.{HasRisen};
+ghost use Rattle.mps_tools.specs.Causes.{IsCaused, IsTold, Works};
+ghost use Rattle.mps_tools.specs.Portable.{first_line};
+ghost use Rattle.mps_tools.specs.Streams.{Runs};
+
+use crate::input::Input;
+use crate::output::Output;
+use crate::stop::Stop;
+use mps_base::Desk;
+use mps_event::{Version, header};
+
+// The most bytes of a record.
+pub(crate) const MOST_OF_A_RECORD: usize = 40;
+
+// Opens a log and takes its header.
+pub(crate) fn open_log<D: Desk>(log: &str, input: &mut Input, desk: &mut D) -> Result<Version, Stop>
+    requires { input.old.failed ≡ false }
+    ensures cause { IsCaused (D.outside desk.old) (D.outside desk.new) result }
+    ensures fault { input.new.failed ≡ true → HasRisen (D.outside desk.old).in_faults (D.outside desk.new).in_faults }
+    ensures runs { Runs (D.outside desk.old) (D.outside desk.new) }
+{
+    if desk.open(log).is_err() {
+        return Err(Stop::ReadFailed);
+    }
+    input.fill(8, desk);
+    take_header(input)
+}
+
+// Takes the header at the front.
+fn take_header(input: &mut Input) -> Result<Version, Stop>
+    ensures told { IsTold input.old result }
+    ensures failed { input.new.failed ≡ input.old.failed }
+{
+    match header(input.pending()) {
+        Ok(version) => {
+            input.take(8);
+            Ok(version)
+        }
+        Err(_) if input.has_failed() && input.pending().len() < 8 => Err(Stop::ReadFailed),
+        Err(_) => Err(Stop::BadHeader),
+    }
+}
+
+// The first line of a text.
+pub(crate) fn put_first_line(version: Version, output: &mut Output)
+    requires { length output.old + 9 ≤ 65536 }
+    ensures { output.new ≡ output.old ++ first_line version }
+{
+    match version {
+        Version::One => output.text(b"mpslog 1\n"),
+        Version::Two => output.text(b"mpslog 2\n"),
+    }
+}
+
+// Makes room for a line.
+pub(crate) fn make_room<D: Desk>(output: &mut Output, desk: &mut D) -> Result<(), Stop>
+    ensures room { OnOk result (length output.new + 512 ≤ 65536) }
+    ensures cause { OnErr result (result ≡ Err Stop.WriteFailed) }
+    ensures fault { OnErr result (HasRisen (D.outside desk.old).out_faults (D.outside desk.new).out_faults) }
+    ensures runs { Runs (D.outside desk.old) (D.outside desk.new) }
+{
+    match output.make_room(desk) {
+        Ok(()) => Ok(()),
+        Err(_) => Err(Stop::WriteFailed),
+    }
+}
+
+// The end of a log or text whose last record or line has the greatest number.
+pub(crate) fn after_the_last<D: Desk>(input: &mut Input, desk: &mut D) -> Result<(), Stop>
+    ensures { Works (D.outside desk.old) (D.outside desk.new) input.old input.new result }
+{
+    input.fill(1, desk);
+    end_of(input)
+}
+
+fn end_of(input: &Input) -> Result<(), Stop>
+    ensures { IsTold input.now result }
+{
+    if !input.pending().is_empty() {
+        Err(Stop::TooLong)
+    } else if input.has_failed() {
+        Err(Stop::ReadFailed)
+    } else {
+        Ok(())
+    }
+}
+
+// Prints what was gathered, after the end or a stop. Of two faults the first counts.
+pub(crate) fn flush_after<D: Desk>(
+    ending: Result<(), Stop>,
+    output: &mut Output,
+    desk: &mut D,
+) -> Result<(), Stop>
+    ensures first { (result ≡ ending) ⊎ ((result ≡ Err Stop.WriteFailed) × HasRisen (D.outside desk.old).out_faults (D.outside desk.new).out_faults) }
+    ensures runs { Runs (D.outside desk.old) (D.outside desk.new) }
+{
+    match ending {
+        Err(Stop::WriteFailed) => ending,
+        Err(Stop::ReadFailed) => {
+            let _ = output.flush(desk);
+            ending
+        }
+        _ => match output.flush(desk) {
+            Ok(()) => ending,
+            Err(_) => Err(Stop::WriteFailed),
+        },
+    }
+}
