@@ -1,5 +1,6 @@
 pub mod Address
 pub mod Desk
+pub mod Held
 pub mod HostDesk
 pub mod MemDesk
 pub mod Run

@@ -1,8 +1,11 @@
 // Bytes that wait to be written.
-ghost use Rattle.std.specs.Prelude.{◌<◌, ◌≤◌, length, IfSome};
+ghost use Rattle.std.specs.Prelude.{◌≡◌, ◌<◌, ◌≤◌, [], ◌++◌, true, false, length, take, IsTrue, IfNone, IfSome, OnSome};
+ghost use Rattle.std.specs.Io.KnownBytes.{Appends};
+ghost use Rattle.mps_base.specs.Held.{IsCarriedOn};
 
 use std::alloc::Global;
 use std::io::Write;
+use std::marker::Model;
 
 /// The most bytes that wait.
 const MOST_HELD: usize = 65_536;
@@ -14,8 +17,18 @@ pub struct Held {
     failed: bool,
 }
 
+impl Model for Held {
+    ghost use Rattle.mps_base.specs.Held.{Waiting};
+
+    ghost Value = { Waiting };
+
+    ghost view = { λ h. record { bytes = h.bytes.items; failed = h.failed } };
+}
+
 impl Held {
-    pub fn new(alloc: Global) -> Held {
+    pub fn new(alloc: Global) -> Held
+        ensures { result ≡ record { bytes = []; failed = false } }
+    {
         Held {
             bytes: Vec::new(alloc),
             failed: false,
@@ -23,12 +36,18 @@ impl Held {
     }
 
     /// A write of held bytes failed.
-    pub fn has_failed(&self) -> bool {
+    pub fn has_failed(&self) -> bool
+        ensures { result ≡ self.now.failed }
+    {
         self.failed
     }
 
     /// Takes the piece, where there is room for it beside the bytes that wait.
-    pub fn hold(&mut self, piece: &[u8]) -> bool {
+    pub fn hold(&mut self, piece: &[u8]) -> bool
+        ensures held { IsTrue result → self.new ≡ record self.old { bytes = self.old.bytes ++ piece.now } }
+        ensures going { IsTrue result → self.old.failed ≡ false }
+        ensures left { result ≡ false → self.new ≡ self.old }
+    {
         let room = MOST_HELD.saturating_sub(self.bytes.len());
         !self.failed && piece.len() <= room && self.bytes.extend_from_slice(piece).is_ok()
     }
@@ -37,6 +56,10 @@ impl Held {
     pub fn take<W: Write>(&mut self, piece: &[u8], to: &mut W) -> Option<usize>
         ensures within { IfSome result (λ n. n ≤ length piece.now) }
         ensures some { IfSome result (λ n. 0 < length piece.now → 0 < n) }
+        ensures failed { IfNone result (self.new.failed ≡ true) }
+        ensures going { OnSome result (self.new.failed ≡ false) }
+        ensures in_order { IfSome result (λ n. IsCarriedOn (W.contents to.old) self.old.bytes (take n piece.now)
+            (W.contents to.new) self.new.bytes) }
     {
         if self.hold(piece) {
             return Some(piece.len());
@@ -58,7 +81,11 @@ impl Held {
     }
 
     /// Writes the bytes that wait.
-    pub fn write_to<W: Write>(&mut self, to: &mut W) {
+    pub fn write_to<W: Write>(&mut self, to: &mut W)
+        ensures nothing_waits { self.new.bytes ≡ [] }
+        ensures stays { self.old.failed ≡ true → self.new.failed ≡ true }
+        ensures written { self.new.failed ≡ false → Appends (W.contents to.old) (W.contents to.new) self.old.bytes }
+    {
         if !self.failed && !self.bytes.is_empty() {
             self.failed = to.write_all(&self.bytes).is_err();
         }
@@ -66,7 +93,9 @@ impl Held {
     }
 
     /// Lets go the bytes that wait.
-    pub fn let_go(&mut self) {
+    pub fn let_go(&mut self)
+        ensures { self.new ≡ record self.old { bytes = [] } }
+    {
         self.bytes.clear();
     }
 }
