@@ -6,7 +6,7 @@ use Rattle.mps_model.specs.Units.{reclaims, examines}
 use Rattle.mps_model.proofs.Reaching.{PathLeads-closed}
 use Rattle.mps_model.proofs.Appending.{IsLegalFrom-then}
 use Rattle.mps_model_vectors.specs.Script.{address}
-use Rattle.mps_model_vectors.specs.Finalized.{FinalizedIsLegal, registering, first_message, second_message, freeing, dropped_block, rest_behind, tail_behind}
+use Rattle.mps_model_vectors.specs.Finalized.{waiting, FinalizedIsLegal, registering, first_message, second_message, freeing, dropped_block, rest_behind, tail_behind}
 use Rattle.mps_model_vectors.proofs.Steps.{answered}
 
 false_is_not_true : false ≡ true → ⊥
@@ -14,13 +14,13 @@ false_is_not_true h = absurd cc
 
 -- registered twice; registered once more, after one message; and no more
 abbrev world_1 : World
-world_1 = dropped_block (0 ∷ 0 ∷ []) 0x1000 (rest_behind 0x1000) [] [] Unclamped
+world_1 = dropped_block (0 ∷ 0 ∷ []) [] 0x1000 (rest_behind 0x1000) [] [] Unclamped
 
 abbrev world_2 : World
-world_2 = dropped_block (0 ∷ []) 0x2000 empty_run (tail_behind 0x2000) (2 ∷ []) Parked
+world_2 = dropped_block (0 ∷ []) [] 0x2000 empty_run (tail_behind 0x2000) (2 ∷ []) Parked
 
 abbrev world_3 : World
-world_3 = dropped_block [] 0x1000 empty_run (tail_behind 0x1000) (2 ∷ 4 ∷ []) Parked
+world_3 = dropped_block [] [] 0x1000 empty_run (tail_behind 0x1000) (2 ∷ 4 ∷ []) Parked
 
 leaves_1 : world_after_steps empty_world registering ≡ world_1
 leaves_1 = refl
@@ -30,6 +30,13 @@ leaves_2 = refl
 
 leaves_3 : world_after_steps world_2 second_message ≡ world_3
 leaves_3 = refl
+
+-- one message waits
+abbrev pub waiting_world : World
+waiting_world = dropped_block (0 ∷ []) (0 ∷ []) 0x2000 empty_run (tail_behind 0x2000) (2 ∷ []) Parked
+
+pub waiting_leaves : world_after_steps empty_world waiting ≡ waiting_world
+waiting_leaves = refl
 
 registering_is_legal : IsLegalHistory registering
 registering_is_legal = (

@@ -6,3 +6,6 @@ pub mod Weak
 pub mod Finalized
 pub mod Refusing
 pub mod WrongAnswers
+pub mod WrongMoves
+pub mod WrongUnits
+pub mod Placing

@@ -14,14 +14,14 @@ false_is_not_true : false ≡ true → ⊥
 false_is_not_true h = absurd cc
 
 -- both objects are held, and no collection was
-abbrev held_world : World
+abbrev pub held_world : World
 held_world = weak_world (Some 0) (Some 1) [] Unclamped
 
 -- the weak object is held alone, after one collection
 abbrev dropped_world : World
 dropped_world = weak_world None (Some 1) (0 ∷ []) Parked
 
-pair_leaves : world_after_steps empty_world weak_pair ≡ held_world
+pub pair_leaves : world_after_steps empty_world weak_pair ≡ held_world
 pair_leaves = refl
 
 dropped_leaves : world_after_steps held_world target_dropped ≡ dropped_world

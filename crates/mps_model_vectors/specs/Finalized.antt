@@ -65,9 +65,13 @@ freeing =
 abbrev pub finalized : History
 finalized = registering ++ (first_message ++ (second_message ++ freeing))
 
--- the dropped block at a place, with its registrations, and with what is at hand and what collections left
-abbrev pub dropped_block : (registered : List ℕ) → (place : ℕ) → (buffer : Run) → List Tail → (flips : List ℕ) → ArenaState → World
-dropped_block registered place buffer tails flips state = record {
+-- a message waits for the client to take it
+abbrev pub waiting : History
+waiting = registering ++ step 10 call.Collect (posting_moves 2 0x1000 0x2000) reply.Ok ∷ []
+
+-- the dropped block at a place, with its registrations and messages, and with what is at hand and what collections left
+abbrev pub dropped_block : (registered messages : List ℕ) → (place : ℕ) → (buffer : Run) → List Tail → (flips : List ℕ) → ArenaState → World
+dropped_block registered messages place buffer tails flips state = record {
   graph = record {
     objects = record { pool = 0; body = Automatic 0x201 (HeadCell ∷ NumberCell 0 ∷ []) false } ∷ [];
     tables = Some (None ∷ None ∷ None ∷ None ∷ []) ∷ [];
@@ -75,7 +79,7 @@ dropped_block registered place buffer tails flips state = record {
     blocks = [];
     points = Some (record { pool = 0; rank = rank.Exact; reservation = None }) ∷ [];
     registered = registered;
-    messages = [];
+    messages = messages;
     names =
         record { name = t; thing = TableThing 0 }
         ∷ record { name = p; thing = PoolThing 0 }

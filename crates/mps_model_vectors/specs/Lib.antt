@@ -5,3 +5,6 @@ pub mod Flipped
 pub mod Weak
 pub mod Finalized
 pub mod WrongAnswers
+pub mod WrongMoves
+pub mod WrongUnits
+pub mod Placing

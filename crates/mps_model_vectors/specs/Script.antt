@@ -26,6 +26,9 @@ d = letter 100
 abbrev pub p : Name
 p = letter 112
 
+abbrev pub q : Name
+q = letter 113
+
 abbrev pub t : Name
 t = letter 116
 

@@ -8,6 +8,9 @@ ghost use Rattle.mps_model_vectors.specs.Flipped.{FlippedIsLegal};
 ghost use Rattle.mps_model_vectors.specs.Weak.{WeakIsLegal};
 ghost use Rattle.mps_model_vectors.specs.Finalized.{FinalizedIsLegal};
 ghost use Rattle.mps_model_vectors.specs.WrongAnswers.{FlippedWithoutFlip, CommitAcrossFlip, LimitBesideGap, LimitBesideRun, StaleWithoutFlip, FreshAfterMove, GetOfOldPlace};
+ghost use Rattle.mps_model_vectors.specs.WrongMoves.{SplatOfReachable, TwoPostsForOne, MoveOfPinned, FreeOfWaiting, StayBesideRoom, MarkedInPlace, UntoldFree, MoveAfterSplat};
+ghost use Rattle.mps_model_vectors.specs.WrongUnits.{CollectWithoutMoves, StartDoesAll, TwoUnitsForOne, ReclaimedDownwards, WeakScannedAsExact, PollWhereClamped};
+ghost use Rattle.mps_model_vectors.specs.Placing.{PlacementsCompute};
 
 /// The history of a script that commits one block and prints 7 is legal.
 pub fn one_block_is_legal()
@@ -72,4 +75,79 @@ pub fn fresh_after_move()
 /// `get` can't hand out a block at its old place.
 pub fn get_of_old_place()
     ensures { GetOfOldPlace }
+{}
+
+/// A weak reference isn't splatted while its target is in a slot.
+pub fn splat_of_reachable()
+    ensures { SplatOfReachable }
+{}
+
+/// One registration gives one message.
+pub fn two_posts_for_one()
+    ensures { TwoPostsForOne }
+{}
+
+/// A block in which an area word lies isn't moved.
+pub fn move_of_pinned()
+    ensures { MoveOfPinned }
+{}
+
+/// A block that only a waiting message holds isn't freed.
+pub fn free_of_waiting()
+    ensures { FreeOfWaiting }
+{}
+
+/// A block doesn't stay where there is room for it.
+pub fn stay_beside_room()
+    ensures { StayBesideRoom }
+{}
+
+/// A block of a copying pool isn't marked where it lies.
+pub fn marked_in_place()
+    ensures { MarkedInPlace }
+{}
+
+/// A collection tells of each block that it frees.
+pub fn untold_free()
+    ensures { UntoldFree }
+{}
+
+/// No block is moved after a splat.
+pub fn move_after_splat()
+    ensures { MoveAfterSplat }
+{}
+
+/// `collect` collects.
+pub fn collect_without_moves()
+    ensures { CollectWithoutMoves }
+{}
+
+/// `start` begins a collection, and doesn't do the whole of it.
+pub fn start_does_all()
+    ensures { StartDoesAll }
+{}
+
+/// Where one unit is asked, two segments aren't reclaimed.
+pub fn two_units_for_one()
+    ensures { TwoUnitsForOne }
+{}
+
+/// Segments aren't reclaimed in descending order.
+pub fn reclaimed_downwards()
+    ensures { ReclaimedDownwards }
+{}
+
+/// A unit scans no weak object as an exact one.
+pub fn weak_scanned_as_exact()
+    ensures { WeakScannedAsExact }
+{}
+
+/// A clamped arena polls nothing.
+pub fn poll_where_clamped()
+    ensures { PollWhereClamped }
+{}
+
+/// Where blocks are placed, in a few worlds.
+pub fn placements_compute()
+    ensures { PlacementsCompute }
 {}

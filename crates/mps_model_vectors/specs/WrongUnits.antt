@@ -1,0 +1,120 @@
+-- Histories that are not legal because of which moves a call makes.
+use Rattle.std.specs.Prelude.{[], ◌∷◌, ◌++◌, replicate}
+use Rattle.mps_base.specs.declared.moves.Move.TheVariants as moves
+use Rattle.mps_base.specs.declared.names.Kind.TheVariants as kind
+use Rattle.mps_base.specs.declared.names.Rank.TheVariants as rank
+use Rattle.mps_model.specs.declared.call.Call.TheVariants as call
+use Rattle.mps_model.specs.declared.reply.Reply.TheVariants as reply
+use Rattle.mps_model.specs.Step.{Step, History}
+use Rattle.mps_model_vectors.specs.Script.{p, q, t, w, x, y, at_index, address, zones, step}
+use Rattle.mps_model_vectors.specs.OneBlock.{prelude, one_block}
+use Rattle.mps_model_vectors.specs.Copying.{copying_moves}
+use Rattle.mps_model_vectors.specs.WrongAnswers.{CannotFollow}
+
+-- `collect` does nothing
+abbrev pub idle_collect : Step
+idle_collect = step 9 call.Collect [] reply.Ok
+
+abbrev pub CollectWithoutMoves : Type 0
+CollectWithoutMoves = CannotFollow one_block idle_collect
+
+-- `start` does the whole collection
+abbrev pub whole_start : Step
+whole_start = step 9 call.Start copying_moves reply.Ok
+
+abbrev pub StartDoesAll : Type 0
+StartDoesAll = CannotFollow one_block whole_start
+
+-- two blocks of marking pools, in a segment each, that nothing holds, and a collection that was begun
+abbrev pub two_to_reclaim : History
+two_to_reclaim =
+    step 1 (call.Arena 8 8) [] reply.Ok
+    ∷ step 2 (call.Table t 1) [] reply.Ok
+    ∷ step 3 (call.Pool p kind.Ams 1) [] reply.Ok
+    ∷ step 4 (call.Pool q kind.Ams 1) [] reply.Ok
+    ∷ step 5 (call.Point x p rank.Exact) [] reply.Ok
+    ∷ step 6 (call.Point y q rank.Exact) [] reply.Ok
+    ∷ step 7 (call.Reserve x 0x201) (moves.Seg (address 0x1000) 1 0 0 ∷ []) reply.Ok
+    ∷ step 8 (call.Commit x (at_index t 0)) (moves.Commit (address 0x1000) 2 0 ∷ []) reply.Ok
+    ∷ step 9 (call.Reserve y 0x201) (moves.Seg (address 0x2000) 1 1 0 ∷ []) reply.Ok
+    ∷ step 10 (call.Commit y (at_index t 0)) (moves.Commit (address 0x2000) 2 1 ∷ []) reply.Ok
+    ∷ step 11 (call.Clear (at_index t 0)) [] reply.Ok
+    ∷ step 12 call.Start (moves.Flip (zones 0) 16 0 ∷ []) reply.Ok
+    ∷ []
+
+-- one unit is asked, and two segments are reclaimed
+abbrev pub two_reclaimed : Step
+two_reclaimed =
+    step 13 (call.Step 1)
+    (moves.Free (address 0x1000)
+    ∷ moves.Unseg (address 0x1000)
+    ∷ moves.Free (address 0x2000)
+    ∷ moves.Unseg (address 0x2000)
+    ∷ moves.End
+    ∷ []) reply.Idle
+
+abbrev pub TwoUnitsForOne : Type 0
+TwoUnitsForOne = CannotFollow two_to_reclaim two_reclaimed
+
+-- the upper segment was reclaimed first, and then the lower one
+abbrev pub upper_first : History
+upper_first =
+    two_to_reclaim
+    ++ step 13 (call.Step 1) (moves.Free (address 0x2000) ∷ moves.Unseg (address 0x2000) ∷ []) reply.More
+    ∷ []
+
+abbrev pub lower_reclaimed : Step
+lower_reclaimed =
+    step 14 (call.Step 1) (moves.Free (address 0x1000) ∷ moves.Unseg (address 0x1000) ∷ moves.End ∷ []) reply.Idle
+
+abbrev pub ReclaimedDownwards : Type 0
+ReclaimedDownwards = CannotFollow upper_first lower_reclaimed
+
+-- a weak object in slot 1 refers to a block of a copying pool that nothing else holds, and a collection was begun
+abbrev pub weakly_held : History
+weakly_held =
+    prelude
+    ++ step 5 (call.Pool w kind.Awl 1) [] reply.Ok
+    ∷ step 6 (call.Point y w rank.Weak) [] reply.Ok
+    ∷ step 7 (call.Reserve x 0x201) (moves.Seg (address 0x1000) 1 0 0 ∷ []) reply.Ok
+    ∷ step 8 (call.Commit x (at_index t 0)) (moves.Commit (address 0x1000) 2 0 ∷ []) reply.Ok
+    ∷ step 9 (call.Reserve y 0x100000201) (moves.Seg (address 0x2000) 1 1 0 ∷ []) reply.Ok
+    ∷ step 10 (call.InitReference y 1 (at_index t 0)) [] reply.Ok
+    ∷ step 11 (call.Commit y (at_index t 1)) (moves.Commit (address 0x2000) 2 1 ∷ []) reply.Ok
+    ∷ step 12 (call.Clear (at_index t 0)) [] reply.Ok
+    ∷ step 13 call.Start (moves.Flip (zones 2) 16 0 ∷ []) reply.Ok
+    ∷ []
+
+-- a unit scans the weak object as an exact one
+abbrev pub weak_scanned : Step
+weak_scanned =
+    step 14 (call.Step 1) (moves.Seg (address 0x3000) 1 0 0 ∷ moves.Moved (address 0x1000) (address 0x3000) ∷ []) reply.More
+
+abbrev pub WeakScannedAsExact : Type 0
+WeakScannedAsExact = CannotFollow weakly_held weak_scanned
+
+-- a generation holds more than its capacity, and the arena is clamped
+abbrev pub clamped : History
+clamped =
+    step 1 (call.Arena 8 8) [] reply.Ok
+    ∷ step 2 (call.Chain q 1 (replicate 8 0)) [] reply.Ok
+    ∷ step 3 (call.PoolOnChain p kind.Amc 3 q) [] reply.Ok
+    ∷ step 4 (call.Table t 1) [] reply.Ok
+    ∷ step 5 (call.Point x p rank.Exact) [] reply.Ok
+    ∷ step 6 (call.Reserve x 0x20003) (moves.Seg (address 0x1000) 1 0 0 ∷ []) reply.Ok
+    ∷ step 7 (call.Commit x (at_index t 0)) (moves.Commit (address 0x1000) 512 0 ∷ []) reply.Ok
+    ∷ step 8 call.Clamp [] reply.Ok
+    ∷ []
+
+-- a `reserve` polls there
+abbrev pub clamped_poll : Step
+clamped_poll =
+    step 9 (call.Reserve x 0x203)
+    (moves.Flip (zones 2) 0 0
+    ∷ moves.Seg (address 0x2000) 1 0 0
+    ∷ moves.Moved (address 0x1000) (address 0x2000)
+    ∷ moves.Seg (address 0x3000) 1 0 0
+    ∷ []) reply.Ok
+
+abbrev pub PollWhereClamped : Type 0
+PollWhereClamped = CannotFollow clamped clamped_poll
