@@ -1,4 +1,3 @@
-pub mod Numbers
 pub mod Streams
 pub mod Reports
 pub mod Kinds

@@ -7,7 +7,7 @@ use Rattle.mps_event.specs.declared.version.Version.{Version}
 use Rattle.mps_event.specs.declared.version.Version.TheVariants.{One, Two}
 use Rattle.mps_event.specs.declared.event.Event.{Event}
 use Rattle.mps_event.specs.Event.{event_of}
-use Rattle.mps_tools.specs.Numbers.{hexadecimal}
+use Rattle.mps_numbers.specs.Hexadecimal.{hexadecimal}
 use Rattle.mps_tools.specs.Kinds.{is_among}
 
 -- the first line

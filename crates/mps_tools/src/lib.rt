@@ -3,12 +3,10 @@
 #![tactic(auto)]
 
 mod convert;
-mod digits;
 mod input;
 mod kinds;
 mod notice;
 mod output;
-mod put;
 mod reading;
 mod stop;
 

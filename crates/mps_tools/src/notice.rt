@@ -3,9 +3,8 @@
 ghost use Rattle.std.specs.Prelude.{◌≡◌, ◌≤◌, ◌+◌, ◌++◌, length, take, decimal};
 ghost use Rattle.mps_tools.specs.Streams.{Reports};
 
-use crate::put::put_text;
 use mps_base::Desk;
-use mps_format::put_decimal;
+use mps_numbers::{put_decimal, put_text};
 use std::marker::Model;
 
 // A text of at most 96 bytes.

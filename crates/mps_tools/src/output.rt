@@ -1,13 +1,11 @@
 // What a tool prints, gathered in a buffer.
 
 ghost use Rattle.std.specs.Prelude.{◌≡◌, ◌≤◌, ◌<◌, ◌+◌, ◌++◌, ◌⊎◌, ℕ, [], length, take, decimal, OnOk, OnErr, IfOk};
-ghost use Rattle.mps_tools.specs.Numbers.{hexadecimal};
+ghost use Rattle.mps_numbers.specs.Hexadecimal.{hexadecimal};
 ghost use Rattle.mps_tools.specs.Streams.{Prints, PrintsPart, Kept};
 
-use crate::digits::put_hexadecimal;
-use crate::put::put_text;
 use mps_base::{Desk, Failed};
-use mps_format::put_decimal;
+use mps_numbers::{put_decimal, put_hexadecimal, put_text};
 use std::alloc::{AllocError, Global};
 use std::marker::Model;
 

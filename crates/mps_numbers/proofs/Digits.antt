@@ -4,7 +4,7 @@ use Rattle.std.proofs.Math.Nat.{pow-suc}
 use Rattle.std.specs.Fmt.{digit_glyph, digits_onto, digits}
 use Rattle.std.proofs.lemmas.Bool.{ne_eqb}
 use Rattle.std.proofs.lemmas.List.{drop-set, drop_all}
-use Rattle.mps_tools.specs.Numbers.{hexadecimal}
+use Rattle.mps_numbers.specs.Hexadecimal.{hexadecimal}
 
 -- the digits, where those of `rest` are still to be written before the ones behind
 unfoldable pub completed : (rest at : ℕ) → List ℕ → List ℕ

@@ -2,7 +2,7 @@
 
 ghost use Rattle.std.specs.Prelude.{◌≡◌, ◌<◌, ◌≤◌, ◌+◌, ◌++◌, ◌^◌, false, length, take, drop};
 ghost use Rattle.std.specs.Fmt.{digit_glyph};
-ghost use Rattle.mps_tools.specs.Numbers.{hexadecimal};
+ghost use Rattle.mps_numbers.specs.Hexadecimal.{hexadecimal};
 
 use crate::put::put_text;
 
@@ -34,8 +34,8 @@ fn digits_at_end(number: u64, room: &mut [u8; 16]) -> usize
     at
 }
 
-// Writes a number at `at`, and answers the place behind it.
-pub(crate) fn put_hexadecimal(number: u64, out: &mut [u8], at: usize) -> usize
+/// Writes a number at `at`, and answers the place behind it.
+pub fn put_hexadecimal(number: u64, out: &mut [u8], at: usize) -> usize
     requires { at + 16 ≤ length out.old }
     ensures end { result ≡ at + length (hexadecimal number) }
     ensures short { result ≤ at + 16 }

@@ -1,7 +1,7 @@
 use Rattle.std.proofs.Common.{◌∙◌, ℕ, drop, ap, sym, arith}
 use Rattle.std.proofs.lemmas.List.{length-set}
-use Rattle.mps_tools.proofs.Hexadecimal.{completed, completed-none, one_more, first_digit, eqb_zero, some_room, rest_fits}
-use Rattle.mps_tools.proofs.digits.digits_at_end.Goals as goal
+use Rattle.mps_numbers.proofs.Digits.{completed, completed-none, one_more, first_digit, eqb_zero, some_room, rest_fits}
+use Rattle.mps_numbers.proofs.hexadecimal.digits_at_end.Goals as goal
 
 pub loop-rest-init : goal.loop-rest-init
 loop-rest-init c = record {

@@ -1,7 +1,7 @@
 use Rattle.std.proofs.Common.{◌≡◌, ◌<◌, ◌^◌, length, drop}
-use Rattle.mps_tools.specs.Numbers.{hexadecimal}
-use Rattle.mps_tools.proofs.Hexadecimal.{completed}
-use Rattle.mps_tools.proofs.digits.digits_at_end.Given as goal
+use Rattle.mps_numbers.specs.Hexadecimal.{hexadecimal}
+use Rattle.mps_numbers.proofs.Digits.{completed}
+use Rattle.mps_numbers.proofs.hexadecimal.digits_at_end.Given as goal
 
 abbrev pub invariant-loop-rest : goal.invariant-loop-rest
 invariant-loop-rest l = record {

@@ -1,0 +1,10 @@
+//! Numbers in texts, both ways: decimal, and hexadecimal in lower case, each without leading zeros.
+#![tactic(auto)]
+
+mod decimal;
+mod hexadecimal;
+mod put;
+
+pub use decimal::{decimal_number, put_decimal};
+pub use hexadecimal::put_hexadecimal;
+pub use put::put_text;
