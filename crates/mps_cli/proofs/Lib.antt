@@ -1,0 +1,5 @@
+pub mod Outsides
+pub mod Between
+pub mod NextLine
+pub mod Soundness
+pub mod RecordBytes

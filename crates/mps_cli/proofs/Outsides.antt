@@ -1,0 +1,130 @@
+-- One change of the outside after another.
+use Rattle.std.proofs.Common.{◌≡◌, ℕ, ◌+◌, ◌-◌, ◌≤◌, ◌<◌, Option, Some, None, List, ◌++◌, length, take, drop, refl, sym, ◌∙◌, ap, arith, append_assoc, inl, inr, ◌⊎◌}
+use Rattle.std.specs.Option.{option_map}
+use Rattle.std.proofs.Math.Seq.{take-add}
+use Rattle.std.proofs.lemmas.List.{take_rest}
+use Rattle.std.proofs.lemmas.Grind.{common_steps}
+use Rattle.mps_base.specs.Desk.{Outside, OnlyLogs, OnlyPrints, OnlyReports, OnlyReads, HasRisen, added, last_count}
+use Rattle.mps_cli.specs.Write.{appended}
+
+pub only_logs_self : (a : Outside) → OnlyLogs a a
+only_logs_self a = record {
+  input = refl;
+  in_faults = refl;
+  printed = refl;
+  out_faults = refl;
+  reported = refl;
+  err_faults = refl;
+}
+
+pub only_logs_then : (a b c : Outside) → OnlyLogs a b → OnlyLogs b c → OnlyLogs a c
+only_logs_then a b c f g = record {
+  input = g.input ∙ f.input;
+  in_faults = g.in_faults ∙ f.in_faults;
+  printed = g.printed ∙ f.printed;
+  out_faults = g.out_faults ∙ f.out_faults;
+  reported = g.reported ∙ f.reported;
+  err_faults = g.err_faults ∙ f.err_faults;
+}
+
+pub only_prints_self : (a : Outside) → OnlyPrints a a
+only_prints_self a = record {
+  files = refl;
+  text = refl;
+  input = refl;
+  in_faults = refl;
+  logged = refl;
+  log_faults = refl;
+  reported = refl;
+  err_faults = refl;
+}
+
+pub only_prints_then : (a b c : Outside) → OnlyPrints a b → OnlyPrints b c → OnlyPrints a c
+only_prints_then a b c f g = record {
+  files = g.files ∙ f.files;
+  text = g.text ∙ f.text;
+  input = g.input ∙ f.input;
+  in_faults = g.in_faults ∙ f.in_faults;
+  logged = g.logged ∙ f.logged;
+  log_faults = g.log_faults ∙ f.log_faults;
+  reported = g.reported ∙ f.reported;
+  err_faults = g.err_faults ∙ f.err_faults;
+}
+
+pub only_reports_self : (a : Outside) → OnlyReports a a
+only_reports_self a = record {
+  files = refl;
+  text = refl;
+  input = refl;
+  in_faults = refl;
+  logged = refl;
+  log_faults = refl;
+  printed = refl;
+  out_faults = refl;
+}
+
+pub only_reports_then : (a b c : Outside) → OnlyReports a b → OnlyReports b c → OnlyReports a c
+only_reports_then a b c f g = record {
+  files = g.files ∙ f.files;
+  text = g.text ∙ f.text;
+  input = g.input ∙ f.input;
+  in_faults = g.in_faults ∙ f.in_faults;
+  logged = g.logged ∙ f.logged;
+  log_faults = g.log_faults ∙ f.log_faults;
+  printed = g.printed ∙ f.printed;
+  out_faults = g.out_faults ∙ f.out_faults;
+}
+
+pub only_reads_self : (a : Outside) → OnlyReads a a
+only_reads_self a = record {
+  files = refl;
+  text = refl;
+  logged = refl;
+  log_faults = refl;
+  printed = refl;
+  out_faults = refl;
+  reported = refl;
+  err_faults = refl;
+}
+
+pub only_reads_then : (a b c : Outside) → OnlyReads a b → OnlyReads b c → OnlyReads a c
+only_reads_then a b c f g = record {
+  files = g.files ∙ f.files;
+  text = g.text ∙ f.text;
+  logged = g.logged ∙ f.logged;
+  log_faults = g.log_faults ∙ f.log_faults;
+  printed = g.printed ∙ f.printed;
+  out_faults = g.out_faults ∙ f.out_faults;
+  reported = g.reported ∙ f.reported;
+  err_faults = g.err_faults ∙ f.err_faults;
+}
+
+-- a count that rose from a later value rose
+pub risen_from : (a b c : ℕ) → a ≤ b → HasRisen b c → HasRisen a c
+risen_from a b c le (inl lt) = inl (omega arith)
+risen_from a b c le (inr last) = inr last
+
+-- nothing behind what is told
+pub appended_nothing : (told : Option (List ℕ)) (piece : List ℕ) → told ≡ appended told (take 0 piece)
+appended_nothing None piece = refl
+appended_nothing (Some bytes) piece = ap Some (grind (arith, common_steps))
+
+-- a part of a piece, and then the next part of it
+pub appended_more : (told now next : Option (List ℕ)) (piece : List ℕ) (written n : ℕ)
+    → now ≡ appended told (take written piece)
+    → next ≡ added now (take (length piece - written) (drop written piece)) n
+    → written ≤ length piece → n ≤ length piece - written
+    → next ≡ appended told (take (written + n) piece)
+appended_more None now next piece written n e f h k = f ∙ ap (λ o. added o (take (length piece - written) (drop written piece)) n) e
+appended_more (Some bytes) now next piece written n e f h k =
+    f ∙ (ap (λ o. added o (take (length piece - written) (drop written piece)) n) e ∙ ap Some (joined bytes piece written n h k))
+  where
+    joined : (bytes piece : List ℕ) (written n : ℕ) → written ≤ length piece → n ≤ length piece - written
+        → (bytes ++ take written piece) ++ take n (take (length piece - written) (drop written piece)) ≡ bytes ++ take (written + n) piece
+    joined bytes piece written n h k =
+        rw (take_rest piece written, take-add written n piece) (append_assoc bytes (take written piece) (take n (drop written piece)))
+
+-- the whole piece
+pub appended_all : (told now : Option (List ℕ)) (piece : List ℕ) (written : ℕ)
+    → now ≡ appended told (take written piece) → length piece ≤ written → now ≡ appended told piece
+appended_all told now piece written e h = let all : take written piece ≡ piece = grind (arith, common_steps) in rw all at e

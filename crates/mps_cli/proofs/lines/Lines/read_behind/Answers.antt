@@ -1,0 +1,14 @@
+use Rattle.std.proofs.Common.{◌≡◌, ◌+◌, ◌<◌, ◌≤◌, ◌∙◌, ap, ◌++◌, length, take, drop, arith}
+use Rattle.std.proofs.lemmas.Grind.{common_steps}
+use Rattle.mps_cli.proofs.Between.{between_grown}
+use Rattle.mps_cli.proofs.lines.Lines.read_behind.Goals as goal
+
+pub returns-clause-taken : goal.returns-clause-taken
+returns-clause-taken g c = record {
+  chunk = take c.in_ok-count.count c.read.new.buf;
+  counted = grind (arith, common_steps, c.in_ok-count.ensures.within);
+  waits = rw c.deref_mut.ensures.value (between_grown c.self.inside.bytes.items c.read.new.buf _ _ c.self.inside.start c.self.inside.end c.in_ok-count.count
+      c.self.inside.bytes.len (grind arith) (grind (arith, common_steps)) (grind (arith, common_steps, c.in_ok-count.ensures.within)) (grind (arith, common_steps, c.in_ok-count.ensures.within)))
+      ∙ ap (λ v. v.waiting ++ take c.in_ok-count.count c.read.new.buf) c.self.view_is;
+  from = c.in_ok-count.ensures.front;
+}

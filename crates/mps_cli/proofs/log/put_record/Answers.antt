@@ -1,0 +1,13 @@
+use Rattle.std.proofs.Common.{◌≡◌, ◌≤◌, length, take, ◌∙◌, arith}
+use Rattle.std.proofs.lemmas.Grind.{common_steps}
+use Rattle.mps_base.specs.Record.{record_bytes}
+use Rattle.mps_event.specs.Event.{code_of}
+use Rattle.mps_cli.proofs.RecordBytes.{front_of_record}
+use Rattle.mps_cli.proofs.log.put_record.Goals as goal
+
+pub returns-clause-written : goal.returns-clause-written
+returns-clause-written c =
+    let within : c.put.result ≤ length c.args.bytes.now = grind (arith, common_steps, c.put.ensures.size) in
+    rw (← c.code.ensures)
+    (front_of_record (record { line = c.args.line; code = c.code.result; fields = c.args.fields.now }) c.put.result
+    c.put.new.out c.args.bytes.now (grind (arith, common_steps)) within c.put.ensures.bytes)

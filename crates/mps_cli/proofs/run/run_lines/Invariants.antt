@@ -1,0 +1,13 @@
+use Rattle.std.proofs.Common.{◌-◌}
+use Rattle.mps_cli.specs.Heap.{IsSound}
+use Rattle.mps_cli.specs.Ending.{CountsGrow}
+use Rattle.mps_cli.proofs.run.run_lines.Given as goal
+
+abbrev pub invariant-loop-next : goal.invariant-loop-next
+invariant-loop-next g l = record {
+  sound : IsSound l.heap;
+  counts : CountsGrow (g.D.Desk.outside l.initial.desk) (g.D.Desk.outside l.desk);
+}
+
+abbrev pub decreases-loop-next : goal.decreases-loop-next
+decreases-loop-next g l = 4294967295 - l.line

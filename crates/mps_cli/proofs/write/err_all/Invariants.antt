@@ -1,0 +1,15 @@
+use Rattle.std.proofs.Common.{◌≡◌, ◌≤◌, ◌-◌, length, take}
+use Rattle.mps_base.specs.Desk.{OnlyReports}
+use Rattle.mps_cli.specs.Write.{appended}
+use Rattle.mps_cli.proofs.write.err_all.Given as goal
+
+abbrev pub invariant-loop-written : goal.invariant-loop-written
+invariant-loop-written g l = record {
+  within : l.written ≤ length l.piece;
+  told : (g.D.Desk.outside l.desk).reported ≡ appended (g.D.Desk.outside l.initial.desk).reported (take l.written l.piece);
+  counted : (g.D.Desk.outside l.initial.desk).err_faults ≤ (g.D.Desk.outside l.desk).err_faults;
+  others : OnlyReports (g.D.Desk.outside l.initial.desk) (g.D.Desk.outside l.desk);
+}
+
+abbrev pub decreases-loop-written : goal.decreases-loop-written
+decreases-loop-written g l = length l.piece - l.written

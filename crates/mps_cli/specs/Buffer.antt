@@ -1,0 +1,65 @@
+-- The lines of the input: what waits to be given, and what comes next.
+use Rattle.std.specs.Prelude.{ℕ, ◌≡◌, ◌+◌, ◌-◌, ◌<◌, ◌≤◌, Option, Some, None, List, [], ◌++◌, length, take, drop}
+use Rattle.std.specs.List.{position_or_len}
+use Rattle.std.specs.Option.{option_map}
+use Rattle.mps_script.specs.Line.{is_line_feed, longest_line}
+use Rattle.mps_cli.specs.declared.next.Next.{Next}
+use Rattle.mps_cli.specs.declared.next.Next.TheVariants.{Line, TooLong, End}
+
+-- the line that was given last, and the bytes that were read and wait behind it
+pub record Waiting : Type 0 where
+  pub line : List ℕ
+  pub waiting : List ℕ
+  -- how many more bytes may be read behind them
+  pub room : ℕ
+
+-- nothing was given, and nothing waits
+abbrev pub nothing_read : Waiting
+nothing_read = record { line = []; waiting = []; room = 65536 }
+
+-- the bytes from one place up to and without another
+abbrev pub bytes_between : ℕ → ℕ → List ℕ → List ℕ
+bytes_between from to bytes = take (to - from) (drop from bytes)
+
+-- how many bytes the first line has
+abbrev pub length_of_line : List ℕ → ℕ
+length_of_line bytes = position_or_len is_line_feed bytes
+
+-- what is left: what waits, and behind it the input that is left to read
+abbrev pub left_of : Waiting → Option (List ℕ) → Option (List ℕ)
+left_of w input = option_map (λ rest. w.waiting ++ rest) input
+
+-- what waits has a whole line, or more than a line may have; or it doesn't tell
+abbrev pub HeldGives : Waiting → Waiting → Option Next → Type 0
+HeldGives old new None =
+    (new.waiting ≡ old.waiting) × (length_of_line old.waiting ≡ length old.waiting) × (length old.waiting ≤ longest_line)
+HeldGives old new (Some Line) =
+    (length_of_line old.waiting < length old.waiting)
+    × (new.line ≡ take (length_of_line old.waiting) old.waiting) × (new.waiting ≡ drop (length_of_line old.waiting + 1) old.waiting)
+HeldGives old new (Some TooLong) = longest_line < length_of_line old.waiting
+HeldGives old new (Some End) = ⊥
+
+-- a read put so many bytes of the input behind what waits
+pub record TakesIn (old new : Waiting) (before after : Option (List ℕ)) (count : ℕ) : Type 0 where
+  pub chunk : List ℕ
+  pub counted : length chunk ≡ count
+  pub waits : new.waiting ≡ old.waiting ++ chunk
+  pub from : before ≡ option_map (λ rest. chunk ++ rest) after
+
+-- what comes next of the bytes that are left
+abbrev pub ComesNext : Next → (left line : List ℕ) → (left_behind : Option (List ℕ)) → Type 0
+ComesNext Line left line left_behind =
+    (0 < length left) × (line ≡ take (length_of_line left) left) × (left_behind ≡ Some (drop (length_of_line left + 1) left))
+ComesNext TooLong left line left_behind = longest_line < length_of_line left
+ComesNext End left line left_behind = left ≡ []
+
+-- the same, where what is left is told
+abbrev pub ComesNextOf : Next → (left : Option (List ℕ)) → (line : List ℕ) → (left_behind : Option (List ℕ)) → Type 0
+ComesNextOf next None line left_behind = left_behind ≡ None
+ComesNextOf next (Some left) line left_behind = ComesNext next left line left_behind
+
+-- at the end of the input: the last line, which has no line feed, or nothing
+abbrev pub IsLast : Waiting → Waiting → Next → Type 0
+IsLast old new Line = (0 < length old.waiting) × (new.line ≡ old.waiting) × (new.waiting ≡ [])
+IsLast old new TooLong = ⊥
+IsLast old new End = old.waiting ≡ []

@@ -1,0 +1,6 @@
+pub mod Command
+pub mod Ending
+pub mod Write
+pub mod Buffer
+pub mod Heap
+pub mod Records
