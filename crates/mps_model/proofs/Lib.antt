@@ -1,3 +1,4 @@
 pub mod Appending
 pub mod Reaching
 pub mod Cutting
+pub mod AtRest

@@ -48,14 +48,15 @@ own_segment [] = []
 own_segment (m ∷ []) = if is_segment_taken m then m ∷ [] else []
 own_segment (m ∷ n ∷ ms) = own_segment (n ∷ ms)
 
--- the units that a call's poll asks of a running collection
-abbrev pub units_polled : World → Call → ℕ
-units_polled w call = if polls w call then (if is_running w then units_of_poll else 0) else 0
+-- a world after a call's poll: where a collection ran before it, units were asked of that collection
+abbrev pub after_poll : (before : World) → Call → (moved : World) → World
+after_poll before call moved =
+    if is_running before && polls before call then with_spent units_of_poll moved else moved
 
 -- the world in which a call is judged: the one before it; a `reserve` is judged after its poll
 abbrev pub judged_world : World → Call → List Move → World
 judged_world w (call.Reserve point head) moves =
-    with_spent (units_polled w (call.Reserve point head)) (world_after_moves (call.Reserve point head) w (moves_of_poll moves))
+    after_poll w (call.Reserve point head) (world_after_moves (call.Reserve point head) w (moves_of_poll moves))
 judged_world w _ moves = w
 
 -- the moves that a call makes after it is judged
