@@ -1,14 +1,28 @@
-#!/bin/sh
-# Runs the proved program with the words given, in the current folder and on its streams. Builds the program first where
-# that is missing or older than its sources.
-home=$(cd "$(dirname "$0")" && pwd)
-program="$home/crates/mps_cli/out/mps_cli"
-if [ ! -x "$program" ] || [ -n "$(find "$home/crates" -name out -prune -o \( -name '*.rt' -o -name '*.antt' \) -newer "$program" -print -quit)" ]; then
-    echo "mps: building the program, which is proved first" >&2
-    (cd "$home/crates/mps_cli" && rt run -- run < /dev/null) > "$home/crates/mps_cli/build.log" 2>&1
-    if [ ! -x "$program" ]; then
-        cat "$home/crates/mps_cli/build.log" >&2
-        exit 1
-    fi
-fi
+#!/usr/bin/env bash
+# Runs the program `mps` with your words, folder and streams. Where the proved program is missing or older than its
+# sources, it is proved and built first, which is told on standard error and takes some minutes.
+home=$(dirname "$(readlink -f "$0")")
+crate=$home/crates/mps_cli
+program=$crate/out/mps_cli
+
+is_current() {
+  [ -x "$program" ] || return 1
+  [ -z "$(find "$home/crates.txt" "$home/crates" \( -name out -o -name must-fail \) -prune -o \
+    \( -name '*.rt' -o -name '*.antt' -o -name crates.txt \) -newer "$program" -print -quit)" ]
+}
+
+build() {
+  echo "mps: proving and building the program, which takes some minutes" >&2
+  # Without words the new program answers its usage, which tells that it was built.
+  local told
+  told=$(cd "$crate" && rt run 2>&1 </dev/null)
+  if ! grep -q '^mps: usage:' <<<"$told"; then
+    echo "$told" >&2
+    echo "mps: the program was not built" >&2
+    exit 70
+  fi
+  touch "$program"
+}
+
+is_current || build
 exec "$program" "$@"

@@ -1,12 +1,16 @@
-# An arena of one grain: the second block finds no room.
+# A full arena: one grain, which one block of 512 words fills.
 arena 1 1
-table t 2
+table t 1
 pool p amc front
 ap x p exact
-num t.0 1
 
+# The slot is null as yet.
+num t.0 1
 reserve x f:512:0
-init x 511 0xff
 commit x t.0
-num t.0 511
+
+# Neither the segment that the pool holds nor the commit limit has room for two words more.
 reserve x f:2:0
+
+# Reading a reference isn't built yet.
+get t.0 t.0 1
