@@ -22,3 +22,4 @@ pub mod Policy
 pub mod Units
 pub mod History
 pub mod Text
+pub mod Posts

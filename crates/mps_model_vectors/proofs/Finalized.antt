@@ -1,12 +1,14 @@
-use Rattle.std.proofs.Common.{◌≡◌, refl, [], ◌∷◌, ◌++◌, inl, true, false}
+use Rattle.std.proofs.Common.{◌≡◌, inr, refl, [], ◌∷◌, ◌++◌, inl, true, false, List, ℕ}
 use Rattle.mps_base.specs.declared.moves.Move.TheVariants as moves
-use Rattle.mps_model.specs.World.{World, Unclamped, Parked, empty_run, empty_world}
+use Rattle.mps_model.specs.World.{World, Parked, empty_run, empty_world}
 use Rattle.mps_model.specs.History.{IsLegalFrom, IsLegalHistory, world_after_steps}
+use Rattle.mps_model.specs.Reachable.{begins}
+use Rattle.mps_model.specs.Posts.{AreWholePosts, IsWidelyReachableWith}
 use Rattle.mps_model.specs.Units.{reclaims, examines}
 use Rattle.mps_model.proofs.Reaching.{PathLeads-closed}
 use Rattle.mps_model.proofs.Appending.{IsLegalFrom-then}
 use Rattle.mps_model_vectors.specs.Script.{address}
-use Rattle.mps_model_vectors.specs.Finalized.{waiting, FinalizedIsLegal, registering, first_message, second_message, freeing, dropped_block, rest_behind, tail_behind}
+use Rattle.mps_model_vectors.specs.Finalized.{twice_registered, PostsAreExact, waiting, FinalizedIsLegal, registering, first_message, second_message, freeing, dropped_block, tail_behind}
 use Rattle.mps_model_vectors.proofs.Steps.{answered}
 
 false_is_not_true : false ≡ true → ⊥
@@ -14,7 +16,7 @@ false_is_not_true h = absurd cc
 
 -- registered twice; registered once more, after one message; and no more
 abbrev world_1 : World
-world_1 = dropped_block (0 ∷ 0 ∷ []) [] 0x1000 (rest_behind 0x1000) [] [] Unclamped
+world_1 = twice_registered
 
 abbrev world_2 : World
 world_2 = dropped_block (0 ∷ []) [] 0x2000 empty_run (tail_behind 0x2000) (2 ∷ []) Parked
@@ -207,3 +209,22 @@ finalized_is_legal =
     IsLegalFrom-then empty_world world_1 registering (first_message ++ (second_message ++ freeing)) leaves_1 registering_is_legal
     (IsLegalFrom-then world_1 world_2 first_message (second_message ++ freeing) leaves_2 first_message_is_legal
     (IsLegalFrom-then world_2 world_3 second_message freeing leaves_3 second_message_is_legal freeing_is_legal))
+
+-- nothing reaches the block before it is posted, and its message does afterwards
+not_reached : ¬ IsWidelyReachableWith twice_registered [] 0
+not_reached path = false_is_not_true (PathLeads-closed _ _ [] refl refl path)
+
+reached : IsWidelyReachableWith twice_registered (0 ∷ []) 0
+reached = begins {id = 0} refl
+
+twice_refused : ¬ AreWholePosts twice_registered (0 ∷ 0 ∷ [])
+twice_refused (inl (unreached, (first, inl (again, rest)))) = again reached
+twice_refused (inl (unreached, (first, inr (here, rest)))) = absurd (let e : ◌≡◌ {A = List ℕ} (0 ∷ []) [] = rest in cc)
+twice_refused (inr (here, rest)) = not_reached here
+
+never_refused : ¬ AreWholePosts twice_registered []
+never_refused (inl (unreached, none)) = none
+never_refused (inr (here, rest)) = not_reached here
+
+pub posts_are_exact : PostsAreExact
+posts_are_exact = record { once = inl (not_reached, (refl, inr (reached, refl))); not_twice = twice_refused; not_never = never_refused }

@@ -9,7 +9,8 @@ use Rattle.mps_model.specs.declared.call.Call.TheVariants as call
 use Rattle.mps_model.specs.declared.reply.Reply.TheVariants as reply
 use Rattle.mps_model.specs.Step.{History}
 use Rattle.mps_model.specs.Graph.{HeadCell, NumberCell, Automatic, TableThing, PoolThing, PointThing}
-use Rattle.mps_model.specs.World.{World, Collected, ArenaState, Tail, empty_world}
+use Rattle.mps_model.specs.World.{World, Collected, ArenaState, Unclamped, Tail, empty_world}
+use Rattle.mps_model.specs.Posts.{AreWholePosts}
 use Rattle.mps_model.specs.History.{IsLegalHistory}
 use Rattle.mps_model_vectors.specs.Script.{t, p, x, at_index, address, zones, step}
 use Rattle.mps_model_vectors.specs.OneBlock.{prelude}
@@ -111,3 +112,13 @@ tail_behind place = record { pool = 0; generation = 0; words = rest_behind place
 -- the history is legal
 abbrev pub FinalizedIsLegal : Type 0
 FinalizedIsLegal = IsLegalHistory finalized
+
+-- the world before the first collection: the block is registered twice
+abbrev pub twice_registered : World
+twice_registered = dropped_block (0 ∷ 0 ∷ []) [] 0x1000 (rest_behind 0x1000) [] [] Unclamped
+
+-- a whole collection posts it once: neither twice nor never
+pub record PostsAreExact : Type 0 where
+  pub once : AreWholePosts twice_registered (0 ∷ [])
+  pub not_twice : ¬ AreWholePosts twice_registered (0 ∷ 0 ∷ [])
+  pub not_never : ¬ AreWholePosts twice_registered []

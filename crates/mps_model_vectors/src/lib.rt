@@ -6,7 +6,7 @@ ghost use Rattle.mps_model_vectors.specs.OneBlock.{OneBlockIsLegal};
 ghost use Rattle.mps_model_vectors.specs.Copying.{CopyingIsLegal, CopyingIsReplayed};
 ghost use Rattle.mps_model_vectors.specs.Flipped.{FlippedIsLegal};
 ghost use Rattle.mps_model_vectors.specs.Weak.{WeakIsLegal};
-ghost use Rattle.mps_model_vectors.specs.Finalized.{FinalizedIsLegal};
+ghost use Rattle.mps_model_vectors.specs.Finalized.{FinalizedIsLegal, PostsAreExact};
 ghost use Rattle.mps_model_vectors.specs.WrongAnswers.{FlippedWithoutFlip, CommitAcrossFlip, LimitBesideGap, LimitBesideRun, StaleWithoutFlip, FreshAfterMove, GetOfOldPlace};
 ghost use Rattle.mps_model_vectors.specs.WrongMoves.{SplatOfReachable, TwoPostsForOne, MoveOfPinned, FreeOfWaiting, StayBesideRoom, MarkedInPlace, UntoldFree, MoveAfterSplat};
 ghost use Rattle.mps_model_vectors.specs.WrongUnits.{CollectWithoutMoves, StartDoesAll, TwoUnitsForOne, ReclaimedDownwards, WeakScannedAsExact, PollWhereClamped};
@@ -150,4 +150,9 @@ pub fn poll_where_clamped()
 /// Where blocks are placed, in a few worlds.
 pub fn placements_compute()
     ensures { PlacementsCompute }
+{}
+
+/// A whole collection posts a block that was registered twice once.
+pub fn posts_are_exact()
+    ensures { PostsAreExact }
 {}
