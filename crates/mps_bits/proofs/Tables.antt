@@ -4,7 +4,7 @@ use Rattle.std.proofs.lemmas.Bool.{cases_lt, cases_eq, eq-eqb, ne_eqb, eqb-false
 use Rattle.std.proofs.lemmas.List.{same_lists, length-replicate, get_or-replicate}
 use Rattle.std.proofs.lemmas.List.FromFn.{length-map-range_with_len, get_or-map-range_with_len}
 use Rattle.mps_bits.specs.Row.{bit_in, total, IsClear, IsLowestSet, IsHighestSet, IsLowestRun}
-use Rattle.mps_bits.specs.Table.{table_of, bit, with_range, next_set, previous_set, is_clear_run, lowest_clear_run, count_set}
+use Rattle.mps_bits.specs.Table.{table_of, bit, with_range, next_set, next_set_below, previous_set, is_clear_run, lowest_clear_run, count_set}
 use Rattle.mps_bits.proofs.Places.{lowest_from_is, lowest_from_none, highest_below_is, highest_below_none}
 use Rattle.mps_bits.proofs.Ranges.{length-with_range, with_range_inside, with_range_outside, clear_run_from, clear_run_at, count_slice}
 use Rattle.mps_bits.proofs.Row.{bit_in-lt, total_same}
@@ -94,6 +94,20 @@ next_set_is words len from (Some p) is =
       above = is.above;
       below = omega (arith, is.above, is.below, length-table_of words len);
       passes = set_bit words len p is.below is.set;
+      lower = λ i above below. clear_bit words len i (omega (arith, below, is.below)) (is.lower i above below);
+    }))
+
+pub next_set_below_is : (words : List ℕ) (len from to : ℕ) (r : Option ℕ) → to ≤ len → MatchOption r (IsClear words from to) (λ p. IsLowestSet words from to p) → r ≡ next_set_below (table_of words len) from to
+unfolding next_set_below
+next_set_below_is words len from to None within clear =
+    sym (lowest_from_none (bit (table_of words len)) from (to - from) (λ i above below.
+    let inside : i < to = omega arith in
+    clear_bit words len i (omega arith) (clear i above inside)))
+next_set_below_is words len from to (Some p) within is =
+    sym (lowest_from_is (bit (table_of words len)) from (to - from) p (record {
+      above = is.above;
+      below = omega (arith, is.above, is.below);
+      passes = set_bit words len p (omega (arith, is.below)) is.set;
       lower = λ i above below. clear_bit words len i (omega (arith, below, is.below)) (is.lower i above below);
     }))
 

@@ -29,6 +29,10 @@ highest_below p (suc n) = if p n then Some n else highest_below p n
 unfoldable pub next_set : List Bool → ℕ → Option ℕ
 next_set bits from = lowest_from (bit bits) from (length bits - from)
 
+-- the lowest set bit from `from` up to `to`
+unfoldable pub next_set_below : List Bool → ℕ → ℕ → Option ℕ
+next_set_below bits from to = lowest_from (bit bits) from (to - from)
+
 -- the highest set bit at or below a place
 unfoldable pub previous_set : List Bool → ℕ → Option ℕ
 previous_set bits at = highest_below (bit bits) (at + 1)
@@ -70,6 +74,10 @@ next_is_last = refl
 next_is_none : next_set sample 5 ≡ None
 unfolding next_set lowest_from bit sample
 next_is_none = refl
+
+next_is_past_the_bound : next_set_below sample 2 4 ≡ None
+unfolding next_set_below lowest_from bit sample
+next_is_past_the_bound = refl
 
 previous_is_itself : previous_set sample 4 ≡ Some 4
 unfolding previous_set highest_below bit sample

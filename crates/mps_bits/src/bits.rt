@@ -2,7 +2,7 @@
 #![tactic(auto)]
 
 ghost use Rattle.std.specs.Prelude.{◌≡◌, ◌+◌, ◌^◌, ◌<◌, ◌≤◌, Bool, true, false, length, replicate, IfOk, slice_set};
-ghost use Rattle.mps_bits.specs.Table.{bit, with_range, next_set, previous_set, lowest_clear_run, count_set};
+ghost use Rattle.mps_bits.specs.Table.{bit, with_range, next_set, next_set_below, previous_set, lowest_clear_run, count_set};
 
 use crate::words::{self, is_set, write_bit, write_range};
 use std::alloc::{AllocError, Global};
@@ -94,6 +94,14 @@ impl Bits {
         ensures { result ≡ next_set self.now from }
     {
         words::lowest_set(&self.words, from, self.len)
+    }
+
+    /// The lowest set bit from `from` up to, but not at, `to`.
+    pub fn next_set_below(&self, from: usize, to: usize) -> Option<usize>
+        requires { to ≤ length self.now }
+        ensures { result ≡ next_set_below self.now from to }
+    {
+        words::lowest_set(&self.words, from, to)
     }
 
     /// The highest set bit at or below `at`.

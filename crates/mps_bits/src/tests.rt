@@ -62,6 +62,7 @@ fn searches_at_the_edges_of_a_word(rt: HostRuntime) -> Result<(), AllocError> {
             "{count} from {from} to {to}"
         );
     }
+    assert!(rt; bits.next_set_below(64, 128).is_none());
     assert_eq!(rt; bits.count_set(0, 200), 65);
     assert_eq!(rt; bits.count_set(63, 130), 3);
     bits.clear(63);
