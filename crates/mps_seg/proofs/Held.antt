@@ -1,0 +1,659 @@
+-- Segments by grain, the runs of grains that they hold, and extents that lie in them.
+use Rattle.std.proofs.Common.{ℕ, zero, suc, ◌+◌, ◌-◌, ◌*◌, ◌/◌, ◌<◌, ◌≤◌, ◌≡◌, ◌≢◌, ◌⊎◌, Bool, true, false, not, cond, ◌&&◌, leb, ltb, eqb, Option, Some, None, Result, Ok, Err, List, [], ◌∷◌, ◌++◌, length, get_or, set, drop, replicate, map, filter, Contains, refl, sym, ap, ◌∙◌, subst, inl, inr, arith, length-set}
+use Rattle.std.specs.List.{flat_map}
+use Rattle.std.proofs.Math.Seq.{drop-cons}
+use Rattle.std.proofs.lemmas.Bool.{cases_lt, cases_eq, cases_Bool, both_ways, and_from, le-leb, cond-true, cond-false, lt-ltb, le-ltb, eq-eqb, ne_eqb}
+use Rattle.std.proofs.lemmas.List.{length-replicate}
+use Rattle.mps_base.specs.Run.{Run, end_of, IsAscending, total, gaps, lowest_fitting, longest, with_run, without_run}
+use Rattle.mps_base.specs.Placement.{Placement, Place, NewSegment, OverLimit, NoFreeRun, run_placement}
+use Rattle.mps_base.specs.Address.{address_of_grain, grain_of}
+use Rattle.mps_base.specs.declared.names.Rank.{Rank}
+use Rattle.mps_base.specs.declared.address.Addr.{Addr}
+use Rattle.mps_base.specs.declared.refusal.Refusal.{Refusal}
+use Rattle.mps_base.specs.declared.refusal.Refusal.TheVariants.{CommitLimit, NoRun}
+use Rattle.mps_base.proofs.Runs.{with_run_first, with_run_later, without_run_first, without_run_later, contains_cases, contains_first, contains_later, contained_bounds, in_lowest_gap, IsAscending-without_run}
+use Rattle.mps_arena.specs.Arena.{ArenaState, new_arena, answer_of, held_after, placement_in}
+use Rattle.mps_seg.specs.declared.entry.Entry.{Entry}
+use Rattle.mps_seg.specs.declared.entry.Entry.TheVariants.{Free, First}
+use Rattle.mps_seg.specs.Extents.{ExtentLists, nothing_covered, runs_within, AreWhole}
+use Rattle.mps_seg.specs.Segment.{Segment, is_open_to, grains_of_segment, end_of_segment, with_segment, without_segment}
+use Rattle.mps_seg.specs.Segs.{SegsState, segments_after, placement_for, gaps_in, gaps_of}
+use Rattle.mps_seg.specs.Table.{segments_from, segments_in, segs_state, gaps_at, LiesIn, IsHeld, IsWholeAt}
+use Rattle.mps_seg.proofs.Apart.{contains_put, apart_from_put, apart_each}
+
+-- the runs of grains of the entries
+abbrev pub held_from : ℕ → List Entry → List Run
+held_from grain entries = map grains_of_segment (segments_from grain entries)
+
+segment_of : (grain grains pool generation : ℕ) → Rank → Segment
+segment_of grain grains pool generation rank = record { base = address_of_grain grain; grains = grains; pool = pool; generation = generation; rank = rank }
+
+with_segment_first : (r s : Segment) (rs : List Segment) → r.base < s.base → with_segment r (s ∷ rs) ≡ r ∷ s ∷ rs
+with_segment_first r s rs h = cond-true (ltb r.base s.base) (r ∷ s ∷ rs) (s ∷ with_segment r rs) (lt-ltb r.base s.base h)
+
+with_segment_later : (r s : Segment) (rs : List Segment) → s.base ≤ r.base → with_segment r (s ∷ rs) ≡ s ∷ with_segment r rs
+with_segment_later r s rs h = cond-false (ltb r.base s.base) (r ∷ s ∷ rs) (s ∷ with_segment r rs) (le-ltb r.base s.base h)
+
+-- a segment before all others
+first_segment : (at : ℕ) (entries : List Entry) (new : Segment) → new.base < address_of_grain at → with_segment new (segments_from at entries) ≡ new ∷ segments_from at entries
+unfolding segments_from
+first_segment at [] new before = refl
+first_segment at (Free ∷ entries) new before = first_segment (suc at) entries new (omega arith)
+first_segment at (First n p g r ∷ entries) new before =
+    with_segment_first new (record { base = address_of_grain at; grains = n; pool = p; generation = g; rank = r }) (segments_from (suc at) entries) before
+
+first_held : (at : ℕ) (entries : List Entry) (new : Run) → new.from < at → with_run new (held_from at entries) ≡ new ∷ held_from at entries
+unfolding segments_from
+first_held at [] new before = refl
+first_held at (Free ∷ entries) new before = first_held (suc at) entries new (omega arith)
+first_held at (First n p g r ∷ entries) new before =
+    with_run_first new (grains_of_segment (record { base = address_of_grain at; grains = n; pool = p; generation = g; rank = r })) (held_from (suc at) entries) (omega arith)
+
+pub segments_put : (at : ℕ) (entries : List Entry) (i n p g : ℕ) (r : Rank) → i < length entries → get_or entries i Free ≡ Free
+    → segments_from at (set entries i (First n p g r)) ≡ with_segment (record { base = address_of_grain (at + i); grains = n; pool = p; generation = g; rank = r }) (segments_from at entries)
+unfolding segments_from
+segments_put at [] i n p g r within free = absurd (omega arith)
+segments_put at (First a b c d ∷ entries) zero n p g r within free = cc
+segments_put at (Free ∷ entries) zero n p g r within free =
+    let place : at ≡ at + 0 = omega arith in
+    sym (first_segment (suc at) entries (record { base = address_of_grain at; grains = n; pool = p; generation = g; rank = r }) (omega arith))
+    ∙ ap (λ (a : ℕ). with_segment (record { base = address_of_grain a; grains = n; pool = p; generation = g; rank = r }) (segments_from (suc at) entries)) place
+segments_put at (Free ∷ entries) (suc i) n p g r within free =
+    let place : suc at + i ≡ at + suc i = omega arith in
+    segments_put (suc at) entries i n p g r (omega arith) free
+    ∙ ap (λ (a : ℕ). with_segment (record { base = address_of_grain a; grains = n; pool = p; generation = g; rank = r }) (segments_from (suc at) entries)) place
+segments_put at (First a b c d ∷ entries) (suc i) n p g r within free =
+    let place : suc at + i ≡ at + suc i = omega arith in
+    let head : Segment = record { base = address_of_grain at; grains = a; pool = b; generation = c; rank = d } in
+    let new : Segment = record { base = address_of_grain (at + suc i); grains = n; pool = p; generation = g; rank = r } in
+    ap (λ (ss : List Segment). head ∷ ss)
+    (segments_put (suc at) entries i n p g r (omega arith) free
+    ∙ ap (λ (k : ℕ). with_segment (record { base = address_of_grain k; grains = n; pool = p; generation = g; rank = r }) (segments_from (suc at) entries)) place)
+    ∙ sym (with_segment_later new head (segments_from (suc at) entries) (omega arith))
+
+pub held_put : (at : ℕ) (entries : List Entry) (i n p g : ℕ) (r : Rank) → i < length entries → get_or entries i Free ≡ Free
+    → held_from at (set entries i (First n p g r)) ≡ with_run (record { from = at + i; count = n }) (held_from at entries)
+unfolding segments_from
+held_put at [] i n p g r within free = absurd (omega arith)
+held_put at (First a b c d ∷ entries) zero n p g r within free = cc
+held_put at (Free ∷ entries) zero n p g r within free =
+    let place : address_of_grain at / 4096 ≡ at + 0 = omega arith in
+    sym (first_held (suc at) entries (record { from = address_of_grain at / 4096; count = n }) (omega arith))
+    ∙ ap (λ (a : ℕ). with_run (record { from = a; count = n }) (held_from (suc at) entries)) place
+held_put at (Free ∷ entries) (suc i) n p g r within free =
+    let place : suc at + i ≡ at + suc i = omega arith in
+    held_put (suc at) entries i n p g r (omega arith) free ∙ ap (λ (a : ℕ). with_run (record { from = a; count = n }) (held_from (suc at) entries)) place
+held_put at (First a b c d ∷ entries) (suc i) n p g r within free =
+    let place : suc at + i ≡ at + suc i = omega arith in
+    let head : Run = record { from = address_of_grain at / 4096; count = a } in
+    let new : Run = record { from = at + suc i; count = n } in
+    ap (λ (rs : List Run). head ∷ rs)
+    (held_put (suc at) entries i n p g r (omega arith) free ∙ ap (λ (k : ℕ). with_run (record { from = k; count = n }) (held_from (suc at) entries)) place)
+    ∙ sym (with_run_later new head (held_from (suc at) entries) (omega arith))
+
+-- an entry where a segment begins is a run of held grains
+pub held_of_entry : (at : ℕ) (entries : List Entry) (i n p g : ℕ) (r : Rank) → get_or entries i Free ≡ First n p g r → Contains (held_from at entries) (record { from = at + i; count = n })
+unfolding segments_from
+held_of_entry at [] i n p g r is = cc
+held_of_entry at (Free ∷ entries) zero n p g r is = cc
+held_of_entry at (Free ∷ entries) (suc i) n p g r is =
+    let place : suc at + i ≡ at + suc i = omega arith in
+    let P : ℕ → Type 0 = λ a. Contains (held_from (suc at) entries) (record { from = a; count = n }) in
+    subst P place (held_of_entry (suc at) entries i n p g r is)
+held_of_entry at (First a b c d ∷ entries) zero n p g r is =
+    let place : address_of_grain at / 4096 ≡ at + 0 = omega arith in
+    let count : a ≡ n = cc in
+    let P : ℕ → Type 0 = λ k. Contains (held_from at (First a b c d ∷ entries)) (record { from = k; count = a }) in
+    let Q : ℕ → Type 0 = λ k. Contains (held_from at (First a b c d ∷ entries)) (record { from = at + 0; count = k }) in
+    subst Q count (subst P place (contains_first (held_from (suc at) entries) (record { from = address_of_grain at / 4096; count = a })))
+held_of_entry at (First a b c d ∷ entries) (suc i) n p g r is =
+    let place : suc at + i ≡ at + suc i = omega arith in
+    let P : ℕ → Type 0 = λ k. Contains (held_from (suc at) entries) (record { from = k; count = n }) in
+    contains_later (held_from (suc at) entries) (record { from = at + suc i; count = n }) (record { from = address_of_grain at / 4096; count = a })
+    (subst P place (held_of_entry (suc at) entries i n p g r is))
+
+-- ---- placements
+
+-- what a placement of a run is
+pub data Placing (grains limit : ℕ) (held : List Run) (need : ℕ) : Type 0 where
+  placed : (grain : ℕ) → run_placement grains limit held need ≡ NewSegment grain need → lowest_fitting need (gaps 1 (grains + 1) held) ≡ Some grain → Placing grains limit held need
+  refused : (why : Refusal) → answer_of (run_placement grains limit held need) ≡ Err why → Placing grains limit held need
+
+pub placing : (grains limit : ℕ) (held : List Run) (need : ℕ) → Placing grains limit held need
+placing grains limit held need =
+    elim (cases_lt limit (total held + need)) [
+      | inl over ↦ refused (over_limit held limit need) (rw (lt-ltb limit (total held + need) over) refl)
+      | inr room ↦ go (lowest_fitting need (gaps 1 (grains + 1) held)) refl room
+    ]
+  where
+    over_limit : List Run → ℕ → ℕ → Refusal
+    over_limit held limit need = CommitLimit (total held) need limit
+
+    go : (o : Option ℕ) → lowest_fitting need (gaps 1 (grains + 1) held) ≡ o → total held + need ≤ limit → Placing grains limit held need
+    go (Some grain) is room = placed grain (rw (le-ltb limit (total held + need) room) (rw is refl)) is
+    go None is room = refused (NoRun need (longest (gaps 1 (grains + 1) held))) (rw (le-ltb limit (total held + need) room) (rw is refl))
+
+-- ---- lists of runs
+
+pub contains_put_cases : (r t : Run) (rs : List Run) → Contains (with_run r rs) t → (r ≡ t) ⊎ Contains rs t
+contains_put_cases r t [] there = elim (contains_cases [] t r there) [ inl same ↦ inl same | inr later ↦ inr later ]
+contains_put_cases r t (s ∷ rs) there =
+    let P : List Run → Type 0 = λ xs. Contains xs t in
+    elim (cases_lt r.from s.from) [
+      | inl before ↦ contains_cases (s ∷ rs) t r (subst P (with_run_first r s rs before) there)
+      | inr after ↦ elim (contains_cases (with_run r rs) t s (subst P (with_run_later r s rs after) there)) [
+        | inl same ↦ inr (subst (λ (x : Run). Contains (s ∷ rs) x) same (contains_first rs s))
+        | inr later ↦ elim (contains_put_cases r t rs later) [ inl same ↦ inl same | inr in_rest ↦ inr (contains_later rs t s in_rest) ]
+      ]
+    ]
+
+pub contains_put_other : (r t : Run) (rs : List Run) → Contains rs t → Contains (with_run r rs) t
+contains_put_other r t [] (k, within, is) = absurd (omega arith)
+contains_put_other r t (s ∷ rs) there =
+    let P : List Run → Type 0 = λ xs. Contains xs t in
+    elim (cases_lt r.from s.from) [
+      | inl before ↦ subst P (sym (with_run_first r s rs before)) (contains_later (s ∷ rs) t r there)
+      | inr after ↦ subst P (sym (with_run_later r s rs after)) (elim (contains_cases rs t s there) [
+        | inl same ↦ subst (λ (x : Run). Contains (s ∷ with_run r rs) x) same (contains_first (with_run r rs) s)
+        | inr later ↦ contains_later (with_run r rs) t s (contains_put_other r t rs later)
+      ])
+    ]
+
+pub contains_without : (from : ℕ) (t : Run) (rs : List Run) → Contains (without_run from rs) t → Contains rs t
+contains_without from t [] there = there
+contains_without from t (s ∷ rs) there =
+    let P : List Run → Type 0 = λ xs. Contains xs t in
+    elim (cases_eq from s.from) [
+      | inl here ↦ contains_later rs t s (subst P (without_run_first from s rs here) there)
+      | inr other ↦ elim (contains_cases (without_run from rs) t s (subst P (without_run_later from s rs other) there)) [
+        | inl same ↦ subst (λ (x : Run). Contains (s ∷ rs) x) same (contains_first rs s)
+        | inr later ↦ contains_later rs t s (contains_without from t rs later)
+      ]
+    ]
+
+-- another run is still there
+pub contains_still : (from : ℕ) (t : Run) (rs : List Run) → Contains rs t → t.from ≢ from → Contains (without_run from rs) t
+contains_still from t [] (k, within, is) other = absurd (omega arith)
+contains_still from t (s ∷ rs) there other =
+    let P : List Run → Type 0 = λ xs. Contains xs t in
+    elim (cases_eq from s.from) [
+      | inl here ↦ subst P (sym (without_run_first from s rs here)) (elim (contains_cases rs t s there) [
+        | inl same ↦ absurd (other (sym (here ∙ ap (λ (x : Run). x.from) same)))
+        | inr later ↦ later
+      ])
+      | inr not_here ↦ subst P (sym (without_run_later from s rs not_here)) (elim (contains_cases rs t s there) [
+        | inl same ↦ subst (λ (x : Run). Contains (s ∷ without_run from rs) x) same (contains_first (without_run from rs) s)
+        | inr later ↦ contains_later (without_run from rs) t s (contains_still from t rs later other)
+      ])
+    ]
+
+-- ---- changed extents
+
+pub held_after_cover : (arena : ArenaState) (table : List Entry) (ex : ExtentLists) (r : Run) (reservations : List Run) → IsHeld arena table ex → 0 < r.count → LiesIn (map grains_of_segment (segments_in table)) r
+    → IsHeld arena table (record ex { covered = with_run r ex.covered; reservations = reservations })
+held_after_cover arena table ex r reservations held some lies =
+    let P : List Run → Type 0 = λ rs. LiesIn rs r in
+    record {
+      held = held.held;
+      ascending = held.ascending;
+      few = held.few;
+      size = held.size;
+      covered_size = held.covered_size;
+      some = λ t there. elim (contains_put_cases r t ex.covered there) [
+        | inl same ↦ omega (arith, some, ap (λ (x : Run). x.count) same)
+        | inr later ↦ held.some t later
+      ];
+      inside = λ t there. elim (contains_put_cases r t ex.covered there) [
+        | inl same ↦ subst (λ (x : Run). LiesIn arena.held x) same (subst P (sym held.held) lies)
+        | inr later ↦ held.inside t later
+      ];
+    }
+
+pub held_after_less : (arena : ArenaState) (table : List Entry) (ex : ExtentLists) (from : ℕ) (blocks reservations : List Run) → IsHeld arena table ex
+    → IsHeld arena table (record ex { covered = without_run from ex.covered; blocks = blocks; reservations = reservations })
+held_after_less arena table ex from blocks reservations held = record {
+  held = held.held;
+  ascending = held.ascending;
+  few = held.few;
+  size = held.size;
+  covered_size = held.covered_size;
+  some = λ t there. held.some t (contains_without from t ex.covered there);
+  inside = λ t there. held.inside t (contains_without from t ex.covered there);
+}
+
+pub held_after_commit : (arena : ArenaState) (table : List Entry) (ex : ExtentLists) (blocks reservations : List Run) → IsHeld arena table ex
+    → IsHeld arena table (record ex { blocks = blocks; reservations = reservations })
+held_after_commit arena table ex blocks reservations held = record {
+  held = held.held;
+  ascending = held.ascending;
+  few = held.few;
+  size = held.size;
+  covered_size = held.covered_size;
+  some = held.some;
+  inside = held.inside;
+}
+
+-- ---- a segment taken
+
+entry_cases : (e : Entry) → (e ≡ Free) ⊎ ((n : ℕ) × (p : ℕ) × (g : ℕ) × (r : Rank) × (e ≡ First n p g r))
+entry_cases Free = inl refl
+entry_cases (First n p g r) = inr (n, p, g, r, refl)
+
+pub record TakenAt (arena : ArenaState) (need grain : ℕ) (base : Addr) : Type 0 where
+  pub place : placement_in arena need ≡ NewSegment grain need
+  pub lowest : lowest_fitting need (gaps 1 (arena.grains + 1) arena.held) ≡ Some grain
+  pub base_is : base.0 / 4096 ≡ grain
+
+pub taken_at : (arena : ArenaState) (need : ℕ) (base : Addr) → Ok base ≡ answer_of (placement_in arena need) → (grain : ℕ) × TakenAt arena need grain base
+taken_at arena need base answer =
+    elim (placing arena.grains arena.limit arena.held need) [
+      | placed grain place lowest ↦
+          let left : Result Addr Refusal = Ok base in
+          let right : Result Addr Refusal = Ok (record { 0 = address_of_grain grain }) in
+          let both : left ≡ right = answer ∙ ap answer_of place in
+          let same : base ≡ record { 0 = address_of_grain grain } = cc in
+          let at : base.0 ≡ address_of_grain grain = ap (λ (a : Addr). a.0) same in
+          (grain, record { place = place; lowest = lowest; base_is = omega (arith, at) })
+      | refused why refusal ↦
+          let left : Result Addr Refusal = Ok base in
+          let never : left ≡ Err why = answer ∙ refusal in
+          cc
+    ]
+
+pub entry_is_held : (table : List Entry) (grain n p g : ℕ) (r : Rank) → get_or table grain Free ≡ First n p g r → Contains (map grains_of_segment (segments_in table)) (record { from = grain; count = n })
+unfolding segments_in
+entry_is_held table grain n p g r is =
+    let place : 0 + grain ≡ grain = omega arith in
+    let P : ℕ → Type 0 = λ k. Contains (held_from 0 table) (record { from = k; count = n }) in
+    subst P place (held_of_entry 0 table grain n p g r is)
+
+pub take_fits : (arena : ArenaState) (table : List Entry) (ex : ExtentLists) (need grain : ℕ) → IsHeld arena table ex → 0 < need → lowest_fitting need (gaps 1 (arena.grains + 1) arena.held) ≡ Some grain → grain < length table
+take_fits arena table ex need grain held some lowest =
+    let gap = in_lowest_gap 1 (arena.grains + 1) arena.held need grain some held.ascending lowest in
+    omega (arith, gap.below, held.size)
+
+free_entry : (arena : ArenaState) (table : List Entry) (ex : ExtentLists) (need grain : ℕ) → IsHeld arena table ex → 0 < need → lowest_fitting need (gaps 1 (arena.grains + 1) arena.held) ≡ Some grain → get_or table grain Free ≡ Free
+free_entry arena table ex need grain held some lowest =
+    let r : Run = record { from = grain; count = need } in
+    let gap = in_lowest_gap 1 (arena.grains + 1) arena.held need grain some held.ascending lowest in
+    elim (entry_cases (get_or table grain Free)) [
+      | inl free ↦ free
+      | inr (n, p, g, k, is) ↦
+          let P : List Run → Type 0 = λ rs. Contains rs (record { from = grain; count = n }) in
+          let listed = subst P (sym held.held) (entry_is_held table grain n p g k is) in
+          let bounds = contained_bounds 1 (arena.grains + 1) arena.held (record { from = grain; count = n }) held.ascending listed in
+          elim (apart_from_put 1 (arena.grains + 1) arena.held r (record { from = grain; count = n }) gap.ascending listed) [
+            | inl after ↦ absurd (omega (arith, after, some))
+            | inr before ↦ absurd (omega (arith, before, bounds.1))
+          ]
+    ]
+
+pub segments_after_take : (arena : ArenaState) (table : List Entry) (ex : ExtentLists) (need grain pool generation : ℕ) (rank : Rank) → IsHeld arena table ex → 0 < need
+    → lowest_fitting need (gaps 1 (arena.grains + 1) arena.held) ≡ Some grain
+    → segments_in (set table grain (First need pool generation rank)) ≡ with_segment (record { base = address_of_grain grain; grains = need; pool = pool; generation = generation; rank = rank }) (segments_in table)
+unfolding segments_in
+segments_after_take arena table ex need grain pool generation rank held some lowest =
+    let gap = in_lowest_gap 1 (arena.grains + 1) arena.held need grain some held.ascending lowest in
+    let place : 0 + grain ≡ grain = omega arith in
+    segments_put 0 table grain need pool generation rank (omega (arith, gap.below, held.size)) (free_entry arena table ex need grain held some lowest)
+    ∙ ap (λ (k : ℕ). with_segment (record { base = address_of_grain k; grains = need; pool = pool; generation = generation; rank = rank }) (segments_from 0 table)) place
+
+pub held_after_taking : (arena : ArenaState) (table : List Entry) (ex : ExtentLists) (need grain pool generation : ℕ) (rank : Rank) → IsHeld arena table ex → 0 < need
+    → lowest_fitting need (gaps 1 (arena.grains + 1) arena.held) ≡ Some grain
+    → IsHeld (record arena { held = with_run (record { from = grain; count = need }) arena.held }) (set table grain (First need pool generation rank)) ex
+unfolding segments_in
+held_after_taking arena table ex need grain pool generation rank held some lowest =
+    let r : Run = record { from = grain; count = need } in
+    let gap = in_lowest_gap 1 (arena.grains + 1) arena.held need grain some held.ascending lowest in
+    let place : 0 + grain ≡ grain = omega arith in
+    let size = length-set table grain (First need pool generation rank) in
+    record {
+      held =
+          ap (λ (rs : List Run). with_run r rs) held.held
+          ∙ ap (λ (k : ℕ). with_run (record { from = k; count = need }) (held_from 0 table)) (sym place)
+          ∙ sym (held_put 0 table grain need pool generation rank (omega (arith, gap.below, held.size)) (free_entry arena table ex need grain held some lowest));
+      ascending = gap.ascending;
+      few = held.few;
+      size = size ∙ held.size;
+      covered_size = held.covered_size;
+      some = held.some;
+      inside = λ t there.
+          let lies = held.inside t there in
+          record { grains = lies.grains; there = contains_put_other r lies.grains arena.held lies.there; after = lies.after; before = lies.before };
+    }
+
+-- ---- before any segment is taken
+
+no_segments : (at n : ℕ) → segments_from at (replicate n Free) ≡ []
+unfolding segments_from
+no_segments at zero = refl
+no_segments at (suc n) = no_segments (suc at) n
+
+pub new_segments_in : (n : ℕ) → segments_in (replicate n Free) ≡ []
+unfolding segments_in
+new_segments_in n = no_segments 0 n
+
+pub new_is_held : (grains limit : ℕ) → grains ≤ 2048 → IsHeld (new_arena grains limit) (replicate (grains + 1) Free) (nothing_covered (512 * (grains + 1)))
+new_is_held grains limit few = record {
+  held = ap (λ (ss : List Segment). map grains_of_segment ss) (sym (new_segments_in (grains + 1)));
+  ascending = omega arith;
+  few = few;
+  size = length-replicate (grains + 1) Free;
+  covered_size = refl;
+  some = λ t (k, within, is). absurd (omega arith);
+  inside = λ t (k, within, is). absurd (omega arith);
+}
+
+-- ---- a segment given back
+
+keep_all : (at : ℕ) (entries : List Entry) (base : ℕ) → base < address_of_grain at → without_segment (segments_from at entries) base ≡ segments_from at entries
+unfolding segments_from
+keep_all at [] base before = refl
+keep_all at (Free ∷ entries) base before = keep_all (suc at) entries base (omega arith)
+keep_all at (First n p g r ∷ entries) base before =
+    let head : Segment = record { base = address_of_grain at; grains = n; pool = p; generation = g; rank = r } in
+    cond-true (not (eqb (address_of_grain at) base)) (head ∷ without_segment (segments_from (suc at) entries) base) (without_segment (segments_from (suc at) entries) base)
+    (ap (λ (b : Bool). not b) (ne_eqb (address_of_grain at) base (λ e. omega arith)))
+    ∙ ap (λ (ss : List Segment). head ∷ ss) (keep_all (suc at) entries base (omega arith))
+
+pub segments_taken : (at : ℕ) (entries : List Entry) (i n p g : ℕ) (r : Rank) → get_or entries i Free ≡ First n p g r
+    → segments_from at (set entries i Free) ≡ without_segment (segments_from at entries) (address_of_grain (at + i))
+unfolding segments_from
+segments_taken at [] i n p g r is = cc
+segments_taken at (Free ∷ entries) zero n p g r is = cc
+segments_taken at (First a b c d ∷ entries) zero n p g r is =
+    let place : at ≡ at + 0 = omega arith in
+    let head : Segment = record { base = address_of_grain at; grains = a; pool = b; generation = c; rank = d } in
+    sym (keep_all (suc at) entries (address_of_grain at) (omega arith))
+    ∙ sym (cond-false (not (eqb (address_of_grain at) (address_of_grain at))) (head ∷ without_segment (segments_from (suc at) entries) (address_of_grain at)) (without_segment (segments_from (suc at) entries) (address_of_grain at))
+    (ap (λ (x : Bool). not x) (eq-eqb (address_of_grain at) (address_of_grain at) refl)))
+    ∙ ap (λ (k : ℕ). without_segment (head ∷ segments_from (suc at) entries) (address_of_grain k)) place
+segments_taken at (Free ∷ entries) (suc i) n p g r is =
+    let place : suc at + i ≡ at + suc i = omega arith in
+    segments_taken (suc at) entries i n p g r is ∙ ap (λ (k : ℕ). without_segment (segments_from (suc at) entries) (address_of_grain k)) place
+segments_taken at (First a b c d ∷ entries) (suc i) n p g r is =
+    let place : suc at + i ≡ at + suc i = omega arith in
+    let head : Segment = record { base = address_of_grain at; grains = a; pool = b; generation = c; rank = d } in
+    let base = address_of_grain (at + suc i) in
+    ap (λ (ss : List Segment). head ∷ ss)
+    (segments_taken (suc at) entries i n p g r is ∙ ap (λ (k : ℕ). without_segment (segments_from (suc at) entries) (address_of_grain k)) place)
+    ∙ sym (cond-true (not (eqb (address_of_grain at) base)) (head ∷ without_segment (segments_from (suc at) entries) base) (without_segment (segments_from (suc at) entries) base)
+    (ap (λ (x : Bool). not x) (ne_eqb (address_of_grain at) base (λ e. omega arith))))
+
+pub held_taken : (at : ℕ) (entries : List Entry) (i n p g : ℕ) (r : Rank) → get_or entries i Free ≡ First n p g r
+    → held_from at (set entries i Free) ≡ without_run (at + i) (held_from at entries)
+unfolding segments_from
+held_taken at [] i n p g r is = cc
+held_taken at (Free ∷ entries) zero n p g r is = cc
+held_taken at (First a b c d ∷ entries) zero n p g r is =
+    sym (without_run_first (at + 0) (record { from = address_of_grain at / 4096; count = a }) (held_from (suc at) entries) (omega arith))
+held_taken at (Free ∷ entries) (suc i) n p g r is =
+    let place : suc at + i ≡ at + suc i = omega arith in
+    held_taken (suc at) entries i n p g r is ∙ ap (λ (k : ℕ). without_run k (held_from (suc at) entries)) place
+held_taken at (First a b c d ∷ entries) (suc i) n p g r is =
+    let place : suc at + i ≡ at + suc i = omega arith in
+    let head : Run = record { from = address_of_grain at / 4096; count = a } in
+    ap (λ (rs : List Run). head ∷ rs)
+    (held_taken (suc at) entries i n p g r is ∙ ap (λ (k : ℕ). without_run k (held_from (suc at) entries)) place)
+    ∙ sym (without_run_later (at + suc i) head (held_from (suc at) entries) (λ e. omega arith))
+
+-- a segment of the table is an entry
+pub record EntryOf (table : List Entry) (s : Segment) (grain : ℕ) : Type 0 where
+  pub within : grain < length table
+  pub is : get_or table grain Free ≡ First s.grains s.pool s.generation s.rank
+  pub base : s.base ≡ address_of_grain grain
+
+entry_from : (at : ℕ) (entries : List Entry) (s : Segment) → Contains (segments_from at entries) s → (i : ℕ) × (i < length entries) × (get_or entries i Free ≡ First s.grains s.pool s.generation s.rank) × (s.base ≡ address_of_grain (at + i))
+unfolding segments_from
+entry_from at [] s (k, within, is) = absurd (omega arith)
+entry_from at (Free ∷ entries) s there =
+    let later = entry_from (suc at) entries s there in
+    let place : suc at + later.0 ≡ at + suc later.0 = omega arith in
+    (suc later.0, omega (arith, later.1), later.2, later.3 ∙ ap address_of_grain place)
+entry_from at (First n p g r ∷ entries) s (zero, within, is) =
+    let head : Segment = record { base = address_of_grain at; grains = n; pool = p; generation = g; rank = r } in
+    let same : head ≡ s = is in
+    let place : at ≡ at + 0 = omega arith in
+    (0, omega arith, ap (λ (x : Segment). First x.grains x.pool x.generation x.rank) same, sym (ap (λ (x : Segment). x.base) same) ∙ ap address_of_grain place)
+entry_from at (First n p g r ∷ entries) s (suc k, within, is) =
+    let later = entry_from (suc at) entries s (k, omega arith, is) in
+    let place : suc at + later.0 ≡ at + suc later.0 = omega arith in
+    (suc later.0, omega (arith, later.1), later.2, later.3 ∙ ap address_of_grain place)
+
+pub entry_of_segment : (table : List Entry) (s : Segment) → Contains (segments_in table) s → (grain : ℕ) × EntryOf table s grain
+unfolding segments_in
+entry_of_segment table s there =
+    let e = entry_from 0 table s there in
+    let place : 0 + e.0 ≡ e.0 = omega arith in
+    (e.0, record { within = e.1; is = e.2; base = e.3 ∙ ap address_of_grain place })
+
+pub segments_after_give : (table : List Entry) (grain n p g : ℕ) (r : Rank) → get_or table grain Free ≡ First n p g r → segments_in (set table grain Free) ≡ without_segment (segments_in table) (address_of_grain grain)
+unfolding segments_in
+segments_after_give table grain n p g r is =
+    let place : 0 + grain ≡ grain = omega arith in
+    segments_taken 0 table grain n p g r is ∙ ap (λ (k : ℕ). without_segment (segments_from 0 table) (address_of_grain k)) place
+
+-- the extents that begin in a run of words
+pub begins_within : (low high : ℕ) (rs : List Run) (t : Run) → Contains rs t → low ≤ t.from → t.from < high → Contains (runs_within low high rs) t
+begins_within low high [] t (k, within, is) above below = absurd (omega arith)
+begins_within low high (s ∷ rs) t there above below =
+    let P : List Run → Type 0 = λ xs. Contains xs t in
+    elim (cases_Bool (leb low s.from && ltb s.from high)) [
+      | inl inside ↦
+          let here = cond-true (leb low s.from && ltb s.from high) (s ∷ runs_within low high rs) (runs_within low high rs) inside in
+          subst P (sym here) (elim (contains_cases rs t s there) [
+            | inl same ↦ subst (λ (x : Run). Contains (s ∷ runs_within low high rs) x) same (contains_first (runs_within low high rs) s)
+            | inr later ↦ contains_later (runs_within low high rs) t s (begins_within low high rs t later above below)
+          ])
+      | inr outside ↦
+          let here = cond-false (leb low s.from && ltb s.from high) (s ∷ runs_within low high rs) (runs_within low high rs) outside in
+          subst P (sym here) (elim (contains_cases rs t s there) [
+            | inl same ↦
+                let from : s.from ≡ t.from = ap (λ (x : Run). x.from) same in
+                absurd (both_ways (leb low s.from && ltb s.from high) outside (and_from (leb low s.from) (ltb s.from high) (le-leb low s.from (omega (arith, from))) (lt-ltb s.from high (omega (arith, from)))))
+            | inr later ↦ begins_within low high rs t later above below
+          ])
+    ]
+
+-- ascending runs that begin at one number are one
+same_count : (low high : ℕ) (rs : List Run) (r s : Run) → IsAscending low high rs → Contains rs r → Contains rs s → r.from ≡ s.from → r.count ≡ s.count
+same_count low high [] r s ascending (k, within, is) there e = absurd (omega arith)
+same_count low high (t ∷ rs) r s ascending here there e =
+    elim (contains_cases rs r t here) [
+      | inl first ↦ elim (contains_cases rs s t there) [
+        | inl same ↦ ap (λ (x : Run). x.count) (sym first ∙ same)
+        | inr later ↦
+            let bounds = contained_bounds (end_of t) high rs s ascending.2 later in
+            absurd (omega (arith, bounds.0, ap (λ (x : Run). x.from) first, e, ascending.1))
+      ]
+      | inr behind ↦ elim (contains_cases rs s t there) [
+        | inl same ↦
+            let bounds = contained_bounds (end_of t) high rs r ascending.2 behind in
+            absurd (omega (arith, bounds.0, ap (λ (x : Run). x.from) same, e, ascending.1))
+        | inr later ↦ same_count (end_of t) high rs r s ascending.2 behind later e
+      ]
+    ]
+
+pub held_after_giving : (arena : ArenaState) (table : List Entry) (ex : ExtentLists) (grain n p g : ℕ) (r : Rank) → IsHeld arena table ex → get_or table grain Free ≡ First n p g r
+    → runs_within (512 * grain) (512 * (grain + n)) ex.covered ≡ []
+    → IsHeld (record arena { held = without_run grain arena.held }) (set table grain Free) ex
+unfolding segments_in
+held_after_giving arena table ex grain n p g r held is empty =
+    let place : 0 + grain ≡ grain = omega arith in
+    let mine : Run = record { from = grain; count = n } in
+    let P : List Run → Type 0 = λ rs. Contains rs mine in
+    let listed = subst P (sym held.held) (entry_is_held table grain n p g r is) in
+    record {
+      held =
+          ap (λ (rs : List Run). without_run grain rs) held.held
+          ∙ ap (λ (k : ℕ). without_run k (held_from 0 table)) (sym place)
+          ∙ sym (held_taken 0 table grain n p g r is);
+      ascending = IsAscending-without_run 1 (arena.grains + 1) grain arena.held held.ascending;
+      few = held.few;
+      size = length-set table grain Free ∙ held.size;
+      covered_size = held.covered_size;
+      some = held.some;
+      inside = λ t there.
+          let lies = held.inside t there in
+          let other : lies.grains.from ≢ grain = λ e.
+          elim (apart_each 1 (arena.grains + 1) arena.held lies.grains mine held.ascending lies.there listed) [
+            | inl same ↦ not_empty t there lies e
+            | inr apart ↦
+                let bounds = contained_bounds 1 (arena.grains + 1) arena.held mine held.ascending listed in
+                let bounds' = contained_bounds 1 (arena.grains + 1) arena.held lies.grains held.ascending lies.there in
+                elim apart [ inl after ↦ absurd (omega (arith, after, e, bounds'.1)) | inr before ↦ absurd (omega (arith, before, e, bounds.1)) ]
+          ]
+          in
+          record { grains = lies.grains; there = contains_still grain lies.grains arena.held lies.there other; after = lies.after; before = lies.before };
+    }
+  where
+    not_empty : (t : Run) → Contains ex.covered t → (lies : LiesIn arena.held t) → lies.grains.from ≡ grain → ⊥
+    not_empty t there lies e =
+        let mine : Run = record { from = grain; count = n } in
+        let P : List Run → Type 0 = λ rs. Contains rs mine in
+        let listed = subst P (sym held.held) (entry_is_held table grain n p g r is) in
+        let count = same_count 1 (arena.grains + 1) arena.held lies.grains mine held.ascending lies.there listed e in
+        let Q : List Run → Type 0 = λ rs. Contains rs t in
+        let none = subst Q empty (begins_within (512 * grain) (512 * (grain + n)) ex.covered t there (omega (arith, lies.after, e)) (omega (arith, lies.before, e, count, held.some t there))) in
+        absurd (omega (arith, none.1))
+
+-- ---- whole segments
+
+-- each extent lies on one side of a held run of grains, or in it
+pub whole_in : (arena : ArenaState) (table : List Entry) (ex : ExtentLists) (grains : Run) → IsHeld arena table ex → Contains arena.held grains → (rs : List Run) → ((t : Run) → Contains rs t → Contains ex.covered t)
+    → AreWhole (512 * grains.from) (512 * end_of grains) rs
+whole_in arena table ex grains held listed [] part = tt
+whole_in arena table ex grains held listed (t ∷ rs) part =
+    let there = part t (contains_first rs t) in
+    let lies = held.inside t there in
+    let some = held.some t there in
+    let bounds = contained_bounds 1 (arena.grains + 1) arena.held lies.grains held.ascending lies.there in
+    let apart = apart_each 1 (arena.grains + 1) arena.held lies.grains grains held.ascending lies.there listed in (
+      (
+        λ above below. elim apart [
+          | inl same ↦ omega (arith, lies.before, same, same_count 1 (arena.grains + 1) arena.held lies.grains grains held.ascending lies.there listed same)
+          | inr sides ↦ elim sides [ inl after ↦ absurd (omega (arith, after, lies.before, some)) | inr before ↦ absurd (omega (arith, before, lies.after)) ]
+        ],
+        λ below. elim apart [
+          | inl same ↦ absurd (omega (arith, lies.after, same))
+          | inr sides ↦ elim sides [ inl after ↦ omega (arith, after, lies.before) | inr before ↦ absurd (omega (arith, before, lies.after)) ]
+        ],
+      ),
+      whole_in arena table ex grains held listed rs (λ x in_rest. part x (contains_later rs x t in_rest)),
+    )
+
+-- what giving back the segment at an address needs to know
+pub record GivesAt (arena : ArenaState) (table : List Entry) (ex : ExtentLists) (base : ℕ) (s : Segment) : Type 0 where
+  pub within : base / 4096 < length table
+  pub is : get_or table (base / 4096) Free ≡ First s.grains s.pool s.generation s.rank
+  pub aligned : base ≡ address_of_grain (base / 4096)
+  pub empty : runs_within (512 * (base / 4096)) (512 * (base / 4096 + s.grains)) ex.covered ≡ []
+
+pub gives_at : (arena : ArenaState) (table : List Entry) (ex : ExtentLists) (base : ℕ) (s : Segment) → Contains (segments_in table) s → s.base ≡ base
+    → runs_within (s.base / 8) (end_of_segment s / 8) ex.covered ≡ [] → GivesAt arena table ex base s
+gives_at arena table ex base s there begins empty =
+    let e = entry_of_segment table s there in
+    let grain : base / 4096 ≡ e.0 = omega (arith, e.1.base, begins) in
+    let low : s.base / 8 ≡ 512 * (base / 4096) = omega (arith, e.1.base, begins) in
+    let high : end_of_segment s / 8 ≡ 512 * (base / 4096 + s.grains) = omega (arith, e.1.base, begins) in
+    let P : ℕ → Type 0 = λ k. get_or table k Free ≡ First s.grains s.pool s.generation s.rank in
+    let Q : ℕ → Type 0 = λ a. runs_within a (end_of_segment s / 8) ex.covered ≡ [] in
+    let R : ℕ → Type 0 = λ b. runs_within (512 * (base / 4096)) b ex.covered ≡ [] in
+    record {
+      within = omega (arith, grain, e.1.within);
+      is = subst P (sym grain) e.1.is;
+      aligned = omega (arith, e.1.base, begins);
+      empty = subst R high (subst Q low empty);
+    }
+
+-- ---- the gaps of the segments, segment by segment
+
+pub lowest_in_first : (n place : ℕ) (xs ys : List Run) → lowest_fitting n xs ≡ Some place → lowest_fitting n (xs ++ ys) ≡ Some place
+lowest_in_first n place [] ys is = let never : None ≡ Some place = is in cc
+lowest_in_first n place (r ∷ xs) ys is =
+    elim (cases_Bool (leb n r.count)) [
+      | inl fits ↦
+          cond-true (leb n r.count) (Some r.from) (lowest_fitting n (xs ++ ys)) fits ∙ sym (cond-true (leb n r.count) (Some r.from) (lowest_fitting n xs) fits) ∙ is
+      | inr short ↦
+          cond-false (leb n r.count) (Some r.from) (lowest_fitting n (xs ++ ys)) short
+          ∙ lowest_in_first n place xs ys (sym (cond-false (leb n r.count) (Some r.from) (lowest_fitting n xs) short) ∙ is)
+    ]
+
+pub lowest_behind : (n : ℕ) (xs ys : List Run) → lowest_fitting n xs ≡ None → lowest_fitting n (xs ++ ys) ≡ lowest_fitting n ys
+lowest_behind n [] ys is = refl
+lowest_behind n (r ∷ xs) ys is =
+    elim (cases_Bool (leb n r.count)) [
+      | inl fits ↦ let never : Some r.from ≡ None = sym (cond-true (leb n r.count) (Some r.from) (lowest_fitting n xs) fits) ∙ is in cc
+      | inr short ↦
+          cond-false (leb n r.count) (Some r.from) (lowest_fitting n (xs ++ ys)) short
+          ∙ lowest_behind n xs ys (sym (cond-false (leb n r.count) (Some r.from) (lowest_fitting n xs) short) ∙ is)
+    ]
+
+-- the gaps of the segments that begin at a grain or behind it
+unfoldable pub later_gaps : SegsState → ℕ → Rank → ℕ → List Entry → List Run
+later_gaps state pool rank grain entries = flat_map (gaps_in state) (filter (is_open_to pool rank) (segments_from grain entries))
+
+pub all_gaps : (arena : ArenaState) (table : List Entry) (ex : ExtentLists) (pool : ℕ) (rank : Rank) → later_gaps (segs_state arena table ex) pool rank 0 table ≡ gaps_of (segs_state arena table ex) pool rank
+unfolding later_gaps segments_in
+all_gaps arena table ex pool rank = refl
+
+pub no_gaps : (state : SegsState) (pool : ℕ) (rank : Rank) (grain : ℕ) → later_gaps state pool rank grain [] ≡ []
+unfolding later_gaps segments_from
+no_gaps state pool rank grain = refl
+
+gaps_step : (arena : ArenaState) (table : List Entry) (ex : ExtentLists) (pool : ℕ) (rank : Rank) (grain : ℕ) (e : Entry) (entries : List Entry)
+    → later_gaps (segs_state arena table ex) pool rank grain (e ∷ entries) ≡ gaps_at grain e pool rank ex ++ later_gaps (segs_state arena table ex) pool rank (suc grain) entries
+unfolding later_gaps segments_from
+gaps_step arena table ex pool rank grain Free entries = refl
+gaps_step arena table ex pool rank grain (First n p g r) entries =
+    let st = segs_state arena table ex in
+    let s : Segment = record { base = address_of_grain grain; grains = n; pool = p; generation = g; rank = r } in
+    let behind = filter (is_open_to pool rank) (segments_from (suc grain) entries) in
+    let low : address_of_grain grain / 8 ≡ 512 * grain = omega arith in
+    let high : end_of_segment s / 8 ≡ 512 * grain + 512 * n = omega arith in
+    let mine : gaps_in st s ≡ gaps (512 * grain) (512 * grain + 512 * n) (runs_within (512 * grain) (512 * grain + 512 * n) ex.covered) =
+    ap (λ (a : ℕ). gaps a (end_of_segment s / 8) (runs_within a (end_of_segment s / 8) ex.covered)) low
+    ∙ ap (λ (b : ℕ). gaps (512 * grain) b (runs_within (512 * grain) b ex.covered)) high
+    in
+    elim (cases_Bool (is_open_to pool rank s)) [
+      | inl opened ↦
+          ap (λ (ss : List Segment). flat_map (gaps_in st) ss) (cond-true (is_open_to pool rank s) (s ∷ behind) behind opened)
+          ∙ ap (λ (rs : List Run). rs ++ flat_map (gaps_in st) behind) (mine ∙ sym (cond-true (is_open_to pool rank s) (gaps (512 * grain) (512 * grain + 512 * n) (runs_within (512 * grain) (512 * grain + 512 * n) ex.covered)) [] opened))
+      | inr closed ↦
+          ap (λ (ss : List Segment). flat_map (gaps_in st) ss) (cond-false (is_open_to pool rank s) (s ∷ behind) behind closed)
+          ∙ ap (λ (rs : List Run). rs ++ flat_map (gaps_in st) behind) (sym (cond-false (is_open_to pool rank s) (gaps (512 * grain) (512 * grain + 512 * n) (runs_within (512 * grain) (512 * grain + 512 * n) ex.covered)) [] closed))
+    ]
+
+pub gaps_more : (arena : ArenaState) (table : List Entry) (ex : ExtentLists) (pool : ℕ) (rank : Rank) (grain : ℕ) → grain < length table
+    → later_gaps (segs_state arena table ex) pool rank grain (drop grain table) ≡ gaps_at grain (get_or table grain Free) pool rank ex ++ later_gaps (segs_state arena table ex) pool rank (suc grain) (drop (suc grain) table)
+gaps_more arena table ex pool rank grain within =
+    ap (λ (es : List Entry). later_gaps (segs_state arena table ex) pool rank grain es) (drop-cons table grain Free within)
+    ∙ gaps_step arena table ex pool rank grain (get_or table grain Free) (drop (suc grain) table)
+
+-- the segment at a grain is whole
+pub whole_at : (arena : ArenaState) (table : List Entry) (ex : ExtentLists) (grain : ℕ) (e : Entry) → IsHeld arena table ex → get_or table grain Free ≡ e → IsWholeAt grain e ex
+whole_at arena table ex grain Free held is = tt
+whole_at arena table ex grain (First n p g r) held is =
+    let mine : Run = record { from = grain; count = n } in
+    let P : List Run → Type 0 = λ rs. Contains rs mine in
+    let listed = subst P (sym held.held) (entry_is_held table grain n p g r is) in
+    let bounds = contained_bounds 1 (arena.grains + 1) arena.held mine held.ascending listed in
+    let end : 512 * (grain + n) ≡ 512 * grain + 512 * n = omega arith in
+    let Q : ℕ → Type 0 = λ high. AreWhole (512 * grain) high ex.covered in
+    (subst Q end (whole_in arena table ex mine held listed ex.covered (λ t there. there)), omega (arith, bounds.2, held.covered_size))
+
+-- where the segment at an address stands in the table
+pub record SegmentAt (table : List Entry) (base : ℕ) (s : Segment) : Type 0 where
+  pub within : base / 4096 < length table
+  pub is : get_or table (base / 4096) Free ≡ First s.grains s.pool s.generation s.rank
+  pub aligned : base ≡ address_of_grain (base / 4096)
+
+pub segment_at : (table : List Entry) (base : ℕ) (s : Segment) → Contains (segments_in table) s → s.base ≡ base → SegmentAt table base s
+segment_at table base s there begins =
+    let e = entry_of_segment table s there in
+    let grain : base / 4096 ≡ e.0 = omega (arith, e.1.base, begins) in
+    let P : ℕ → Type 0 = λ k. get_or table k Free ≡ First s.grains s.pool s.generation s.rank in
+    record { within = omega (arith, grain, e.1.within); is = subst P (sym grain) e.1.is; aligned = omega (arith, e.1.base, begins) }
+
+pub segment_end_fits : (arena : ArenaState) (table : List Entry) (ex : ExtentLists) (grain n p g : ℕ) (r : Rank) → IsHeld arena table ex → get_or table grain Free ≡ First n p g r → 512 * (grain + n) ≤ ex.size
+segment_end_fits arena table ex grain n p g r held is = omega (arith, (whole_at arena table ex grain (First n p g r) held is).1)

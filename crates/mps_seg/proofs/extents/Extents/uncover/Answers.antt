@@ -1,0 +1,137 @@
+use Rattle.std.proofs.Common.{ℕ, ◌+◌, ◌-◌, ◌≡◌, ◌≤◌, ◌<◌, Bool, true, false, List, Option, Some, None, length, set, Contains, refl, sym, ap, ◌∙◌, subst, arith}
+use Rattle.mps_base.specs.Run.{Run, IsAscending, gaps, lowest_fitting, with_run, without_run}
+use Rattle.mps_bits.specs.Table.{bit, with_range, next_set, previous_set}
+use Rattle.mps_seg.specs.Extents.{ExtentLists, run_over, first_run, runs_within, AreWhole}
+use Rattle.mps_seg.specs.Inside.{extents, lists_of, minus, length_at, IsSound}
+use Rattle.mps_seg.proofs.extents.Extents.uncover.Goals as goal
+use Rattle.mps_seg.proofs.Cover.{Taken, IsReserved, last_word, taken_fits, taken_last, taken_is_sound, is_reserved, uncover_lists, drop_lists, begin_of, among_all, found_last, next_is_some, left_without_block, left_without_reservation, commit_lists, commit_is_sound}
+
+pub unwrap-last-requires : goal.unwrap-last-requires
+unwrap-last-requires c =
+    let covered = c.self.inside.covered in
+    let begins = c.self.inside.begins in
+    let ends = c.self.inside.ends in
+    let blocks = c.self.inside.blocks in
+    let sound = c.self.invariant in
+    let r : Run = record { from = c.args.at; count = c.requires.0 } in
+    let P : ExtentLists → Type 0 = λ e. Contains e.reservations r in
+    let reserved = is_reserved begins ends blocks r (subst P (sym c.self.view_is) c.requires.1) in
+    let taken : Taken covered begins ends blocks r = record { sound = sound; there = reserved.there } in
+    next_is_some covered begins ends blocks r c.next_set.result taken c.next_set.ensures
+
+pub overflow_add-last : goal.overflow_add-last
+overflow_add-last c =
+    let covered = c.self.inside.covered in
+    let begins = c.self.inside.begins in
+    let ends = c.self.inside.ends in
+    let blocks = c.self.inside.blocks in
+    let sound = c.self.invariant in
+    let r : Run = record { from = c.args.at; count = c.requires.0 } in
+    let P : ExtentLists → Type 0 = λ e. Contains e.reservations r in
+    let reserved = is_reserved begins ends blocks r (subst P (sym c.self.view_is) c.requires.1) in
+    let taken : Taken covered begins ends blocks r = record { sound = sound; there = reserved.there } in
+    let last : c.unwrap-last.result ≡ last_word r = found_last covered begins ends blocks r c.next_set.result c.unwrap-last.result taken c.next_set.ensures c.unwrap-last.ensures in
+    let fits = taken_fits covered begins ends blocks r taken in
+    omega (arith, last, fits, sound.small)
+
+pub clear_range-requires-clause-ordered : goal.clear_range-requires-clause-ordered
+clear_range-requires-clause-ordered c =
+    let covered = c.self.inside.covered in
+    let begins = c.self.inside.begins in
+    let ends = c.self.inside.ends in
+    let blocks = c.self.inside.blocks in
+    let sound = c.self.invariant in
+    let r : Run = record { from = c.args.at; count = c.requires.0 } in
+    let P : ExtentLists → Type 0 = λ e. Contains e.reservations r in
+    let reserved = is_reserved begins ends blocks r (subst P (sym c.self.view_is) c.requires.1) in
+    let taken : Taken covered begins ends blocks r = record { sound = sound; there = reserved.there } in
+    let last : c.unwrap-last.result ≡ last_word r = found_last covered begins ends blocks r c.next_set.result c.unwrap-last.result taken c.next_set.ensures c.unwrap-last.ensures in
+    let fits = taken_fits covered begins ends blocks r taken in
+    omega (arith, last, fits.0)
+
+pub clear_range-requires-clause-within : goal.clear_range-requires-clause-within
+clear_range-requires-clause-within c =
+    let covered = c.self.inside.covered in
+    let begins = c.self.inside.begins in
+    let ends = c.self.inside.ends in
+    let blocks = c.self.inside.blocks in
+    let sound = c.self.invariant in
+    let r : Run = record { from = c.args.at; count = c.requires.0 } in
+    let P : ExtentLists → Type 0 = λ e. Contains e.reservations r in
+    let reserved = is_reserved begins ends blocks r (subst P (sym c.self.view_is) c.requires.1) in
+    let taken : Taken covered begins ends blocks r = record { sound = sound; there = reserved.there } in
+    let last : c.unwrap-last.result ≡ last_word r = found_last covered begins ends blocks r c.next_set.result c.unwrap-last.result taken c.next_set.ensures c.unwrap-last.ensures in
+    let fits = taken_fits covered begins ends blocks r taken in
+    omega (arith, last, fits.1, sound.same_size.0)
+
+pub clear-requires : goal.clear-requires
+clear-requires c =
+    let covered = c.self.inside.covered in
+    let begins = c.self.inside.begins in
+    let ends = c.self.inside.ends in
+    let blocks = c.self.inside.blocks in
+    let sound = c.self.invariant in
+    let r : Run = record { from = c.args.at; count = c.requires.0 } in
+    let P : ExtentLists → Type 0 = λ e. Contains e.reservations r in
+    let reserved = is_reserved begins ends blocks r (subst P (sym c.self.view_is) c.requires.1) in
+    let taken : Taken covered begins ends blocks r = record { sound = sound; there = reserved.there } in
+    let last : c.unwrap-last.result ≡ last_word r = found_last covered begins ends blocks r c.next_set.result c.unwrap-last.result taken c.next_set.ensures c.unwrap-last.ensures in
+    let fits = taken_fits covered begins ends blocks r taken in
+    omega (arith, fits.0, fits.1)
+
+pub clear-requires-2 : goal.clear-requires-2
+clear-requires-2 c =
+    let covered = c.self.inside.covered in
+    let begins = c.self.inside.begins in
+    let ends = c.self.inside.ends in
+    let blocks = c.self.inside.blocks in
+    let sound = c.self.invariant in
+    let r : Run = record { from = c.args.at; count = c.requires.0 } in
+    let P : ExtentLists → Type 0 = λ e. Contains e.reservations r in
+    let reserved = is_reserved begins ends blocks r (subst P (sym c.self.view_is) c.requires.1) in
+    let taken : Taken covered begins ends blocks r = record { sound = sound; there = reserved.there } in
+    let last : c.unwrap-last.result ≡ last_word r = found_last covered begins ends blocks r c.next_set.result c.unwrap-last.result taken c.next_set.ensures c.unwrap-last.ensures in
+    let fits = taken_fits covered begins ends blocks r taken in
+    omega (arith, last, fits.1, sound.same_size.1)
+
+pub invariant_of-self : goal.invariant_of-self
+invariant_of-self c =
+    let covered = c.self.inside.covered in
+    let begins = c.self.inside.begins in
+    let ends = c.self.inside.ends in
+    let blocks = c.self.inside.blocks in
+    let sound = c.self.invariant in
+    let r : Run = record { from = c.args.at; count = c.requires.0 } in
+    let P : ExtentLists → Type 0 = λ e. Contains e.reservations r in
+    let reserved = is_reserved begins ends blocks r (subst P (sym c.self.view_is) c.requires.1) in
+    let taken : Taken covered begins ends blocks r = record { sound = sound; there = reserved.there } in
+    let last : c.unwrap-last.result ≡ last_word r = found_last covered begins ends blocks r c.next_set.result c.unwrap-last.result taken c.next_set.ensures c.unwrap-last.ensures in
+    let fits = taken_fits covered begins ends blocks r taken in
+    let now_covered : c.clear_range.new.self ≡ with_range covered c.args.at (last_word r + 1) false =
+    c.clear_range.ensures.bits ∙ ap (λ (k : ℕ). with_range covered c.args.at (k + 1) false) last
+    in
+    let now_ends : c.clear-2.new.self ≡ set ends (last_word r) false = c.clear-2.ensures.bits ∙ ap (λ (k : ℕ). set ends k false) last in
+    let P1 : List Bool → Type 0 = λ t. IsSound t c.clear.new.self c.clear-2.new.self blocks in
+    let P2 : List Bool → Type 0 = λ t. IsSound (with_range covered c.args.at (last_word r + 1) false) t c.clear-2.new.self blocks in
+    let P3 : List Bool → Type 0 = λ t. IsSound (with_range covered c.args.at (last_word r + 1) false) (set begins c.args.at false) t blocks in
+    subst P1 (sym now_covered) (subst P2 (sym c.clear.ensures.bits) (subst P3 (sym now_ends)
+    (taken_is_sound covered begins ends blocks blocks r taken refl (left_without_reservation covered begins ends blocks c.args.at sound reserved.no_block))))
+
+pub returns : goal.returns
+returns c =
+    let covered = c.self.inside.covered in
+    let begins = c.self.inside.begins in
+    let ends = c.self.inside.ends in
+    let blocks = c.self.inside.blocks in
+    let sound = c.self.invariant in
+    let r : Run = record { from = c.args.at; count = c.requires.0 } in
+    let P : ExtentLists → Type 0 = λ e. Contains e.reservations r in
+    let reserved = is_reserved begins ends blocks r (subst P (sym c.self.view_is) c.requires.1) in
+    let taken : Taken covered begins ends blocks r = record { sound = sound; there = reserved.there } in
+    let last : c.unwrap-last.result ≡ last_word r = found_last covered begins ends blocks r c.next_set.result c.unwrap-last.result taken c.next_set.ensures c.unwrap-last.ensures in
+    let fits = taken_fits covered begins ends blocks r taken in
+    let now_ends : c.clear-2.new.self ≡ set ends (last_word r) false = c.clear-2.ensures.bits ∙ ap (λ (k : ℕ). set ends k false) last in
+    ap (λ (t : List Bool). lists_of t c.clear-2.new.self blocks) c.clear.ensures.bits
+    ∙ ap (λ (t : List Bool). lists_of (set begins c.args.at false) t blocks) now_ends
+    ∙ uncover_lists covered begins ends blocks r taken reserved
+    ∙ ap (λ (e : ExtentLists). record e { covered = without_run c.args.at e.covered; reservations = without_run c.args.at e.reservations }) c.self.view_is

@@ -1,0 +1,7 @@
+use Rattle.std.proofs.Common.{ℕ, ◌*◌, ◌/◌, ◌≤◌, sym, ap, ◌∙◌, arith}
+use Rattle.mps_seg.specs.Extents.{run_over}
+use Rattle.mps_seg.proofs.Query.{run_over-le}
+use Rattle.mps_seg.proofs.segs.Segs.block_at.Goals as goal
+
+pub overflow_mul-result : goal.overflow_mul-result
+overflow_mul-result c = omega (arith, run_over-le c.self.inside.extents.blocks (c.args.n / 8) c.in_ok-word.word (sym c.in_ok-word.ensures), c.ranges.n)

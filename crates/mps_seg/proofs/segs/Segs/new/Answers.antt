@@ -1,0 +1,29 @@
+use Rattle.std.proofs.Common.{ℕ, ◌+◌, ◌-◌, ◌*◌, ◌/◌, ◌≡◌, ◌≤◌, ◌<◌, List, Option, Some, None, length, set, map, replicate, Contains, refl, sym, ap, ◌∙◌, subst, arith}
+use Rattle.mps_base.specs.Run.{Run, IsAscending, with_run, without_run}
+use Rattle.mps_base.specs.Placement.{Placement}
+use Rattle.mps_base.specs.Address.{word_of}
+use Rattle.mps_arena.specs.Arena.{ArenaState, new_arena, held_after, placement_in}
+use Rattle.mps_seg.specs.declared.entry.Entry.{Entry}
+use Rattle.mps_seg.specs.declared.entry.Entry.TheVariants.{Free, First}
+use Rattle.mps_seg.specs.Extents.{ExtentLists, nothing_covered}
+use Rattle.mps_seg.specs.Segment.{Segment, grains_of_segment}
+use Rattle.mps_seg.specs.Segs.{SegsState, placement_for, segments_after, new_segments, held_grains}
+use Rattle.mps_seg.specs.Table.{segments_in, segs_state, LiesIn, IsHeld}
+use Rattle.mps_seg.proofs.Held.{held_after_cover, held_after_less, held_after_commit, taken_at, segments_after_take, held_after_taking, new_is_held, new_segments_in}
+use Rattle.mps_seg.proofs.segs.Segs.new.Goals as goal
+
+pub invariant_of-result : goal.invariant_of-result
+invariant_of-result c =
+    let entries : c.in_ok-vec.field-0.items ≡ replicate (c.args.grains + 1) Free = c.in_ok-vec.ensures.items_if_clones_equal (λ y h. h) in
+    let P : ArenaState → Type 0 = λ a. IsHeld a c.in_ok-vec.field-0.items c.in_ok-new-2.field-0 in
+    let Q : List Entry → Type 0 = λ t. IsHeld (new_arena c.args.grains c.args.limit) t c.in_ok-new-2.field-0 in
+    let R : ExtentLists → Type 0 = λ e. IsHeld (new_arena c.args.grains c.args.limit) (replicate (c.args.grains + 1) Free) e in
+    subst P (sym c.in_ok-new.ensures) (subst Q (sym entries) (subst R (sym c.in_ok-new-2.ensures) (new_is_held c.args.grains c.args.limit c.requires.few)))
+
+pub returns : goal.returns
+returns c =
+    let entries : c.in_ok-vec.field-0.items ≡ replicate (c.args.grains + 1) Free = c.in_ok-vec.ensures.items_if_clones_equal (λ y h. h) in
+    ap (λ (a : ArenaState). segs_state a c.in_ok-vec.field-0.items c.in_ok-new-2.field-0) c.in_ok-new.ensures
+    ∙ ap (λ (t : List Entry). segs_state (new_arena c.args.grains c.args.limit) t c.in_ok-new-2.field-0) entries
+    ∙ ap (λ (e : ExtentLists). segs_state (new_arena c.args.grains c.args.limit) (replicate (c.args.grains + 1) Free) e) c.in_ok-new-2.ensures
+    ∙ ap (λ (ss : List Segment). record (new_segments c.args.grains c.args.limit) { segments = ss }) (new_segments_in (c.args.grains + 1))

@@ -1,0 +1,64 @@
+-- The words that blocks and reservations cover, as runs of words in ascending order.
+use Rattle.std.specs.Prelude.{ℕ, ◌+◌, ◌≤◌, ◌<◌, ◌≡◌, ◌&&◌, Bool, true, false, nat_le, nat_lt, if◌then◌else◌, Option, Some, None, List, [], ◌∷◌, refl}
+use Rattle.mps_base.specs.Run.{Run, end_of}
+
+-- what is covered among so many words: by blocks, and by reservations
+pub record ExtentLists : Type 0 where
+  pub size : ℕ
+  -- blocks and reservations together
+  pub covered : List Run
+  pub blocks : List Run
+  pub reservations : List Run
+
+abbrev pub nothing_covered : ℕ → ExtentLists
+nothing_covered size = record { size = size; covered = []; blocks = []; reservations = [] }
+
+-- whether a run covers a word
+abbrev pub has_word : Run → ℕ → Bool
+has_word r word = nat_le r.from word && nat_lt word (end_of r)
+
+-- whether one of the runs covers a word
+abbrev pub is_covered : List Run → ℕ → Bool
+is_covered [] word = false
+is_covered (r ∷ rs) word = if has_word r word then true else is_covered rs word
+
+-- where the run begins that covers a word
+abbrev pub run_over : List Run → ℕ → Option ℕ
+run_over [] word = None
+run_over (r ∷ rs) word = if has_word r word then Some r.from else run_over rs word
+
+-- where the first of the runs begins that begins from `low` on and below `high`
+abbrev pub first_run : ℕ → ℕ → List Run → Option ℕ
+first_run low high [] = None
+first_run low high (r ∷ rs) = if nat_le low r.from && nat_lt r.from high then Some r.from else first_run low high rs
+
+-- the runs that begin from `low` on and below `high`
+abbrev pub runs_within : ℕ → ℕ → List Run → List Run
+runs_within low high [] = []
+runs_within low high (r ∷ rs) = if nat_le low r.from && nat_lt r.from high then r ∷ runs_within low high rs else runs_within low high rs
+
+-- no run has words on both sides of either bound
+abbrev pub AreWhole : ℕ → ℕ → List Run → Type 0
+AreWhole low high [] = Unit {0}
+AreWhole low high (r ∷ rs) = IsWhole low high r × AreWhole low high rs
+  where
+    IsWhole : ℕ → ℕ → Run → Type 0
+    IsWhole low high r = (low ≤ r.from → r.from < high → end_of r ≤ high) × (r.from < low → end_of r ≤ low)
+
+abbrev example : List Run
+example = record { from = 2; count = 3 } ∷ record { from = 5; count = 1 } ∷ []
+
+a_word_of_the_first : run_over example 4 ≡ Some 2
+a_word_of_the_first = refl
+
+a_word_of_its_neighbour : run_over example 5 ≡ Some 5
+a_word_of_its_neighbour = refl
+
+no_word_behind : run_over example 6 ≡ None
+no_word_behind = refl
+
+the_first_from_three : first_run 3 9 example ≡ Some 5
+the_first_from_three = refl
+
+none_below_five : first_run 3 5 example ≡ None
+none_below_five = refl

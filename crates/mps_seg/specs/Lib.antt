@@ -1,0 +1,6 @@
+pub mod Extents
+pub mod Inside
+pub mod Lending
+pub mod Segment
+pub mod Segs
+pub mod Table

@@ -1,0 +1,41 @@
+-- Segments: runs of grains that are held for a pool.
+use Rattle.std.specs.Prelude.{ℕ, ◌+◌, ◌*◌, ◌≡◌, Bool, true, false, not, ◌&&◌, ◌==◌, nat_lt, if◌then◌else◌, List, [], ◌∷◌, filter, map, refl}
+use Rattle.mps_base.specs.Run.{Run}
+use Rattle.mps_base.specs.Address.{word_of, grain_of}
+use Rattle.mps_base.specs.declared.names.Rank.{Rank}
+use Rattle.mps_base.specs.declared.names.Rank.TheVariants as rank
+
+-- a run of whole grains that is held for a pool
+pub record Segment : Type 0 where
+  -- the address at which it begins
+  pub base : ℕ
+  pub grains : ℕ
+  pub pool : ℕ
+  pub generation : ℕ
+  pub rank : Rank
+
+-- the address behind a segment
+abbrev pub end_of_segment : Segment → ℕ
+end_of_segment s = s.base + 4096 * s.grains
+
+-- its grains
+abbrev pub grains_of_segment : Segment → Run
+grains_of_segment s = record { from = grain_of s.base; count = s.grains }
+
+-- one more segment, in ascending order
+abbrev pub with_segment : Segment → List Segment → List Segment
+with_segment new [] = new ∷ []
+with_segment new (s ∷ ss) = if nat_lt new.base s.base then new ∷ s ∷ ss else s ∷ with_segment new ss
+
+-- the segments but the one that begins at an address
+abbrev pub without_segment : List Segment → ℕ → List Segment
+without_segment ss base = filter (λ s. not (s.base == base)) ss
+
+abbrev pub same_rank : Rank → Rank → Bool
+same_rank rank.Exact rank.Exact = true
+same_rank rank.Weak rank.Weak = true
+same_rank _ _ = false
+
+-- whether a segment is of a pool and a rank
+abbrev pub is_open_to : ℕ → Rank → Segment → Bool
+is_open_to pool at_rank s = s.pool == pool && same_rank s.rank at_rank

@@ -1,0 +1,68 @@
+-- How the table by grain stands for the segments.
+use Rattle.std.specs.Prelude.{ℕ, suc, ◌==◌, ◌&&◌, if◌then◌else◌, ◌+◌, ◌*◌, ◌≤◌, ◌<◌, ◌≡◌, List, [], ◌∷◌, length, map, Contains}
+use Rattle.mps_base.specs.declared.names.Rank.{Rank}
+use Rattle.mps_base.specs.Run.{Run, end_of, gaps, IsAscending}
+use Rattle.mps_base.specs.Address.{address_of_grain}
+use Rattle.mps_arena.specs.Arena.{ArenaState}
+use Rattle.mps_seg.specs.declared.entry.Entry.{Entry}
+use Rattle.mps_seg.specs.declared.entry.Entry.TheVariants.{Free, First}
+use Rattle.mps_seg.specs.Segment.{Segment, grains_of_segment, same_rank}
+use Rattle.mps_seg.specs.Segs.{SegsState}
+use Rattle.mps_seg.specs.Extents.{ExtentLists, runs_within, AreWhole}
+
+-- the segments of the entries, the first of which is that of a grain
+unfoldable pub segments_from : ℕ → List Entry → List Segment
+segments_from grain [] = []
+segments_from grain (Free ∷ entries) = segments_from (suc grain) entries
+segments_from grain (First grains pool generation rank ∷ entries) =
+    record { base = address_of_grain grain; grains = grains; pool = pool; generation = generation; rank = rank } ∷ segments_from (suc grain) entries
+
+unfoldable pub segments_in : List Entry → List Segment
+segments_in table = segments_from 0 table
+
+-- the state of an arena with this table and these extents
+abbrev pub segs_state : ArenaState → List Entry → ExtentLists → SegsState
+segs_state arena table extents = record {
+  words = arena.words;
+  grains = arena.grains;
+  limit = arena.limit;
+  segments = segments_in table;
+  covered = extents.covered;
+  blocks = extents.blocks;
+  reservations = extents.reservations;
+  condemned = [];
+  pinned = [];
+  marked = [];
+  done = [];
+  summaries = [];
+}
+
+-- a run of words lies in a run of grains
+pub record LiesIn (held : List Run) (r : Run) : Type 0 where
+  pub grains : Run
+  pub there : Contains held grains
+  pub after : 512 * grains.from ≤ r.from
+  pub before : end_of r ≤ 512 * end_of grains
+
+-- the segments are the held runs, and each extent lies in one
+pub record IsHeld (arena : ArenaState) (table : List Entry) (extents : ExtentLists) : Type 0 where
+  pub held : arena.held ≡ map grains_of_segment (segments_in table)
+  pub ascending : IsAscending 1 (arena.grains + 1) arena.held
+  pub few : arena.grains ≤ 2048
+  pub size : length table ≡ arena.grains + 1
+  pub covered_size : extents.size ≡ 512 * (arena.grains + 1)
+  pub some : (r : Run) → Contains extents.covered r → 0 < r.count
+  pub inside : (r : Run) → Contains extents.covered r → LiesIn arena.held r
+
+-- the gaps of the segment that begins at a grain, where one does and it is of the pool and the rank
+abbrev pub gaps_at : ℕ → Entry → ℕ → Rank → ExtentLists → List Run
+gaps_at grain Free pool rank extents = []
+gaps_at grain (First grains of generation at) pool rank extents =
+    if of == pool && same_rank at rank then gaps (512 * grain) (512 * grain + 512 * grains) (runs_within (512 * grain) (512 * grain + 512 * grains) extents.covered)
+    else []
+
+-- no extent has words on both sides of a bound of the segment that begins at a grain, and the segment lies in the arena
+abbrev pub IsWholeAt : ℕ → Entry → ExtentLists → Type 0
+IsWholeAt grain Free extents = Unit {0}
+IsWholeAt grain (First grains pool generation rank) extents =
+    AreWhole (512 * grain) (512 * grain + 512 * grains) extents.covered × (512 * grain + 512 * grains ≤ extents.size)

@@ -1,0 +1,134 @@
+// The tables of covered words.
+#![tactic(auto)]
+
+ghost use Rattle.std.specs.Prelude.{◌≡◌, ℕ, ◌+◌, ◌^◌, ◌<◌, ◌≤◌, IfOk, IfSome, Contains};
+ghost use Rattle.mps_base.specs.Run.{IsAscending, with_run, without_run, gaps, lowest_fitting};
+ghost use Rattle.mps_seg.specs.Extents.{ExtentLists, nothing_covered, run_over, first_run, runs_within, AreWhole};
+
+use mps_bits::Bits;
+use std::alloc::{AllocError, Global};
+use std::marker::Model;
+
+/// Which words blocks and reservations cover, by the numbers of the words. Clauses see the runs of words in ascending order.
+#[derive(Drop)]
+pub struct Extents {
+    covered: Bits,
+    begins: Bits,
+    ends: Bits,
+    blocks: Bits,
+}
+
+impl Model for Extents {
+    ghost use Rattle.mps_seg.specs.Extents.{ExtentLists};
+    ghost use Rattle.mps_seg.specs.Inside.{lists_of, IsSound};
+
+    ghost Value = { ExtentLists };
+
+    ghost view = { λ e. lists_of e.begins e.ends e.blocks };
+
+    ghost invariant = { λ e. IsSound e.covered e.begins e.ends e.blocks };
+}
+
+impl Extents {
+    /// Tables of `size` words, of which none is covered. This is the only call that allocates.
+    pub fn new(alloc: Global, size: usize) -> Result<Extents, AllocError>
+        requires { size < 2 ^ 32 }
+        ensures { IfOk result (λ extents. extents ≡ nothing_covered size) }
+    {
+        Ok(Extents {
+            covered: Bits::new(alloc, size)?,
+            begins: Bits::new(alloc, size)?,
+            ends: Bits::new(alloc, size)?,
+            blocks: Bits::new(alloc, size)?,
+        })
+    }
+
+    /// Covers `words` words from `at` on by a reservation.
+    pub fn cover(&mut self, at: usize, words: usize)
+        requires some { 0 < words }
+        requires free { IsAscending 0 self.old.size (with_run (record { from = at; count = words }) self.old.covered) }
+        ensures { self.new ≡ record self.old {
+          covered = with_run (record { from = at; count = words }) self.old.covered;
+          reservations = with_run (record { from = at; count = words }) self.old.reservations;
+        } }
+    {
+        self.covered.set_range(at, at + words);
+        self.begins.set(at);
+        self.ends.set(at + words - 1);
+    }
+
+    /// Takes away the reservation that begins at `at`.
+    pub fn uncover(&mut self, at: usize)
+        requires { (words : ℕ) × Contains self.old.reservations (record { from = at; count = words }) }
+        ensures { self.new ≡ record self.old {
+          covered = without_run at self.old.covered;
+          reservations = without_run at self.old.reservations;
+        } }
+    {
+        let last = self.ends.next_set(at).unwrap();
+        self.covered.clear_range(at, last + 1);
+        self.begins.clear(at);
+        self.ends.clear(last);
+    }
+
+    /// Makes a block of the reservation that begins at `at`.
+    pub fn commit_block(&mut self, at: usize)
+        requires { (words : ℕ) × Contains self.old.reservations (record { from = at; count = words }) }
+        ensures { (words : ℕ) → Contains self.old.reservations (record { from = at; count = words })
+            → self.new ≡ record self.old {
+              blocks = with_run (record { from = at; count = words }) self.old.blocks;
+              reservations = without_run at self.old.reservations;
+            } }
+    {
+        self.blocks.set(at);
+    }
+
+    /// Takes away the block that begins at `at`.
+    pub fn drop_block(&mut self, at: usize)
+        requires { (words : ℕ) × Contains self.old.blocks (record { from = at; count = words }) }
+        ensures { self.new ≡ record self.old {
+          covered = without_run at self.old.covered;
+          blocks = without_run at self.old.blocks;
+        } }
+    {
+        let last = self.ends.next_set(at).unwrap();
+        self.covered.clear_range(at, last + 1);
+        self.begins.clear(at);
+        self.ends.clear(last);
+        self.blocks.clear(at);
+    }
+
+    /// Where the block begins that covers a word.
+    pub fn block_over(&self, word: usize) -> Option<usize>
+        ensures { result ≡ run_over self.now.blocks word }
+    {
+        if word >= self.covered.len() {
+            return None;
+        }
+        if !self.covered.test(word) {
+            return None;
+        }
+        let at = self.begins.previous_set(word).unwrap();
+        if self.blocks.test(at) { Some(at) } else { None }
+    }
+
+    /// Where the lowest block begins that begins from `low` on and below `high`.
+    pub fn first_block(&self, low: usize, high: usize) -> Option<usize>
+        requires { high ≤ self.now.size }
+        ensures { result ≡ first_run low high self.now.blocks }
+    {
+        self.blocks.next_set_below(low, high)
+    }
+
+    /// Where the lowest gap of at least `words` words begins among the words from `low` on and below `high`.
+    pub fn lowest_gap(&self, low: usize, high: usize, words: usize) -> Option<usize>
+        requires some { 0 < words }
+        requires ordered { low ≤ high }
+        requires within { high ≤ self.now.size }
+        requires whole { AreWhole low high self.now.covered }
+        ensures lowest { result ≡ lowest_fitting words (gaps low high (runs_within low high self.now.covered)) }
+        ensures within { IfSome result (λ at. at + words ≤ high) }
+    {
+        self.covered.lowest_clear_run(low, high, words)
+    }
+}

@@ -1,0 +1,9 @@
+//! Segments of grains, and the words in them that blocks and reservations cover.
+#![tactic(auto)]
+
+mod entry;
+mod extents;
+mod segs;
+
+pub use extents::Extents;
+pub use segs::Segs;

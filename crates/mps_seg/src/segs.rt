@@ -1,0 +1,276 @@
+// The segments: an arena, a table by grain, and the extents of their words.
+#![tactic(auto)]
+
+ghost use Rattle.std.specs.Prelude.{◌≡◌, ℕ, ◌+◌, ◌*◌, ◌/◌, ◌%◌, ◌^◌, ◌<◌, ◌≤◌, IfOk, IfErr, IfSome, OnOk, MatchResult, Contains, option_map, length, slice_range};
+ghost use Rattle.mps_base.specs.Run.{IsAscending, with_run, without_run, lowest_fitting, total};
+ghost use Rattle.mps_base.specs.Address.{word_of};
+ghost use Rattle.mps_base.specs.Trail.{with_move};
+ghost use Rattle.mps_arena.specs.Arena.{answer_of};
+ghost use Rattle.mps_seg.specs.Extents.{run_over, first_run};
+ghost use Rattle.mps_seg.specs.Segment.{Segment, end_of_segment, same_rank, without_segment};
+ghost use Rattle.mps_seg.specs.Table.{LiesIn, IsWholeAt, gaps_at};
+ghost use Rattle.mps_seg.specs.Segs.{SegsState, new_segments, placement_for, segments_after, moves_after, gaps_of, held_grains, at_word, IsEmptyAt};
+ghost use Rattle.std.specs.Borrow.{sem};
+ghost use Rattle.mps_seg.specs.Lending.{LendsWords};
+
+use crate::Extents;
+use crate::entry::Entry;
+use mps_arena::Arena;
+use mps_base::{Addr, Move, Rank, Refusal, Trail};
+use std::alloc::{AllocError, Global};
+use std::marker::Model;
+
+/// The segments of an arena, and the words in them that blocks and reservations cover.
+#[derive(Drop)]
+pub struct Segs {
+    arena: Arena,
+    table: Vec<Entry>,
+    extents: Extents,
+}
+
+impl Model for Segs {
+    ghost use Rattle.mps_seg.specs.Segs.{SegsState};
+    ghost use Rattle.mps_seg.specs.Table.{segs_state, IsHeld};
+
+    ghost Value = { SegsState };
+
+    ghost view = { λ s. segs_state s.arena s.table.items s.extents };
+
+    ghost invariant = { λ s. IsHeld s.arena s.table.items s.extents };
+}
+
+impl Segs {
+    /// Segments over a new arena of the grains 1 to `grains`, with a commit limit in grains. This is the only call that allocates.
+    pub fn new(alloc: Global, grains: u32, limit: u32) -> Result<Segs, AllocError>
+        requires some { 0 < grains }
+        requires few { grains ≤ 2048 }
+        ensures { IfOk result (λ segs. segs ≡ new_segments grains limit) }
+    {
+        Ok(Segs {
+            arena: Arena::new(alloc, grains, limit)?,
+            table: vec![in alloc; Entry::Free; grains as usize + 1]?,
+            extents: Extents::new(alloc, 512 * (grains as usize + 1))?,
+        })
+    }
+
+    /// Takes a new segment for `words` words and answers its base. Refuses `CommitLimit` and `NoRun` as the arena does.
+    pub fn take(
+        &mut self,
+        trail: &mut Trail,
+        pool: u32,
+        words: u32,
+        generation: u32,
+        rank: Rank,
+    ) -> Result<Addr, Refusal>
+        requires some { 0 < words }
+        requires few { words ≤ 65536 }
+        requires room { 0 < trail.old.spare }
+        ensures answer { result ≡ answer_of (placement_for self.old words) }
+        ensures state { self.new ≡ record self.old { segments = segments_after (placement_for self.old words) pool generation rank self.old.segments } }
+        ensures moves { trail.new ≡ moves_after (placement_for self.old words) pool generation trail.old }
+    {
+        let grains = (words + 511) / 512;
+        let base = self.arena.take_run(grains)?;
+        self.table[(base.0 / 4096) as usize] = Entry::First {
+            grains,
+            pool,
+            generation,
+            rank,
+        };
+        trail.push(Move::Seg {
+            base,
+            grains,
+            pool,
+            generation,
+        });
+        Ok(base)
+    }
+
+    /// Gives back the segment at `base`, which has no block and no reservation. Its words stay as they are.
+    pub fn give(&mut self, trail: &mut Trail, base: Addr)
+        requires empty { (s : Segment) × Contains self.old.segments s × IsEmptyAt self.old base.0 s }
+        requires room { 0 < trail.old.spare }
+        ensures state { self.new ≡ record self.old { segments = without_segment self.old.segments base.0 } }
+        ensures moves { trail.new ≡ with_move trail.old (Move.Unseg base) }
+    {
+        let grain = (base.0 / 4096) as usize;
+        let Entry::First { grains, .. } = self.table[grain] else {
+            unreachable!()
+        };
+        self.arena.give_run(base, grains);
+        self.table[grain] = Entry::Free;
+        trail.push(Move::Unseg { base });
+    }
+
+    /// Covers `words` words from `at` on by a reservation.
+    pub fn cover(&mut self, at: Addr, words: u32)
+        requires some { 0 < words }
+        requires aligned { at.0 % 8 ≡ 0 }
+        requires free { IsAscending 0 (512 * (self.old.grains + 1)) (with_run (record { from = word_of at.0; count = words }) self.old.covered) }
+        requires inside { LiesIn (held_grains self.old) (record { from = word_of at.0; count = words }) }
+        ensures { self.new ≡ record self.old {
+          covered = with_run (record { from = word_of at.0; count = words }) self.old.covered;
+          reservations = with_run (record { from = word_of at.0; count = words }) self.old.reservations;
+        } }
+    {
+        self.extents.cover((at.0 / 8) as usize, words as usize);
+    }
+
+    /// The lowest gap of at least `words` words in the segments of a pool and a rank.
+    pub fn lowest_gap(&self, pool: u32, rank: Rank, words: u32) -> Option<Addr>
+        requires { 0 < words }
+        ensures { result ≡ option_map at_word (lowest_fitting words (gaps_of self.now pool rank)) }
+    {
+        for (grain, entry) in self.table.iter().enumerate() {
+            if let Some(word) = gap_behind(&self.extents, grain, *entry, pool, rank, words) {
+                return Some(Addr(8 * word as u64));
+            }
+        }
+        None
+    }
+
+    /// The lowest block of the segment at `base` that begins at or above `from`, an address in that segment.
+    pub fn walk(&self, base: Addr, from: Addr) -> Option<Addr>
+        requires held { (s : Segment) × Contains self.now.segments s × (s.base ≡ base.0) }
+        requires aligned { from.0 % 8 ≡ 0 }
+        ensures { (s : Segment) → Contains self.now.segments s → s.base ≡ base.0
+            → result ≡ option_map at_word (first_run (word_of from.0) (word_of (end_of_segment s)) self.now.blocks) }
+    {
+        let grain = (base.0 / 4096) as usize;
+        let Entry::First { grains, .. } = self.table[grain] else {
+            unreachable!()
+        };
+        let word = self
+            .extents
+            .first_block((from.0 / 8) as usize, 512 * (grain + grains as usize))?;
+        Some(Addr(8 * word as u64))
+    }
+
+    /// The block whose words cover byte `n`.
+    pub fn block_at(&self, n: u64) -> Option<Addr>
+        ensures { result ≡ option_map at_word (run_over self.now.blocks (n / 8)) }
+    {
+        let word = self.extents.block_over((n / 8) as usize)?;
+        Some(Addr(8 * word as u64))
+    }
+
+    /// Takes away the reservation that begins at `at`.
+    pub fn uncover(&mut self, at: Addr)
+        requires { (words : ℕ) × Contains self.old.reservations (record { from = word_of at.0; count = words }) }
+        ensures { self.new ≡ record self.old {
+          covered = without_run (word_of at.0) self.old.covered;
+          reservations = without_run (word_of at.0) self.old.reservations;
+        } }
+    {
+        self.extents.uncover((at.0 / 8) as usize);
+    }
+
+    /// Makes a block of the reservation that begins at `at`.
+    pub fn commit_block(&mut self, at: Addr)
+        requires { (words : ℕ) × Contains self.old.reservations (record { from = word_of at.0; count = words }) }
+        ensures { (words : ℕ) → Contains self.old.reservations (record { from = word_of at.0; count = words })
+            → self.new ≡ record self.old {
+              blocks = with_run (record { from = word_of at.0; count = words }) self.old.blocks;
+              reservations = without_run (word_of at.0) self.old.reservations;
+            } }
+    {
+        self.extents.commit_block((at.0 / 8) as usize);
+    }
+
+    /// Takes away the block that begins at `at`. Its words stay as they are.
+    pub fn drop_block(&mut self, at: Addr)
+        requires { (words : ℕ) × Contains self.old.blocks (record { from = word_of at.0; count = words }) }
+        ensures { self.new ≡ record self.old {
+          covered = without_run (word_of at.0) self.old.covered;
+          blocks = without_run (word_of at.0) self.old.blocks;
+        } }
+    {
+        self.extents.drop_block((at.0 / 8) as usize);
+    }
+
+    /// Sets the commit limit, in grains. Refuses `BelowCommitted` where more grains are held.
+    pub fn set_limit(&mut self, limit: u32) -> Result<(), Refusal>
+        ensures state { MatchResult result (λ _. self.new ≡ record self.old { limit = limit }) (λ _. self.new ≡ self.old) }
+        ensures accepts { OnOk result (total (held_grains self.old) ≤ limit) }
+        ensures refuses { IfErr result (λ why. (why ≡ Refusal.BelowCommitted) × (limit < total (held_grains self.old))) }
+    {
+        self.arena.set_limit(limit)
+    }
+
+    /// How many grains are held.
+    pub fn committed(&self) -> u32
+        ensures { result ≡ total (held_grains self.now) }
+    {
+        self.arena.committed()
+    }
+
+    /// All words of the arena, by their address divided by 8.
+    pub fn words(&self) -> &[u64]
+        ensures { result.now ≡ self.now.words }
+    {
+        self.arena.words()
+    }
+
+    /// The `words` words from `at` on.
+    pub fn lend(&self, at: Addr, words: u32) -> &[u64]
+        requires aligned { at.0 % 8 ≡ 0 }
+        requires inside { word_of at.0 + words ≤ length self.now.words }
+        ensures { result.now ≡ slice_range self.now.words (word_of at.0) (word_of at.0 + words) }
+    {
+        self.arena.lend(at, words)
+    }
+
+    /// The `words` words from `at` on, to be written.
+    pub fn lend_mut(&mut self, at: Addr, words: u32) -> &mut [u64]
+        requires aligned { at.0 % 8 ≡ 0 }
+        requires inside { word_of at.0 + words ≤ length self.old.words }
+        ensures* writes_back { sem 𝓛 (LendsWords self.entry at.0 result) }
+        ensures value { result.now ≡ slice_range self.old.words (word_of at.0) (word_of at.0 + words) }
+    {
+        self.arena.lend_mut(at, words)
+    }
+}
+
+/// Whether two ranks are one.
+fn is_same_rank(a: Rank, b: Rank) -> bool
+    ensures { result ≡ same_rank a b }
+{
+    match (a, b) {
+        (Rank::Exact, Rank::Exact) | (Rank::Weak, Rank::Weak) => true,
+        _ => false,
+    }
+}
+
+/// Where the lowest gap of at least `words` words begins in the segment that begins at a grain, where one does and it is of the pool and the rank.
+fn gap_behind(
+    extents: &Extents,
+    grain: usize,
+    entry: Entry,
+    pool: u32,
+    rank: Rank,
+    words: u32,
+) -> Option<usize>
+    requires some { 0 < words }
+    requires small { grain < 4096 }
+    requires room { extents.now.size < 2 ^ 32 }
+    requires whole { IsWholeAt grain entry extents.now }
+    ensures lowest { result ≡ lowest_fitting words (gaps_at grain entry pool rank extents.now) }
+    ensures below { IfSome result (λ word. word < 2 ^ 32) }
+{
+    match entry {
+        Entry::First {
+            grains,
+            pool: of,
+            rank: at,
+            ..
+        } => {
+            if of == pool && is_same_rank(at, rank) {
+                let low = 512 * grain;
+                extents.lowest_gap(low, low + 512 * grains as usize, words as usize)
+            } else {
+                None
+            }
+        }
+        Entry::Free => None,
+    }
+}
