@@ -1,6 +1,6 @@
 // Hexadecimal numbers in texts: lower case, without leading zeros.
 
-ghost use Rattle.std.specs.Prelude.{◌≡◌, ◌<◌, ◌≤◌, ◌+◌, ◌++◌, ◌^◌, false, length, take, drop};
+ghost use Rattle.std.specs.Prelude.{◌≡◌, ◌<◌, ◌≤◌, ◌+◌, ◌++◌, ◌^◌, false, length, take, drop, IfSome};
 ghost use Rattle.std.specs.Fmt.{digit_glyph};
 ghost use Rattle.mps_numbers.specs.Hexadecimal.{hexadecimal};
 
@@ -44,4 +44,35 @@ pub fn put_hexadecimal(number: u64, out: &mut [u8], at: usize) -> usize
     let mut room = [0u8; 16];
     let from = digits_at_end(number, &mut room);
     put_text(&room[from..], out, at)
+}
+
+// What a digit stands for; None where it is none.
+fn digit_of(byte: u8) -> Option<u64>
+    ensures { IfSome result (λ digit. digit < 16) }
+{
+    match byte {
+        b'0'..=b'9' => Some(u64::from(byte - b'0')),
+        b'a'..=b'f' => Some(u64::from(byte - b'a') + 10),
+        _ => None,
+    }
+}
+
+// The number that digits write: None where one is no digit, or the number is 2^64 or more.
+fn number_of_digits(text: &[u8]) -> Option<u64> {
+    let mut number: u64 = 0;
+    for byte in text {
+        let digit = digit_of(*byte)?;
+        number = number.checked_mul(16)?.checked_add(digit)?;
+    }
+    Some(number)
+}
+
+/// The number that the text writes in lower case without leading zeros; None where it is in another form, or has more
+/// than 16 digits.
+pub fn hexadecimal_number(text: &[u8]) -> Option<u64> {
+    match text {
+        [] => None,
+        [b'0', _, ..] => None,
+        _ => number_of_digits(text),
+    }
 }

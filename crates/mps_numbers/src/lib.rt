@@ -6,5 +6,5 @@ mod hexadecimal;
 mod put;
 
 pub use decimal::{decimal_number, put_decimal};
-pub use hexadecimal::put_hexadecimal;
+pub use hexadecimal::{hexadecimal_number, put_hexadecimal};
 pub use put::put_text;

@@ -5,10 +5,18 @@
 mod convert;
 mod input;
 mod kinds;
+mod labels;
+mod live_blocks;
 mod notice;
 mod output;
+mod readable;
 mod reading;
+mod record_line;
+mod replaying;
 mod stop;
+mod textual;
 
 pub use convert::cnv;
 pub use kinds::Kinds;
+pub use live_blocks::blocks;
+pub use textual::txt;

@@ -1,0 +1,55 @@
+// A line of a portable text: the line number and the code in decimal, then the fields in hexadecimal, with one space
+// between them.
+
+ghost use Rattle.std.specs.Prelude.{◌≤◌, ◌<◌};
+
+use mps_event::{Event, Version};
+use mps_numbers::{decimal_number, hexadecimal_number};
+
+// A record that a line of a text spells. The fields behind those of the event are 0.
+#[derive(Clone, Copy, Debug, PartialEq, Eq)]
+pub(crate) struct RecordLine {
+    pub(crate) line: u32,
+    pub(crate) event: Event,
+    pub(crate) fields: [u64; 4],
+}
+
+// A word at the front of a text, and what stands behind the space behind it.
+fn split_word(text: &[u8]) -> (&[u8], Option<&[u8]>) {
+    match text.iter().position(|byte| *byte == b' ') {
+        None => (text, None),
+        Some(end) => (&text[..end], Some(&text[end + 1..])),
+    }
+}
+
+// The record that a line of a text of this version spells, without its line feed. None where it spells none.
+pub(crate) fn record_of_line(text: &[u8], version: Version) -> Option<RecordLine> {
+    let (number, rest) = split_word(text);
+    let line = u32::try_from(decimal_number(number)?).ok()?;
+    let (code, rest) = split_word(rest?);
+    let code = u16::try_from(decimal_number(code)?).ok()?;
+    let event = Event::of_code(code, version)?;
+    let fields = fields_of(rest, event.field_count())?;
+    Some(RecordLine {
+        line,
+        event,
+        fields,
+    })
+}
+
+// So many fields, and no more.
+fn fields_of(text: Option<&[u8]>, count: u16) -> Option<[u64; 4]>
+    requires { count ≤ 4 }
+{
+    let mut fields = [0u64; 4];
+    let mut rest = text;
+    for i in 0..count {
+        let (field, behind) = split_word(rest?);
+        fields[i as usize] = hexadecimal_number(field)?;
+        rest = behind;
+    }
+    match rest {
+        None => Some(fields),
+        Some(_) => None,
+    }
+}
