@@ -1,0 +1,39 @@
+-- What the model does with each call that is accepted or told a refusal, in the worlds for which the heap stands.
+use Rattle.std.proofs.Common.{◌≡◌, ℕ, ◌+◌, ◌-◌, ◌*◌, Bool, true, false, refl, sym, ◌∙◌, ap, subst, List, [], ◌∷◌, ◌++◌, length, None, Some, Err, Ok, Option}
+use Rattle.std.specs.Prelude.{slice_get, slice_set, replicate}
+use Rattle.mps_base.specs.declared.names.Name.{Name}
+use Rattle.mps_base.specs.declared.names.Slot.{Slot}
+use Rattle.mps_base.specs.declared.names.Kind.TheVariants as kind
+use Rattle.mps_base.specs.declared.names.Rank.TheVariants as rank
+use Rattle.mps_base.specs.declared.refusal.Refusal.TheVariants as refusal
+use Rattle.mps_model.specs.declared.call.Call.TheVariants as call
+use Rattle.mps_model.specs.declared.reply.Reply.TheVariants as reply
+use Rattle.mps_model.specs.Graph.{Cell, NumberCell, Object, Point, NamedThing, Slots, TableThing, PointThing, thing_in, with_last}
+use Rattle.mps_model.specs.World.{World, Pool, Segment, PointPlace}
+use Rattle.mps_model.specs.Checked.{Checked, Act, says, done}
+use Rattle.mps_model.specs.Accessing.{act_number}
+use Rattle.mps_model.specs.Allocating.{committed_object, act_commit, act_init_number}
+use Rattle.mps_first_heap.specs.StandsFor.{world_with, point_with}
+
+pub act_of_commit : (grains limit : ℕ) (names : List NamedThing) (objects : List Object) (ids : List (Option ℕ)) (head : ℕ) (cells : List Cell) (pools : List Pool) (segments : List Segment) (places : List (Option ℕ)) (point_places : List PointPlace) (name : Name) (slot : Slot) (held : Option ℕ)
+    → thing_in names name ≡ Some (PointThing 0) → thing_in names slot.name ≡ Some (TableThing 0) → slice_get ids slot.index ≡ Some held
+    → act_commit (world_with grains limit names objects (Some ids ∷ []) (Some (point_with (Some (record { head = head; cells = cells; is_doomed = false }))) ∷ []) pools segments places point_places) name slot
+    ≡ done (world_with grains limit names (with_last objects (record { pool = 0; body = Rattle.mps_model.specs.Graph.Automatic head cells false })) (Some (slice_set ids slot.index (Some (length objects))) ∷ []) (Some (point_with None) ∷ []) pools segments places point_places)
+act_of_commit grains limit names objects ids head cells pools segments places point_places name slot held point table there = rw (point, table, there) refl
+
+pub act_of_number : (grains limit : ℕ) (names : List NamedThing) (objects : List Object) (ids : List (Option ℕ)) (points : List (Option Point)) (pools : List Pool) (segments : List Segment) (places : List (Option ℕ)) (point_places : List PointPlace) (slot : Slot) (id head : ℕ) (cells : List Cell) (cell number : ℕ)
+    → thing_in names slot.name ≡ Some (TableThing 0) → slice_get ids slot.index ≡ Some (Some id) → slice_get objects id ≡ Some (record { pool = 0; body = Rattle.mps_model.specs.Graph.Automatic head cells false }) → slice_get cells cell ≡ Some (NumberCell number)
+    → act_number (world_with grains limit names objects (Some ids ∷ []) points pools segments places point_places) slot cell
+    ≡ says (reply.Number number) (world_with grains limit names objects (Some ids ∷ []) points pools segments places point_places)
+act_of_number grains limit names objects ids points pools segments places point_places slot id head cells cell number table there object at = rw (table, there, object, at) refl
+
+pub act_of_null : (grains limit : ℕ) (names : List NamedThing) (objects : List Object) (ids : List (Option ℕ)) (points : List (Option Point)) (pools : List Pool) (segments : List Segment) (places : List (Option ℕ)) (point_places : List PointPlace) (slot : Slot) (cell : ℕ)
+    → thing_in names slot.name ≡ Some (TableThing 0) → slice_get ids slot.index ≡ Some None
+    → act_number (world_with grains limit names objects (Some ids ∷ []) points pools segments places point_places) slot cell ≡ Err refusal.NullRef
+act_of_null grains limit names objects ids points pools segments places point_places slot cell table there = rw (table, there) refl
+
+pub act_of_init : (grains limit : ℕ) (names : List NamedThing) (objects : List Object) (tables : List (Option Slots)) (head : ℕ) (cells : List Cell) (pools : List Pool) (segments : List Segment) (places : List (Option ℕ)) (point_places : List PointPlace) (name : Name) (cell value was : ℕ)
+    → thing_in names name ≡ Some (PointThing 0) → slice_get cells cell ≡ Some (NumberCell was)
+    → act_init_number (world_with grains limit names objects tables (Some (point_with (Some (record { head = head; cells = cells; is_doomed = false }))) ∷ []) pools segments places point_places) name cell value
+    ≡ done (world_with grains limit names objects tables (Some (point_with (Some (record { head = head; cells = slice_set cells cell (NumberCell value); is_doomed = false }))) ∷ []) pools segments places point_places)
+act_of_init grains limit names objects tables head cells pools segments places point_places name cell value was point at = rw (point, at) refl

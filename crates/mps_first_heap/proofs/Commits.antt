@@ -1,0 +1,208 @@
+-- `commit` is right.
+use Rattle.std.proofs.Common.{◌≡◌, ℕ, zero, suc, ◌+◌, ◌*◌, ◌<◌, ◌≤◌, Bool, true, false, refl, sym, ◌∙◌, ap, subst, List, [], ◌∷◌, ◌++◌, length, map, take, drop, None, Some, Err, Ok, Option, arith, slice_index, inl, inr}
+use Rattle.std.specs.Prelude.{slice_get, slice_set, nat_lt, is_some, not, ◌&&◌, ◌==◌, if◌then◌else◌, option_and_then}
+use Rattle.std.specs.List.{AllByRecursion, list_all}
+use Rattle.std.proofs.lemmas.List.{length-map, map_push, map-set, length_push}
+use Rattle.std.proofs.lemmas.Bool.{false≢true, and_parts, and_from, ltb-true, lt-ltb, cond-true}
+use Rattle.mps_base.specs.declared.moves.Move.TheVariants as moves
+use Rattle.mps_base.specs.declared.names.Name.{Name}
+use Rattle.mps_base.specs.declared.names.Slot.{Slot}
+use Rattle.mps_format.specs.Fields.{size_field}
+use Rattle.mps_format.specs.Front.{is_front}
+use Rattle.mps_model.specs.declared.call.Call.TheVariants as call
+use Rattle.mps_model.specs.declared.reply.Reply.TheVariants as reply
+use Rattle.mps_model.specs.Answer.{Said}
+use Rattle.mps_model.specs.Checked.{Checked, Numbered, point_named, done}
+use Rattle.mps_model.specs.Graph.{Object, Slots, TableThing, PointThing, Point, thing_in, with_last}
+use Rattle.mps_model.specs.LegalMove.{ForOne, ForChecked, IsReserved, IsLegalCommit}
+use Rattle.mps_model.specs.Log.{records_of_step}
+use Rattle.mps_model.specs.Replay.{replay_from, after_making}
+use Rattle.mps_model.specs.World.{World}
+use Rattle.mps_model.specs.History.{live_blocks, with_client_remembered}
+use Rattle.mps_model.specs.Reply.{answer_from, world_from}
+use Rattle.mps_model.specs.Effect.{with_next_place}
+use Rattle.mps_first_heap.specs.Kept.{Kept, is_name, is_point, has_slot, head_at, words_of_head}
+use Rattle.mps_first_heap.specs.Outcome.{Outcome, unsupported, commit_move, after_commit}
+use Rattle.mps_first_heap.specs.declared.done.Done.{Done}
+use Rattle.mps_first_heap.specs.StandsFor.{Past, Agrees, world_of, world_with, step_of, object_in, cells_at, segments_from, some_address, one_where, point_with, some_where, reservation_in, front_pool, point_place_of, place_in_slot, is_null_or_below, bound_of, IsBlockAt}
+use Rattle.mps_first_heap.specs.RightStep.{IsRightStep}
+use Rattle.mps_first_heap.proofs.Lists.{length-cells_in, length-block_words, blocks_later, blocks_push}
+use Rattle.mps_first_heap.proofs.Worlds.{world_by, world_of-parts, is_name_some, pool_with_point, made_with_pool, at_hand_within, slot_there, live_blocks-world_of, stored, block_in}
+use Rattle.mps_first_heap.proofs.Stores.{making_pushed}
+use Rattle.mps_first_heap.proofs.Steps.{right_step, unsupported_step}
+use Rattle.mps_first_heap.proofs.Numbers.{table_named}
+use Rattle.mps_first_heap.proofs.Inits.{point_named_there, is_point_some}
+use Rattle.mps_first_heap.proofs.Acts.{act_of_commit}
+
+-- what is kept after a commit, and what isn't
+abbrev committed : Kept → Slot → Kept
+committed h slot = record h { slots = slice_set h.slots slot.index h.reserved; is_open = false }
+
+abbrev past_committed : Kept → Past → Slot → Past
+past_committed h p slot = record p { ids = slice_set p.ids slot.index (Some (length p.places)); places = p.places ++ h.reserved ∷ [] }
+
+abbrev whole : Kept → Past → World
+whole h p = world_by h p true true (is_some h.pool) true
+
+is_whole : (h : Kept) (p : Past) → is_some h.table ≡ true → is_some h.point ≡ true → h.is_open ≡ true → world_of h p ≡ whole h p
+is_whole h p t q o = world_of-parts h p true true (is_some h.pool) true t q refl o
+
+abbrev step_committed : Kept → (line : ℕ) → (name : Name) → Slot → Rattle.mps_model.specs.Step.Step
+step_committed h line name slot = step_of line (call.Commit name slot) (record { reply = reply.Ok; moved = Some (commit_move h) })
+
+-- ---- the world after it
+
+abbrev committed_with : Kept → Past → List Object → List (Option ℕ) → List (Option ℕ) → World
+committed_with h p objects ids places =
+    world_with h.grains h.limit p.names objects (Some ids ∷ []) (Some (point_with None) ∷ []) (one_where (is_some h.pool) front_pool) (segments_from 1 p.segments) places (point_place_of h ∷ [])
+
+world_committed : (h : Kept) (p : Past) (slot : Slot) → is_some h.table ≡ true → is_some h.point ≡ true
+    → committed_with h p (map (object_in h.words) p.places ++ object_in h.words h.reserved ∷ []) (slice_set p.ids slot.index (Some (length (map (object_in h.words) p.places)))) (map some_address p.places ++ some_address h.reserved ∷ [])
+    ≡ world_of (committed h slot) (past_committed h p slot)
+world_committed h p slot t q =
+    ap (λ objects. committed_with h p objects (slice_set p.ids slot.index (Some (length (map (object_in h.words) p.places)))) (map some_address p.places ++ some_address h.reserved ∷ [])) (sym (map_push (object_in h.words) p.places h.reserved))
+    ∙ ap (λ n. committed_with h p (map (object_in h.words) (p.places ++ h.reserved ∷ [])) (slice_set p.ids slot.index (Some n)) (map some_address p.places ++ some_address h.reserved ∷ [])) (length-map p.places (object_in h.words))
+    ∙ ap (λ places. committed_with h p (map (object_in h.words) (p.places ++ h.reserved ∷ [])) (slice_set p.ids slot.index (Some (length p.places))) places) (sym (map_push some_address p.places h.reserved))
+    ∙ sym (world_of-parts (committed h slot) (past_committed h p slot) true true (is_some h.pool) false t q refl refl)
+
+-- ---- what is kept agrees
+
+slot_pushed : (places : List ℕ) (place : ℕ) (id : ℕ) → id < length places → slice_index (places ++ place ∷ []) id ≡ slice_index places id
+slot_pushed [] place id h = absurd (omega (arith, h))
+slot_pushed (p ∷ ps) place zero h = refl
+slot_pushed (p ∷ ps) place (suc id) h = slot_pushed ps place id (omega (arith, h))
+
+last_pushed : (places : List ℕ) (place : ℕ) → slice_index (places ++ place ∷ []) (length places) ≡ place
+last_pushed [] place = refl
+last_pushed (p ∷ ps) place = last_pushed ps place
+
+held_pushed : (places : List ℕ) (place : ℕ) (held : Option ℕ) → is_null_or_below (length places) held ≡ true → place_in_slot places held ≡ place_in_slot (places ++ place ∷ []) held
+held_pushed places place None h = refl
+held_pushed places place (Some id) h = sym (slot_pushed places place id (ltb-true id (length places) h))
+
+slots_kept : (places : List ℕ) (place : ℕ) (ids : List (Option ℕ)) → list_all (is_null_or_below (length places)) ids ≡ true
+    → map (place_in_slot places) ids ≡ map (place_in_slot (places ++ place ∷ [])) ids
+slots_kept places place [] h = refl
+slots_kept places place (held ∷ ids) h =
+    let both = and_parts (is_null_or_below (length places) held) (list_all (is_null_or_below (length places)) ids) h in
+    ap (λ x. x ∷ map (place_in_slot places) ids) (held_pushed places place held both.0)
+    ∙ ap (λ rest. place_in_slot (places ++ place ∷ []) held ∷ rest) (slots_kept places place ids both.1)
+
+-- the slots with one written, over places with one more
+slots_pushed : (places : List ℕ) (place : ℕ) (ids : List (Option ℕ)) (i : ℕ) → list_all (is_null_or_below (length places)) ids ≡ true
+    → slice_set (map (place_in_slot places) ids) i place ≡ map (place_in_slot (places ++ place ∷ [])) (slice_set ids i (Some (length places)))
+slots_pushed places place ids i h =
+    ap (λ slots. slice_set slots i place) (slots_kept places place ids h)
+    ∙ ap (λ x. slice_set (map (place_in_slot (places ++ place ∷ [])) ids) i x) (sym (last_pushed places place))
+    ∙ sym (map-set (place_in_slot (places ++ place ∷ [])) ids i (Some (length places)))
+
+ids_more : (count : ℕ) (ids : List (Option ℕ)) → list_all (is_null_or_below count) ids ≡ true → list_all (is_null_or_below (suc count)) ids ≡ true
+ids_more count [] h = refl
+ids_more count (None ∷ ids) h = ids_more count ids h
+ids_more count (Some id ∷ ids) h =
+    let both = and_parts (nat_lt id count) (list_all (is_null_or_below count) ids) h in
+    and_from (nat_lt id (suc count)) (list_all (is_null_or_below (suc count)) ids) (lt-ltb id (suc count) (let lt = ltb-true id count both.0 in omega arith)) (ids_more count ids both.1)
+
+ids_set : (count : ℕ) (ids : List (Option ℕ)) (i id : ℕ) → id < count → list_all (is_null_or_below count) ids ≡ true → list_all (is_null_or_below count) (slice_set ids i (Some id)) ≡ true
+ids_set count [] i id lt h = refl
+ids_set count (held ∷ ids) zero id lt h =
+    and_from (nat_lt id count) (list_all (is_null_or_below count) ids) (lt-ltb id count lt) (and_parts (is_null_or_below count held) (list_all (is_null_or_below count) ids) h).1
+ids_set count (held ∷ ids) (suc i) id lt h =
+    let both = and_parts (is_null_or_below count held) (list_all (is_null_or_below count) ids) h in
+    and_from (is_null_or_below count held) (list_all (is_null_or_below count) (slice_set ids i (Some id))) both.0 (ids_set count ids i id lt both.1)
+
+ids_pushed : (places : List ℕ) (place : ℕ) (ids : List (Option ℕ)) (i : ℕ) → list_all (is_null_or_below (length places)) ids ≡ true
+    → list_all (is_null_or_below (length (places ++ place ∷ []))) (slice_set ids i (Some (length places))) ≡ true
+ids_pushed places place ids i h =
+    subst (λ (n : ℕ). list_all (is_null_or_below n) (slice_set ids i (Some (length places))) ≡ true) (let e : suc (length places) ≡ length (places ++ place ∷ []) = omega (arith, length_push places place) in e)
+    (ids_set (suc (length places)) ids i (length places) (omega arith) (ids_more (length places) ids h))
+
+some_or_none : (h : Kept) → is_some h.point ≡ true → h.point ≡ None → ⊥
+some_or_none h q none = false≢true (sym (ap is_some none) ∙ q)
+
+agrees_committed : (h : Kept) (p : Past) (slot : Slot) → Agrees h p → is_some h.point ≡ true → h.is_open ≡ true → Agrees (committed h slot) (past_committed h p slot)
+agrees_committed h p slot a q o =
+    let bound : bound_of h ≡ h.reserved = ap (λ b. if b then h.reserved else h.front) o in
+    let block = a.reservation o in
+    let below = block.below in
+    record {
+      names = a.names;
+      slots = ap (λ slots. slice_set slots slot.index h.reserved) a.slots ∙ slots_pushed p.places h.reserved p.ids slot.index a.ids;
+      ids = ids_pushed p.places h.reserved p.ids slot.index a.ids;
+      held = a.held;
+      in_arena = a.in_arena;
+      arena = a.arena;
+      blocks = blocks_push h.words h.front h.reserved p.places (blocks_later h.words (bound_of h) h.front p.places (omega (arith, bound)) a.blocks) block;
+      reservation = λ e. absurd (false≢true e);
+      at_hand = a.at_hand;
+      fresh = a.fresh;
+      before_arena = a.before_arena;
+      before_pool = a.before_pool;
+      before_point = λ none. absurd (some_or_none h q none);
+    }
+
+-- ---- the move is legal
+
+reserved_block : (h : Kept) (p : Past) → Agrees h p → is_some h.point ≡ true → h.is_open ≡ true → length (cells_at h.words h.reserved) ≡ words_of_head (head_at h h.reserved)
+reserved_block h p a q o =
+    let made = made_with_pool h p a (pool_with_point h p a q) in
+    let within = at_hand_within h p a made in
+    let hand = a.at_hand in
+    let block = a.reservation o in
+    let below = block.below in
+    let size = size_field (slice_index h.words h.reserved) in
+    length-cells_in (slice_index h.words h.reserved) 0 (take size (drop h.reserved h.words))
+    ∙ length-block_words h.words h.reserved size (omega arith)
+    ∙ sym (cond-true (is_front (slice_index h.words h.reserved)) size 0 block.head)
+
+point_there : (h : Kept) (p : Past) (name : Name) → thing_in p.names name ≡ Some (PointThing 0) → point_named (whole h p) name ≡ Ok (record { number = 0; value = point_with (Some (reservation_in h.words h.reserved)) })
+point_there h p name e = rw e refl
+
+legal_commit : (h : Kept) (p : Past) (name : Name) (slot : Slot) → Agrees h p → is_point h name ≡ true → h.is_open ≡ true → IsLegalCommit (call.Commit name slot) (whole h p) (8 * h.reserved) (words_of_head (head_at h h.reserved)) 0
+legal_commit h p name slot a point o =
+    subst (λ (c : Checked (Numbered Point)). ForChecked c (λ at. ForOne at.value.reservation (IsReserved (whole h p) (8 * h.reserved) (words_of_head (head_at h h.reserved)) 0 at)))
+    (sym (point_there h p name (point_named_there h p a name point)))
+    (record { at_place = refl; of_words = reserved_block h p a (is_point_some h name point) o; of_pool = refl })
+
+-- ---- the step is right
+
+replayed : (h : Kept) (p : Past) (line : ℕ) (name : Name) (slot : Slot) (pools : ℕ) → Agrees h p → is_some h.table ≡ true → is_some h.point ≡ true → h.is_open ≡ true
+    → replay_from (live_blocks (whole h p)) (records_of_step pools (step_committed h line name slot)) ≡ Some (stored h.words (p.places ++ h.reserved ∷ []))
+replayed h p line name slot pools a t q o =
+    let bound : bound_of h ≡ h.reserved = ap (λ b. if b then h.reserved else h.front) o in
+    ap (λ store. option_and_then (λ after. Some after) (after_making store (8 * h.reserved) (words_of_head (head_at h h.reserved)) 0))
+    (ap live_blocks (sym (is_whole h p t q o)) ∙ live_blocks-world_of h p)
+    ∙ ap (option_and_then (λ after. Some after)) (making_pushed h.words h.reserved (words_of_head (head_at h h.reserved)) p.places (blocks_later h.words (bound_of h) h.reserved p.places (omega (arith, bound)) a.blocks) (reserved_block h p a q o))
+
+right_committed : (h : Kept) (p : Past) (line : ℕ) (name : Name) (slot : Slot) → Agrees h p → is_point h name ≡ true → h.is_open ≡ true → has_slot h slot ≡ true
+    → IsRightStep (whole h p) (step_committed h line name slot) (committed h slot)
+right_committed h p line name slot a point o there =
+    let both = and_parts (is_name h.table slot.name) (nat_lt slot.index (length h.slots)) there in
+    let t = is_name_some h.table slot.name both.0 in
+    let q = is_point_some h name point in
+    let lt = ltb-true slot.index (length h.slots) both.1 in
+    let lt' : slot.index < length (map (place_in_slot p.places) p.ids) = subst (λ (slots : List ℕ). slot.index < length slots) a.slots lt in
+    let at = slot_there p.places p.ids slot.index lt' in
+    let e = act_of_commit h.grains h.limit p.names (map (object_in h.words) p.places) p.ids (slice_index h.words h.reserved) (cells_at h.words h.reserved)
+        (one_where (is_some h.pool) front_pool) (segments_from 1 p.segments) (map some_address p.places ++ some_address h.reserved ∷ []) (point_place_of h ∷ []) name slot at.0
+        (point_named_there h p a name point) (table_named h p a slot both.0) at.1 in
+    right_step (whole h p) (step_committed h line name slot) (committed h slot) (past_committed h p slot) refl
+    (record { moves_are_legal = (legal_commit h p name slot a point o, tt); moves_are_due = refl; answer_is_due = sym (ap answer_from e); marked = tt })
+    (ap (λ r. with_client_remembered (world_from (with_next_place (whole h p) (8 * h.reserved)) r)) e ∙ world_committed h p slot t q)
+    (agrees_committed h p slot a q o)
+    (λ pools. replayed h p line name slot pools a t q o)
+
+commit_where : (h : Kept) (p : Past) (line : ℕ) (name : Name) (slot : Slot) → Agrees h p → (b : Bool) → (is_point h name && h.is_open && has_slot h slot) ≡ b
+    → IsRightStep (world_of h p) (step_of line (call.Commit name slot) (if b then record { done = record { reply = reply.Ok; moved = Some (commit_move h) }; kept = committed h slot } else unsupported h).done)
+    (if b then record { done = record { reply = reply.Ok; moved = Some (commit_move h) }; kept = committed h slot } else unsupported h).kept
+commit_where h p line name slot a false e = unsupported_step h p line (call.Commit name slot) a
+commit_where h p line name slot a true e =
+    let both = and_parts (is_point h name && h.is_open) (has_slot h slot) e in
+    let first = and_parts (is_point h name) h.is_open both.0 in
+    let t = is_name_some h.table slot.name (and_parts (is_name h.table slot.name) (nat_lt slot.index (length h.slots)) both.1).0 in
+    subst (λ (w : World). IsRightStep w (step_committed h line name slot) (committed h slot)) (sym (is_whole h p t (is_point_some h name first.0) first.1))
+    (right_committed h p line name slot a first.0 first.1 both.1)
+
+pub right_commit : (h : Kept) (p : Past) (line : ℕ) (name : Name) (slot : Slot) → Agrees h p
+    → IsRightStep (world_of h p) (step_of line (call.Commit name slot) (after_commit h name slot).done) (after_commit h name slot).kept
+right_commit h p line name slot a = commit_where h p line name slot a (is_point h name && h.is_open && has_slot h slot) refl

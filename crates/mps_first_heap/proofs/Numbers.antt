@@ -1,0 +1,114 @@
+-- `num` is right.
+use Rattle.std.proofs.Common.{◌≡◌, ℕ, ◌+◌, ◌*◌, ◌<◌, ◌≤◌, Bool, true, false, refl, sym, ◌∙◌, ap, subst, List, [], ◌∷◌, length, map, None, Some, Err, Ok, Option, arith, slice_index, inl, inr}
+use Rattle.std.specs.Prelude.{slice_get, nat_lt, is_some, not, ◌&&◌, ◌==◌, if◌then◌else◌}
+use Rattle.std.proofs.lemmas.List.{length-map}
+use Rattle.std.proofs.lemmas.Bool.{and_parts, ltb-true, ne_eqb, eq-eqb}
+use Rattle.mps_base.specs.declared.names.Slot.{Slot}
+use Rattle.mps_base.specs.declared.refusal.Refusal.TheVariants as refusal
+use Rattle.mps_format.specs.Front.{is_front}
+use Rattle.mps_model.specs.declared.call.Call.TheVariants as call
+use Rattle.mps_model.specs.declared.reply.Reply.{Reply}
+use Rattle.mps_model.specs.declared.reply.Reply.TheVariants as reply
+use Rattle.mps_model.specs.Checked.{says}
+use Rattle.mps_model.specs.Graph.{TableThing, thing_in}
+use Rattle.mps_model.specs.Accessing.{act_number}
+use Rattle.mps_model.specs.World.{World}
+use Rattle.mps_model.specs.Answer.{is_unsupported, Said}
+use Rattle.mps_model.specs.Log.{records_of_step}
+use Rattle.mps_model.specs.History.{live_blocks, with_client_remembered}
+use Rattle.mps_model.specs.Reply.{answer_from, world_from}
+use Rattle.mps_first_heap.specs.Kept.{Kept, is_name, has_slot, is_number_cell, head_at}
+use Rattle.mps_first_heap.specs.Outcome.{said, number_at, number_reply}
+use Rattle.mps_first_heap.specs.StandsFor.{Past, Agrees, world_of, step_of, object_in, cells_at, thing_of, segments_from, some_address, one_where, point_with, some_where, reservation_in, front_pool, point_place_of, place_in_slot, bound_of}
+use Rattle.mps_first_heap.specs.RightStep.{IsRightStep}
+use Rattle.mps_first_heap.proofs.Worlds.{world_by, world_of-parts, is_name_some, made_with_table, at_hand_within, bound_of-le, block_there_at, slot_there, id_there, number_cell_at, object_there, live_blocks-world_of}
+use Rattle.mps_first_heap.proofs.Steps.{right_step, unsupported_step}
+use Rattle.mps_first_heap.proofs.Acts.{act_of_number, act_of_null}
+
+-- the table's name stands for the table
+pub table_named : (h : Kept) (p : Past) → Agrees h p → (slot : Slot) → is_name h.table slot.name ≡ true → thing_in p.names slot.name ≡ Some (TableThing 0)
+table_named h p a slot e = a.names slot.name ∙ ap (λ b. if b then Some (TableThing 0) else (if is_name h.pool slot.name then Some (Rattle.mps_model.specs.Graph.PoolThing 0) else (if is_name h.point slot.name then Some (Rattle.mps_model.specs.Graph.PointThing 0) else None))) e
+
+-- the world with its table
+abbrev tabled : Kept → Past → World
+tabled h p = world_by h p true (is_some h.point) (is_some h.pool) h.is_open
+
+is_tabled : (h : Kept) (p : Past) → is_some h.table ≡ true → world_of h p ≡ tabled h p
+is_tabled h p t = world_of-parts h p true (is_some h.point) (is_some h.pool) h.is_open t refl refl refl
+
+-- a `num` that is told this, and changes nothing
+number_told : (h : Kept) (p : Past) (line : ℕ) (slot : Slot) (cell number : ℕ) → Agrees h p → is_some h.table ≡ true → act_number (tabled h p) slot cell ≡ says (reply.Number number) (tabled h p) → IsRightStep (tabled h p) (step_of line (call.Number slot cell) (said (reply.Number number))) h
+number_told h p line slot cell number a t e =
+    right_step (tabled h p) (step_of line (call.Number slot cell) (said (reply.Number number))) h p refl
+    (record { moves_are_legal = tt; moves_are_due = refl; answer_is_due = sym (ap answer_from e); marked = tt })
+    (ap (λ r. with_client_remembered (world_from (tabled h p) r)) e ∙ sym (is_tabled h p t))
+    a
+    (λ pools. ap Some (ap live_blocks (sym (is_tabled h p t)) ∙ live_blocks-world_of h p))
+
+null_told : (h : Kept) (p : Past) (line : ℕ) (slot : Slot) (cell : ℕ) → Agrees h p → is_some h.table ≡ true → act_number (tabled h p) slot cell ≡ Err refusal.NullRef → IsRightStep (tabled h p) (step_of line (call.Number slot cell) (said (reply.Refused refusal.NullRef))) h
+null_told h p line slot cell a t e =
+    right_step (tabled h p) (step_of line (call.Number slot cell) (said (reply.Refused refusal.NullRef))) h p refl
+    (record { moves_are_legal = tt; moves_are_due = refl; answer_is_due = sym (ap answer_from e); marked = tt })
+    (ap (λ r. with_client_remembered (world_from (tabled h p) r)) e ∙ sym (is_tabled h p t))
+    a
+    (λ pools. ap Some (ap live_blocks (sym (is_tabled h p t)) ∙ live_blocks-world_of h p))
+
+-- the model tells the number in a number cell of an object that a slot holds
+act_number_there : (h : Kept) (p : Past) (slot : Slot) (cell id : ℕ) → Agrees h p → is_name h.table slot.name ≡ true → slice_get p.ids slot.index ≡ Some (Some id) → is_number_cell (head_at h (slice_index p.places id)) cell ≡ true
+    → act_number (tabled h p) slot cell ≡ says (reply.Number (slice_index h.words (slice_index p.places id + cell))) (tabled h p)
+act_number_there h p slot cell id a name there number =
+    let t = is_name_some h.table slot.name name in
+    let made = made_with_table h p a t in
+    let below = id_there (length p.places) p.ids slot.index id a.ids there in
+    let at = slice_index p.places id in
+    let block = block_there_at h.words (bound_of h) p.places id a.blocks below in
+    let le = bound_of-le h p a in
+    let within = at_hand_within h p a made in
+    let hand = a.at_hand in
+    act_of_number h.grains h.limit p.names (map (object_in h.words) p.places) p.ids
+    (one_where (is_some h.point) (Some (point_with (some_where h.is_open (reservation_in h.words h.reserved)))))
+    (one_where (is_some h.pool) front_pool) (segments_from 1 p.segments) (map some_address p.places) (one_where (is_some h.point) (point_place_of h))
+    slot id (slice_index h.words at) (cells_at h.words at) cell (slice_index h.words (at + cell))
+    (table_named h p a slot name) there (object_there h.words p.places id below)
+    (number_cell_at h.words (bound_of h) at cell block (omega arith) number)
+
+number_where : (h : Kept) (p : Past) (line : ℕ) (slot : Slot) (cell id : ℕ) → Agrees h p → is_name h.table slot.name ≡ true → slice_get p.ids slot.index ≡ Some (Some id) → (b : Bool) → is_number_cell (head_at h (slice_index p.places id)) cell ≡ b
+    → IsRightStep (world_of h p) (step_of line (call.Number slot cell) (said (if b then reply.Number (slice_index h.words (slice_index p.places id + cell)) else reply.Unsupported))) h
+number_where h p line slot cell id a name there false number = unsupported_step h p line (call.Number slot cell) a
+number_where h p line slot cell id a name there true number =
+    let t = is_name_some h.table slot.name name in
+    subst (λ (w : World). IsRightStep w (step_of line (call.Number slot cell) (said (reply.Number (slice_index h.words (slice_index p.places id + cell))))) h) (sym (is_tabled h p t))
+    (number_told h p line slot cell (slice_index h.words (slice_index p.places id + cell)) a t (act_number_there h p slot cell id a name there number))
+
+number_held : (h : Kept) (p : Past) (line : ℕ) (slot : Slot) (cell : ℕ) (held : Option ℕ) → Agrees h p → is_name h.table slot.name ≡ true → slice_get p.ids slot.index ≡ Some held
+    → IsRightStep (world_of h p) (step_of line (call.Number slot cell) (said (number_at h (place_in_slot p.places held) cell))) h
+number_held h p line slot cell None a name there =
+    let t = is_name_some h.table slot.name name in
+    subst (λ (w : World). IsRightStep w (step_of line (call.Number slot cell) (said (reply.Refused refusal.NullRef))) h) (sym (is_tabled h p t))
+    (null_told h p line slot cell a t
+        (act_of_null h.grains h.limit p.names (map (object_in h.words) p.places) p.ids
+        (one_where (is_some h.point) (Some (point_with (some_where h.is_open (reservation_in h.words h.reserved)))))
+        (one_where (is_some h.pool) front_pool) (segments_from 1 p.segments) (map some_address p.places) (one_where (is_some h.point) (point_place_of h))
+        slot cell (table_named h p a slot name) there))
+number_held h p line slot cell (Some id) a name there =
+    let below = id_there (length p.places) p.ids slot.index id a.ids there in
+    let block = block_there_at h.words (bound_of h) p.places id a.blocks below in
+    let not_null = block.not_null in
+    let ne : (slice_index p.places id == 0) ≡ false = ne_eqb (slice_index p.places id) 0 (λ e. omega arith) in
+    subst (λ (b : Bool). IsRightStep (world_of h p) (step_of line (call.Number slot cell) (said (if b then reply.Refused refusal.NullRef else (if is_number_cell (head_at h (slice_index p.places id)) cell then reply.Number (slice_index h.words (slice_index p.places id + cell)) else reply.Unsupported)))) h) (sym ne)
+    (number_where h p line slot cell id a name there (is_number_cell (head_at h (slice_index p.places id)) cell) refl)
+
+number_in_table : (h : Kept) (p : Past) (line : ℕ) (slot : Slot) (cell : ℕ) → Agrees h p → (b : Bool) → has_slot h slot ≡ b
+    → IsRightStep (world_of h p) (step_of line (call.Number slot cell) (said (if b then number_at h (slice_index h.slots slot.index) cell else reply.Unsupported))) h
+number_in_table h p line slot cell a false e = unsupported_step h p line (call.Number slot cell) a
+number_in_table h p line slot cell a true e =
+    let both = and_parts (is_name h.table slot.name) (nat_lt slot.index (length h.slots)) e in
+    let lt = ltb-true slot.index (length h.slots) both.1 in
+    let lt' : slot.index < length (map (place_in_slot p.places) p.ids) = subst (λ (slots : List ℕ). slot.index < length slots) a.slots lt in
+    let there = slot_there p.places p.ids slot.index lt' in
+    subst (λ (place : ℕ). IsRightStep (world_of h p) (step_of line (call.Number slot cell) (said (number_at h place cell))) h)
+    (sym (ap (λ slots. slice_index slots slot.index) a.slots ∙ there.2))
+    (number_held h p line slot cell there.0 a both.0 there.1)
+
+pub right_number : (h : Kept) (p : Past) (line : ℕ) (slot : Slot) (cell : ℕ) → Agrees h p → IsRightStep (world_of h p) (step_of line (call.Number slot cell) (said (number_reply h slot cell))) h
+right_number h p line slot cell a = number_in_table h p line slot cell a (has_slot h slot) refl

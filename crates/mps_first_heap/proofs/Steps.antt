@@ -1,0 +1,54 @@
+-- How a step is shown to be right.
+use Rattle.std.proofs.Common.{◌≡◌, ℕ, Bool, true, false, refl, sym, ◌∙◌, ap, subst, List, [], None, Some, Err, Ok}
+use Rattle.std.specs.Prelude.{MatchBool, IsTrue}
+use Rattle.mps_base.specs.declared.refusal.Refusal.{Refusal}
+use Rattle.mps_model.specs.declared.call.Call.{Call}
+use Rattle.mps_model.specs.declared.reply.Reply.{Reply}
+use Rattle.mps_model.specs.declared.reply.Reply.TheVariants as reply
+use Rattle.mps_model.specs.Answer.{Answer, Said, is_unsupported, is_block}
+use Rattle.mps_model.specs.Step.{Step}
+use Rattle.mps_model.specs.World.{World}
+use Rattle.mps_model.specs.Log.{records_of_step}
+use Rattle.mps_model.specs.Replay.{replay_from}
+use Rattle.mps_model.specs.Reply.{reply_to}
+use Rattle.mps_model.specs.LegalMove.{AreLegalMoves}
+use Rattle.mps_model.specs.History.{IsLegalStep, IsAnsweredStep, AreMovesOf, HeldAreLive, IsPossiblyMarked, judged_world, moved_world, world_after, live_blocks, are_held_kept, has_units_left}
+use Rattle.mps_first_heap.specs.Kept.{Kept}
+use Rattle.mps_first_heap.specs.Outcome.{said}
+use Rattle.mps_first_heap.specs.StandsFor.{Past, Agrees, StandsFor, world_of, step_of}
+use Rattle.mps_first_heap.specs.RightStep.{IsRightStep}
+use Rattle.mps_first_heap.proofs.Worlds.{held_are_live, stored, live_blocks-world_of}
+
+-- the moves and the answer of a step are due
+pub record IsDue (w : World) (s : Step) : Type 0 where
+  pub moves_are_legal : AreLegalMoves s.call w None s.moves
+  pub moves_are_due : AreMovesOf w s.call s.answer s.moves
+  pub answer_is_due : s.answer ≡ reply_to (is_block s.answer) (judged_world w s.call s.moves) (moved_world w s.call s.moves) s.call
+  pub marked : IsPossiblyMarked w s.call s.answer
+
+answered_step : (w : World) (s : Step) (kept : Kept) (p : Past) → IsDue w s → world_after w s ≡ world_of kept p → Agrees kept p → IsAnsweredStep w s
+answered_step w s kept p due after a = record {
+  moves_are_legal = due.moves_are_legal;
+  moves_are_due = due.moves_are_due;
+  answer_is_due = due.answer_is_due;
+  marked_may_survive = due.marked;
+  held_are_live = subst HeldAreLive (sym after) (held_are_live kept p a);
+  held_are_kept = subst (λ (v : World). are_held_kept v ≡ true) (sym after) refl;
+  units_are_left = subst (λ (v : World). has_units_left v ≡ true) (sym after) refl;
+}
+
+-- a step that was answered is right where its moves and its answer are due, and what is kept agrees with the world after it
+pub right_step : (w : World) (s : Step) (kept : Kept) (p : Past) → is_unsupported s.answer ≡ false → IsDue w s → world_after w s ≡ world_of kept p → Agrees kept p → ((pools : ℕ) → replay_from (live_blocks w) (records_of_step pools s) ≡ Some (stored kept.words p.places)) → IsRightStep w s kept
+right_step w s kept p answered due after a replays = record {
+  is_legal = subst (λ (b : Bool). MatchBool b (s.moves ≡ []) (IsAnsweredStep w s)) (sym answered) (answered_step w s kept p due after a);
+  stands = record { past = p; world = after; agrees = a };
+  is_replayed = λ pools. replays pools ∙ ap Some (sym (ap live_blocks after ∙ live_blocks-world_of kept p));
+}
+
+-- a step that isn't supported changes nothing
+pub unsupported_step : (h : Kept) (p : Past) (line : ℕ) (call : Call) → Agrees h p → IsRightStep (world_of h p) (step_of line call (said reply.Unsupported)) h
+unsupported_step h p line call a = record {
+  is_legal = refl;
+  stands = record { past = p; world = refl; agrees = a };
+  is_replayed = λ pools. refl;
+}

@@ -1,0 +1,204 @@
+-- What holds of the worlds for which the heap stands: what the client holds is live, and which blocks are live.
+use Rattle.std.proofs.Common.{◌≡◌, ℕ, zero, suc, ◌+◌, ◌-◌, ◌*◌, ◌<◌, ◌≤◌, Bool, true, false, refl, sym, ◌∙◌, ap, subst, List, [], ◌∷◌, ◌++◌, length, take, drop, map, Option, Some, None, arith, add-one, add-zero, rules, slice_index, set, get_or, inl, inr}
+use Rattle.std.specs.Prelude.{slice_get, slice_set, IsTrue, if◌then◌else◌, nat_lt, replicate, sum, min, is_some, not, ◌&&◌, ◌||◌, ◌==◌}
+use Rattle.std.specs.List.{list_all, AllByRecursion, flat_map}
+use Rattle.std.specs.Option.{option_map_or}
+use Rattle.std.proofs.lemmas.Option.{none-some, same_Some}
+use Rattle.std.proofs.lemmas.List.{get_or-take, get_or-drop}
+use Rattle.mps_base.specs.declared.names.Name.{Name}
+use Rattle.mps_format.specs.Front.{is_front, front_layout}
+use Rattle.std.proofs.lemmas.Bool.{false≢true, cases_lt, not-true, cond-true, lt-ltb, le-ltb, ltb-true, and_parts, and_from, ne_eqb}
+use Rattle.mps_format.specs.Fields.{size_field}
+use Rattle.mps_format.specs.Laws.{front_facts}
+use Rattle.mps_model.specs.Graph.{Cell, NumberCell, ReferenceCell, Object, entries, entry_at, slots_of, size_of, targets_of, targets_of_cells, targets_of_point, targets}
+use Rattle.mps_model.specs.World.{World, is_live, live_ids, numbers_of}
+use Rattle.mps_model.specs.Replay.{Block, Store, with_block, block_at}
+use Rattle.mps_model.specs.History.{HeldAreLive, block_of, blocks_of_ids, live_blocks}
+use Rattle.mps_model.specs.Accessing.{address_of}
+use Rattle.mps_first_heap.specs.Kept.{Kept, is_name, words_of_head, is_number_cell}
+use Rattle.mps_first_heap.specs.StandsFor.{Past, Agrees, world_of, world_with, segments_from, front_pool, point_place_of, place_in_slot, cell_in, cells_in, cells_at, object_in, reservation_in, point_with, one_where, some_where, some_address, is_null_or_below, IsBlockAt, bound_of}
+use Rattle.mps_first_heap.proofs.Lists.{no_targets, length-cells_in, length-block_words, slice_get-cells_in}
+
+-- ---- live objects
+
+live_at : (places : List ℕ) (id : ℕ) → id < length places → is_some (entry_at (map some_address places) id) ≡ true
+live_at [] id h = absurd (omega (arith, h))
+live_at (p ∷ ps) zero h = refl
+live_at (p ∷ ps) (suc id) h = live_at ps id (omega (arith, h))
+
+all_live : (live : ℕ → Bool) (count : ℕ) (ids : List (Option ℕ)) → ((id : ℕ) → id < count → live id ≡ true) → list_all (is_null_or_below count) ids ≡ true → list_all live (entries ids) ≡ true
+all_live live count [] each h = refl
+all_live live count (None ∷ ids) each h = all_live live count ids each h
+all_live live count (Some id ∷ ids) each h =
+    let both = and_parts (nat_lt id count) (list_all (is_null_or_below count) ids) h in
+    and_from (live id) (list_all live (entries ids)) (each id (ltb-true id count both.0)) (all_live live count ids each both.1)
+
+list_all-append : (p : ℕ → Bool) (xs ys : List ℕ) → list_all p xs ≡ true → list_all p ys ≡ true → list_all p (xs ++ ys) ≡ true
+list_all-append p [] ys h k = k
+list_all-append p (x ∷ xs) ys h k =
+    let both = and_parts (p x) (list_all p xs) h in and_from (p x) (list_all p (xs ++ ys)) both.0 (list_all-append p xs ys both.1 k)
+
+slots_live : (live : ℕ → Bool) (count : ℕ) (ids : List (Option ℕ)) (there : Bool) → ((id : ℕ) → id < count → live id ≡ true) → list_all (is_null_or_below count) ids ≡ true → list_all live (flat_map slots_of (one_where there (Some ids))) ≡ true
+slots_live live count ids false each h = refl
+slots_live live count ids true each h = list_all-append live (entries ids) [] (all_live live count ids each h) refl
+
+reservation_has_none : (words : List ℕ) (place : ℕ) (there opened : Bool) → flat_map targets_of_point (one_where there (Some (point_with (some_where opened (reservation_in words place))))) ≡ []
+reservation_has_none words place false opened = refl
+reservation_has_none words place true false = refl
+reservation_has_none words place true true = ap (λ ids. ids ++ []) (no_targets (slice_index words place) 0 (take (size_field (slice_index words place)) (drop place words)))
+
+object_has_none : (words places : List ℕ) (id : ℕ) → option_map_or targets_of (slice_get (map (object_in words) places) id) [] ≡ []
+object_has_none words [] id = refl
+object_has_none words (p ∷ ps) zero = no_targets (slice_index words p) 0 (take (size_field (slice_index words p)) (drop p words))
+object_has_none words (p ∷ ps) (suc id) = object_has_none words ps id
+
+flat_map_nil : (f : ℕ → List ℕ) (ids : List ℕ) → ((id : ℕ) → f id ≡ []) → flat_map f ids ≡ []
+flat_map_nil f [] each = refl
+flat_map_nil f (id ∷ ids) each = ap (λ xs. xs ++ flat_map f ids) (each id) ∙ flat_map_nil f ids each
+
+pub held_are_live : (h : Kept) (p : Past) → Agrees h p → HeldAreLive (world_of h p)
+held_are_live h p a =
+    let live = λ (id : ℕ). is_some (entry_at (map some_address p.places) id) in
+    record {
+      client = list_all-append live (((flat_map slots_of (one_where (is_some h.table) (Some p.ids)) ++ []) ++ [])) (flat_map targets_of_point (one_where (is_some h.point) (Some (point_with (some_where h.is_open (reservation_in h.words h.reserved))))))
+          (list_all-append live (flat_map slots_of (one_where (is_some h.table) (Some p.ids)) ++ []) [] (list_all-append live (flat_map slots_of (one_where (is_some h.table) (Some p.ids))) [] (slots_live live (length p.places) p.ids (is_some h.table) (live_at p.places) a.ids) refl) refl)
+          (subst (λ (ids : List ℕ). list_all live ids ≡ true) (sym (reservation_has_none h.words h.reserved (is_some h.point) h.is_open)) refl);
+      blocks = refl;
+      referred = subst (λ (ids : List ℕ). list_all live ids ≡ true) (sym (flat_map_nil (targets (world_of h p).graph) (live_ids (world_of h p)) (object_has_none h.words p.places))) refl;
+    }
+
+-- ---- live blocks
+
+-- the block whose words lie at a place
+abbrev pub block_in : List ℕ → (place : ℕ) → Block
+block_in words place = record { at = 8 * place; words = length (cells_at words place); pool = 0 }
+
+-- the blocks at some places
+abbrev pub stored : List ℕ → (places : List ℕ) → Store
+stored words [] = []
+stored words (p ∷ ps) = with_block (block_in words p) (stored words ps)
+
+entry_there : (places : List ℕ) (id : ℕ) → id < length places → entry_at (map some_address places) id ≡ Some (8 * slice_index places id)
+entry_there [] id h = absurd (omega (arith, h))
+entry_there (p ∷ ps) zero h = refl
+entry_there (p ∷ ps) (suc id) h = entry_there ps id (omega (arith, h))
+
+pub object_there : (words places : List ℕ) (id : ℕ) → id < length places → slice_get (map (object_in words) places) id ≡ Some (object_in words (slice_index places id))
+object_there words [] id h = absurd (omega (arith, h))
+object_there words (p ∷ ps) zero h = refl
+object_there words (p ∷ ps) (suc id) h = object_there words ps id (omega (arith, h))
+
+-- the block of an object, by its address and by itself
+abbrev block_by : Option ℕ → Option Object → Block
+block_by place object = record {
+  at = option_map_or (λ at. at) place 0;
+  words = option_map_or (λ o. size_of o) object 0;
+  pool = option_map_or (λ o. o.pool) object 0;
+}
+
+block_there : (h : Kept) (p : Past) (id : ℕ) → id < length p.places → block_of (world_of h p) id ≡ block_in h.words (slice_index p.places id)
+block_there h p id lt =
+    ap (λ place. block_by place (slice_get (map (object_in h.words) p.places) id)) (entry_there p.places id lt)
+    ∙ ap (λ object. block_by (Some (8 * slice_index p.places id)) object) (object_there h.words p.places id lt)
+
+blocks_there : (w : World) (words : List ℕ) (first : ℕ) (places : List ℕ) → ((i : ℕ) → i < length places → block_of w (first + i) ≡ block_in words (slice_index places i)) → blocks_of_ids w (numbers_of is_some first (map some_address places)) ≡ stored words places
+blocks_there w words first [] each = refl
+blocks_there w words first (p ∷ ps) each =
+    ap (λ b. with_block b (blocks_of_ids w (numbers_of is_some (first + 1) (map some_address ps)))) (ap (block_of w) (sym (add-zero first)) ∙ each 0 (omega arith))
+    ∙ ap (with_block (block_in words p)) (blocks_there w words (first + 1) ps (λ i lt. ap (block_of w) (let e : first + 1 + i ≡ first + suc i = omega arith in e) ∙ each (suc i) (omega (arith, lt))))
+
+pub live_blocks-world_of : (h : Kept) (p : Past) → live_blocks (world_of h p) ≡ stored h.words p.places
+live_blocks-world_of h p = blocks_there (world_of h p) h.words 0 p.places (λ i lt. ap (block_of (world_of h p)) (let e : 0 + i ≡ i = omega arith in e) ∙ block_there h p i lt)
+
+-- ---- which parts there are
+
+-- the world of the heap, where it is known which parts there are
+abbrev pub world_by : Kept → Past → (table point pool opened : Bool) → World
+world_by h p table point pool opened =
+    world_with h.grains h.limit p.names (map (object_in h.words) p.places) (one_where table (Some p.ids))
+    (one_where point (Some (point_with (some_where opened (reservation_in h.words h.reserved)))))
+    (one_where pool front_pool)
+    (segments_from 1 p.segments)
+    (map some_address p.places)
+    (one_where point (point_place_of h))
+
+pub world_of-parts : (h : Kept) (p : Past) (table point pool opened : Bool) → is_some h.table ≡ table → is_some h.point ≡ point → is_some h.pool ≡ pool → h.is_open ≡ opened → world_of h p ≡ world_by h p table point pool opened
+world_of-parts h p table point pool opened t q l o =
+    ap (λ b. world_by h p b (is_some h.point) (is_some h.pool) h.is_open) t
+    ∙ ap (λ b. world_by h p table b (is_some h.pool) h.is_open) q
+    ∙ ap (λ b. world_by h p table point b h.is_open) l
+    ∙ ap (λ b. world_by h p table point pool b) o
+
+pub is_name_some : (o : Option Name) (name : Name) → is_name o name ≡ true → is_some o ≡ true
+is_name_some None name h = absurd (false≢true h)
+is_name_some (Some other) name h = refl
+
+some_of_table : (o : Option Name) → is_some o ≡ true → o ≡ None → ⊥
+some_of_table o s n = false≢true (sym (ap is_some n) ∙ s)
+
+pub made_with_table : (h : Kept) (p : Past) → Agrees h p → is_some h.table ≡ true → 0 < h.grains
+made_with_table h p a t = elim (cases_lt 0 h.grains) [ inl lt ↦ lt | inr le ↦ absurd (some_of_table h.table t (a.before_arena (let e : h.grains ≡ 0 = omega arith in e)).0) ]
+
+pub pool_with_point : (h : Kept) (p : Past) → Agrees h p → is_some h.point ≡ true → is_some h.pool ≡ true
+pool_with_point h p a q = by_pool h.pool refl
+  where
+    by_pool : (o : Option Name) → h.pool ≡ o → is_some o ≡ true
+    by_pool None e = absurd (some_of_table h.point q (a.before_pool e))
+    by_pool (Some name) e = refl
+
+pub made_with_pool : (h : Kept) (p : Past) → Agrees h p → is_some h.pool ≡ true → 0 < h.grains
+made_with_pool h p a t = elim (cases_lt 0 h.grains) [ inl lt ↦ lt | inr le ↦ absurd (some_of_table h.pool t (a.before_arena (let e : h.grains ≡ 0 = omega arith in e)).1) ]
+
+-- ---- where blocks lie
+
+pub at_hand_within : (h : Kept) (p : Past) → Agrees h p → 0 < h.grains → h.behind ≤ length h.words
+at_hand_within h p a made = let l = a.arena made in let i = a.in_arena in let q = a.at_hand in omega arith
+
+pub bound_of-le : (h : Kept) (p : Past) → Agrees h p → bound_of h ≤ h.front
+bound_of-le h p a = by_open h.is_open refl
+  where
+    by_open : (b : Bool) → h.is_open ≡ b → (if b then h.reserved else h.front) ≤ h.front
+    by_open true e = let below = (a.reservation e).below in omega arith
+    by_open false e = omega arith
+
+pub block_there_at : (words : List ℕ) (bound : ℕ) (places : List ℕ) (id : ℕ) → AllByRecursion (IsBlockAt words bound) places → id < length places → IsBlockAt words bound (slice_index places id)
+block_there_at words bound [] id bs h = absurd (omega (arith, h))
+block_there_at words bound (p ∷ ps) zero bs h = bs.0
+block_there_at words bound (p ∷ ps) (suc id) bs h = block_there_at words bound ps id bs.1 (omega (arith, h))
+
+-- what stands in a slot
+pub slot_there : (places : List ℕ) (ids : List (Option ℕ)) (i : ℕ) → i < length (map (place_in_slot places) ids) → (held : Option ℕ) × (slice_get ids i ≡ Some held) × (slice_index (map (place_in_slot places) ids) i ≡ place_in_slot places held)
+slot_there places [] i h = absurd (omega (arith, h))
+slot_there places (held ∷ ids) zero h = (held, refl, refl)
+slot_there places (held ∷ ids) (suc i) h = slot_there places ids i (omega (arith, h))
+
+pub id_there : (count : ℕ) (ids : List (Option ℕ)) (i id : ℕ) → list_all (is_null_or_below count) ids ≡ true → slice_get ids i ≡ Some (Some id) → id < count
+id_there count [] i id h e = absurd (none-some (Some id) e)
+id_there count (held ∷ ids) zero id h e =
+    ltb-true id count (ap (is_null_or_below count) (sym (same_Some held (Some id) e)) ∙ (and_parts (is_null_or_below count held) (list_all (is_null_or_below count) ids) h).0)
+id_there count (held ∷ ids) (suc i) id h e = id_there count ids i id (and_parts (is_null_or_below count held) (list_all (is_null_or_below count) ids) h).1 e
+
+-- the number in a number cell
+pub number_cell : (head k word : ℕ) → is_number_cell head k ≡ true → cell_in head k word ≡ NumberCell word
+number_cell head zero word h = absurd (false≢true h)
+number_cell head (suc k) word h = ap (λ b. if b then ReferenceCell None 0 else NumberCell word) (not-true (front_layout.is_reference head (suc k)) (and_parts (nat_lt 0 (suc k) && nat_lt (suc k) (words_of_head head)) (not (front_layout.is_reference head (suc k))) h).1)
+
+pub number_cell_below : (head k : ℕ) → is_front head ≡ true → is_number_cell head k ≡ true → k < size_field head
+number_cell_below head k v h =
+    let both = and_parts (nat_lt 0 k && nat_lt k (words_of_head head)) (not (front_layout.is_reference head k)) h in
+    let below = (and_parts (nat_lt 0 k) (nat_lt k (words_of_head head)) both.0).1 in
+    subst (λ (n : ℕ). k < n) (cond-true (is_front head) (size_field head) 0 v) (ltb-true k (words_of_head head) below)
+
+-- a number cell of a block at a place has the word so many behind it
+pub number_cell_at : (words : List ℕ) (bound place k : ℕ) → IsBlockAt words bound place → bound ≤ length words → is_number_cell (slice_index words place) k ≡ true → slice_get (cells_at words place) k ≡ Some (NumberCell (slice_index words (place + k)))
+number_cell_at words bound place k b inside number =
+    let head = slice_index words place in
+    let size = size_field head in
+    let below = b.below in
+    let lt : k < size = number_cell_below head k b.head number in
+    let whole : length (take size (drop place words)) ≡ size = length-block_words words place size (omega arith) in
+    let lt' : k < length (take size (drop place words)) = omega arith in
+    slice_get-cells_in head 0 (take size (drop place words)) k lt'
+    ∙ ap (λ n. Some (cell_in head n (slice_index (take size (drop place words)) k))) (let e : 0 + k ≡ k = omega arith in e)
+    ∙ ap Some (number_cell head k (slice_index (take size (drop place words)) k) number)
+    ∙ ap (λ n. Some (NumberCell n)) (get_or-take size (drop place words) k 0 lt ∙ get_or-drop place words k 0)

@@ -1,0 +1,83 @@
+-- What the first heap keeps, as plain data: an arena of words, one table, one pool of the format `front`, and one point.
+-- Places are numbers of words; 0 is null.
+use Rattle.std.specs.Prelude.{ℕ, ◌+◌, Bool, true, false, nat_lt, not, ◌&&◌, ◌||◌, if◌then◌else◌, Option, Some, None, List, [], length, slice_index}
+use Rattle.mps_base.specs.declared.names.Name.{Name}
+use Rattle.mps_base.specs.declared.names.Slot.{Slot}
+use Rattle.mps_format.specs.Fields.{size_field}
+use Rattle.mps_format.specs.Front.{is_front, front_layout}
+use Rattle.mps_model.specs.Graph.{same_name}
+
+pub record Kept : Type 0 where
+  -- the grains of the arena, numbered from 1; 0 before it is made
+  pub grains : ℕ
+  -- the commit limit, in grains
+  pub limit : ℕ
+  -- how many grains are held: from grain 1 on
+  pub held : ℕ
+  -- the words of the arena, those of grain 0 first
+  pub words : List ℕ
+  -- the name of the table, where there is one
+  pub table : Option Name
+  -- its slots: the place of an object, or 0
+  pub slots : List ℕ
+  -- the name of the pool, where there is one
+  pub pool : Option Name
+  -- the name of the point, where there is one
+  pub point : Option Name
+  -- the first word at hand at the point, and the first behind them
+  pub front : ℕ
+  pub behind : ℕ
+  -- where the point reserved last, and whether that reservation is open
+  pub reserved : ℕ
+  pub is_open : Bool
+
+-- before the arena is made
+abbrev pub nothing_kept : Kept
+nothing_kept = record {
+  grains = 0;
+  limit = 0;
+  held = 0;
+  words = [];
+  table = None;
+  slots = [];
+  pool = None;
+  point = None;
+  front = 0;
+  behind = 0;
+  reserved = 0;
+  is_open = false;
+}
+
+-- whether there is a name, and it is this one
+abbrev pub is_name : Option Name → Name → Bool
+is_name None name = false
+is_name (Some other) name = same_name other name
+
+-- whether something has this name
+abbrev pub is_taken : Kept → Name → Bool
+is_taken h name = is_name h.table name || is_name h.pool name || is_name h.point name
+
+-- whether the pool has this name
+abbrev pub is_pool : Kept → Name → Bool
+is_pool h name = not (is_name h.table name) && is_name h.pool name
+
+-- whether the point has this name
+abbrev pub is_point : Kept → Name → Bool
+is_point h name = not (is_name h.table name) && not (is_name h.pool name) && is_name h.point name
+
+-- whether the table has this slot
+abbrev pub has_slot : Kept → Slot → Bool
+has_slot h slot = is_name h.table slot.name && nat_lt slot.index (length h.slots)
+
+-- how many words a block with this head has; 0 where it is no head
+abbrev pub words_of_head : (head : ℕ) → ℕ
+words_of_head head = if is_front head then size_field head else 0
+
+-- whether a cell of a block with this head is a number
+abbrev pub is_number_cell : (head cell : ℕ) → Bool
+is_number_cell head cell =
+    nat_lt 0 cell && nat_lt cell (words_of_head head) && not (front_layout.is_reference head cell)
+
+-- the head of the block at a place
+abbrev pub head_at : Kept → (place : ℕ) → ℕ
+head_at h place = slice_index h.words place

@@ -1,0 +1,168 @@
+-- What each call does to what the heap keeps, and what it is told.
+use Rattle.std.specs.Prelude.{ℕ, ◌+◌, ◌-◌, ◌*◌, Bool, true, false, nat_lt, nat_le, not, ◌&&◌, ◌==◌, if◌then◌else◌, Option, Some, None, is_some, List, [], length, replicate, slice_index, slice_set}
+use Rattle.mps_base.specs.Address.{grains_needed}
+use Rattle.mps_base.specs.declared.moves.Move.{Move}
+use Rattle.mps_base.specs.declared.moves.Move.TheVariants as moves
+use Rattle.mps_base.specs.declared.names.Kind.{Kind}
+use Rattle.mps_base.specs.declared.names.Kind.TheVariants as kind
+use Rattle.mps_base.specs.declared.names.Name.{Name}
+use Rattle.mps_base.specs.declared.names.Rank.{Rank}
+use Rattle.mps_base.specs.declared.names.Rank.TheVariants as rank
+use Rattle.mps_base.specs.declared.names.Slot.{Slot}
+use Rattle.mps_base.specs.declared.refusal.Refusal.TheVariants as refusal
+use Rattle.mps_format.specs.Fields.{size_field}
+use Rattle.mps_format.specs.Front.{is_front}
+use Rattle.mps_model.specs.declared.call.Call.{Call}
+use Rattle.mps_model.specs.declared.call.Call.TheVariants as call
+use Rattle.mps_model.specs.declared.reply.Reply.{Reply}
+use Rattle.mps_model.specs.declared.reply.Reply.TheVariants as reply
+use Rattle.mps_first_heap.specs.Kept.{Kept, nothing_kept, is_taken, has_slot, is_point, is_pool, words_of_head, is_number_cell, head_at}
+use Rattle.mps_first_heap.specs.declared.done.Done.{Done}
+
+-- what a call came to: what it was told, and what the heap keeps then
+pub record Outcome : Type 0 where
+  pub done : Done
+  pub kept : Kept
+
+abbrev pub said : Reply → Done
+said reply = record { reply = reply; moved = None }
+
+-- nothing changes
+abbrev pub answered : Kept → Reply → Outcome
+answered h reply = record { done = said reply; kept = h }
+
+abbrev pub unsupported : Kept → Outcome
+unsupported h = answered h reply.Unsupported
+
+-- accepted, without a move, where this holds
+abbrev pub accepted_where : Bool → Kept → (after : Kept) → Outcome
+accepted_where true h after = answered after reply.Ok
+accepted_where false h after = unsupported h
+
+-- whether the arena was made
+abbrev pub is_made : Kept → Bool
+is_made h = nat_lt 0 h.grains
+
+-- ---- making things
+
+abbrev pub arena_made : (grains limit : ℕ) → Kept
+arena_made grains limit =
+    record nothing_kept { grains = grains; limit = limit; words = replicate (512 * (grains + 1)) 0 }
+
+abbrev pub after_arena : Kept → (grains limit : ℕ) → Outcome
+after_arena h grains limit = accepted_where (not (is_made h)) h (arena_made grains limit)
+
+-- whether a thing of this kind can be made under this name: the first one, after the arena
+abbrev pub may_make : Kept → Option Name → Name → Bool
+may_make h there name = is_made h && not (is_some there) && not (is_taken h name)
+
+abbrev pub after_table : Kept → Name → (slots : ℕ) → Outcome
+after_table h name slots =
+    accepted_where (may_make h h.table name) h (record h { table = Some name; slots = replicate slots 0 })
+
+abbrev pub is_amc : Kind → Bool
+is_amc kind.Amc = true
+is_amc _ = false
+
+-- whether a pool is copying, of the format `front`
+abbrev pub is_built_pool : Kind → (format : ℕ) → Bool
+is_built_pool kind format = is_amc kind && format == 1
+
+abbrev pub after_pool : Kept → Name → Kind → (format : ℕ) → Outcome
+after_pool h name kind format =
+    accepted_where (is_built_pool kind format && may_make h h.pool name) h (record h { pool = Some name })
+
+abbrev pub is_exact : Rank → Bool
+is_exact rank.Exact = true
+is_exact rank.Weak = false
+
+abbrev pub after_point : Kept → Name → (pool : Name) → Rank → Outcome
+after_point h name pool at_rank =
+    accepted_where (is_exact at_rank && may_make h h.point name && is_pool h pool) h (record h { point = Some name })
+
+-- ---- reserve
+
+-- a block with this head is reserved at the front of the words at hand
+abbrev pub reserved_at_front : Kept → (head : ℕ) → Kept
+reserved_at_front h head = record h {
+  words = slice_set h.words h.front head;
+  front = h.front + size_field head;
+  reserved = h.front;
+  is_open = true;
+}
+
+-- the next grains are held, and their words are at hand
+abbrev pub segment_taken : Kept → (need : ℕ) → Kept
+segment_taken h need = record h {
+  held = h.held + need;
+  front = 512 * (h.held + 1);
+  behind = 512 * (h.held + 1 + need);
+}
+
+-- the move by which the next grains are held
+abbrev pub segment_move : Kept → (need : ℕ) → Move
+segment_move h need = moves.Seg (record { 0 = 4096 * (h.held + 1) }) need 0 0
+
+-- a reservation in a new segment
+abbrev pub reserve_behind : Kept → (head need : ℕ) → Outcome
+reserve_behind h head need =
+    if nat_lt h.limit (h.held + need) then answered h (reply.Refused (refusal.CommitLimit h.held need h.limit))
+    else (if nat_lt h.grains (h.held + need) then unsupported h
+    else record {
+      done = record { reply = reply.Ok; moved = Some (segment_move h need) };
+      kept = reserved_at_front (segment_taken h need) head;
+    })
+
+abbrev pub reserve_placed : Kept → (head : ℕ) → Outcome
+reserve_placed h head =
+    if nat_le (size_field head) (h.behind - h.front) then answered (reserved_at_front h head) reply.Ok
+    else reserve_behind h head (grains_needed (size_field head))
+
+abbrev pub after_reserve : Kept → Name → (head : ℕ) → Outcome
+after_reserve h name head =
+    if is_point h name && is_front head && not h.is_open then reserve_placed h head else unsupported h
+
+-- ---- init, commit and num
+
+-- whether the open reservation of the point of this name has a number in a cell
+abbrev pub may_init : Kept → Name → (cell : ℕ) → Bool
+may_init h name cell = is_point h name && h.is_open && is_number_cell (head_at h h.reserved) cell
+
+abbrev pub after_init : Kept → Name → (cell value : ℕ) → Outcome
+after_init h name cell value =
+    accepted_where (may_init h name cell) h (record h { words = slice_set h.words (h.reserved + cell) value })
+
+-- the move by which the open reservation becomes a block
+abbrev pub commit_move : Kept → Move
+commit_move h = moves.Commit (record { 0 = 8 * h.reserved }) (words_of_head (head_at h h.reserved)) 0
+
+abbrev pub after_commit : Kept → Name → Slot → Outcome
+after_commit h name slot =
+    if is_point h name && h.is_open && has_slot h slot then record {
+      done = record { reply = reply.Ok; moved = Some (commit_move h) };
+      kept = record h { slots = slice_set h.slots slot.index h.reserved; is_open = false };
+    } else unsupported h
+
+-- the number in a cell of the block at a place
+abbrev pub number_at : Kept → (place cell : ℕ) → Reply
+number_at h place cell =
+    if place == 0 then reply.Refused refusal.NullRef
+    else (if is_number_cell (head_at h place) cell then reply.Number (slice_index h.words (place + cell))
+    else reply.Unsupported)
+
+abbrev pub number_reply : Kept → Slot → (cell : ℕ) → Reply
+number_reply h slot cell =
+    if has_slot h slot then number_at h (slice_index h.slots slot.index) cell else reply.Unsupported
+
+-- ---- all calls
+
+abbrev pub outcome : Kept → Call → Outcome
+outcome h (call.Arena grains limit) = after_arena h grains limit
+outcome h (call.Table table length) = after_table h table length
+outcome h (call.Pool pool kind format) = after_pool h pool kind format
+outcome h (call.Point point pool rank) = after_point h point pool rank
+outcome h (call.Reserve point head) = after_reserve h point head
+outcome h (call.InitNumber point cell value) = after_init h point cell value
+outcome h (call.Commit point target) = after_commit h point target
+outcome h (call.Number slot cell) = answered h (number_reply h slot cell)
+outcome h _ = unsupported h

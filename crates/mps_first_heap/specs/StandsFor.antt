@@ -1,0 +1,197 @@
+-- When what the heap keeps stands for a world of the model.
+use Rattle.std.specs.Prelude.{◌≡◌, ℕ, zero, suc, ◌+◌, ◌-◌, ◌*◌, ◌<◌, ◌≤◌, Bool, true, false, nat_lt, IsTrue, if◌then◌else◌, Option, Some, None, is_some, List, [], ◌∷◌, map, length, take, drop, slice_index, sum}
+use Rattle.std.specs.List.{list_all, AllByRecursion}
+use Rattle.mps_base.specs.declared.moves.Move.{Move}
+use Rattle.mps_base.specs.declared.names.Kind.TheVariants as kind
+use Rattle.mps_base.specs.declared.names.Name.{Name}
+use Rattle.mps_base.specs.declared.names.Rank.TheVariants as rank
+use Rattle.mps_format.specs.Any.{numbered_layout}
+use Rattle.mps_format.specs.Fields.{size_field}
+use Rattle.mps_format.specs.Front.{is_front, front_layout}
+use Rattle.mps_model.specs.declared.call.Call.{Call}
+use Rattle.mps_model.specs.Answer.{Said}
+use Rattle.mps_model.specs.Step.{Step}
+use Rattle.mps_model.specs.Graph.{Cell, HeadCell, NumberCell, ReferenceCell, Automatic, Object, Point, Reservation, Thing, TableThing, PoolThing, PointThing, NamedThing, thing_in, Slots}
+use Rattle.mps_model.specs.World.{World, Pool, Collected, Segment, PointPlace, Unclamped}
+use Rattle.mps_first_heap.specs.Kept.{Kept, is_name}
+use Rattle.mps_first_heap.specs.declared.done.Done.{Done}
+
+-- ---- the objects that words are
+
+-- cell k of a block with this head, whose word is this. No reference was ever written
+abbrev pub cell_in : (head k word : ℕ) → Cell
+cell_in head zero word = HeadCell
+cell_in head (suc k) word = if front_layout.is_reference head (suc k) then ReferenceCell None 0 else NumberCell word
+
+-- the cells of a block with this head, from cell k on
+abbrev pub cells_in : (head k : ℕ) → List ℕ → List Cell
+cells_in head k [] = []
+cells_in head k (word ∷ words) = cell_in head k word ∷ cells_in head (suc k) words
+
+-- the words of the block at a place
+abbrev pub block_words : List ℕ → (place : ℕ) → List ℕ
+block_words words place = take (size_field (slice_index words place)) (drop place words)
+
+abbrev pub cells_at : List ℕ → (place : ℕ) → List Cell
+cells_at words place = cells_in (slice_index words place) 0 (block_words words place)
+
+-- the object whose words lie at a place
+abbrev pub object_in : List ℕ → (place : ℕ) → Object
+object_in words place = record { pool = 0; body = Automatic (slice_index words place) (cells_at words place) false }
+
+abbrev pub reservation_in : List ℕ → (place : ℕ) → Reservation
+reservation_in words place = record { head = slice_index words place; cells = cells_at words place; is_doomed = false }
+
+-- ---- the world
+
+-- what the heap doesn't keep: the ids in the slots, the place of each object, the grains of each segment, and the names in
+-- the order of making
+pub record Past : Type 0 where
+  pub ids : List (Option ℕ)
+  pub places : List ℕ
+  pub segments : List ℕ
+  pub names : List NamedThing
+
+-- one, where it is there
+abbrev pub one_where : {A : Type 0} → Bool → A → List A
+one_where true x = x ∷ []
+one_where false x = []
+
+abbrev pub some_where : {A : Type 0} → Bool → A → Option A
+some_where true x = Some x
+some_where false x = None
+
+abbrev pub front_pool : Pool
+front_pool = record { kind = Collected kind.Amc; format = 1; chain = None }
+
+abbrev pub segment_from : (grain grains : ℕ) → Segment
+segment_from grain grains =
+    record { base = 4096 * grain; grains = grains; pool = 0; generation = 0; rank = rank.Exact }
+
+-- segments of these grains, one behind the other
+abbrev pub segments_from : (grain : ℕ) → List ℕ → List Segment
+segments_from grain [] = []
+segments_from grain (grains ∷ more) = segment_from grain grains ∷ segments_from (grain + grains) more
+
+abbrev pub point_with : Option Reservation → Point
+point_with reservation = record { pool = 0; rank = rank.Exact; reservation = reservation }
+
+abbrev pub point_place_of : Kept → PointPlace
+point_place_of h = record { reserved_at = 8 * h.reserved; buffer = record { from = h.front; count = h.behind - h.front } }
+
+abbrev pub some_address : ℕ → Option ℕ
+some_address place = Some (8 * place)
+
+-- the world made of these parts: nothing is registered, no collection ran
+abbrev pub world_with :
+    (grains limit : ℕ) → List NamedThing → List Object → List (Option Slots) → List (Option Point) → List Pool → List Segment
+    → List (Option ℕ) → List PointPlace → World
+world_with grains limit names objects tables points pools segments places point_places = record {
+  graph = record {
+    objects = objects;
+    tables = tables;
+    areas = [];
+    blocks = [];
+    points = points;
+    registered = [];
+    messages = [];
+    names = names;
+  };
+  grains = grains;
+  limit = limit;
+  formats = numbered_layout;
+  pools = pools;
+  chains = [];
+  segments = segments;
+  places = places;
+  point_places = point_places;
+  tails = [];
+  state = Unclamped;
+  flips = [];
+  dependencies = [];
+  collection = None;
+}
+
+abbrev pub world_of : Kept → Past → World
+world_of h p =
+    world_with h.grains h.limit p.names (map (object_in h.words) p.places) (one_where (is_some h.table) (Some p.ids))
+    (one_where (is_some h.point) (Some (point_with (some_where h.is_open (reservation_in h.words h.reserved)))))
+    (one_where (is_some h.pool) front_pool)
+    (segments_from 1 p.segments)
+    (map some_address p.places)
+    (one_where (is_some h.point) (point_place_of h))
+
+-- ---- what holds of it
+
+-- what a name stands for
+abbrev pub thing_of : Kept → Name → Option Thing
+thing_of h name =
+    if is_name h.table name then Some (TableThing 0)
+    else (if is_name h.pool name then Some (PoolThing 0)
+    else (if is_name h.point name then Some (PointThing 0) else None))
+
+-- the place of the object that a slot refers to, 0 for null
+abbrev pub place_in_slot : List ℕ → Option ℕ → ℕ
+place_in_slot places None = 0
+place_in_slot places (Some id) = slice_index places id
+
+-- null, or one of so many objects
+abbrev pub is_null_or_below : ℕ → Option ℕ → Bool
+is_null_or_below count None = true
+is_null_or_below count (Some id) = nat_lt id count
+
+-- a whole block begins at a place and ends before or at a bound
+pub record IsBlockAt (words : List ℕ) (bound place : ℕ) : Type 0 where
+  pub not_null : 0 < place
+  pub head : is_front (slice_index words place) ≡ true
+  pub below : place + size_field (slice_index words place) ≤ bound
+
+-- what lies before this is made
+abbrev pub bound_of : Kept → ℕ
+bound_of h = if h.is_open then h.reserved else h.front
+
+-- the point wasn't used
+pub record IsUnused (h : Kept) : Type 0 where
+  pub front : h.front ≡ 0
+  pub behind : h.behind ≡ 0
+  pub reserved : h.reserved ≡ 0
+  pub closed : h.is_open ≡ false
+
+-- what the heap keeps agrees with what it doesn't keep
+pub record Agrees (h : Kept) (p : Past) : Type 0 where
+  -- each name stands for what the heap says
+  pub names : (name : Name) → thing_in p.names name ≡ thing_of h name
+  -- the slots hold the places of their ids
+  pub slots : h.slots ≡ map (place_in_slot p.places) p.ids
+  pub ids : IsTrue (list_all (is_null_or_below (length p.places)) p.ids)
+  -- the segments are what is held
+  pub held : h.held ≡ sum p.segments
+  pub in_arena : h.held ≤ h.grains
+  pub arena : 0 < h.grains → length h.words ≡ 512 * (h.grains + 1)
+  -- whole blocks lie at the places, below what is reserved or at hand
+  pub blocks : AllByRecursion (IsBlockAt h.words (bound_of h)) p.places
+  -- so does the open reservation, up to what is at hand
+  pub reservation : h.is_open ≡ true → IsBlockAt h.words h.front h.reserved
+  -- what is at hand lies in what is held, and all behind its front is zero
+  pub at_hand : (h.front ≤ h.behind) × (h.behind ≤ 512 * (h.held + 1))
+  pub fresh : (k : ℕ) → h.front ≤ k → slice_index h.words k ≡ 0
+  -- first the arena, then the pool, then the point
+  pub before_arena : h.grains ≡ 0 → (h.table ≡ None) × (h.pool ≡ None)
+  pub before_pool : h.pool ≡ None → h.point ≡ None
+  pub before_point : h.point ≡ None → IsUnused h
+
+-- what the heap keeps stands for a world
+pub record StandsFor (h : Kept) (w : World) : Type 0 where
+  pub past : Past
+  pub world : w ≡ world_of h past
+  pub agrees : Agrees h past
+
+-- ---- steps
+
+abbrev pub moves_of : Option Move → List Move
+moves_of None = []
+moves_of (Some move) = move ∷ []
+
+-- the step of a call in a line that came to this
+abbrev pub step_of : (line : ℕ) → Call → Done → Step
+step_of line call done = record { line = line; call = call; moves = moves_of done.moved; answer = Said done.reply }

@@ -1,0 +1,64 @@
+-- Which calls the first heap doesn't support.
+use Rattle.std.specs.Prelude.{◌≡◌, ℕ, ◌<◌, ◌≤◌, Bool, true, false, nat_lt, not, ◌&&◌, ◌||◌, ◌==◌, if◌then◌else◌, Ok, Err, List, length}
+use Rattle.mps_base.specs.declared.names.Kind.TheVariants as kind
+use Rattle.mps_base.specs.declared.names.Rank.TheVariants as rank
+use Rattle.mps_base.specs.declared.refusal.Refusal.{Refusal}
+use Rattle.mps_base.specs.declared.refusal.Refusal.TheVariants as refusal
+use Rattle.mps_model.specs.declared.call.Call.{Call}
+use Rattle.mps_model.specs.declared.call.Call.TheVariants as call
+use Rattle.mps_model.specs.World.{World}
+use Rattle.mps_model.specs.Checked.{Act, Checked}
+use Rattle.mps_model.specs.Reply.{act}
+
+-- the numbers of a call are in the ranges of the script
+abbrev pub IsInRange : Call → Type 0
+IsInRange (call.Arena grains limit) = (1 ≤ grains) × (grains ≤ 2048) × (limit ≤ 2048)
+IsInRange (call.Table table length) = (1 ≤ length) × (length ≤ 65536)
+IsInRange _ = Unit {0}
+
+-- whether a call is in one of the eight forms that are built
+abbrev pub is_built : Call → Bool
+is_built (call.Arena grains limit) = true
+is_built (call.Table table length) = true
+is_built (call.Pool pool kind.Amc format) = format == 1
+is_built (call.Point point pool rank.Exact) = true
+is_built (call.Reserve point head) = true
+is_built (call.InitNumber point cell value) = true
+is_built (call.Commit point target) = true
+is_built (call.Number slot cell) = true
+is_built _ = false
+
+-- whether it makes the arena
+abbrev pub is_arena : Call → Bool
+is_arena (call.Arena grains limit) = true
+is_arena _ = false
+
+-- whether the arena was made
+abbrev pub has_arena : World → Bool
+has_arena w = nat_lt 0 w.grains
+
+-- the arena comes first, and once
+abbrev pub is_out_of_turn : World → Call → Bool
+is_out_of_turn w call = if is_arena call then has_arena w else not (has_arena w)
+
+-- whether it would make a second table, pool or point
+abbrev pub makes_second : World → Call → Bool
+makes_second w (call.Table table count) = nat_lt 0 (length w.graph.tables)
+makes_second w (call.Pool pool kind format) = nat_lt 0 (length w.pools)
+makes_second w (call.Point point pool rank) = nat_lt 0 (length w.graph.points)
+makes_second w _ = false
+
+-- whether a refusal is told: that of a null slot, and that of the commit limit
+abbrev pub is_told : Refusal → Bool
+is_told refusal.NullRef = true
+is_told (refusal.CommitLimit committed need limit) = true
+is_told _ = false
+
+-- whether a call comes to a refusal that isn't told
+abbrev pub is_untold : Checked Act → Bool
+is_untold (Ok a) = false
+is_untold (Err why) = not (is_told why)
+
+abbrev pub is_unsupported_call : World → Call → Bool
+is_unsupported_call w call =
+    not (is_built call) || is_out_of_turn w call || makes_second w call || is_untold (act false w w call)

@@ -1,0 +1,33 @@
+// What each call comes to.
+ghost use Rattle.std.specs.Prelude.{◌≡◌, IfOk, OnErr};
+ghost use Rattle.mps_first_heap.specs.Outcome.{outcome};
+ghost use Rattle.mps_first_heap.specs.View.{kept_of};
+ghost use Rattle.mps_first_heap.specs.Comes.{ComesTo};
+ghost use Rattle.mps_first_heap.specs.Unsupported.{IsInRange};
+
+use crate::arena::Arena;
+use crate::done::Done;
+use crate::making::{make_arena, make_point, make_pool, make_table, said};
+use crate::reserving::reserve;
+use crate::using::{commit, init, number};
+use mps_model::{Call, Reply};
+use std::alloc::{AllocError, Global};
+
+/// Answers a call. An `Err` is for want of memory, and leaves the heap as it was.
+pub fn answer(heap: &mut Arena, alloc: Global, call: &Call) -> Result<Done, AllocError>
+    requires { IsInRange call.now }
+    ensures ok { IfOk result (λ done. ComesTo (outcome (kept_of heap.old) call.now) done (kept_of heap.new)) }
+    ensures err { OnErr result (heap.new ≡ heap.old) }
+{
+    match *call {
+        Call::Arena { grains, limit } => make_arena(heap, alloc, grains, limit),
+        Call::Table { table, length } => make_table(heap, alloc, table, length),
+        Call::Pool { pool, kind, format } => Ok(make_pool(heap, pool, kind, format)),
+        Call::Point { point, pool, rank } => Ok(make_point(heap, point, pool, rank)),
+        Call::Reserve { point, head } => Ok(reserve(heap, point, head)),
+        Call::InitNumber { point, cell, value } => Ok(init(heap, point, cell, value)),
+        Call::Commit { point, target } => Ok(commit(heap, point, target)),
+        Call::Number { slot, cell } => Ok(said(number(heap, slot, cell))),
+        _ => Ok(said(Reply::Unsupported)),
+    }
+}

@@ -1,0 +1,60 @@
+// What the names stand for.
+ghost use Rattle.std.specs.Prelude.{◌≡◌, ◌&&◌, not};
+ghost use Rattle.mps_model.specs.Graph.{same_name};
+ghost use Rattle.mps_first_heap.specs.Kept.{is_name, is_taken, has_slot, is_point, is_pool};
+ghost use Rattle.mps_first_heap.specs.View.{kept_of};
+
+use crate::arena::Arena;
+use mps_base::{Name, Slot};
+
+/// Whether two names are the same.
+fn same_name(these: Name, those: Name) -> bool
+    ensures { result ≡ same_name these those }
+{
+    these == those
+}
+
+/// Whether there is this name, and it is this one.
+pub fn is_name(other: Option<Name>, name: Name) -> bool
+    ensures { result ≡ is_name other name }
+{
+    match other {
+        Some(other) => same_name(other, name),
+        None => false,
+    }
+}
+
+/// Whether something has this name.
+pub fn is_taken(heap: &Arena, name: Name) -> bool
+    ensures { result ≡ is_taken (kept_of heap.now) name }
+{
+    is_name(heap.table, name) || is_name(heap.pool, name) || is_name(heap.point, name)
+}
+
+/// Whether the pool has this name.
+pub fn is_pool(heap: &Arena, name: Name) -> bool
+    ensures { result ≡ is_pool (kept_of heap.now) name }
+{
+    !is_name(heap.table, name) && is_name(heap.pool, name)
+}
+
+/// Whether neither the table nor the pool has this name.
+fn is_elsewhere_free(heap: &Arena, name: Name) -> bool
+    ensures { result ≡ (not (is_name (kept_of heap.now).table name) && not (is_name (kept_of heap.now).pool name)) }
+{
+    !is_name(heap.table, name) && !is_name(heap.pool, name)
+}
+
+/// Whether the point has this name.
+pub fn is_point(heap: &Arena, name: Name) -> bool
+    ensures { result ≡ is_point (kept_of heap.now) name }
+{
+    is_elsewhere_free(heap, name) && is_name(heap.point, name)
+}
+
+/// Whether the table has this slot.
+pub fn has_slot(heap: &Arena, slot: Slot) -> bool
+    ensures { result ≡ has_slot (kept_of heap.now) slot }
+{
+    is_name(heap.table, slot.name) && slot.index < heap.slots.len() as u64
+}

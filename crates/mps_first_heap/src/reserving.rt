@@ -1,0 +1,105 @@
+// Reserving a block at the point.
+ghost use Rattle.std.specs.Prelude.{◌≡◌, ◌≤◌, ◌<◌, ◌+◌, ◌-◌, ◌*◌, ◌^◌, IsTrue};
+ghost use Rattle.mps_base.specs.Address.{grains_needed};
+ghost use Rattle.mps_format.specs.Fields.{size_field};
+ghost use Rattle.mps_format.specs.Front.{is_front};
+ghost use Rattle.mps_first_heap.specs.Outcome.{reserved_at_front, segment_taken, segment_move, reserve_behind, reserve_placed, after_reserve};
+ghost use Rattle.mps_first_heap.specs.View.{kept_of};
+ghost use Rattle.mps_first_heap.specs.Comes.{ComesTo};
+
+use crate::arena::Arena;
+use crate::done::Done;
+use crate::making::said;
+use crate::names::is_point;
+use mps_base::{Addr, Move, Name, Refusal};
+use mps_format::{Format, Front};
+use mps_model::Reply;
+
+/// The words of a grain.
+const GRAIN: u32 = 512;
+
+/// Reserves a block with this head at the front of the words at hand.
+fn reserve_at_front(heap: &mut Arena, head: u64)
+    requires valid { IsTrue (is_front head) }
+    requires room { size_field head ≤ heap.old.behind - heap.old.front }
+    ensures { kept_of heap.new ≡ reserved_at_front (kept_of heap.old) head }
+{
+    let size = Front.words(head);
+    let at = heap.front;
+    if let Some(word) = heap.words.get_mut(at as usize) {
+        *word = head;
+    }
+    heap.front = at + size;
+    heap.reserved = at;
+    heap.is_open = true;
+}
+
+/// Holds the next grains, whose words are then at hand, and tells the move.
+fn take_segment(heap: &mut Arena, need: u16) -> Move
+    requires { heap.old.held + need < 2 ^ 16 }
+    ensures after { kept_of heap.new ≡ segment_taken (kept_of heap.old) need }
+    ensures told { result ≡ segment_move (kept_of heap.old) need }
+{
+    let first = u32::from(heap.held) + 1;
+    heap.front = GRAIN * first;
+    heap.behind = GRAIN * (first + u32::from(need));
+    heap.held += need;
+    Move::Seg {
+        base: Addr(8 * u64::from(GRAIN * first)),
+        grains: u32::from(need),
+        pool: 0,
+        generation: 0,
+    }
+}
+
+/// Reserves a block with this head, of so many words, in a new segment.
+fn reserve_behind(heap: &mut Arena, head: u64, need: u64) -> Done
+    requires valid { IsTrue (is_front head) }
+    requires need { need ≡ grains_needed (size_field head) }
+    requires small { size_field head ≤ 65536 }
+    ensures { ComesTo (reserve_behind (kept_of heap.old) head need) result (kept_of heap.new) }
+{
+    let wanted = u64::from(heap.held) + need;
+    if wanted > u64::from(heap.limit) {
+        return said(Reply::Refused(Refusal::CommitLimit {
+            committed: u32::from(heap.held),
+            need: need as u32,
+            limit: u32::from(heap.limit),
+        }));
+    }
+    if wanted > u64::from(heap.grains) {
+        return said(Reply::Unsupported);
+    }
+    let moved = take_segment(heap, need as u16);
+    reserve_at_front(heap, head);
+    Done {
+        reply: Reply::Ok,
+        moved: Some(moved),
+    }
+}
+
+/// Reserves a block with this head: at the front of the words at hand, or in a new segment.
+fn reserve_placed(heap: &mut Arena, head: u64) -> Done
+    requires valid { IsTrue (is_front head) }
+    requires small { size_field head ≤ 65536 }
+    ensures { ComesTo (reserve_placed (kept_of heap.old) head) result (kept_of heap.new) }
+{
+    let size = Front.words(head);
+    if size <= heap.behind.saturating_sub(heap.front) {
+        reserve_at_front(heap, head);
+        return said(Reply::Ok);
+    }
+    let need = (u64::from(size) + 511) / u64::from(GRAIN);
+    reserve_behind(heap, head, need)
+}
+
+/// Reserves a block with this head at the point of this name.
+pub fn reserve(heap: &mut Arena, name: Name, head: u64) -> Done
+    ensures { ComesTo (after_reserve (kept_of heap.old) name head) result (kept_of heap.new) }
+{
+    if is_point(heap, name) && Front.accepts(head) && !heap.is_open {
+        reserve_placed(heap, head)
+    } else {
+        said(Reply::Unsupported)
+    }
+}
