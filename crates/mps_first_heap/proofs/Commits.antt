@@ -135,6 +135,7 @@ agrees_committed h p slot a q o =
       blocks = blocks_push h.words h.front h.reserved p.places (blocks_later h.words (bound_of h) h.front p.places (omega (arith, bound)) a.blocks) block;
       reservation = λ e. absurd (false≢true e);
       at_hand = a.at_hand;
+      not_null = a.not_null;
       fresh = a.fresh;
       before_arena = a.before_arena;
       before_pool = a.before_pool;

@@ -102,6 +102,7 @@ agrees_written h p cell value a o pos number =
       blocks = blocks-set_behind h.words (bound_of h) (bound_of h) (h.reserved + cell) value p.places le (omega arith) a.blocks;
       reservation = λ _. block_written h.words h.front h.reserved (h.reserved + cell) value (omega arith) block;
       at_hand = a.at_hand;
+      not_null = a.not_null;
       fresh = λ k behind. get_or-set_other h.words (h.reserved + cell) k value 0 (λ e. omega arith) ∙ a.fresh k behind;
       before_arena = a.before_arena;
       before_pool = a.before_pool;

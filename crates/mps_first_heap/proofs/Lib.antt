@@ -6,3 +6,5 @@ pub mod Numbers
 pub mod Stores
 pub mod Inits
 pub mod Commits
+pub mod Segments
+pub mod Reserves

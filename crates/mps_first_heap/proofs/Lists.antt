@@ -153,3 +153,14 @@ new_cells_at words front head v h z =
     let e : size_field head ≡ suc (size_field head - 1) = omega arith in
     ap (λ n. cells_in head 0 (take n (drop front (slice_set words front head)))) e
     ∙ new_cells_sized words front head (size_field head - 1) (omega arith) z
+
+length_new_cells_from : (head k n : ℕ) → length (new_cells_from front_layout head k n) ≡ n
+length_new_cells_from head k zero = refl
+length_new_cells_from head k (suc n) = ap suc (length_new_cells_from head (k + 1) n)
+
+-- a new block has the size of its head
+pub length_new_cells : (head : ℕ) → is_front head ≡ true → length (new_cells front_layout head) ≡ size_field head
+length_new_cells head v =
+    let f = front_facts head v in
+    let e : suc (size_field head - 1) ≡ size_field head = omega arith in
+    ap suc (length_new_cells_from head 1 (size_field head - 1)) ∙ e

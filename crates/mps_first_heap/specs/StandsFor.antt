@@ -174,6 +174,7 @@ pub record Agrees (h : Kept) (p : Past) : Type 0 where
   pub reservation : h.is_open ≡ true → IsBlockAt h.words h.front h.reserved
   -- what is at hand lies in what is held, and all behind its front is zero
   pub at_hand : (h.front ≤ h.behind) × (h.behind ≤ 512 * (h.held + 1))
+  pub not_null : h.front ≡ 0 → h.behind ≡ 0
   pub fresh : (k : ℕ) → h.front ≤ k → slice_index h.words k ≡ 0
   -- first the arena, then the pool, then the point
   pub before_arena : h.grains ≡ 0 → (h.table ≡ None) × (h.pool ≡ None)

@@ -1,0 +1,215 @@
+-- `reserve` is right.
+use Rattle.std.proofs.Common.{◌≡◌, ℕ, zero, suc, ◌+◌, ◌-◌, ◌*◌, ◌/◌, ◌<◌, ◌≤◌, Bool, true, false, refl, sym, ◌∙◌, ap, subst, List, [], ◌∷◌, ◌++◌, length, map, take, drop, None, Some, Err, Ok, Option, arith, slice_index, inl, inr}
+use Rattle.std.specs.Prelude.{slice_get, slice_set, nat_lt, nat_le, is_some, not, ◌&&◌, ◌==◌, if◌then◌else◌, option_and_then, sum, MatchBool}
+use Rattle.std.specs.List.{AllByRecursion, list_all}
+use Rattle.std.proofs.lemmas.List.{length-map, length-set, get_or-set_other}
+use Rattle.std.proofs.lemmas.Bool.{false≢true, cases_lt, and_parts, ltb-true, ltb-false, leb-true, leb-false, le-leb, lt-ltb, cond-true, not-true}
+use Rattle.mps_base.specs.Address.{grains_needed, address_of_grain, address_of_word}
+use Rattle.mps_base.specs.Run.{Run}
+use Rattle.mps_base.specs.Placement.{Placement, Place, NewSegment, OverLimit, NoFreeRun, run_placement}
+use Rattle.mps_base.specs.declared.moves.Move.{Move}
+use Rattle.mps_base.specs.declared.moves.Move.TheVariants as moves
+use Rattle.mps_base.specs.declared.names.Name.{Name}
+use Rattle.mps_base.specs.declared.names.Rank.TheVariants as rank
+use Rattle.mps_base.specs.declared.refusal.Refusal.{Refusal}
+use Rattle.mps_base.specs.declared.refusal.Refusal.TheVariants as refusal
+use Rattle.mps_format.specs.Fields.{size_field}
+use Rattle.mps_format.specs.Front.{is_front, front_layout}
+use Rattle.mps_format.specs.Laws.{front_facts}
+use Rattle.mps_model.specs.declared.call.Call.TheVariants as call
+use Rattle.mps_model.specs.declared.reply.Reply.TheVariants as reply
+use Rattle.mps_model.specs.Answer.{Said}
+use Rattle.mps_model.specs.Checked.{Checked, Act, Numbered, done, point_named, ◌>>=◌, ◌>>◌}
+use Rattle.mps_model.specs.Graph.{Object, Cell, Slots, NamedThing, PointThing, Point, Reservation, thing_in, new_cells, new_cells_from}
+use Rattle.mps_model.specs.Allocating.{Reserving, check_reserve, act_reserve, with_reserved, refuse_without_place, address_of_placement}
+use Rattle.mps_model.specs.Placement.{ForReserve, placement_of}
+use Rattle.mps_model.specs.LegalMove.{ForChecked, IsNewSegmentAt, IsSegmentForReserve, IsOwnSegment}
+use Rattle.mps_model.specs.Log.{records_of_step}
+use Rattle.mps_model.specs.Replay.{replay_from}
+use Rattle.mps_model.specs.Policy.{polls}
+use Rattle.mps_model.specs.World.{World, Segment, PointPlace}
+use Rattle.mps_model.specs.Effect.{world_after_moves}
+use Rattle.mps_model.specs.Step.{Step}
+use Rattle.mps_model.specs.History.{IsPoll, segment_taken, segment_of_reserve, live_blocks, with_client_remembered}
+use Rattle.mps_model.specs.Reply.{answer_from, world_from}
+use Rattle.mps_first_heap.specs.Kept.{Kept, is_name, is_point, head_at}
+use Rattle.mps_first_heap.specs.Outcome.{Outcome, answered, said, unsupported, reserved_at_front, segment_move, reserve_behind, reserve_placed, after_reserve}
+use Rattle.mps_first_heap.specs.Outcome as outcome
+use Rattle.mps_first_heap.specs.StandsFor.{Past, Agrees, world_of, world_with, step_of, object_in, cells_at, cells_in, segment_from, segments_from, some_address, one_where, point_with, some_where, reservation_in, front_pool, point_place_of, bound_of, IsBlockAt}
+use Rattle.mps_first_heap.specs.RightStep.{IsRightStep}
+use Rattle.mps_first_heap.proofs.Lists.{objects-set_behind, blocks-set_behind, slice_index-set_same, new_cells_at, blocks_later, length_new_cells}
+use Rattle.mps_first_heap.proofs.Worlds.{world_by, world_of-parts, pool_with_point, made_with_pool, at_hand_within, bound_of-le, live_blocks-world_of, stored}
+use Rattle.mps_first_heap.proofs.Stores.{stored-set_behind}
+use Rattle.mps_first_heap.proofs.Segments.{runs, over_limit, new_segment, segments_push, sum_push}
+use Rattle.mps_first_heap.proofs.Steps.{right_step, unsupported_step}
+use Rattle.mps_first_heap.proofs.Inits.{point_named_there, is_point_some}
+
+-- ---- the world with a point that has nothing reserved
+
+abbrev closed : Kept → Past → World
+closed h p = world_by h p (is_some h.table) true true false
+
+is_closed : (h : Kept) (p : Past) → Agrees h p → is_some h.point ≡ true → h.is_open ≡ false → world_of h p ≡ closed h p
+is_closed h p a q o = world_of-parts h p (is_some h.table) true true false refl q (pool_with_point h p a q) o
+
+abbrev at_rest : Numbered Point
+at_rest = record { number = 0; value = point_with None }
+
+abbrev reserving : (head : ℕ) → Reserving
+reserving head = record { point = at_rest; cells = new_cells front_layout head }
+
+check_there : (h : Kept) (p : Past) (name : Name) (head : ℕ) → thing_in p.names name ≡ Some (PointThing 0) → is_front head ≡ true → check_reserve (closed h p) name head ≡ Ok (reserving head)
+check_there h p name head named valid = rw (named, valid) refl
+
+-- ---- where a reservation is placed
+
+-- what a placement at hand is, by whether there are enough words
+abbrev placed_where : Kept → Past → (size : ℕ) → Bool → Placement
+placed_where h p size b = if b then Place h.front else run_placement h.grains h.limit (runs 1 p.segments) (grains_needed size)
+
+placement_there : (h : Kept) (p : Past) (size : ℕ) → placement_of (closed h p) (ForReserve 0 size) ≡ placed_where h p size (nat_le size (h.behind - h.front))
+placement_there h p size = refl
+
+-- ---- a block is reserved at the front
+
+abbrev taken_from : Kept → (head : ℕ) → Reservation
+taken_from h head = record { head = head; cells = new_cells front_layout head; is_doomed = false }
+
+agrees_reserved : (h : Kept) (p : Past) (head : ℕ) → Agrees h p → is_some h.point ≡ true → h.is_open ≡ false → is_front head ≡ true → size_field head ≤ h.behind - h.front → 0 < h.front → Agrees (reserved_at_front h head) p
+agrees_reserved h p head a q o valid room pos =
+    let made = made_with_pool h p a (pool_with_point h p a q) in
+    let within = at_hand_within h p a made in
+    let hand = a.at_hand in
+    let f = front_facts head valid in
+    let bound : bound_of h ≡ h.front = ap (λ b. if b then h.reserved else h.front) o in
+    let le : bound_of h ≤ h.front = omega (arith, bound) in
+    let same = slice_index-set_same h.words h.front head (omega arith) in
+    record {
+      names = a.names;
+      slots = a.slots;
+      ids = a.ids;
+      held = a.held;
+      in_arena = a.in_arena;
+      arena = λ m. length-set h.words h.front head ∙ a.arena m;
+      blocks = blocks-set_behind h.words (bound_of h) h.front h.front head p.places le le a.blocks;
+      reservation = λ _. record {
+        not_null = pos;
+        head = ap is_front same ∙ valid;
+        below = subst (λ (n : ℕ). h.front + size_field n ≤ h.front + size_field head) (sym same) (omega arith);
+      };
+      at_hand = (omega arith, hand.1);
+      not_null = λ z. absurd (omega (arith, z));
+      fresh = λ k behind. get_or-set_other h.words h.front k head 0 (λ e. omega arith) ∙ a.fresh k (omega arith);
+      before_arena = a.before_arena;
+      before_pool = a.before_pool;
+      before_point = λ none. absurd (false≢true (sym (ap is_some none) ∙ q));
+    }
+
+abbrev reserved_with : Kept → Past → List Object → Reservation → (behind left : ℕ) → World
+reserved_with h p objects r from left =
+    world_with h.grains h.limit p.names objects (one_where (is_some h.table) (Some p.ids)) (Some (point_with (Some r)) ∷ [])
+    (front_pool ∷ []) (segments_from 1 p.segments) (map some_address p.places)
+    (record { reserved_at = 8 * h.front; buffer = record { from = from; count = left } } ∷ [])
+
+reservation_made : (h : Kept) (head : ℕ) → is_front head ≡ true → h.front + size_field head ≤ length h.words → ((k : ℕ) → h.front ≤ k → slice_index h.words k ≡ 0) → reservation_in (slice_set h.words h.front head) h.front ≡ taken_from h head
+reservation_made h head valid fits fresh =
+    let f = front_facts head valid in
+    ap (λ (n : ℕ). record { head = n; cells = cells_in n 0 (take (size_field n) (drop h.front (slice_set h.words h.front head))); is_doomed = false }) (slice_index-set_same h.words h.front head (omega arith))
+    ∙ ap (λ (cells : List Cell). record { head = head; cells = cells; is_doomed = false }) (new_cells_at h.words h.front head valid fits fresh)
+
+world_reserved : (h : Kept) (p : Past) (head : ℕ) → Agrees h p → is_some h.point ≡ true → h.is_open ≡ false → is_front head ≡ true → size_field head ≤ h.behind - h.front
+    → with_reserved (closed h p) at_rest (taken_from h head) (8 * h.front) ≡ world_of (reserved_at_front h head) p
+world_reserved h p head a q o valid room =
+    let made = made_with_pool h p a (pool_with_point h p a q) in
+    let within = at_hand_within h p a made in
+    let hand = a.at_hand in
+    let f = front_facts head valid in
+    let bound : bound_of h ≡ h.front = ap (λ b. if b then h.reserved else h.front) o in
+    let le : bound_of h ≤ h.front = omega (arith, bound) in
+    ap (λ n. reserved_with h p (map (object_in h.words) p.places) (taken_from h head) (h.front + n) (h.behind - h.front - n)) (length_new_cells head valid)
+    ∙ ap (λ n. reserved_with h p (map (object_in h.words) p.places) (taken_from h head) (h.front + size_field head) n) (let e : h.behind - h.front - size_field head ≡ h.behind - (h.front + size_field head) = omega arith in e)
+    ∙ ap (λ objects. reserved_with h p objects (taken_from h head) (h.front + size_field head) (h.behind - (h.front + size_field head))) (sym (objects-set_behind h.words (bound_of h) h.front head p.places le a.blocks))
+    ∙ ap (λ r. reserved_with h p (map (object_in (slice_set h.words h.front head)) p.places) r (h.front + size_field head) (h.behind - (h.front + size_field head))) (sym (reservation_made h head valid (omega arith) a.fresh))
+    ∙ sym (world_of-parts (reserved_at_front h head) p (is_some h.table) true true true refl q (pool_with_point h p a q) refl)
+
+stored_reserved : (h : Kept) (p : Past) (head : ℕ) → Agrees h p → h.is_open ≡ false → stored h.words p.places ≡ stored (reserved_at_front h head).words p.places
+stored_reserved h p head a o =
+    let bound : bound_of h ≡ h.front = ap (λ b. if b then h.reserved else h.front) o in
+    sym (stored-set_behind h.words (bound_of h) h.front head p.places (omega (arith, bound)) a.blocks)
+
+-- ---- the poll has no moves
+
+either : (b : Bool) (P Q : Type 0) → P → Q → MatchBool b P Q
+either true P Q p q = p
+either false P Q p q = q
+
+no_poll : (h : Kept) (p : Past) (name : Name) (head : ℕ) → MatchBool (polls (closed h p) (call.Reserve name head)) (IsPoll (call.Reserve name head) (closed h p) []) (◌≡◌ {A = List Move} [] [])
+no_poll h p name head = either (polls (closed h p) (call.Reserve name head)) (IsPoll (call.Reserve name head) (closed h p) []) (◌≡◌ {A = List Move} [] []) refl refl
+
+-- ---- what the model does, where it is known where the block is placed
+
+abbrev placing_done : (after : World) → Placement → (head : ℕ) → Checked Act
+placing_done after placement head = done (with_reserved after at_rest (record { head = head; cells = new_cells front_layout head; is_doomed = false }) (address_of_placement placement))
+
+-- what a reserve does once its point is found again
+abbrev reserve_at : (after : World) → (head : ℕ) → (cells : List Cell) → Numbered Point → Checked Act
+reserve_at after head cells point =
+    done (with_reserved after point (record { head = head; cells = cells; is_doomed = false }) (address_of_placement (placement_of after (ForReserve point.number (length cells)))))
+
+-- what a reserve does once it was checked
+abbrev reserve_from : (judged after : World) → (name : Name) → (head : ℕ) → Reserving → Checked Act
+reserve_from judged after name head r =
+    refuse_without_place (placement_of judged (ForReserve r.point.number (length r.cells))) >> (point_named after name >>= reserve_at after head r.cells)
+
+found_again : (h : Kept) (p : Past) (name : Name) → thing_in p.names name ≡ Some (PointThing 0) → point_named (closed h p) name ≡ Ok at_rest
+found_again h p name e = rw e refl
+
+act_placed : (h : Kept) (p : Past) (h' : Kept) (p' : Past) (name : Name) (head : ℕ) → thing_in p.names name ≡ Some (PointThing 0) → thing_in p'.names name ≡ Some (PointThing 0) → is_front head ≡ true
+    → refuse_without_place (placement_of (closed h p) (ForReserve 0 (length (new_cells front_layout head)))) ≡ Ok tt
+    → act_reserve (closed h p) (closed h' p') name head ≡ placing_done (closed h' p') (placement_of (closed h' p') (ForReserve 0 (length (new_cells front_layout head)))) head
+act_placed h p h' p' name head named named' valid placed =
+    ap (λ (c : Checked Reserving). c >>= reserve_from (closed h p) (closed h' p') name head) (check_there h p name head named valid)
+    ∙ ap (λ (c : Checked (Unit {0})). c >> (point_named (closed h' p') name >>= reserve_at (closed h' p') head (new_cells front_layout head))) placed
+    ∙ ap (λ (c : Checked (Numbered Point)). c >>= reserve_at (closed h' p') head (new_cells front_layout head)) (found_again h' p' name named')
+
+act_refused : (h : Kept) (p : Past) (name : Name) (head : ℕ) (why : Refusal) → thing_in p.names name ≡ Some (PointThing 0) → is_front head ≡ true
+    → refuse_without_place (placement_of (closed h p) (ForReserve 0 (length (new_cells front_layout head)))) ≡ Err why
+    → act_reserve (closed h p) (closed h p) name head ≡ Err why
+act_refused h p name head why named valid refused =
+    ap (λ (c : Checked Reserving). c >>= reserve_from (closed h p) (closed h p) name head) (check_there h p name head named valid)
+    ∙ ap (λ (c : Checked (Unit {0})). c >> (point_named (closed h p) name >>= reserve_at (closed h p) head (new_cells front_layout head))) refused
+
+-- the segment that a reserve takes, where its placement is known
+segment_due : (h : Kept) (p : Past) (name : Name) (head : ℕ) (placement : Placement) → thing_in p.names name ≡ Some (PointThing 0) → is_front head ≡ true
+    → placement_of (closed h p) (ForReserve 0 (length (new_cells front_layout head))) ≡ placement
+    → segment_taken 0 placement ≡ segment_of_reserve (closed h p) (check_reserve (closed h p) name head)
+segment_due h p name head placement named valid placed =
+    ap (segment_taken 0) (sym placed) ∙ ap (segment_of_reserve (closed h p)) (sym (check_there h p name head named valid))
+
+-- ---- a reservation at hand
+
+placed_at_hand : (h : Kept) (p : Past) (head : ℕ) → is_front head ≡ true → nat_le (size_field head) (h.behind - h.front) ≡ true → placement_of (closed h p) (ForReserve 0 (length (new_cells front_layout head))) ≡ Place h.front
+placed_at_hand h p head valid fits =
+    placement_there h p (length (new_cells front_layout head))
+    ∙ ap (λ n. placed_where h p n (nat_le n (h.behind - h.front))) (length_new_cells head valid)
+    ∙ ap (placed_where h p (size_field head)) fits
+
+front_not_null : (h : Kept) (p : Past) (head : ℕ) → Agrees h p → is_front head ≡ true → size_field head ≤ h.behind - h.front → 0 < h.front
+front_not_null h p head a valid room = let f = front_facts head valid in elim (cases_lt 0 h.front) [ inl lt ↦ lt | inr le ↦ absurd (omega (arith, a.not_null (let e : h.front ≡ 0 = omega arith in e))) ]
+
+abbrev step_at_hand : (line : ℕ) → (name : Name) → (head : ℕ) → Step
+step_at_hand line name head = step_of line (call.Reserve name head) (said reply.Ok)
+
+right_at_hand : (h : Kept) (p : Past) (line : ℕ) (name : Name) (head : ℕ) → Agrees h p → is_point h name ≡ true → h.is_open ≡ false → is_front head ≡ true → nat_le (size_field head) (h.behind - h.front) ≡ true
+    → IsRightStep (closed h p) (step_at_hand line name head) (reserved_at_front h head)
+right_at_hand h p line name head a point o valid fits =
+    let q = is_point_some h name point in
+    let named = point_named_there h p a name point in
+    let room = leb-true (size_field head) (h.behind - h.front) fits in
+    let placed = placed_at_hand h p head valid fits in
+    let e = act_placed h p h p name head named named valid (ap refuse_without_place placed) ∙ ap (λ placement. placing_done (closed h p) placement head) placed in
+    right_step (closed h p) (step_at_hand line name head) (reserved_at_front h head) p refl
+    (record { moves_are_legal = tt; moves_are_due = record { poll = no_poll h p name head; segment = segment_due h p name head (Place h.front) named valid placed }; answer_is_due = sym (ap answer_from e); marked = tt })
+    (ap (λ r. with_client_remembered (world_from (closed h p) r)) e ∙ world_reserved h p head a q o valid room)
+    (agrees_reserved h p head a q o valid room (front_not_null h p head a valid room))
+    (λ pools. ap Some (ap live_blocks (sym (is_closed h p a q o)) ∙ live_blocks-world_of h p ∙ stored_reserved h p head a o))
