@@ -19,8 +19,8 @@ use Rattle.mps_format.specs.Laws.{front_facts}
 use Rattle.mps_model.specs.declared.call.Call.TheVariants as call
 use Rattle.mps_model.specs.declared.reply.Reply.TheVariants as reply
 use Rattle.mps_model.specs.Answer.{Said}
-use Rattle.mps_model.specs.Checked.{Checked, Act, Numbered, done, point_named, ◌>>=◌, ◌>>◌}
-use Rattle.mps_model.specs.Graph.{Object, Cell, Slots, NamedThing, PointThing, Point, Reservation, thing_in, new_cells, new_cells_from}
+use Rattle.mps_model.specs.Checked.{Checked, Act, Numbered, done, point_named, as_point, ◌>>=◌, ◌>>◌}
+use Rattle.mps_model.specs.Graph.{Object, Cell, Slots, NamedThing, Thing, PointThing, Point, Reservation, thing_in, new_cells, new_cells_from}
 use Rattle.mps_model.specs.Allocating.{Reserving, check_reserve, act_reserve, with_reserved, refuse_without_place, address_of_placement}
 use Rattle.mps_model.specs.Placement.{ForReserve, placement_of}
 use Rattle.mps_model.specs.LegalMove.{ForChecked, IsNewSegmentAt, IsSegmentForReserve, IsOwnSegment}
@@ -28,7 +28,7 @@ use Rattle.mps_model.specs.Log.{records_of_step}
 use Rattle.mps_model.specs.Replay.{replay_from}
 use Rattle.mps_model.specs.Policy.{polls}
 use Rattle.mps_model.specs.World.{World, Segment, PointPlace}
-use Rattle.mps_model.specs.Effect.{world_after_moves}
+use Rattle.mps_model.specs.Effect.{world_after_moves, after_segment_for}
 use Rattle.mps_model.specs.Step.{Step}
 use Rattle.mps_model.specs.History.{IsPoll, segment_taken, segment_of_reserve, live_blocks, with_client_remembered}
 use Rattle.mps_model.specs.Reply.{answer_from, world_from}
@@ -213,3 +213,163 @@ right_at_hand h p line name head a point o valid fits =
     (ap (λ r. with_client_remembered (world_from (closed h p) r)) e ∙ world_reserved h p head a q o valid room)
     (agrees_reserved h p head a q o valid room (front_not_null h p head a valid room))
     (λ pools. ap Some (ap live_blocks (sym (is_closed h p a q o)) ∙ live_blocks-world_of h p ∙ stored_reserved h p head a o))
+
+-- ---- a reservation behind what is held
+
+placed_behind : (h : Kept) (p : Past) (head : ℕ) → is_front head ≡ true → nat_le (size_field head) (h.behind - h.front) ≡ false
+    → placement_of (closed h p) (ForReserve 0 (length (new_cells front_layout head))) ≡ run_placement h.grains h.limit (runs 1 p.segments) (grains_needed (size_field head))
+placed_behind h p head valid fits =
+    placement_there h p (length (new_cells front_layout head))
+    ∙ ap (λ n. placed_where h p n (nat_le n (h.behind - h.front))) (length_new_cells head valid)
+    ∙ ap (placed_where h p (size_field head)) fits
+
+abbrev told_limit : Kept → (need : ℕ) → Rattle.mps_model.specs.declared.reply.Reply.Reply
+told_limit h need = reply.Refused (refusal.CommitLimit h.held need h.limit)
+
+abbrev step_refused : (h : Kept) → (line : ℕ) → (name : Name) → (head need : ℕ) → Step
+step_refused h line name head need = step_of line (call.Reserve name head) (said (told_limit h need))
+
+right_refused : (h : Kept) (p : Past) (line : ℕ) (name : Name) (head : ℕ) → Agrees h p → is_point h name ≡ true → h.is_open ≡ false → is_front head ≡ true → nat_le (size_field head) (h.behind - h.front) ≡ false
+    → nat_lt h.limit (h.held + grains_needed (size_field head)) ≡ true
+    → IsRightStep (closed h p) (step_refused h line name head (grains_needed (size_field head))) h
+right_refused h p line name head a point o valid fits over =
+    let q = is_point_some h name point in
+    let named = point_named_there h p a name point in
+    let need = grains_needed (size_field head) in
+    let placed = placed_behind h p head valid fits ∙ over_limit h.grains h.limit h.held p.segments need a.held over in
+    let e = act_refused h p name head (refusal.CommitLimit h.held need h.limit) named valid (ap refuse_without_place placed) in
+    right_step (closed h p) (step_refused h line name head need) h p refl
+    (record { moves_are_legal = tt; moves_are_due = record { poll = no_poll h p name head; segment = segment_due h p name head (OverLimit h.held need h.limit) named valid placed }; answer_is_due = sym (ap answer_from e); marked = tt })
+    (ap (λ r. with_client_remembered (world_from (closed h p) r)) e ∙ sym (is_closed h p a q o))
+    a
+    (λ pools. ap Some (ap live_blocks (sym (is_closed h p a q o)) ∙ live_blocks-world_of h p))
+
+-- ---- a reservation in a new segment
+
+abbrev past_taken : Past → (need : ℕ) → Past
+past_taken p need = record p { segments = p.segments ++ need ∷ [] }
+
+agrees_taken : (h : Kept) (p : Past) (need : ℕ) → Agrees h p → is_some h.point ≡ true → h.is_open ≡ false → h.held + need ≤ h.grains → Agrees (outcome.segment_taken h need) (past_taken p need)
+agrees_taken h p need a q o fits =
+    let hand = a.at_hand in
+    let bound : bound_of h ≡ h.front = ap (λ b. if b then h.reserved else h.front) o in
+    let bound' : bound_of (outcome.segment_taken h need) ≡ 512 * (h.held + 1) = ap (λ b. if b then h.reserved else 512 * (h.held + 1)) o in
+    record {
+      names = a.names;
+      slots = a.slots;
+      ids = a.ids;
+      held = ap (λ n. n + need) a.held ∙ sym (sum_push p.segments need);
+      in_arena = fits;
+      arena = a.arena;
+      blocks = blocks_later h.words (bound_of h) (bound_of (outcome.segment_taken h need)) p.places (omega (arith, bound, bound')) a.blocks;
+      reservation = λ e. absurd (false≢true (sym o ∙ e));
+      at_hand = (omega arith, omega arith);
+      not_null = λ z. absurd (omega (arith, z));
+      fresh = λ k behind. a.fresh k (omega arith);
+      before_arena = a.before_arena;
+      before_pool = a.before_pool;
+      before_point = λ none. absurd (false≢true (sym (ap is_some none) ∙ q));
+    }
+
+abbrev taken_with : Kept → Past → List Segment → (from count : ℕ) → World
+taken_with h p segments from count =
+    world_with h.grains h.limit p.names (map (object_in h.words) p.places) (one_where (is_some h.table) (Some p.ids)) (Some (point_with None) ∷ [])
+    (front_pool ∷ []) segments (map some_address p.places) (record { reserved_at = 8 * h.reserved; buffer = record { from = from; count = count } } ∷ [])
+
+-- the world after the segment was taken
+world_taken : (h : Kept) (p : Past) (name : Name) (head need : ℕ) → Agrees h p → thing_in p.names name ≡ Some (PointThing 0)
+    → world_after_moves (call.Reserve name head) (closed h p) (segment_move h need ∷ []) ≡ closed (outcome.segment_taken h need) (past_taken p need)
+world_taken h p name head need a named =
+    let segment = segment_from (h.held + 1) need in
+    ap (λ (t : Option Thing). after_segment_for (closed h p) segment (option_and_then as_point t)) named
+    ∙ ap (λ segments. taken_with h p segments (4096 * (h.held + 1) / 8) (512 * need)) (segments_push p.segments h.held need a.held)
+    ∙ ap (λ from. taken_with h p (segments_from 1 (p.segments ++ need ∷ [])) from (512 * need)) (let e : 4096 * (h.held + 1) / 8 ≡ 512 * (h.held + 1) = omega arith in e)
+    ∙ ap (λ count. taken_with h p (segments_from 1 (p.segments ++ need ∷ [])) (512 * (h.held + 1)) count) (let e : 512 * need ≡ 512 * (h.held + 1 + need) - 512 * (h.held + 1) = omega arith in e)
+
+-- the segment that is taken is the reserve's own
+legal_segment : (h : Kept) (p : Past) (name : Name) (head need : ℕ) → thing_in p.names name ≡ Some (PointThing 0) → is_front head ≡ true
+    → placement_of (closed h p) (ForReserve 0 (length (new_cells front_layout head))) ≡ NewSegment (h.held + 1) need
+    → IsOwnSegment (call.Reserve name head) (closed h p) (4096 * (h.held + 1)) need 0 0
+legal_segment h p name head need named valid placed =
+    subst (λ (c : Checked Reserving). ForChecked c (IsSegmentForReserve (closed h p) (4096 * (h.held + 1)) need 0 0)) (sym (check_there h p name head named valid))
+    (record {
+      placement = subst (λ (placement : Placement). IsNewSegmentAt placement (4096 * (h.held + 1)) need) (sym placed) (refl, refl);
+      of_pool = refl;
+      of_generation = refl;
+    })
+
+abbrev step_behind : (h : Kept) → (line : ℕ) → (name : Name) → (head need : ℕ) → Step
+step_behind h line name head need = step_of line (call.Reserve name head) (record { reply = reply.Ok; moved = Some (segment_move h need) })
+
+right_taken : (h : Kept) (p : Past) (line : ℕ) (name : Name) (head : ℕ) → Agrees h p → is_point h name ≡ true → h.is_open ≡ false → is_front head ≡ true → nat_le (size_field head) (h.behind - h.front) ≡ false
+    → nat_lt h.limit (h.held + grains_needed (size_field head)) ≡ false → h.held + grains_needed (size_field head) ≤ h.grains
+    → IsRightStep (closed h p) (step_behind h line name head (grains_needed (size_field head))) (reserved_at_front (outcome.segment_taken h (grains_needed (size_field head))) head)
+right_taken h p line name head a point o valid fits limit inside =
+    let q = is_point_some h name point in
+    let named = point_named_there h p a name point in
+    let size = size_field head in
+    let need = grains_needed size in
+    let f = front_facts head valid in
+    let some : 0 < need = omega arith in
+    let placed = placed_behind h p head valid fits ∙ new_segment h.grains h.limit h.held p.segments need a.held limit inside some in
+    let taken = outcome.segment_taken h need in
+    let later = past_taken p need in
+    let a' = agrees_taken h p need a q o inside in
+    let room : size ≤ taken.behind - taken.front = omega arith in
+    let placed' = placed_at_hand taken later head valid (le-leb size (taken.behind - taken.front) room) in
+    let w = world_taken h p name head need a named in
+    let e = ap (λ (v : World). act_reserve (closed h p) v name head) w ∙ act_placed h p taken later name head named named valid (ap refuse_without_place placed) ∙ ap (λ placement. placing_done (closed taken later) placement head) placed' in
+    right_step (closed h p) (step_behind h line name head need) (reserved_at_front taken head) later refl
+    (record {
+      moves_are_legal = (legal_segment h p name head need named valid placed, tt);
+      moves_are_due = record { poll = no_poll h p name head; segment = segment_due h p name head (NewSegment (h.held + 1) need) named valid placed };
+      answer_is_due = sym (ap answer_from e);
+      marked = tt;
+    })
+    (ap (λ r. with_client_remembered (world_from (world_after_moves (call.Reserve name head) (closed h p) (segment_move h need ∷ [])) r)) e ∙ world_reserved taken later head a' q o valid room)
+    (agrees_reserved taken later head a' q o valid room (omega arith))
+    (λ pools. ap Some (ap live_blocks (sym (is_closed h p a q o)) ∙ live_blocks-world_of h p ∙ stored_reserved taken later head a' o))
+
+-- ---- all cases
+
+abbrev is_right : (h : Kept) → (p : Past) → (line : ℕ) → (name : Name) → (head : ℕ) → Outcome → Type 0
+is_right h p line name head o = IsRightStep (world_of h p) (step_of line (call.Reserve name head) o.done) o.kept
+
+right_in_arena : (h : Kept) (p : Past) (line : ℕ) (name : Name) (head : ℕ) → Agrees h p → is_point h name ≡ true → h.is_open ≡ false → is_front head ≡ true → nat_le (size_field head) (h.behind - h.front) ≡ false
+    → nat_lt h.limit (h.held + grains_needed (size_field head)) ≡ false → (b : Bool) → nat_lt h.grains (h.held + grains_needed (size_field head)) ≡ b
+    → is_right h p line name head (if b then unsupported h else record { done = record { reply = reply.Ok; moved = Some (segment_move h (grains_needed (size_field head))) }; kept = reserved_at_front (outcome.segment_taken h (grains_needed (size_field head))) head })
+right_in_arena h p line name head a point o valid fits limit true e = unsupported_step h p line (call.Reserve name head) a
+right_in_arena h p line name head a point o valid fits limit false e =
+    let need = grains_needed (size_field head) in
+    subst (λ (w : World). IsRightStep w (step_behind h line name head need) (reserved_at_front (outcome.segment_taken h need) head)) (sym (is_closed h p a (is_point_some h name point) o))
+    (right_taken h p line name head a point o valid fits limit (ltb-false h.grains (h.held + need) e))
+
+right_in_limit : (h : Kept) (p : Past) (line : ℕ) (name : Name) (head : ℕ) → Agrees h p → is_point h name ≡ true → h.is_open ≡ false → is_front head ≡ true → nat_le (size_field head) (h.behind - h.front) ≡ false
+    → (b : Bool) → nat_lt h.limit (h.held + grains_needed (size_field head)) ≡ b
+    → is_right h p line name head (if b then answered h (told_limit h (grains_needed (size_field head))) else (if nat_lt h.grains (h.held + grains_needed (size_field head)) then unsupported h else record { done = record { reply = reply.Ok; moved = Some (segment_move h (grains_needed (size_field head))) }; kept = reserved_at_front (outcome.segment_taken h (grains_needed (size_field head))) head }))
+right_in_limit h p line name head a point o valid fits true e =
+    subst (λ (w : World). IsRightStep w (step_refused h line name head (grains_needed (size_field head))) h) (sym (is_closed h p a (is_point_some h name point) o))
+    (right_refused h p line name head a point o valid fits e)
+right_in_limit h p line name head a point o valid fits false e =
+    right_in_arena h p line name head a point o valid fits e (nat_lt h.grains (h.held + grains_needed (size_field head))) refl
+
+right_placed : (h : Kept) (p : Past) (line : ℕ) (name : Name) (head : ℕ) → Agrees h p → is_point h name ≡ true → h.is_open ≡ false → is_front head ≡ true
+    → (b : Bool) → nat_le (size_field head) (h.behind - h.front) ≡ b
+    → is_right h p line name head (if b then answered (reserved_at_front h head) reply.Ok else reserve_behind h head (grains_needed (size_field head)))
+right_placed h p line name head a point o valid true e =
+    subst (λ (w : World). IsRightStep w (step_at_hand line name head) (reserved_at_front h head)) (sym (is_closed h p a (is_point_some h name point) o))
+    (right_at_hand h p line name head a point o valid e)
+right_placed h p line name head a point o valid false e =
+    right_in_limit h p line name head a point o valid e (nat_lt h.limit (h.held + grains_needed (size_field head))) refl
+
+reserve_where : (h : Kept) (p : Past) (line : ℕ) (name : Name) (head : ℕ) → Agrees h p → (b : Bool) → (is_point h name && is_front head && not h.is_open) ≡ b
+    → is_right h p line name head (if b then reserve_placed h head else unsupported h)
+reserve_where h p line name head a false e = unsupported_step h p line (call.Reserve name head) a
+reserve_where h p line name head a true e =
+    let both = and_parts (is_point h name && is_front head) (not h.is_open) e in
+    let first = and_parts (is_point h name) (is_front head) both.0 in
+    right_placed h p line name head a first.0 (not-true h.is_open both.1) first.1 (nat_le (size_field head) (h.behind - h.front)) refl
+
+pub right_reserve : (h : Kept) (p : Past) (line : ℕ) (name : Name) (head : ℕ) → Agrees h p
+    → IsRightStep (world_of h p) (step_of line (call.Reserve name head) (after_reserve h name head).done) (after_reserve h name head).kept
+right_reserve h p line name head a = reserve_where h p line name head a (is_point h name && is_front head && not h.is_open) refl
