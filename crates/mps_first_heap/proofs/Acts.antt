@@ -1,6 +1,6 @@
 -- What the model does with each call that is accepted or told a refusal, in the worlds for which the heap stands.
 use Rattle.std.proofs.Common.{◌≡◌, ℕ, ◌+◌, ◌-◌, ◌*◌, Bool, true, false, refl, sym, ◌∙◌, ap, subst, List, [], ◌∷◌, ◌++◌, length, None, Some, Err, Ok, Option}
-use Rattle.std.specs.Prelude.{slice_get, slice_set, replicate}
+use Rattle.std.specs.Prelude.{slice_get, slice_set, replicate, nat_lt}
 use Rattle.mps_base.specs.declared.names.Name.{Name}
 use Rattle.mps_base.specs.declared.names.Slot.{Slot}
 use Rattle.mps_base.specs.declared.names.Kind.TheVariants as kind
@@ -8,12 +8,13 @@ use Rattle.mps_base.specs.declared.names.Rank.TheVariants as rank
 use Rattle.mps_base.specs.declared.refusal.Refusal.TheVariants as refusal
 use Rattle.mps_model.specs.declared.call.Call.TheVariants as call
 use Rattle.mps_model.specs.declared.reply.Reply.TheVariants as reply
-use Rattle.mps_model.specs.Graph.{Cell, NumberCell, Object, Point, NamedThing, Slots, TableThing, PointThing, thing_in, with_last}
+use Rattle.mps_model.specs.Graph.{Cell, NumberCell, Object, Point, NamedThing, Slots, TableThing, PoolThing, PointThing, thing_in, with_last}
 use Rattle.mps_model.specs.World.{World, Pool, Segment, PointPlace}
 use Rattle.mps_model.specs.Checked.{Checked, Act, says, done}
 use Rattle.mps_model.specs.Accessing.{act_number}
+use Rattle.mps_model.specs.Making.{act_table, act_pool, act_point}
 use Rattle.mps_model.specs.Allocating.{committed_object, act_commit, act_init_number}
-use Rattle.mps_first_heap.specs.StandsFor.{world_with, point_with}
+use Rattle.mps_first_heap.specs.StandsFor.{world_with, point_with, front_pool}
 
 pub act_of_commit : (grains limit : ℕ) (names : List NamedThing) (objects : List Object) (ids : List (Option ℕ)) (head : ℕ) (cells : List Cell) (pools : List Pool) (segments : List Segment) (places : List (Option ℕ)) (point_places : List PointPlace) (name : Name) (slot : Slot) (held : Option ℕ)
     → thing_in names name ≡ Some (PointThing 0) → thing_in names slot.name ≡ Some (TableThing 0) → slice_get ids slot.index ≡ Some held
@@ -37,3 +38,21 @@ pub act_of_init : (grains limit : ℕ) (names : List NamedThing) (objects : List
     → act_init_number (world_with grains limit names objects tables (Some (point_with (Some (record { head = head; cells = cells; is_doomed = false }))) ∷ []) pools segments places point_places) name cell value
     ≡ done (world_with grains limit names objects tables (Some (point_with (Some (record { head = head; cells = slice_set cells cell (NumberCell value); is_doomed = false }))) ∷ []) pools segments places point_places)
 act_of_init grains limit names objects tables head cells pools segments places point_places name cell value was point at = rw (point, at) refl
+
+pub act_of_table : (grains limit : ℕ) (names : List NamedThing) (objects : List Object) (points : List (Option Point)) (pools : List Pool) (segments : List Segment) (places : List (Option ℕ)) (point_places : List PointPlace) (name : Name) (slots : ℕ)
+    → thing_in names name ≡ None → nat_lt 65536 (0 + slots) ≡ false
+    → act_table (world_with grains limit names objects [] points pools segments places point_places) name slots
+    ≡ done (world_with grains limit (with_last names (record { name = name; thing = TableThing 0 })) objects (Some (replicate slots None) ∷ []) points pools segments places point_places)
+act_of_table grains limit names objects points pools segments places point_places name slots free fits = rw (free, fits) refl
+
+pub act_of_pool : (grains limit : ℕ) (names : List NamedThing) (objects : List Object) (tables : List (Option Slots)) (points : List (Option Point)) (segments : List Segment) (places : List (Option ℕ)) (point_places : List PointPlace) (name : Name)
+    → thing_in names name ≡ None
+    → act_pool (world_with grains limit names objects tables points [] segments places point_places) name kind.Amc 1
+    ≡ done (world_with grains limit (with_last names (record { name = name; thing = PoolThing 0 })) objects tables points (front_pool ∷ []) segments places point_places)
+act_of_pool grains limit names objects tables points segments places point_places name free = rw free refl
+
+pub act_of_point : (grains limit : ℕ) (names : List NamedThing) (objects : List Object) (tables : List (Option Slots)) (segments : List Segment) (places : List (Option ℕ)) (name pool : Name)
+    → thing_in names name ≡ None → thing_in names pool ≡ Some (PoolThing 0)
+    → act_point (world_with grains limit names objects tables [] (front_pool ∷ []) segments places []) name pool rank.Exact
+    ≡ done (world_with grains limit (with_last names (record { name = name; thing = PointThing 0 })) objects tables (Some (point_with None) ∷ []) (front_pool ∷ []) segments places (record { reserved_at = 0; buffer = record { from = 0; count = 0 } } ∷ []))
+act_of_point grains limit names objects tables segments places name pool free there = rw (free, there) refl

@@ -8,3 +8,5 @@ pub mod Inits
 pub mod Commits
 pub mod Segments
 pub mod Reserves
+pub mod NameLemmas
+pub mod Makings
