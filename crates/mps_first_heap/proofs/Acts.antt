@@ -5,15 +5,17 @@ use Rattle.mps_base.specs.declared.names.Name.{Name}
 use Rattle.mps_base.specs.declared.names.Slot.{Slot}
 use Rattle.mps_base.specs.declared.names.Kind.TheVariants as kind
 use Rattle.mps_base.specs.declared.names.Rank.TheVariants as rank
+use Rattle.mps_base.specs.declared.refusal.Refusal.{Refusal}
 use Rattle.mps_base.specs.declared.refusal.Refusal.TheVariants as refusal
+use Rattle.mps_format.specs.Front.{is_front}
 use Rattle.mps_model.specs.declared.call.Call.TheVariants as call
 use Rattle.mps_model.specs.declared.reply.Reply.TheVariants as reply
-use Rattle.mps_model.specs.Graph.{Cell, NumberCell, Object, Point, NamedThing, Slots, TableThing, PoolThing, PointThing, thing_in, with_last}
+use Rattle.mps_model.specs.Graph.{Cell, NumberCell, Object, Point, Reservation, NamedThing, Slots, TableThing, PoolThing, PointThing, thing_in, with_last}
 use Rattle.mps_model.specs.World.{World, Pool, Segment, PointPlace}
-use Rattle.mps_model.specs.Checked.{Checked, Act, says, done}
+use Rattle.mps_model.specs.Checked.{Checked, Act, says, done, number_at}
 use Rattle.mps_model.specs.Accessing.{act_number}
 use Rattle.mps_model.specs.Making.{act_table, act_pool, act_point}
-use Rattle.mps_model.specs.Allocating.{committed_object, act_commit, act_init_number}
+use Rattle.mps_model.specs.Allocating.{act_commit, act_init_number, check_reserve}
 use Rattle.mps_first_heap.specs.StandsFor.{world_with, point_with, front_pool}
 
 pub act_of_commit : (grains limit : ℕ) (names : List NamedThing) (objects : List Object) (ids : List (Option ℕ)) (head : ℕ) (cells : List Cell) (pools : List Pool) (segments : List Segment) (places : List (Option ℕ)) (point_places : List PointPlace) (name : Name) (slot : Slot) (held : Option ℕ)
@@ -56,3 +58,35 @@ pub act_of_point : (grains limit : ℕ) (names : List NamedThing) (objects : Lis
     → act_point (world_with grains limit names objects tables [] (front_pool ∷ []) segments places []) name pool rank.Exact
     ≡ done (world_with grains limit (with_last names (record { name = name; thing = PointThing 0 })) objects tables (Some (point_with None) ∷ []) (front_pool ∷ []) segments places (record { reserved_at = 0; buffer = record { from = 0; count = 0 } } ∷ []))
 act_of_point grains limit names objects tables segments places name pool free there = rw (free, there) refl
+
+-- ---- what is refused and not told
+
+pub init_not_open : (grains limit : ℕ) (names : List NamedThing) (objects : List Object) (tables : List (Option Slots)) (pools : List Pool) (segments : List Segment) (places : List (Option ℕ)) (point_places : List PointPlace) (name : Name) (cell value : ℕ)
+    → thing_in names name ≡ Some (PointThing 0)
+    → act_init_number (world_with grains limit names objects tables (Some (point_with None) ∷ []) pools segments places point_places) name cell value ≡ Err refusal.NotOpen
+init_not_open grains limit names objects tables pools segments places point_places name cell value point = rw point refl
+
+pub init_no_number : (grains limit : ℕ) (names : List NamedThing) (objects : List Object) (tables : List (Option Slots)) (head : ℕ) (cells : List Cell) (pools : List Pool) (segments : List Segment) (places : List (Option ℕ)) (point_places : List PointPlace) (name : Name) (cell value : ℕ) (why : Refusal)
+    → thing_in names name ≡ Some (PointThing 0) → number_at cells cell ≡ Err why
+    → act_init_number (world_with grains limit names objects tables (Some (point_with (Some (record { head = head; cells = cells; is_doomed = false }))) ∷ []) pools segments places point_places) name cell value ≡ Err why
+init_no_number grains limit names objects tables head cells pools segments places point_places name cell value why point at = rw (point, at) refl
+
+pub commit_not_open : (grains limit : ℕ) (names : List NamedThing) (objects : List Object) (ids : List (Option ℕ)) (pools : List Pool) (segments : List Segment) (places : List (Option ℕ)) (point_places : List PointPlace) (name : Name) (slot : Slot) (held : Option ℕ)
+    → thing_in names name ≡ Some (PointThing 0) → thing_in names slot.name ≡ Some (TableThing 0) → slice_get ids slot.index ≡ Some held
+    → act_commit (world_with grains limit names objects (Some ids ∷ []) (Some (point_with None) ∷ []) pools segments places point_places) name slot ≡ Err refusal.NotOpen
+commit_not_open grains limit names objects ids pools segments places point_places name slot held point table there = rw (point, table, there) refl
+
+pub number_no_number : (grains limit : ℕ) (names : List NamedThing) (objects : List Object) (ids : List (Option ℕ)) (points : List (Option Point)) (pools : List Pool) (segments : List Segment) (places : List (Option ℕ)) (point_places : List PointPlace) (slot : Slot) (id head : ℕ) (cells : List Cell) (cell : ℕ) (why : Refusal)
+    → thing_in names slot.name ≡ Some (TableThing 0) → slice_get ids slot.index ≡ Some (Some id) → slice_get objects id ≡ Some (record { pool = 0; body = Rattle.mps_model.specs.Graph.Automatic head cells false }) → number_at cells cell ≡ Err why
+    → act_number (world_with grains limit names objects (Some ids ∷ []) points pools segments places point_places) slot cell ≡ Err why
+number_no_number grains limit names objects ids points pools segments places point_places slot id head cells cell why table there object at = rw (table, there, object, at) refl
+
+pub reserve_bad_head : (grains limit : ℕ) (names : List NamedThing) (objects : List Object) (tables : List (Option Slots)) (r : Option Reservation) (segments : List Segment) (places : List (Option ℕ)) (point_places : List PointPlace) (name : Name) (head : ℕ)
+    → thing_in names name ≡ Some (PointThing 0) → is_front head ≡ false
+    → check_reserve (world_with grains limit names objects tables (Some (point_with r) ∷ []) (front_pool ∷ []) segments places point_places) name head ≡ Err refusal.BadHead
+reserve_bad_head grains limit names objects tables r segments places point_places name head point bad = rw (point, bad) refl
+
+pub reserve_open : (grains limit : ℕ) (names : List NamedThing) (objects : List Object) (tables : List (Option Slots)) (r : Reservation) (segments : List Segment) (places : List (Option ℕ)) (point_places : List PointPlace) (name : Name) (head : ℕ)
+    → thing_in names name ≡ Some (PointThing 0) → is_front head ≡ true
+    → check_reserve (world_with grains limit names objects tables (Some (point_with (Some r)) ∷ []) (front_pool ∷ []) segments places point_places) name head ≡ Err refusal.Open
+reserve_open grains limit names objects tables r segments places point_places name head point valid = rw (point, valid) refl

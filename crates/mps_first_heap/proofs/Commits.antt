@@ -41,10 +41,10 @@ committed h slot = record h { slots = slice_set h.slots slot.index h.reserved; i
 abbrev past_committed : Kept → Past → Slot → Past
 past_committed h p slot = record p { ids = slice_set p.ids slot.index (Some (length p.places)); places = p.places ++ h.reserved ∷ [] }
 
-abbrev whole : Kept → Past → World
+abbrev pub whole : Kept → Past → World
 whole h p = world_by h p true true (is_some h.pool) true
 
-is_whole : (h : Kept) (p : Past) → is_some h.table ≡ true → is_some h.point ≡ true → h.is_open ≡ true → world_of h p ≡ whole h p
+pub is_whole : (h : Kept) (p : Past) → is_some h.table ≡ true → is_some h.point ≡ true → h.is_open ≡ true → world_of h p ≡ whole h p
 is_whole h p t q o = world_of-parts h p true true (is_some h.pool) true t q refl o
 
 abbrev step_committed : Kept → (line : ℕ) → (name : Name) → Slot → Rattle.mps_model.specs.Step.Step

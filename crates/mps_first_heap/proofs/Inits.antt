@@ -63,10 +63,10 @@ block_written words bound place i value lt b =
       below = subst (λ (head : ℕ). place + size_field head ≤ bound) (sym e) b.below;
     }
 
-abbrev opened : Kept → Past → World
+abbrev pub opened : Kept → Past → World
 opened h p = world_by h p (is_some h.table) true (is_some h.pool) true
 
-is_opened : (h : Kept) (p : Past) → is_some h.point ≡ true → h.is_open ≡ true → world_of h p ≡ opened h p
+pub is_opened : (h : Kept) (p : Past) → is_some h.point ≡ true → h.is_open ≡ true → world_of h p ≡ opened h p
 is_opened h p q o = world_of-parts h p (is_some h.table) true (is_some h.pool) true refl q refl o
 
 abbrev opened_with : Kept → Past → List Object → Reservation → World

@@ -10,3 +10,5 @@ pub mod Segments
 pub mod Reserves
 pub mod NameLemmas
 pub mod Makings
+pub mod Refused
+pub mod Unsupporting

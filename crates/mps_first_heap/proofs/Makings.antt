@@ -95,7 +95,7 @@ agrees_tabled h p name slots a may = record {
   before_point = λ none. record { front = (a.before_point none).front; behind = (a.before_point none).behind; reserved = (a.before_point none).reserved; closed = (a.before_point none).closed };
 }
 
-abbrev untabled : Kept → Past → World
+abbrev pub untabled : Kept → Past → World
 untabled h p = world_by h p false (is_some h.point) (is_some h.pool) h.is_open
 
 right_tabled : (h : Kept) (p : Past) (line : ℕ) (name : Name) (slots : ℕ) → slots ≤ 65536 → Agrees h p → MayMake h h.table name
@@ -167,7 +167,7 @@ agrees_pooled h p name a may = record {
   before_point = λ none. record { front = (a.before_point none).front; behind = (a.before_point none).behind; reserved = (a.before_point none).reserved; closed = (a.before_point none).closed };
 }
 
-abbrev unpooled : Kept → Past → World
+abbrev pub unpooled : Kept → Past → World
 unpooled h p = world_by h p (is_some h.table) (is_some h.point) false h.is_open
 
 right_pooled : (h : Kept) (p : Past) (line : ℕ) (name : Name) → Agrees h p → MayMake h h.pool name
@@ -241,17 +241,17 @@ agrees_pointed h p name pool a may there = record {
   before_point = λ none. absurd (false≢true (sym (ap is_some none)));
 }
 
-pool_there : (h : Kept) (p : Past) (pool : Name) → Agrees h p → is_pool h pool ≡ true → thing_in p.names pool ≡ Some (PoolThing 0)
+pub pool_there : (h : Kept) (p : Past) (pool : Name) → Agrees h p → is_pool h pool ≡ true → thing_in p.names pool ≡ Some (PoolThing 0)
 pool_there h p pool a e =
     let both = and_parts (not (is_name h.table pool)) (is_name h.pool pool) e in
     a.names pool
     ∙ ap (λ b. if b then Some (TableThing 0) else behind_table h pool) (not-true (is_name h.table pool) both.0)
     ∙ ap (λ b. if b then Some (PoolThing 0) else if_point h pool) both.1
 
-abbrev unpointed : Kept → Past → World
+abbrev pub unpointed : Kept → Past → World
 unpointed h p = world_by h p (is_some h.table) false true false
 
-is_unpointed : (h : Kept) (p : Past) (pool : Name) → Agrees h p → h.point ≡ None → is_pool h pool ≡ true → world_of h p ≡ unpointed h p
+pub is_unpointed : (h : Kept) (p : Past) (pool : Name) → Agrees h p → h.point ≡ None → is_pool h pool ≡ true → world_of h p ≡ unpointed h p
 is_unpointed h p pool a none there =
     world_of-parts h p (is_some h.table) false true false refl (not_some h.point none) (is_name_some h.pool pool (and_parts (not (is_name h.table pool)) (is_name h.pool pool) there).1) (a.before_point none).closed
 

@@ -30,10 +30,10 @@ pub table_named : (h : Kept) (p : Past) → Agrees h p → (slot : Slot) → is_
 table_named h p a slot e = a.names slot.name ∙ ap (λ b. if b then Some (TableThing 0) else (if is_name h.pool slot.name then Some (Rattle.mps_model.specs.Graph.PoolThing 0) else (if is_name h.point slot.name then Some (Rattle.mps_model.specs.Graph.PointThing 0) else None))) e
 
 -- the world with its table
-abbrev tabled : Kept → Past → World
+abbrev pub tabled : Kept → Past → World
 tabled h p = world_by h p true (is_some h.point) (is_some h.pool) h.is_open
 
-is_tabled : (h : Kept) (p : Past) → is_some h.table ≡ true → world_of h p ≡ tabled h p
+pub is_tabled : (h : Kept) (p : Past) → is_some h.table ≡ true → world_of h p ≡ tabled h p
 is_tabled h p t = world_of-parts h p true (is_some h.point) (is_some h.pool) h.is_open t refl refl refl
 
 -- a `num` that is told this, and changes nothing
@@ -54,7 +54,7 @@ null_told h p line slot cell a t e =
     (λ pools. ap Some (ap live_blocks (sym (is_tabled h p t)) ∙ live_blocks-world_of h p))
 
 -- the model tells the number in a number cell of an object that a slot holds
-act_number_there : (h : Kept) (p : Past) (slot : Slot) (cell id : ℕ) → Agrees h p → is_name h.table slot.name ≡ true → slice_get p.ids slot.index ≡ Some (Some id) → is_number_cell (head_at h (slice_index p.places id)) cell ≡ true
+pub act_number_there : (h : Kept) (p : Past) (slot : Slot) (cell id : ℕ) → Agrees h p → is_name h.table slot.name ≡ true → slice_get p.ids slot.index ≡ Some (Some id) → is_number_cell (head_at h (slice_index p.places id)) cell ≡ true
     → act_number (tabled h p) slot cell ≡ says (reply.Number (slice_index h.words (slice_index p.places id + cell))) (tabled h p)
 act_number_there h p slot cell id a name there number =
     let t = is_name_some h.table slot.name name in

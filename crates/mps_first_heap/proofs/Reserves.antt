@@ -46,13 +46,13 @@ use Rattle.mps_first_heap.proofs.Inits.{point_named_there, is_point_some}
 
 -- ---- the world with a point that has nothing reserved
 
-abbrev closed : Kept → Past → World
+abbrev pub closed : Kept → Past → World
 closed h p = world_by h p (is_some h.table) true true false
 
-is_closed : (h : Kept) (p : Past) → Agrees h p → is_some h.point ≡ true → h.is_open ≡ false → world_of h p ≡ closed h p
+pub is_closed : (h : Kept) (p : Past) → Agrees h p → is_some h.point ≡ true → h.is_open ≡ false → world_of h p ≡ closed h p
 is_closed h p a q o = world_of-parts h p (is_some h.table) true true false refl q (pool_with_point h p a q) o
 
-abbrev at_rest : Numbered Point
+abbrev pub at_rest : Numbered Point
 at_rest = record { number = 0; value = point_with None }
 
 abbrev reserving : (head : ℕ) → Reserving
@@ -148,7 +148,7 @@ no_poll h p name head = either (polls (closed h p) (call.Reserve name head)) (Is
 
 -- ---- what the model does, where it is known where the block is placed
 
-abbrev placing_done : (after : World) → Placement → (head : ℕ) → Checked Act
+abbrev pub placing_done : (after : World) → Placement → (head : ℕ) → Checked Act
 placing_done after placement head = done (with_reserved after at_rest (record { head = head; cells = new_cells front_layout head; is_doomed = false }) (address_of_placement placement))
 
 -- what a reserve does once its point is found again
@@ -164,7 +164,7 @@ reserve_from judged after name head r =
 found_again : (h : Kept) (p : Past) (name : Name) → thing_in p.names name ≡ Some (PointThing 0) → point_named (closed h p) name ≡ Ok at_rest
 found_again h p name e = rw e refl
 
-act_placed : (h : Kept) (p : Past) (h' : Kept) (p' : Past) (name : Name) (head : ℕ) → thing_in p.names name ≡ Some (PointThing 0) → thing_in p'.names name ≡ Some (PointThing 0) → is_front head ≡ true
+pub act_placed : (h : Kept) (p : Past) (h' : Kept) (p' : Past) (name : Name) (head : ℕ) → thing_in p.names name ≡ Some (PointThing 0) → thing_in p'.names name ≡ Some (PointThing 0) → is_front head ≡ true
     → refuse_without_place (placement_of (closed h p) (ForReserve 0 (length (new_cells front_layout head)))) ≡ Ok tt
     → act_reserve (closed h p) (closed h' p') name head ≡ placing_done (closed h' p') (placement_of (closed h' p') (ForReserve 0 (length (new_cells front_layout head)))) head
 act_placed h p h' p' name head named named' valid placed =
@@ -172,7 +172,7 @@ act_placed h p h' p' name head named named' valid placed =
     ∙ ap (λ (c : Checked (Unit {0})). c >> (point_named (closed h' p') name >>= reserve_at (closed h' p') head (new_cells front_layout head))) placed
     ∙ ap (λ (c : Checked (Numbered Point)). c >>= reserve_at (closed h' p') head (new_cells front_layout head)) (found_again h' p' name named')
 
-act_refused : (h : Kept) (p : Past) (name : Name) (head : ℕ) (why : Refusal) → thing_in p.names name ≡ Some (PointThing 0) → is_front head ≡ true
+pub act_refused : (h : Kept) (p : Past) (name : Name) (head : ℕ) (why : Refusal) → thing_in p.names name ≡ Some (PointThing 0) → is_front head ≡ true
     → refuse_without_place (placement_of (closed h p) (ForReserve 0 (length (new_cells front_layout head)))) ≡ Err why
     → act_reserve (closed h p) (closed h p) name head ≡ Err why
 act_refused h p name head why named valid refused =
@@ -188,7 +188,7 @@ segment_due h p name head placement named valid placed =
 
 -- ---- a reservation at hand
 
-placed_at_hand : (h : Kept) (p : Past) (head : ℕ) → is_front head ≡ true → nat_le (size_field head) (h.behind - h.front) ≡ true → placement_of (closed h p) (ForReserve 0 (length (new_cells front_layout head))) ≡ Place h.front
+pub placed_at_hand : (h : Kept) (p : Past) (head : ℕ) → is_front head ≡ true → nat_le (size_field head) (h.behind - h.front) ≡ true → placement_of (closed h p) (ForReserve 0 (length (new_cells front_layout head))) ≡ Place h.front
 placed_at_hand h p head valid fits =
     placement_there h p (length (new_cells front_layout head))
     ∙ ap (λ n. placed_where h p n (nat_le n (h.behind - h.front))) (length_new_cells head valid)
@@ -216,7 +216,7 @@ right_at_hand h p line name head a point o valid fits =
 
 -- ---- a reservation behind what is held
 
-placed_behind : (h : Kept) (p : Past) (head : ℕ) → is_front head ≡ true → nat_le (size_field head) (h.behind - h.front) ≡ false
+pub placed_behind : (h : Kept) (p : Past) (head : ℕ) → is_front head ≡ true → nat_le (size_field head) (h.behind - h.front) ≡ false
     → placement_of (closed h p) (ForReserve 0 (length (new_cells front_layout head))) ≡ run_placement h.grains h.limit (runs 1 p.segments) (grains_needed (size_field head))
 placed_behind h p head valid fits =
     placement_there h p (length (new_cells front_layout head))
@@ -246,10 +246,10 @@ right_refused h p line name head a point o valid fits over =
 
 -- ---- a reservation in a new segment
 
-abbrev past_taken : Past → (need : ℕ) → Past
+abbrev pub past_taken : Past → (need : ℕ) → Past
 past_taken p need = record p { segments = p.segments ++ need ∷ [] }
 
-agrees_taken : (h : Kept) (p : Past) (need : ℕ) → Agrees h p → is_some h.point ≡ true → h.is_open ≡ false → h.held + need ≤ h.grains → Agrees (outcome.segment_taken h need) (past_taken p need)
+pub agrees_taken : (h : Kept) (p : Past) (need : ℕ) → Agrees h p → is_some h.point ≡ true → h.is_open ≡ false → h.held + need ≤ h.grains → Agrees (outcome.segment_taken h need) (past_taken p need)
 agrees_taken h p need a q o fits =
     let hand = a.at_hand in
     let bound : bound_of h ≡ h.front = ap (λ b. if b then h.reserved else h.front) o in
@@ -277,7 +277,7 @@ taken_with h p segments from count =
     (front_pool ∷ []) segments (map some_address p.places) (record { reserved_at = 8 * h.reserved; buffer = record { from = from; count = count } } ∷ [])
 
 -- the world after the segment was taken
-world_taken : (h : Kept) (p : Past) (name : Name) (head need : ℕ) → Agrees h p → thing_in p.names name ≡ Some (PointThing 0)
+pub world_taken : (h : Kept) (p : Past) (name : Name) (head need : ℕ) → Agrees h p → thing_in p.names name ≡ Some (PointThing 0)
     → world_after_moves (call.Reserve name head) (closed h p) (segment_move h need ∷ []) ≡ closed (outcome.segment_taken h need) (past_taken p need)
 world_taken h p name head need a named =
     let segment = segment_from (h.held + 1) need in

@@ -1,0 +1,56 @@
+-- The heap answers `unsupported` exactly where that is said.
+use Rattle.std.proofs.Common.{◌≡◌, ℕ, zero, suc, ◌+◌, ◌-◌, ◌*◌, ◌<◌, ◌≤◌, Bool, true, false, refl, sym, ◌∙◌, ap, subst, List, [], ◌∷◌, length, map, None, Some, Err, Ok, Option, arith, slice_index, inl, inr, take, drop, ◌⊎◌}
+use Rattle.std.specs.Prelude.{◌↔◌, nat_lt, nat_le, is_some, not, ◌&&◌, ◌||◌, ◌==◌, if◌then◌else◌, Result}
+use Rattle.std.proofs.lemmas.Bool.{false≢true, and_parts, ltb-true, ltb-false, or_left, or_right, or_from, cases_lt, lt-ltb, not-true}
+use Rattle.mps_base.specs.declared.refusal.Refusal.{Refusal}
+use Rattle.mps_base.specs.declared.refusal.Refusal.TheVariants as refusal
+use Rattle.mps_model.specs.declared.call.Call.{Call}
+use Rattle.mps_model.specs.declared.call.Call.TheVariants as call
+use Rattle.mps_model.specs.declared.reply.Reply.{Reply}
+use Rattle.mps_model.specs.declared.reply.Reply.TheVariants as reply
+use Rattle.mps_model.specs.Answer.{Said, is_unsupported}
+use Rattle.mps_model.specs.Checked.{Act, Checked}
+use Rattle.mps_model.specs.Reply.{act}
+use Rattle.mps_model.specs.World.{World}
+use Rattle.mps_first_heap.specs.Kept.{Kept}
+use Rattle.mps_first_heap.specs.Outcome.{is_made}
+use Rattle.mps_first_heap.specs.StandsFor.{Past, Agrees, world_of}
+use Rattle.mps_first_heap.specs.Unsupported.{is_built, is_out_of_turn, makes_second, is_told, is_untold, is_unsupported_call}
+
+-- a reply is `unsupported` exactly where the call is
+abbrev pub IsExact : World → Call → Reply → Type 0
+IsExact w c r = (r ≡ reply.Unsupported) ↔ (is_unsupported_call w c ≡ true)
+
+-- where the call is unsupported
+pub exact_unsupported : (w : World) (c : Call) → is_unsupported_call w c ≡ true → IsExact w c reply.Unsupported
+exact_unsupported w c e = ((λ _. e), (λ _. refl))
+
+-- where it isn't
+pub exact_answered : (w : World) (c : Call) (r : Reply) → is_unsupported (Said r) ≡ false → is_unsupported_call w c ≡ false → IsExact w c r
+exact_answered w c r said_so e =
+    ((λ is. absurd (false≢true (sym said_so ∙ ap (λ (s : Reply). is_unsupported (Said s)) is))), (λ t. absurd (false≢true (sym e ∙ t))))
+
+-- the four cases
+pub by_form : (w : World) (c : Call) → not (is_built c) ≡ true → is_unsupported_call w c ≡ true
+by_form w c e = ap (λ b. b || is_out_of_turn w c || makes_second w c || is_untold (act false w w c)) e
+
+pub by_turn : (w : World) (c : Call) → is_out_of_turn w c ≡ true → is_unsupported_call w c ≡ true
+by_turn w c e =
+    ap (λ b. b || makes_second w c || is_untold (act false w w c)) (or_right (not (is_built c)) (is_out_of_turn w c) e)
+
+pub by_second : (w : World) (c : Call) → makes_second w c ≡ true → is_unsupported_call w c ≡ true
+by_second w c e = ap (λ b. b || is_untold (act false w w c)) (or_right (not (is_built c) || is_out_of_turn w c) (makes_second w c) e)
+
+pub by_untold : (w : World) (c : Call) (why : Refusal) → act false w w c ≡ Err why → is_told why ≡ false → is_unsupported_call w c ≡ true
+by_untold w c why e t =
+    or_right (not (is_built c) || is_out_of_turn w c || makes_second w c) (is_untold (act false w w c)) (ap is_untold e ∙ ap not t)
+
+-- none of them
+pub supported : (w : World) (c : Call) → not (is_built c) ≡ false → is_out_of_turn w c ≡ false → makes_second w c ≡ false → is_untold (act false w w c) ≡ false → is_unsupported_call w c ≡ false
+supported w c form turn second told =
+    or_from (not (is_built c) || is_out_of_turn w c || makes_second w c) (is_untold (act false w w c))
+    (or_from (not (is_built c) || is_out_of_turn w c) (makes_second w c) (or_from (not (is_built c)) (is_out_of_turn w c) form turn) second) told
+
+-- the arena was made
+pub in_turn : (h : Kept) → 0 < h.grains → not (nat_lt 0 h.grains) ≡ false
+in_turn h made = ap not (lt-ltb 0 h.grains made)
