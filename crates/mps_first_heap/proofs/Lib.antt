@@ -12,3 +12,4 @@ pub mod NameLemmas
 pub mod Makings
 pub mod Refused
 pub mod Unsupporting
+pub mod ExactUses
