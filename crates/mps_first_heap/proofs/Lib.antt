@@ -13,3 +13,5 @@ pub mod Makings
 pub mod Refused
 pub mod Unsupporting
 pub mod ExactUses
+pub mod ExactReserves
+pub mod ExactMakings

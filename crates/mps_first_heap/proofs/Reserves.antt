@@ -152,12 +152,12 @@ abbrev pub placing_done : (after : World) → Placement → (head : ℕ) → Che
 placing_done after placement head = done (with_reserved after at_rest (record { head = head; cells = new_cells front_layout head; is_doomed = false }) (address_of_placement placement))
 
 -- what a reserve does once its point is found again
-abbrev reserve_at : (after : World) → (head : ℕ) → (cells : List Cell) → Numbered Point → Checked Act
+abbrev pub reserve_at : (after : World) → (head : ℕ) → (cells : List Cell) → Numbered Point → Checked Act
 reserve_at after head cells point =
     done (with_reserved after point (record { head = head; cells = cells; is_doomed = false }) (address_of_placement (placement_of after (ForReserve point.number (length cells)))))
 
 -- what a reserve does once it was checked
-abbrev reserve_from : (judged after : World) → (name : Name) → (head : ℕ) → Reserving → Checked Act
+abbrev pub reserve_from : (judged after : World) → (name : Name) → (head : ℕ) → Reserving → Checked Act
 reserve_from judged after name head r =
     refuse_without_place (placement_of judged (ForReserve r.point.number (length r.cells))) >> (point_named after name >>= reserve_at after head r.cells)
 
