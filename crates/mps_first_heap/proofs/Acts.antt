@@ -1,5 +1,5 @@
 -- What the model does with each call that is accepted or told a refusal, in the worlds for which the heap stands.
-use Rattle.std.proofs.Common.{◌≡◌, ℕ, ◌+◌, ◌-◌, ◌*◌, Bool, true, false, refl, sym, ◌∙◌, ap, subst, List, [], ◌∷◌, ◌++◌, length, None, Some, Err, Ok, Option}
+use Rattle.std.proofs.Common.{◌≡◌, ℕ, ◌+◌, true, false, refl, List, [], ◌∷◌, length, None, Some, Err, Option}
 use Rattle.std.specs.Prelude.{slice_get, slice_set, replicate, nat_lt}
 use Rattle.mps_base.specs.declared.names.Name.{Name}
 use Rattle.mps_base.specs.declared.names.Slot.{Slot}
@@ -8,11 +8,10 @@ use Rattle.mps_base.specs.declared.names.Rank.TheVariants as rank
 use Rattle.mps_base.specs.declared.refusal.Refusal.{Refusal}
 use Rattle.mps_base.specs.declared.refusal.Refusal.TheVariants as refusal
 use Rattle.mps_format.specs.Front.{is_front}
-use Rattle.mps_model.specs.declared.call.Call.TheVariants as call
 use Rattle.mps_model.specs.declared.reply.Reply.TheVariants as reply
 use Rattle.mps_model.specs.Graph.{Cell, NumberCell, Object, Point, Reservation, NamedThing, Slots, TableThing, PoolThing, PointThing, thing_in, with_last}
-use Rattle.mps_model.specs.World.{World, Pool, Segment, PointPlace}
-use Rattle.mps_model.specs.Checked.{Checked, Act, says, done, number_at}
+use Rattle.mps_model.specs.World.{Pool, Segment, PointPlace}
+use Rattle.mps_model.specs.Checked.{says, done, number_at}
 use Rattle.mps_model.specs.Accessing.{act_number}
 use Rattle.mps_model.specs.Making.{act_table, act_pool, act_point}
 use Rattle.mps_model.specs.Allocating.{act_commit, act_init_number, check_reserve}

@@ -1,19 +1,17 @@
 -- `commit` is right.
-use Rattle.std.proofs.Common.{◌≡◌, ℕ, zero, suc, ◌+◌, ◌*◌, ◌<◌, ◌≤◌, Bool, true, false, refl, sym, ◌∙◌, ap, subst, List, [], ◌∷◌, ◌++◌, length, map, take, drop, None, Some, Err, Ok, Option, arith, slice_index, inl, inr}
-use Rattle.std.specs.Prelude.{slice_get, slice_set, nat_lt, is_some, not, ◌&&◌, ◌==◌, if◌then◌else◌, option_and_then}
-use Rattle.std.specs.List.{AllByRecursion, list_all}
+use Rattle.std.proofs.Common.{◌≡◌, ℕ, zero, suc, ◌*◌, ◌<◌, Bool, true, false, refl, sym, ◌∙◌, ap, subst, List, [], ◌∷◌, ◌++◌, length, map, take, drop, None, Some, Ok, Option, arith, slice_index}
+use Rattle.std.specs.Prelude.{slice_set, nat_lt, is_some, ◌&&◌, if◌then◌else◌, option_and_then}
+use Rattle.std.specs.List.{list_all}
 use Rattle.std.proofs.lemmas.List.{length-map, map_push, map-set, length_push}
 use Rattle.std.proofs.lemmas.Bool.{false≢true, and_parts, and_from, ltb-true, lt-ltb, cond-true}
-use Rattle.mps_base.specs.declared.moves.Move.TheVariants as moves
 use Rattle.mps_base.specs.declared.names.Name.{Name}
 use Rattle.mps_base.specs.declared.names.Slot.{Slot}
 use Rattle.mps_format.specs.Fields.{size_field}
 use Rattle.mps_format.specs.Front.{is_front}
 use Rattle.mps_model.specs.declared.call.Call.TheVariants as call
 use Rattle.mps_model.specs.declared.reply.Reply.TheVariants as reply
-use Rattle.mps_model.specs.Answer.{Said}
-use Rattle.mps_model.specs.Checked.{Checked, Numbered, point_named, done}
-use Rattle.mps_model.specs.Graph.{Object, Slots, TableThing, PointThing, Point, thing_in, with_last}
+use Rattle.mps_model.specs.Checked.{Checked, Numbered, point_named}
+use Rattle.mps_model.specs.Graph.{Object, PointThing, Point, thing_in}
 use Rattle.mps_model.specs.LegalMove.{ForOne, ForChecked, IsReserved, IsLegalCommit}
 use Rattle.mps_model.specs.Log.{records_of_step}
 use Rattle.mps_model.specs.Replay.{replay_from, after_making}
@@ -22,12 +20,11 @@ use Rattle.mps_model.specs.History.{live_blocks, with_client_remembered}
 use Rattle.mps_model.specs.Reply.{answer_from, world_from}
 use Rattle.mps_model.specs.Effect.{with_next_place}
 use Rattle.mps_first_heap.specs.Kept.{Kept, is_name, is_point, has_slot, head_at, words_of_head}
-use Rattle.mps_first_heap.specs.Outcome.{Outcome, unsupported, commit_move, after_commit}
-use Rattle.mps_first_heap.specs.declared.done.Done.{Done}
-use Rattle.mps_first_heap.specs.StandsFor.{Past, Agrees, world_of, world_with, step_of, object_in, cells_at, segments_from, some_address, one_where, point_with, some_where, reservation_in, front_pool, point_place_of, place_in_slot, is_null_or_below, bound_of, IsBlockAt}
+use Rattle.mps_first_heap.specs.Outcome.{unsupported, commit_move, after_commit}
+use Rattle.mps_first_heap.specs.StandsFor.{Past, Agrees, world_of, world_with, step_of, object_in, cells_at, segments_from, some_address, one_where, point_with, reservation_in, front_pool, point_place_of, place_in_slot, is_null_or_below, bound_of}
 use Rattle.mps_first_heap.specs.RightStep.{IsRightStep}
 use Rattle.mps_first_heap.proofs.Lists.{length-cells_in, length-block_words, blocks_later, blocks_push}
-use Rattle.mps_first_heap.proofs.Worlds.{world_by, world_of-parts, is_name_some, pool_with_point, made_with_pool, at_hand_within, slot_there, live_blocks-world_of, stored, block_in}
+use Rattle.mps_first_heap.proofs.Worlds.{world_by, world_of-parts, is_name_some, pool_with_point, made_with_pool, at_hand_within, slot_there, live_blocks-world_of, stored}
 use Rattle.mps_first_heap.proofs.Stores.{making_pushed}
 use Rattle.mps_first_heap.proofs.Steps.{right_step, unsupported_step}
 use Rattle.mps_first_heap.proofs.Numbers.{table_named}
@@ -185,8 +182,8 @@ right_committed h p line name slot a point o there =
     let lt' : slot.index < length (map (place_in_slot p.places) p.ids) = subst (λ (slots : List ℕ). slot.index < length slots) a.slots lt in
     let at = slot_there p.places p.ids slot.index lt' in
     let e = act_of_commit h.grains h.limit p.names (map (object_in h.words) p.places) p.ids (slice_index h.words h.reserved) (cells_at h.words h.reserved)
-        (one_where (is_some h.pool) front_pool) (segments_from 1 p.segments) (map some_address p.places ++ some_address h.reserved ∷ []) (point_place_of h ∷ []) name slot at.0
-        (point_named_there h p a name point) (table_named h p a slot both.0) at.1 in
+    (one_where (is_some h.pool) front_pool) (segments_from 1 p.segments) (map some_address p.places ++ some_address h.reserved ∷ []) (point_place_of h ∷ []) name slot at.0
+    (point_named_there h p a name point) (table_named h p a slot both.0) at.1 in
     right_step (whole h p) (step_committed h line name slot) (committed h slot) (past_committed h p slot) refl
     (record { moves_are_legal = (legal_commit h p name slot a point o, tt); moves_are_due = refl; answer_is_due = sym (ap answer_from e); marked = tt })
     (ap (λ r. with_client_remembered (world_from (with_next_place (whole h p) (8 * h.reserved)) r)) e ∙ world_committed h p slot t q)

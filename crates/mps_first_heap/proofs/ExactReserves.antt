@@ -1,23 +1,21 @@
 -- `reserve` is unsupported exactly where that is said.
-use Rattle.std.proofs.Common.{◌≡◌, ℕ, zero, suc, ◌+◌, ◌-◌, ◌*◌, ◌<◌, ◌≤◌, Bool, true, false, refl, sym, ◌∙◌, ap, subst, List, [], ◌∷◌, length, map, None, Some, Err, Ok, Option, arith, inl, inr}
+use Rattle.std.proofs.Common.{◌≡◌, ℕ, ◌+◌, ◌-◌, ◌<◌, Bool, true, false, refl, sym, ◌∙◌, ap, subst, [], ◌∷◌, map, Some, Err, Ok, arith}
 use Rattle.std.specs.Prelude.{nat_lt, nat_le, is_some, not, ◌&&◌, if◌then◌else◌}
-use Rattle.std.proofs.lemmas.Bool.{ltb-true, ltb-false, leb-true, le-leb}
+use Rattle.std.proofs.lemmas.Bool.{ltb-true, ltb-false}
 use Rattle.mps_base.specs.Address.{grains_needed}
 use Rattle.mps_base.specs.Run.{longest, between}
-use Rattle.mps_base.specs.Placement.{Placement, Place}
 use Rattle.mps_base.specs.declared.names.Name.{Name}
 use Rattle.mps_base.specs.declared.refusal.Refusal.{Refusal}
 use Rattle.mps_base.specs.declared.refusal.Refusal.TheVariants as refusal
 use Rattle.mps_format.specs.Fields.{size_field}
-use Rattle.mps_format.specs.Front.{is_front, front_layout}
+use Rattle.mps_format.specs.Front.{is_front}
 use Rattle.mps_format.specs.Laws.{front_facts}
 use Rattle.mps_model.specs.declared.call.Call.TheVariants as call
 use Rattle.mps_model.specs.declared.reply.Reply.{Reply}
 use Rattle.mps_model.specs.declared.reply.Reply.TheVariants as reply
-use Rattle.mps_model.specs.Checked.{Act, Checked, Numbered, point_named, required, refuse_when, ◌>>=◌, ◌>>◌}
+use Rattle.mps_model.specs.Checked.{Checked, Numbered, required, refuse_when, ◌>>=◌, ◌>>◌}
 use Rattle.mps_model.specs.Graph.{Point, new_cells}
 use Rattle.mps_model.specs.Allocating.{act_reserve, check_reserve, Reserving, refuse_without_place, layout_of, takes_head}
-use Rattle.mps_model.specs.Placement.{ForReserve, placement_of}
 use Rattle.mps_model.specs.World.{World, pool_at}
 use Rattle.mps_first_heap.specs.Kept.{Kept, is_point}
 use Rattle.mps_first_heap.specs.Outcome.{after_reserve, reserve_placed, reserve_behind, segment_taken, unsupported}
@@ -26,7 +24,7 @@ use Rattle.mps_first_heap.specs.Unsupported.{is_untold, is_told}
 use Rattle.mps_first_heap.proofs.Worlds.{world_of-parts, made_with_pool, pool_with_point}
 use Rattle.mps_first_heap.proofs.Acts.{reserve_bad_head, reserve_open}
 use Rattle.mps_first_heap.proofs.Inits.{point_named_there, is_point_some}
-use Rattle.mps_first_heap.proofs.Segments.{over_limit, no_run, new_segment, runs}
+use Rattle.mps_first_heap.proofs.Segments.{over_limit, no_run, new_segment}
 use Rattle.mps_first_heap.proofs.Refused.{no_point}
 use Rattle.mps_first_heap.proofs.Reserves.{closed, is_closed, act_placed, act_refused, placed_behind, placed_at_hand, reserve_from}
 use Rattle.mps_first_heap.proofs.Unsupporting.{IsExact, exact_unsupported, exact_answered, by_untold, supported, in_turn}
@@ -53,7 +51,7 @@ supported_reserve : (h : Kept) (p : Past) (name : Name) (head : ℕ) (r : Reply)
 supported_reserve h p name head r a point o answered told =
     exact_answered (world_of h p) (call.Reserve name head) r answered
     (supported (world_of h p) (call.Reserve name head) refl (in_turn h (made_there h p name a point)) refl
-        (ap (λ w. is_untold (act_reserve w w name head)) (is_closed h p a (is_point_some h name point) o) ∙ told))
+    (ap (λ w. is_untold (act_reserve w w name head)) (is_closed h p a (is_point_some h name point) o) ∙ told))
 
 exact_in_arena : (h : Kept) (p : Past) (name : Name) (head : ℕ) → Agrees h p → is_point h name ≡ true → h.is_open ≡ false → is_front head ≡ true → nat_le (size_field head) (h.behind - h.front) ≡ false
     → nat_lt h.limit (h.held + grains_needed (size_field head)) ≡ false → (b : Bool) → nat_lt h.grains (h.held + grains_needed (size_field head)) ≡ b
@@ -67,8 +65,8 @@ exact_in_arena h p name head a point o valid fits limit true e =
     let placed = placed_behind h p head valid fits ∙ no_run h.grains h.limit h.held p.segments need a.held limit (ltb-true h.grains (h.held + need) e) some in
     exact_unsupported (world_of h p) (call.Reserve name head)
     (by_untold (world_of h p) (call.Reserve name head) (refusal.NoRun need none)
-        (ap (λ w. act_reserve w w name head) (is_closed h p a (is_point_some h name point) o) ∙ act_refused h p name head (refusal.NoRun need none) named valid (ap refuse_without_place placed))
-        refl)
+    (ap (λ w. act_reserve w w name head) (is_closed h p a (is_point_some h name point) o) ∙ act_refused h p name head (refusal.NoRun need none) named valid (ap refuse_without_place placed))
+    refl)
 exact_in_arena h p name head a point o valid fits limit false e =
     let named = point_named_there h p a name point in
     let need = grains_needed (size_field head) in

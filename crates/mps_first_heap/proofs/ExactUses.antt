@@ -1,15 +1,11 @@
 -- `num`, `init`, `commit` and `reserve` are unsupported exactly where that is said.
-use Rattle.std.proofs.Common.{◌≡◌, ℕ, zero, suc, ◌+◌, ◌-◌, ◌*◌, ◌<◌, ◌≤◌, Bool, true, false, refl, sym, ◌∙◌, ap, subst, List, [], ◌∷◌, length, map, None, Some, Err, Ok, Option, arith, slice_index, inl, inr, take, drop, ◌⊎◌}
+use Rattle.std.proofs.Common.{◌≡◌, ℕ, ◌+◌, ◌<◌, Bool, true, false, refl, sym, ◌∙◌, ap, subst, List, [], ◌∷◌, length, map, None, Some, Err, Ok, Option, arith, slice_index, inl, inr}
 use Rattle.std.specs.Prelude.{slice_get, nat_lt, nat_le, is_some, not, ◌&&◌, ◌||◌, ◌==◌, if◌then◌else◌}
-use Rattle.std.proofs.lemmas.Bool.{false≢true, and_parts, ltb-true, ltb-false, not-true, not-false, ne_eqb, cases_lt}
-use Rattle.mps_base.specs.Address.{grains_needed}
+use Rattle.std.proofs.lemmas.Bool.{and_parts, ltb-true, ne_eqb}
 use Rattle.mps_base.specs.declared.names.Name.{Name}
 use Rattle.mps_base.specs.declared.names.Slot.{Slot}
 use Rattle.mps_base.specs.declared.refusal.Refusal.{Refusal}
 use Rattle.mps_base.specs.declared.refusal.Refusal.TheVariants as refusal
-use Rattle.mps_format.specs.Fields.{size_field}
-use Rattle.mps_format.specs.Front.{is_front}
-use Rattle.mps_format.specs.Laws.{front_facts}
 use Rattle.mps_model.specs.declared.call.Call.TheVariants as call
 use Rattle.mps_model.specs.declared.reply.Reply.{Reply}
 use Rattle.mps_model.specs.declared.reply.Reply.TheVariants as reply
@@ -22,12 +18,11 @@ use Rattle.mps_first_heap.specs.Kept.{Kept, is_name, is_point, has_slot, is_numb
 use Rattle.mps_first_heap.specs.Outcome.{may_init, after_init, after_commit, number_at as number_told_at, number_reply, after_reserve, reserve_placed, reserve_behind}
 use Rattle.mps_first_heap.specs.StandsFor.{Past, Agrees, world_of, object_in as object_of, cells_at, segments_from, some_address, one_where, point_with, some_where, reservation_in, front_pool, point_place_of, place_in_slot, bound_of}
 use Rattle.mps_first_heap.specs.Unsupported.{is_untold}
-use Rattle.mps_first_heap.proofs.Worlds.{world_by, world_of-parts, is_name_some, made_with_table, made_with_pool, pool_with_point, at_hand_within, bound_of-le, block_there_at, slot_there, id_there, number_cell_at, object_there}
-use Rattle.mps_first_heap.proofs.Acts.{act_of_number, act_of_null, act_of_init, act_of_commit, init_not_open, init_no_number, commit_not_open, number_no_number, reserve_bad_head, reserve_open}
-use Rattle.mps_first_heap.proofs.Numbers.{table_named, tabled, is_tabled, act_number_there}
-use Rattle.mps_first_heap.proofs.Inits.{point_named_there, is_point_some, opened, is_opened}
-use Rattle.mps_first_heap.proofs.Commits.{whole, is_whole}
-use Rattle.mps_first_heap.proofs.Segments.{over_limit, no_run, new_segment, runs}
+use Rattle.mps_first_heap.proofs.Worlds.{world_of-parts, is_name_some, made_with_table, made_with_pool, pool_with_point, at_hand_within, bound_of-le, block_there_at, slot_there, id_there, number_cell_at, object_there}
+use Rattle.mps_first_heap.proofs.Acts.{act_of_null, act_of_init, act_of_commit, init_not_open, init_no_number, commit_not_open, number_no_number}
+use Rattle.mps_first_heap.proofs.Numbers.{table_named, is_tabled, act_number_there}
+use Rattle.mps_first_heap.proofs.Inits.{point_named_there, is_point_some, is_opened}
+use Rattle.mps_first_heap.proofs.Commits.{is_whole}
 use Rattle.mps_first_heap.proofs.Refused.{no_slot, no_point, no_number}
 use Rattle.mps_first_heap.proofs.Unsupporting.{IsExact, exact_unsupported, exact_answered, by_untold, supported, in_turn}
 
@@ -45,7 +40,7 @@ exact_number_where h p slot cell id a name there true number =
     let t = is_name_some h.table slot.name name in
     exact_answered (world_of h p) (call.Number slot cell) (reply.Number (slice_index h.words (slice_index p.places id + cell))) refl
     (supported (world_of h p) (call.Number slot cell) refl (in_turn h (made_with_table h p a t)) refl
-        (ap (λ w. is_untold (act_number w slot cell)) (is_tabled h p t) ∙ ap is_untold (act_number_there h p slot cell id a name there number)))
+    (ap (λ w. is_untold (act_number w slot cell)) (is_tabled h p t) ∙ ap is_untold (act_number_there h p slot cell id a name there number)))
 exact_number_where h p slot cell id a name there false number =
     let t = is_name_some h.table slot.name name in
     let below = id_there (length p.places) p.ids slot.index id a.ids there in
@@ -55,9 +50,9 @@ exact_number_where h p slot cell id a name there false number =
     let within = at_hand_within h p a made in
     let hand = a.at_hand in
     let refused = λ (why : Refusal) (e : number_at (cells_at h.words at) cell ≡ Err why).
-        ap (λ w. act_number w slot cell) (is_tabled h p t)
-        ∙ number_no_number h.grains h.limit p.names (map (object_of h.words) p.places) p.ids (points_of h) (one_where (is_some h.pool) front_pool) (segments_from 1 p.segments) (map some_address p.places) (one_where (is_some h.point) (point_place_of h))
-            slot id (slice_index h.words at) (cells_at h.words at) cell why (table_named h p a slot name) there (object_there h.words p.places id below) e in
+    ap (λ w. act_number w slot cell) (is_tabled h p t)
+    ∙ number_no_number h.grains h.limit p.names (map (object_of h.words) p.places) p.ids (points_of h) (one_where (is_some h.pool) front_pool) (segments_from 1 p.segments) (map some_address p.places) (one_where (is_some h.point) (point_place_of h))
+    slot id (slice_index h.words at) (cells_at h.words at) cell why (table_named h p a slot name) there (object_there h.words p.places id below) e in
     exact_unsupported (world_of h p) (call.Number slot cell)
     (elim (no_number h.words (bound_of h) at cell (block_there_at h.words (bound_of h) p.places id a.blocks below) (omega arith) number) [
       | inl e ↦ by_untold (world_of h p) (call.Number slot cell) refusal.BadIndex (refused refusal.BadIndex e) refl
@@ -70,8 +65,8 @@ exact_number_held h p slot cell None a name there =
     let t = is_name_some h.table slot.name name in
     exact_answered (world_of h p) (call.Number slot cell) (reply.Refused refusal.NullRef) refl
     (supported (world_of h p) (call.Number slot cell) refl (in_turn h (made_with_table h p a t)) refl
-        (ap (λ w. is_untold (act_number w slot cell)) (is_tabled h p t)
-        ∙ ap is_untold (act_of_null h.grains h.limit p.names (map (object_of h.words) p.places) p.ids (points_of h) (one_where (is_some h.pool) front_pool) (segments_from 1 p.segments) (map some_address p.places) (one_where (is_some h.point) (point_place_of h)) slot cell (table_named h p a slot name) there)))
+    (ap (λ w. is_untold (act_number w slot cell)) (is_tabled h p t)
+    ∙ ap is_untold (act_of_null h.grains h.limit p.names (map (object_of h.words) p.places) p.ids (points_of h) (one_where (is_some h.pool) front_pool) (segments_from 1 p.segments) (map some_address p.places) (one_where (is_some h.point) (point_place_of h)) slot cell (table_named h p a slot name) there)))
 exact_number_held h p slot cell (Some id) a name there =
     let below = id_there (length p.places) p.ids slot.index id a.ids there in
     let block = block_there_at h.words (bound_of h) p.places id a.blocks below in
@@ -125,19 +120,19 @@ exact_init_in h p name cell value a point o true number =
     let hand = a.at_hand in
     exact_answered (world_of h p) (call.InitNumber name cell value) reply.Ok refl
     (supported (world_of h p) (call.InitNumber name cell value) refl (in_turn h made) refl
-        (ap (λ w. is_untold (act_init_number w name cell value)) (is_opened h p q o)
-        ∙ ap is_untold (act_of_init h.grains h.limit p.names (map (object_of h.words) p.places) (one_where (is_some h.table) (Some p.ids)) (slice_index h.words h.reserved) (cells_at h.words h.reserved)
-            (one_where (is_some h.pool) front_pool) (segments_from 1 p.segments) (map some_address p.places) (point_place_of h ∷ []) name cell value (slice_index h.words (h.reserved + cell))
-            (point_named_there h p a name point) (number_cell_at h.words h.front h.reserved cell (a.reservation o) (omega arith) number))))
+    (ap (λ w. is_untold (act_init_number w name cell value)) (is_opened h p q o)
+    ∙ ap is_untold (act_of_init h.grains h.limit p.names (map (object_of h.words) p.places) (one_where (is_some h.table) (Some p.ids)) (slice_index h.words h.reserved) (cells_at h.words h.reserved)
+    (one_where (is_some h.pool) front_pool) (segments_from 1 p.segments) (map some_address p.places) (point_place_of h ∷ []) name cell value (slice_index h.words (h.reserved + cell))
+    (point_named_there h p a name point) (number_cell_at h.words h.front h.reserved cell (a.reservation o) (omega arith) number))))
 exact_init_in h p name cell value a point o false number =
     let q = is_point_some h name point in
     let made = made_with_point h p name a point in
     let within = at_hand_within h p a made in
     let hand = a.at_hand in
     let refused = λ (why : Refusal) (e : number_at (cells_at h.words h.reserved) cell ≡ Err why).
-        ap (λ w. act_init_number w name cell value) (is_opened h p q o)
-        ∙ init_no_number h.grains h.limit p.names (map (object_of h.words) p.places) (one_where (is_some h.table) (Some p.ids)) (slice_index h.words h.reserved) (cells_at h.words h.reserved)
-            (one_where (is_some h.pool) front_pool) (segments_from 1 p.segments) (map some_address p.places) (point_place_of h ∷ []) name cell value why (point_named_there h p a name point) e in
+    ap (λ w. act_init_number w name cell value) (is_opened h p q o)
+    ∙ init_no_number h.grains h.limit p.names (map (object_of h.words) p.places) (one_where (is_some h.table) (Some p.ids)) (slice_index h.words h.reserved) (cells_at h.words h.reserved)
+    (one_where (is_some h.pool) front_pool) (segments_from 1 p.segments) (map some_address p.places) (point_place_of h ∷ []) name cell value why (point_named_there h p a name point) e in
     exact_unsupported (world_of h p) (call.InitNumber name cell value)
     (elim (no_number h.words h.front h.reserved cell (a.reservation o) (omega arith) number) [
       | inl e ↦ by_untold (world_of h p) (call.InitNumber name cell value) refusal.BadIndex (refused refusal.BadIndex e) refl
@@ -150,9 +145,9 @@ exact_init_open h p name cell value a point true o = exact_init_in h p name cell
 exact_init_open h p name cell value a point false o =
     exact_unsupported (world_of h p) (call.InitNumber name cell value)
     (by_untold (world_of h p) (call.InitNumber name cell value) refusal.NotOpen
-        (ap (λ w. act_init_number w name cell value) (world_of-parts h p (is_some h.table) true (is_some h.pool) false refl (is_point_some h name point) refl o)
-        ∙ init_not_open h.grains h.limit p.names (map (object_of h.words) p.places) (one_where (is_some h.table) (Some p.ids)) (one_where (is_some h.pool) front_pool) (segments_from 1 p.segments) (map some_address p.places) (point_place_of h ∷ []) name cell value (point_named_there h p a name point))
-        refl)
+    (ap (λ w. act_init_number w name cell value) (world_of-parts h p (is_some h.table) true (is_some h.pool) false refl (is_point_some h name point) refl o)
+    ∙ init_not_open h.grains h.limit p.names (map (object_of h.words) p.places) (one_where (is_some h.table) (Some p.ids)) (one_where (is_some h.pool) front_pool) (segments_from 1 p.segments) (map some_address p.places) (point_place_of h ∷ []) name cell value (point_named_there h p a name point))
+    refl)
 
 exact_init_at : (h : Kept) (p : Past) (name : Name) (cell value : ℕ) → Agrees h p → (b : Bool) → is_point h name ≡ b
     → IsExact (world_of h p) (call.InitNumber name cell value) (if b && h.is_open && is_number_cell (head_at h h.reserved) cell then reply.Ok else reply.Unsupported)
@@ -195,15 +190,15 @@ exact_commit_open h p name slot a point there b o =
     by_open q t held at table true o =
         exact_answered (world_of h p) (call.Commit name slot) reply.Ok refl
         (supported (world_of h p) (call.Commit name slot) refl (in_turn h (made_with_table h p a t)) refl
-            (ap (λ w. is_untold (act_commit w name slot)) (is_whole h p t q o)
-            ∙ ap is_untold (act_of_commit h.grains h.limit p.names (map (object_of h.words) p.places) p.ids (slice_index h.words h.reserved) (cells_at h.words h.reserved)
-                (one_where (is_some h.pool) front_pool) (segments_from 1 p.segments) (map some_address p.places) (point_place_of h ∷ []) name slot held (point_named_there h p a name point) table at)))
+        (ap (λ w. is_untold (act_commit w name slot)) (is_whole h p t q o)
+        ∙ ap is_untold (act_of_commit h.grains h.limit p.names (map (object_of h.words) p.places) p.ids (slice_index h.words h.reserved) (cells_at h.words h.reserved)
+        (one_where (is_some h.pool) front_pool) (segments_from 1 p.segments) (map some_address p.places) (point_place_of h ∷ []) name slot held (point_named_there h p a name point) table at)))
     by_open q t held at table false o =
         exact_unsupported (world_of h p) (call.Commit name slot)
         (by_untold (world_of h p) (call.Commit name slot) refusal.NotOpen
-            (ap (λ w. act_commit w name slot) (world_of-parts h p true true (is_some h.pool) false t q refl o)
-            ∙ commit_not_open h.grains h.limit p.names (map (object_of h.words) p.places) p.ids (one_where (is_some h.pool) front_pool) (segments_from 1 p.segments) (map some_address p.places) (point_place_of h ∷ []) name slot held (point_named_there h p a name point) table at)
-            refl)
+        (ap (λ w. act_commit w name slot) (world_of-parts h p true true (is_some h.pool) false t q refl o)
+        ∙ commit_not_open h.grains h.limit p.names (map (object_of h.words) p.places) p.ids (one_where (is_some h.pool) front_pool) (segments_from 1 p.segments) (map some_address p.places) (point_place_of h ∷ []) name slot held (point_named_there h p a name point) table at)
+        refl)
 
 exact_commit_slot : (h : Kept) (p : Past) (name : Name) (slot : Slot) → Agrees h p → is_point h name ≡ true → (b : Bool) → has_slot h slot ≡ b → IsExact (world_of h p) (call.Commit name slot) (commit_reply (h.is_open && b))
 exact_commit_slot h p name slot a point true e =
@@ -215,7 +210,7 @@ exact_commit_slot h p name slot a point true e =
 exact_commit_slot h p name slot a point false e =
     subst (λ (b : Bool). IsExact (world_of h p) (call.Commit name slot) (commit_reply b)) (sym (and_false h.is_open))
     (exact_unsupported (world_of h p) (call.Commit name slot)
-        (elim (no_slot h p slot a e) [ inl f ↦ missing refusal.BadName f refl | inr f ↦ missing refusal.BadIndex f refl ]))
+    (elim (no_slot h p slot a e) [ inl f ↦ missing refusal.BadName f refl | inr f ↦ missing refusal.BadIndex f refl ]))
   where
     and_false : (b : Bool) → (b && false) ≡ false
     and_false true = refl

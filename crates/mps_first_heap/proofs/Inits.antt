@@ -1,7 +1,6 @@
 -- `init` is right.
-use Rattle.std.proofs.Common.{◌≡◌, ℕ, ◌+◌, ◌*◌, ◌<◌, ◌≤◌, Bool, true, false, refl, sym, ◌∙◌, ap, subst, List, [], ◌∷◌, length, map, take, drop, None, Some, Err, Ok, Option, arith, slice_index, inl, inr}
-use Rattle.std.specs.Prelude.{slice_get, slice_set, nat_lt, is_some, not, ◌&&◌, ◌==◌, if◌then◌else◌}
-use Rattle.std.specs.List.{AllByRecursion}
+use Rattle.std.proofs.Common.{◌≡◌, ℕ, ◌+◌, ◌<◌, ◌≤◌, Bool, true, false, refl, sym, ◌∙◌, ap, subst, List, [], ◌∷◌, map, take, drop, None, Some, arith, slice_index}
+use Rattle.std.specs.Prelude.{slice_set, nat_lt, is_some, not, ◌&&◌, if◌then◌else◌}
 use Rattle.std.proofs.lemmas.List.{length-set, get_or-set_other}
 use Rattle.std.proofs.lemmas.Bool.{and_parts, ltb-true, not-true}
 use Rattle.mps_base.specs.declared.names.Name.{Name}
@@ -9,18 +8,16 @@ use Rattle.mps_format.specs.Fields.{size_field}
 use Rattle.mps_format.specs.Front.{is_front, front_layout}
 use Rattle.mps_model.specs.declared.call.Call.TheVariants as call
 use Rattle.mps_model.specs.declared.reply.Reply.TheVariants as reply
-use Rattle.mps_model.specs.Checked.{done}
 use Rattle.mps_model.specs.Graph.{Cell, NumberCell, Object, Reservation, TableThing, PoolThing, PointThing, thing_in}
-use Rattle.mps_model.specs.Allocating.{act_init_number}
 use Rattle.mps_model.specs.World.{World}
 use Rattle.mps_model.specs.History.{live_blocks, with_client_remembered}
 use Rattle.mps_model.specs.Reply.{answer_from, world_from}
 use Rattle.mps_first_heap.specs.Kept.{Kept, is_name, is_point, is_number_cell, head_at, words_of_head}
 use Rattle.mps_first_heap.specs.Outcome.{said, may_init, after_init, accepted_where}
-use Rattle.mps_first_heap.specs.StandsFor.{Past, Agrees, world_of, world_with, step_of, object_in, cells_at, cells_in, cell_in, segments_from, some_address, one_where, point_with, some_where, reservation_in, front_pool, point_place_of, place_in_slot, bound_of, IsBlockAt}
+use Rattle.mps_first_heap.specs.StandsFor.{Past, Agrees, world_of, world_with, step_of, object_in, cells_at, cells_in, cell_in, segments_from, some_address, one_where, point_with, reservation_in, front_pool, point_place_of, bound_of, IsBlockAt}
 use Rattle.mps_first_heap.specs.RightStep.{IsRightStep}
 use Rattle.mps_first_heap.proofs.Lists.{objects-set_behind, blocks-set_behind, slice_index-set_other, block_words-set, cells_in-set}
-use Rattle.mps_first_heap.proofs.Worlds.{world_by, world_of-parts, is_name_some, pool_with_point, made_with_pool, at_hand_within, bound_of-le, number_cell, number_cell_at, number_cell_below, live_blocks-world_of, stored}
+use Rattle.mps_first_heap.proofs.Worlds.{world_by, world_of-parts, is_name_some, pool_with_point, made_with_pool, at_hand_within, number_cell, number_cell_at, number_cell_below, live_blocks-world_of, stored}
 use Rattle.mps_first_heap.proofs.Stores.{stored-set_behind}
 use Rattle.mps_first_heap.proofs.Steps.{right_step, unsupported_step}
 use Rattle.mps_first_heap.proofs.Acts.{act_of_init}
@@ -51,7 +48,7 @@ reservation_written words place cell value pos number =
     ap (λ (h : ℕ). record { head = h; cells = cells_in h 0 (take (size_field h) (drop place (slice_set words (place + cell) value))); is_doomed = false }) (slice_index-set_other words (place + cell) place value lt)
     ∙ ap (λ (ws : List ℕ). record { head = head; cells = cells_in head 0 ws; is_doomed = false }) (block_words-set words place (size_field head) cell value)
     ∙ ap (λ (cells : List Cell). record { head = head; cells = cells; is_doomed = false }) (cells_in-set head 0 (take (size_field head) (drop place words)) cell value
-        ∙ ap (λ (c : Cell). slice_set (cells_at words place) cell c) (ap (λ n. cell_in head n value) (let e : 0 + cell ≡ cell = omega arith in e) ∙ number_cell head cell value number))
+    ∙ ap (λ (c : Cell). slice_set (cells_at words place) cell c) (ap (λ n. cell_in head n value) (let e : 0 + cell ≡ cell = omega arith in e) ∙ number_cell head cell value number))
 
 -- a block stays a block after a write in it, behind its head
 block_written : (words : List ℕ) (bound place i value : ℕ) → place < i → IsBlockAt words bound place → IsBlockAt (slice_set words i value) bound place
@@ -125,8 +122,8 @@ right_written h p line name cell value a point o number =
     let within = at_hand_within h p a made in
     let hand = a.at_hand in
     let e = act_of_init h.grains h.limit p.names (map (object_in h.words) p.places) (one_where (is_some h.table) (Some p.ids)) (slice_index h.words h.reserved) (cells_at h.words h.reserved)
-        (one_where (is_some h.pool) front_pool) (segments_from 1 p.segments) (map some_address p.places) (point_place_of h ∷ []) name cell value (slice_index h.words (h.reserved + cell))
-        (point_named_there h p a name point) (number_cell_at h.words h.front h.reserved cell (a.reservation o) (omega arith) number) in
+    (one_where (is_some h.pool) front_pool) (segments_from 1 p.segments) (map some_address p.places) (point_place_of h ∷ []) name cell value (slice_index h.words (h.reserved + cell))
+    (point_named_there h p a name point) (number_cell_at h.words h.front h.reserved cell (a.reservation o) (omega arith) number) in
     right_step (opened h p) (step_of line (call.InitNumber name cell value) (said reply.Ok)) (written h cell value) p refl
     (record { moves_are_legal = tt; moves_are_due = refl; answer_is_due = sym (ap answer_from e); marked = tt })
     (ap (λ r. with_client_remembered (world_from (opened h p) r)) e ∙ world_written h p cell value a q o pos number)

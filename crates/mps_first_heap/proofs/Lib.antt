@@ -15,3 +15,4 @@ pub mod Unsupporting
 pub mod ExactUses
 pub mod ExactReserves
 pub mod ExactMakings
+pub mod AllCalls

@@ -1,14 +1,13 @@
 -- Facts on lists and on the cells of blocks.
-use Rattle.std.proofs.Common.{◌≡◌, ℕ, zero, suc, ◌+◌, ◌-◌, ◌*◌, ◌<◌, ◌≤◌, Bool, true, false, refl, sym, ◌∙◌, ap, subst, List, [], ◌∷◌, ◌++◌, length, take, drop, map, Option, Some, None, arith, add-one, add-zero, add-zero, rules, slice_index, set, get_or, inl, inr}
-use Rattle.std.specs.Prelude.{slice_get, slice_set, IsTrue, if◌then◌else◌, nat_lt, replicate, sum, min}
-use Rattle.std.specs.List.{list_all, AllByRecursion, flat_map}
-use Rattle.std.proofs.lemmas.List.{map_push, map-set, length-map, length-take, length-drop, take-set, drop-set-lt, drop-set-add, get_or-drop, get_or-set_other, get_or-set_same}
-use Rattle.std.proofs.lemmas.Grind.{common_steps}
+use Rattle.std.proofs.Common.{◌≡◌, ℕ, zero, suc, ◌+◌, ◌-◌, ◌<◌, ◌≤◌, true, false, refl, sym, ◌∙◌, ap, subst, List, [], ◌∷◌, ◌++◌, length, take, drop, map, Some, None, arith, add-one, add-zero, add-zero, slice_index}
+use Rattle.std.specs.Prelude.{slice_get, slice_set, if◌then◌else◌, replicate, min}
+use Rattle.std.specs.List.{AllByRecursion}
+use Rattle.std.proofs.lemmas.List.{length-take, length-drop, drop-set-add, get_or-set_same}
 use Rattle.mps_format.specs.Fields.{size_field}
 use Rattle.mps_format.specs.Front.{is_front, front_layout}
 use Rattle.mps_format.specs.Laws.{front_facts}
-use Rattle.mps_model.specs.Graph.{Cell, Automatic, HeadCell, NumberCell, ReferenceCell, Object, entries, target_of_cell, targets_of_cells, targets, new_cells, new_cells_from, with_last}
-use Rattle.mps_first_heap.specs.StandsFor.{cell_in, cells_in, block_words, cells_at, object_in, IsBlockAt, place_in_slot, is_null_or_below}
+use Rattle.mps_model.specs.Graph.{Automatic, HeadCell, NumberCell, ReferenceCell, Object, target_of_cell, targets_of_cells, new_cells, new_cells_from}
+use Rattle.mps_first_heap.specs.StandsFor.{cell_in, cells_in, object_in, IsBlockAt}
 
 -- ---- cells
 

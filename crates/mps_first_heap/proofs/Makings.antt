@@ -1,28 +1,25 @@
 -- The calls that make things are right.
-use Rattle.std.proofs.Common.{◌≡◌, ℕ, zero, suc, ◌+◌, ◌-◌, ◌*◌, ◌<◌, ◌≤◌, Bool, true, false, refl, sym, ◌∙◌, ap, subst, List, [], ◌∷◌, ◌++◌, length, map, None, Some, Err, Ok, Option, arith, slice_index, inl, inr}
-use Rattle.std.specs.Prelude.{nat_lt, is_some, not, ◌&&◌, ◌||◌, ◌==◌, if◌then◌else◌, replicate, sum}
+use Rattle.std.proofs.Common.{◌≡◌, ℕ, zero, suc, ◌+◌, ◌-◌, ◌*◌, ◌<◌, ◌≤◌, Bool, true, false, refl, sym, ◌∙◌, ap, subst, List, [], ◌∷◌, ◌++◌, length, map, None, Some, Option, arith, slice_index}
+use Rattle.std.specs.Prelude.{is_some, not, ◌&&◌, ◌||◌, ◌==◌, if◌then◌else◌, replicate}
 use Rattle.std.specs.List.{AllByRecursion, list_all}
-use Rattle.std.proofs.lemmas.List.{length-replicate, length-map}
-use Rattle.std.proofs.lemmas.Bool.{false≢true, cases_lt, and_parts, or_parts, ltb-true, ltb-false, le-ltb, eqb-true, not-true}
+use Rattle.std.proofs.lemmas.List.{length-replicate}
+use Rattle.std.proofs.lemmas.Bool.{false≢true, and_parts, or_parts, ltb-true, ltb-false, le-ltb, eqb-true, not-true}
 use Rattle.mps_base.specs.declared.names.Kind.{Kind}
 use Rattle.mps_base.specs.declared.names.Kind.TheVariants as kind
 use Rattle.mps_base.specs.declared.names.Name.{Name}
 use Rattle.mps_base.specs.declared.names.Rank.{Rank}
 use Rattle.mps_base.specs.declared.names.Rank.TheVariants as rank
-use Rattle.mps_format.specs.Laws.{front_facts}
-use Rattle.mps_format.specs.Fields.{size_field}
 use Rattle.mps_model.specs.declared.call.Call.TheVariants as call
 use Rattle.mps_model.specs.declared.reply.Reply.TheVariants as reply
-use Rattle.mps_model.specs.Graph.{Object, NamedThing, Thing, TableThing, PoolThing, PointThing, same_name, thing_in}
-use Rattle.mps_model.specs.Step.{Step}
+use Rattle.mps_model.specs.Graph.{Thing, TableThing, PoolThing, PointThing, same_name, thing_in}
 use Rattle.mps_model.specs.World.{World, PointPlace}
 use Rattle.mps_model.specs.History.{live_blocks, with_client_remembered}
 use Rattle.mps_model.specs.Reply.{answer_from, world_from}
 use Rattle.mps_first_heap.specs.Kept.{Kept, is_name, is_taken, is_pool}
-use Rattle.mps_first_heap.specs.Outcome.{Outcome, said, accepted_where, is_made, may_make, is_amc, is_built_pool, is_exact, arena_made, after_arena, after_table, after_pool, after_point}
-use Rattle.mps_first_heap.specs.StandsFor.{Past, Agrees, IsUnused, world_of, world_with, step_of, object_in, segments_from, some_address, one_where, point_with, some_where, reservation_in, front_pool, point_place_of, place_in_slot, is_null_or_below, bound_of, IsBlockAt, thing_of}
+use Rattle.mps_first_heap.specs.Outcome.{said, accepted_where, is_made, may_make, is_amc, is_built_pool, is_exact, arena_made, after_arena, after_table, after_pool, after_point}
+use Rattle.mps_first_heap.specs.StandsFor.{Past, Agrees, world_of, world_with, step_of, object_in, segments_from, some_address, one_where, point_with, some_where, reservation_in, front_pool, point_place_of, place_in_slot, is_null_or_below, bound_of, IsBlockAt, thing_of}
 use Rattle.mps_first_heap.specs.RightStep.{IsRightStep}
-use Rattle.mps_first_heap.proofs.Worlds.{world_by, world_of-parts, is_name_some, live_blocks-world_of, stored}
+use Rattle.mps_first_heap.proofs.Worlds.{world_by, world_of-parts, is_name_some, live_blocks-world_of}
 use Rattle.mps_first_heap.proofs.Steps.{right_step, unsupported_step}
 use Rattle.mps_first_heap.proofs.NameLemmas.{names_made, not_taken, same_name_itself}
 use Rattle.mps_first_heap.proofs.Acts.{act_of_table, act_of_pool, act_of_point}
@@ -103,8 +100,8 @@ right_tabled : (h : Kept) (p : Past) (line : ℕ) (name : Name) (slots : ℕ) �
 right_tabled h p line name slots few a may =
     let w = world_of-parts h p false (is_some h.point) (is_some h.pool) h.is_open (not_some h.table may.first) refl refl refl in
     let e = act_of_table h.grains h.limit p.names (map (object_in h.words) p.places) (one_where (is_some h.point) (Some (point_with (some_where h.is_open (reservation_in h.words h.reserved)))))
-        (one_where (is_some h.pool) front_pool) (segments_from 1 p.segments) (map some_address p.places) (one_where (is_some h.point) (point_place_of h)) name slots
-        (a.names name ∙ not_taken h name may.free) (le-ltb 65536 (0 + slots) (omega arith)) in
+    (one_where (is_some h.pool) front_pool) (segments_from 1 p.segments) (map some_address p.places) (one_where (is_some h.point) (point_place_of h)) name slots
+    (a.names name ∙ not_taken h name may.free) (le-ltb 65536 (0 + slots) (omega arith)) in
     right_step (untabled h p) (step_of line (call.Table name slots) (said reply.Ok)) (tabled h name slots) (past_tabled p name slots) refl
     (record { moves_are_legal = tt; moves_are_due = refl; answer_is_due = sym (ap answer_from e); marked = tt })
     (ap (λ r. with_client_remembered (world_from (untabled h p) r)) e)
@@ -145,9 +142,9 @@ names_pooled : (h : Kept) (p : Past) (name : Name) → Agrees h p → h.pool ≡
 names_pooled h p name a none free =
     names_made p.names name (PoolThing 0) (thing_of h) (thing_of (pooled h name)) a.names (not_taken h name free)
     (ap (λ b. if b then Some (TableThing 0) else (if same_name name name then Some (PoolThing 0) else if_point h name)) (table_free h name free)
-        ∙ ap (λ b. if b then Some (PoolThing 0) else if_point h name) (same_name_itself name))
+    ∙ ap (λ b. if b then Some (PoolThing 0) else if_point h name) (same_name_itself name))
     (λ n other. ap (λ t. if is_name h.table n then Some (TableThing 0) else (if is_name t n then Some (PoolThing 0) else if_point h n)) none
-        ∙ ap (λ b. if is_name h.table n then Some (TableThing 0) else (if b then Some (PoolThing 0) else if_point h n)) (sym other))
+    ∙ ap (λ b. if is_name h.table n then Some (TableThing 0) else (if b then Some (PoolThing 0) else if_point h n)) (sym other))
 
 agrees_pooled : (h : Kept) (p : Past) (name : Name) → Agrees h p → MayMake h h.pool name → Agrees (pooled h name) (past_pooled p name)
 agrees_pooled h p name a may = record {
@@ -175,7 +172,7 @@ right_pooled : (h : Kept) (p : Past) (line : ℕ) (name : Name) → Agrees h p �
 right_pooled h p line name a may =
     let w = world_of-parts h p (is_some h.table) (is_some h.point) false h.is_open refl refl (not_some h.pool may.first) refl in
     let e = act_of_pool h.grains h.limit p.names (map (object_in h.words) p.places) (one_where (is_some h.table) (Some p.ids)) (one_where (is_some h.point) (Some (point_with (some_where h.is_open (reservation_in h.words h.reserved)))))
-        (segments_from 1 p.segments) (map some_address p.places) (one_where (is_some h.point) (point_place_of h)) name (a.names name ∙ not_taken h name may.free) in
+    (segments_from 1 p.segments) (map some_address p.places) (one_where (is_some h.point) (point_place_of h)) name (a.names name ∙ not_taken h name may.free) in
     right_step (unpooled h p) (step_of line (call.Pool name kind.Amc 1) (said reply.Ok)) (pooled h name) (past_pooled p name) refl
     (record { moves_are_legal = tt; moves_are_due = refl; answer_is_due = sym (ap answer_from e); marked = tt })
     (ap (λ r. with_client_remembered (world_from (unpooled h p) r)) e)
@@ -187,8 +184,8 @@ pool_built : (h : Kept) (p : Past) (line : ℕ) (name : Name) (a : Agrees h p) �
 pool_built h p line name a may kind.Amc format k f =
     subst (λ (n : ℕ). IsRightStep (world_of h p) (step_of line (call.Pool name kind.Amc n) (said reply.Ok)) (pooled h name)) (sym f)
     (subst (λ (w : World). IsRightStep w (step_of line (call.Pool name kind.Amc 1) (said reply.Ok)) (pooled h name))
-        (sym (world_of-parts h p (is_some h.table) (is_some h.point) false h.is_open refl refl (not_some h.pool may.first) refl))
-        (right_pooled h p line name a may))
+    (sym (world_of-parts h p (is_some h.table) (is_some h.point) false h.is_open refl refl (not_some h.pool may.first) refl))
+    (right_pooled h p line name a may))
 pool_built h p line name a may kind.Amcz format k f = absurd (false≢true k)
 pool_built h p line name a may kind.Ams format k f = absurd (false≢true k)
 pool_built h p line name a may kind.Awl format k f = absurd (false≢true k)
@@ -218,10 +215,10 @@ names_pointed : (h : Kept) (p : Past) (name : Name) → Agrees h p → h.point �
 names_pointed h p name a none free =
     names_made p.names name (PointThing 0) (thing_of h) (thing_of (pointed h name)) a.names (not_taken h name free)
     (ap (λ b. if b then Some (TableThing 0) else (if is_name h.pool name then Some (PoolThing 0) else (if same_name name name then Some (PointThing 0) else None))) (table_free h name free)
-        ∙ ap (λ b. if b then Some (PoolThing 0) else (if same_name name name then Some (PointThing 0) else None)) (pool_free h name free)
-        ∙ ap (λ b. if b then Some (PointThing 0) else None) (same_name_itself name))
+    ∙ ap (λ b. if b then Some (PoolThing 0) else (if same_name name name then Some (PointThing 0) else None)) (pool_free h name free)
+    ∙ ap (λ b. if b then Some (PointThing 0) else None) (same_name_itself name))
     (λ n other. ap (λ t. if is_name h.table n then Some (TableThing 0) else (if is_name h.pool n then Some (PoolThing 0) else (if is_name t n then Some (PointThing 0) else None))) none
-        ∙ ap (λ b. if is_name h.table n then Some (TableThing 0) else (if is_name h.pool n then Some (PoolThing 0) else (if b then Some (PointThing 0) else None))) (sym other))
+    ∙ ap (λ b. if is_name h.table n then Some (TableThing 0) else (if is_name h.pool n then Some (PoolThing 0) else (if b then Some (PointThing 0) else None))) (sym other))
 
 agrees_pointed : (h : Kept) (p : Past) (name pool : Name) → Agrees h p → MayMake h h.point name → is_pool h pool ≡ true → Agrees (pointed h name) (past_pointed p name)
 agrees_pointed h p name pool a may there = record {
@@ -277,7 +274,7 @@ right_pointed : (h : Kept) (p : Past) (line : ℕ) (name pool : Name) → Agrees
 right_pointed h p line name pool a may there =
     let w = is_unpointed h p pool a may.first there in
     let e = act_of_point h.grains h.limit p.names (map (object_in h.words) p.places) (one_where (is_some h.table) (Some p.ids))
-        (segments_from 1 p.segments) (map some_address p.places) name pool (a.names name ∙ not_taken h name may.free) (pool_there h p pool a there) in
+    (segments_from 1 p.segments) (map some_address p.places) name pool (a.names name ∙ not_taken h name may.free) (pool_there h p pool a there) in
     right_step (unpointed h p) (step_of line (call.Point name pool rank.Exact) (said reply.Ok)) (pointed h name) (past_pointed p name) refl
     (record { moves_are_legal = tt; moves_are_due = refl; answer_is_due = sym (ap answer_from e); marked = tt })
     (ap (λ r. with_client_remembered (world_from (unpointed h p) r)) e ∙ world_pointed h p name pool a may.first there)

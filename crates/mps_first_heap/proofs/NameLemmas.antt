@@ -1,9 +1,9 @@
 -- Names, and one more of them.
 use Rattle.std.proofs.Common.{◌≡◌, ℕ, Bool, true, false, refl, sym, ◌∙◌, ap, subst, List, [], ◌∷◌, ◌++◌, None, Some, Option}
-use Rattle.std.specs.Prelude.{is_some, ◌||◌, ◌&&◌, ◌==◌, if◌then◌else◌}
+use Rattle.std.specs.Prelude.{◌||◌, ◌==◌, if◌then◌else◌}
 use Rattle.std.specs.Str.{bytes_eq}
 use Rattle.std.proofs.lemmas.Slice.Eq.{bytes_eq-Decides}
-use Rattle.std.proofs.lemmas.Bool.{and_parts, and_from, eqb-true, eq-eqb, or_parts, false≢true}
+use Rattle.std.proofs.lemmas.Bool.{and_parts, and_from, eqb-true, eq-eqb, or_parts}
 use Rattle.mps_base.specs.declared.names.Name.{Name}
 use Rattle.mps_model.specs.Graph.{NamedThing, Thing, TableThing, PoolThing, PointThing, same_name, thing_in}
 use Rattle.mps_first_heap.specs.Kept.{Kept, is_name, is_taken}

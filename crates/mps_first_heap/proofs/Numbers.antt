@@ -1,25 +1,20 @@
 -- `num` is right.
-use Rattle.std.proofs.Common.{◌≡◌, ℕ, ◌+◌, ◌*◌, ◌<◌, ◌≤◌, Bool, true, false, refl, sym, ◌∙◌, ap, subst, List, [], ◌∷◌, length, map, None, Some, Err, Ok, Option, arith, slice_index, inl, inr}
-use Rattle.std.specs.Prelude.{slice_get, nat_lt, is_some, not, ◌&&◌, ◌==◌, if◌then◌else◌}
-use Rattle.std.proofs.lemmas.List.{length-map}
-use Rattle.std.proofs.lemmas.Bool.{and_parts, ltb-true, ne_eqb, eq-eqb}
+use Rattle.std.proofs.Common.{◌≡◌, ℕ, ◌+◌, ◌<◌, Bool, true, false, refl, sym, ◌∙◌, ap, subst, List, length, map, None, Some, Err, Option, arith, slice_index}
+use Rattle.std.specs.Prelude.{slice_get, nat_lt, is_some, ◌==◌, if◌then◌else◌}
+use Rattle.std.proofs.lemmas.Bool.{and_parts, ltb-true, ne_eqb}
 use Rattle.mps_base.specs.declared.names.Slot.{Slot}
 use Rattle.mps_base.specs.declared.refusal.Refusal.TheVariants as refusal
-use Rattle.mps_format.specs.Front.{is_front}
 use Rattle.mps_model.specs.declared.call.Call.TheVariants as call
-use Rattle.mps_model.specs.declared.reply.Reply.{Reply}
 use Rattle.mps_model.specs.declared.reply.Reply.TheVariants as reply
 use Rattle.mps_model.specs.Checked.{says}
 use Rattle.mps_model.specs.Graph.{TableThing, thing_in}
 use Rattle.mps_model.specs.Accessing.{act_number}
 use Rattle.mps_model.specs.World.{World}
-use Rattle.mps_model.specs.Answer.{is_unsupported, Said}
-use Rattle.mps_model.specs.Log.{records_of_step}
 use Rattle.mps_model.specs.History.{live_blocks, with_client_remembered}
 use Rattle.mps_model.specs.Reply.{answer_from, world_from}
 use Rattle.mps_first_heap.specs.Kept.{Kept, is_name, has_slot, is_number_cell, head_at}
 use Rattle.mps_first_heap.specs.Outcome.{said, number_at, number_reply}
-use Rattle.mps_first_heap.specs.StandsFor.{Past, Agrees, world_of, step_of, object_in, cells_at, thing_of, segments_from, some_address, one_where, point_with, some_where, reservation_in, front_pool, point_place_of, place_in_slot, bound_of}
+use Rattle.mps_first_heap.specs.StandsFor.{Past, Agrees, world_of, step_of, object_in, cells_at, segments_from, some_address, one_where, point_with, some_where, reservation_in, front_pool, point_place_of, place_in_slot, bound_of}
 use Rattle.mps_first_heap.specs.RightStep.{IsRightStep}
 use Rattle.mps_first_heap.proofs.Worlds.{world_by, world_of-parts, is_name_some, made_with_table, at_hand_within, bound_of-le, block_there_at, slot_there, id_there, number_cell_at, object_there, live_blocks-world_of}
 use Rattle.mps_first_heap.proofs.Steps.{right_step, unsupported_step}
@@ -86,10 +81,10 @@ number_held h p line slot cell None a name there =
     let t = is_name_some h.table slot.name name in
     subst (λ (w : World). IsRightStep w (step_of line (call.Number slot cell) (said (reply.Refused refusal.NullRef))) h) (sym (is_tabled h p t))
     (null_told h p line slot cell a t
-        (act_of_null h.grains h.limit p.names (map (object_in h.words) p.places) p.ids
-        (one_where (is_some h.point) (Some (point_with (some_where h.is_open (reservation_in h.words h.reserved)))))
-        (one_where (is_some h.pool) front_pool) (segments_from 1 p.segments) (map some_address p.places) (one_where (is_some h.point) (point_place_of h))
-        slot cell (table_named h p a slot name) there))
+    (act_of_null h.grains h.limit p.names (map (object_in h.words) p.places) p.ids
+    (one_where (is_some h.point) (Some (point_with (some_where h.is_open (reservation_in h.words h.reserved)))))
+    (one_where (is_some h.pool) front_pool) (segments_from 1 p.segments) (map some_address p.places) (one_where (is_some h.point) (point_place_of h))
+    slot cell (table_named h p a slot name) there))
 number_held h p line slot cell (Some id) a name there =
     let below = id_there (length p.places) p.ids slot.index id a.ids there in
     let block = block_there_at h.words (bound_of h) p.places id a.blocks below in

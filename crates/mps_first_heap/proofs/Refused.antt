@@ -1,23 +1,20 @@
 -- Which calls the model refuses without telling, in the worlds for which the heap stands.
-use Rattle.std.proofs.Common.{◌≡◌, ℕ, zero, suc, ◌+◌, ◌-◌, ◌*◌, ◌<◌, ◌≤◌, Bool, true, false, refl, sym, ◌∙◌, ap, subst, List, [], ◌∷◌, length, map, None, Some, Err, Ok, Option, arith, slice_index, inl, inr, take, drop, ◌⊎◌}
-use Rattle.std.specs.Prelude.{slice_get, slice_set, nat_lt, nat_le, is_some, not, ◌&&◌, ◌||◌, ◌==◌, if◌then◌else◌}
+use Rattle.std.proofs.Common.{◌≡◌, ℕ, zero, suc, ◌+◌, ◌<◌, ◌≤◌, Bool, true, false, refl, sym, ◌∙◌, ap, subst, List, length, None, Some, Err, Option, arith, slice_index, inl, inr, take, drop, ◌⊎◌}
+use Rattle.std.specs.Prelude.{slice_get, nat_lt, is_some, not, ◌&&◌, ◌||◌, if◌then◌else◌}
 use Rattle.std.proofs.lemmas.List.{length-map}
 use Rattle.std.proofs.lemmas.Option.{slice_get_past}
-use Rattle.std.proofs.lemmas.Bool.{false≢true, and_parts, and_from, and_cases, or_cases, ltb-true, ltb-false, cases_lt, le-ltb, lt-ltb, not-true, not-false}
+use Rattle.std.proofs.lemmas.Bool.{false≢true, and_from, ltb-false, cases_lt, lt-ltb, not-false}
 use Rattle.mps_base.specs.declared.names.Name.{Name}
 use Rattle.mps_base.specs.declared.names.Slot.{Slot}
-use Rattle.mps_base.specs.declared.refusal.Refusal.{Refusal}
 use Rattle.mps_base.specs.declared.refusal.Refusal.TheVariants as refusal
 use Rattle.mps_format.specs.Fields.{size_field}
 use Rattle.mps_format.specs.Front.{is_front, front_layout}
 use Rattle.mps_model.specs.Graph.{Cell, HeadCell, NumberCell, ReferenceCell, Thing, TableThing, PoolThing, PointThing, thing_in}
-use Rattle.mps_model.specs.Checked.{Checked, Found, Numbered, slot_in, point_named, pool_named, number_at, number_in, required, ◌>>=◌}
-use Rattle.mps_model.specs.World.{World, Pool}
+use Rattle.mps_model.specs.Checked.{slot_in, point_named, pool_named, number_at, number_in, required, ◌>>=◌}
 use Rattle.mps_first_heap.specs.Kept.{Kept, is_name, is_taken, is_point, is_pool, has_slot, is_number_cell, words_of_head}
-use Rattle.mps_first_heap.specs.StandsFor.{Past, Agrees, world_of, cells_in, cell_in, cells_at, thing_of, place_in_slot, IsBlockAt}
+use Rattle.mps_first_heap.specs.StandsFor.{Past, Agrees, world_of, cell_in, cells_at, place_in_slot, IsBlockAt}
 use Rattle.mps_first_heap.proofs.Lists.{length-cells_in, length-block_words, slice_get-cells_in}
-use Rattle.mps_first_heap.proofs.Worlds.{is_name_some, world_by, world_of-parts}
-use Rattle.mps_first_heap.proofs.Numbers.{table_named}
+use Rattle.mps_first_heap.proofs.Worlds.{is_name_some, world_of-parts}
 
 -- ---- what a name doesn't stand for
 
@@ -121,15 +118,16 @@ no_pool h p name a e = by_table (is_name h.table name) refl
 
 no_number_in : (head k word : ℕ) → is_front head ≡ true → k < size_field head → is_number_cell head k ≡ false → (cell : Cell) × (cell_in head k word ≡ cell) × (number_in cell ≡ Err refusal.NotANumber)
 no_number_in head zero word v lt e = (HeadCell, refl, refl)
-no_number_in head (suc k) word v lt e =
-    (ReferenceCell None 0,
-     ap (λ b. if b then ReferenceCell None 0 else NumberCell word) is_ref,
-     refl)
+no_number_in head (suc k) word v lt e = (
+  ReferenceCell None 0,
+  ap (λ b. if b then ReferenceCell None 0 else NumberCell word) is_ref,
+  refl,
+)
   where
     is_ref : front_layout.is_reference head (suc k) ≡ true
     is_ref = not-false (front_layout.is_reference head (suc k))
         (sym (ap (λ b. b && not (front_layout.is_reference head (suc k)))
-            (and_from (nat_lt 0 (suc k)) (nat_lt (suc k) (words_of_head head)) (lt-ltb 0 (suc k) (omega arith)) (lt-ltb (suc k) (words_of_head head) (subst (λ (n : ℕ). suc k < n) (sym (ap (λ b. if b then size_field head else 0) v)) lt)))) ∙ e)
+        (and_from (nat_lt 0 (suc k)) (nat_lt (suc k) (words_of_head head)) (lt-ltb 0 (suc k) (omega arith)) (lt-ltb (suc k) (words_of_head head) (subst (λ (n : ℕ). suc k < n) (sym (ap (λ b. if b then size_field head else 0) v)) lt)))) ∙ e)
 
 -- a cell of a whole block that has no number
 pub no_number : (words : List ℕ) (bound place k : ℕ) → IsBlockAt words bound place → bound ≤ length words → is_number_cell (slice_index words place) k ≡ false → (number_at (cells_at words place) k ≡ Err refusal.BadIndex) ⊎ (number_at (cells_at words place) k ≡ Err refusal.NotANumber)
@@ -146,6 +144,6 @@ no_number words bound place k b inside e = by_size (cases_lt k (size_field (slic
     by_size (inl lt) =
         let cell = no_number_in (slice_index words place) k (slice_index (take size (drop place words)) k) b.head lt e in
         let there = slice_get-cells_in (slice_index words place) 0 (take size (drop place words)) k (omega (arith, whole))
-            ∙ ap (λ n. Some (cell_in (slice_index words place) n (slice_index (take size (drop place words)) k))) (let z : 0 + k ≡ k = omega arith in z)
-            ∙ ap Some cell.1 in
+        ∙ ap (λ n. Some (cell_in (slice_index words place) n (slice_index (take size (drop place words)) k))) (let z : 0 + k ≡ k = omega arith in z)
+        ∙ ap Some cell.1 in
         inr (ap (λ (o : Option Cell). required o refusal.BadIndex >>= number_in) there ∙ cell.2)

@@ -1,16 +1,12 @@
 -- `reserve` is right.
-use Rattle.std.proofs.Common.{◌≡◌, ℕ, zero, suc, ◌+◌, ◌-◌, ◌*◌, ◌/◌, ◌<◌, ◌≤◌, Bool, true, false, refl, sym, ◌∙◌, ap, subst, List, [], ◌∷◌, ◌++◌, length, map, take, drop, None, Some, Err, Ok, Option, arith, slice_index, inl, inr}
-use Rattle.std.specs.Prelude.{slice_get, slice_set, nat_lt, nat_le, is_some, not, ◌&&◌, ◌==◌, if◌then◌else◌, option_and_then, sum, MatchBool}
-use Rattle.std.specs.List.{AllByRecursion, list_all}
-use Rattle.std.proofs.lemmas.List.{length-map, length-set, get_or-set_other}
-use Rattle.std.proofs.lemmas.Bool.{false≢true, cases_lt, and_parts, ltb-true, ltb-false, leb-true, leb-false, le-leb, lt-ltb, cond-true, not-true}
-use Rattle.mps_base.specs.Address.{grains_needed, address_of_grain, address_of_word}
-use Rattle.mps_base.specs.Run.{Run}
-use Rattle.mps_base.specs.Placement.{Placement, Place, NewSegment, OverLimit, NoFreeRun, run_placement}
+use Rattle.std.proofs.Common.{◌≡◌, ℕ, ◌+◌, ◌-◌, ◌*◌, ◌/◌, ◌<◌, ◌≤◌, Bool, true, false, refl, sym, ◌∙◌, ap, subst, List, [], ◌∷◌, ◌++◌, length, map, take, drop, None, Some, Err, Ok, Option, arith, slice_index, inl, inr}
+use Rattle.std.specs.Prelude.{slice_set, nat_lt, nat_le, is_some, not, ◌&&◌, if◌then◌else◌, option_and_then, MatchBool}
+use Rattle.std.proofs.lemmas.List.{length-set, get_or-set_other}
+use Rattle.std.proofs.lemmas.Bool.{false≢true, cases_lt, and_parts, ltb-false, leb-true, le-leb, not-true}
+use Rattle.mps_base.specs.Address.{grains_needed}
+use Rattle.mps_base.specs.Placement.{Placement, Place, NewSegment, OverLimit, run_placement}
 use Rattle.mps_base.specs.declared.moves.Move.{Move}
-use Rattle.mps_base.specs.declared.moves.Move.TheVariants as moves
 use Rattle.mps_base.specs.declared.names.Name.{Name}
-use Rattle.mps_base.specs.declared.names.Rank.TheVariants as rank
 use Rattle.mps_base.specs.declared.refusal.Refusal.{Refusal}
 use Rattle.mps_base.specs.declared.refusal.Refusal.TheVariants as refusal
 use Rattle.mps_format.specs.Fields.{size_field}
@@ -18,27 +14,24 @@ use Rattle.mps_format.specs.Front.{is_front, front_layout}
 use Rattle.mps_format.specs.Laws.{front_facts}
 use Rattle.mps_model.specs.declared.call.Call.TheVariants as call
 use Rattle.mps_model.specs.declared.reply.Reply.TheVariants as reply
-use Rattle.mps_model.specs.Answer.{Said}
 use Rattle.mps_model.specs.Checked.{Checked, Act, Numbered, done, point_named, as_point, ◌>>=◌, ◌>>◌}
-use Rattle.mps_model.specs.Graph.{Object, Cell, Slots, NamedThing, Thing, PointThing, Point, Reservation, thing_in, new_cells, new_cells_from}
+use Rattle.mps_model.specs.Graph.{Object, Cell, Thing, PointThing, Point, Reservation, thing_in, new_cells}
 use Rattle.mps_model.specs.Allocating.{Reserving, check_reserve, act_reserve, with_reserved, refuse_without_place, address_of_placement}
 use Rattle.mps_model.specs.Placement.{ForReserve, placement_of}
 use Rattle.mps_model.specs.LegalMove.{ForChecked, IsNewSegmentAt, IsSegmentForReserve, IsOwnSegment}
-use Rattle.mps_model.specs.Log.{records_of_step}
-use Rattle.mps_model.specs.Replay.{replay_from}
 use Rattle.mps_model.specs.Policy.{polls}
-use Rattle.mps_model.specs.World.{World, Segment, PointPlace}
+use Rattle.mps_model.specs.World.{World, Segment}
 use Rattle.mps_model.specs.Effect.{world_after_moves, after_segment_for}
 use Rattle.mps_model.specs.Step.{Step}
 use Rattle.mps_model.specs.History.{IsPoll, segment_taken, segment_of_reserve, live_blocks, with_client_remembered}
 use Rattle.mps_model.specs.Reply.{answer_from, world_from}
-use Rattle.mps_first_heap.specs.Kept.{Kept, is_name, is_point, head_at}
+use Rattle.mps_first_heap.specs.Kept.{Kept, is_point}
 use Rattle.mps_first_heap.specs.Outcome.{Outcome, answered, said, unsupported, reserved_at_front, segment_move, reserve_behind, reserve_placed, after_reserve}
 use Rattle.mps_first_heap.specs.Outcome as outcome
-use Rattle.mps_first_heap.specs.StandsFor.{Past, Agrees, world_of, world_with, step_of, object_in, cells_at, cells_in, segment_from, segments_from, some_address, one_where, point_with, some_where, reservation_in, front_pool, point_place_of, bound_of, IsBlockAt}
+use Rattle.mps_first_heap.specs.StandsFor.{Past, Agrees, world_of, world_with, step_of, object_in, cells_in, segment_from, segments_from, some_address, one_where, point_with, reservation_in, front_pool, bound_of}
 use Rattle.mps_first_heap.specs.RightStep.{IsRightStep}
 use Rattle.mps_first_heap.proofs.Lists.{objects-set_behind, blocks-set_behind, slice_index-set_same, new_cells_at, blocks_later, length_new_cells}
-use Rattle.mps_first_heap.proofs.Worlds.{world_by, world_of-parts, pool_with_point, made_with_pool, at_hand_within, bound_of-le, live_blocks-world_of, stored}
+use Rattle.mps_first_heap.proofs.Worlds.{world_by, world_of-parts, pool_with_point, made_with_pool, at_hand_within, live_blocks-world_of, stored}
 use Rattle.mps_first_heap.proofs.Stores.{stored-set_behind}
 use Rattle.mps_first_heap.proofs.Segments.{runs, over_limit, new_segment, segments_push, sum_push}
 use Rattle.mps_first_heap.proofs.Steps.{right_step, unsupported_step}

@@ -1,12 +1,12 @@
 -- Segments that lie one behind the other, and where the next one is placed.
-use Rattle.std.proofs.Common.{◌≡◌, ℕ, zero, suc, ◌+◌, ◌-◌, ◌*◌, ◌/◌, ◌<◌, ◌≤◌, Bool, true, false, refl, sym, ◌∙◌, ap, subst, List, [], ◌∷◌, ◌++◌, length, map, None, Some, Option, arith}
-use Rattle.std.specs.Prelude.{nat_lt, nat_le, sum, sum_by, if◌then◌else◌}
+use Rattle.std.proofs.Common.{◌≡◌, ℕ, ◌+◌, ◌-◌, ◌*◌, ◌<◌, ◌≤◌, Bool, true, false, refl, sym, ◌∙◌, ap, List, [], ◌∷◌, ◌++◌, map, None, Some, Option, arith}
+use Rattle.std.specs.Prelude.{nat_lt, sum, if◌then◌else◌}
 use Rattle.std.proofs.lemmas.List.Sums.{sum_by-cons, sum_by_push}
-use Rattle.std.proofs.lemmas.Bool.{lt-ltb, le-ltb, le-leb, lt-leb, ltb-true, ltb-false, cases_Bool}
+use Rattle.std.proofs.lemmas.Bool.{lt-ltb, le-ltb, le-leb, lt-leb}
 use Rattle.mps_base.specs.Run.{Run, gaps, between, lowest_fitting, total, longest}
-use Rattle.mps_base.specs.Placement.{Placement, Place, NewSegment, OverLimit, NoFreeRun, run_placement}
+use Rattle.mps_base.specs.Placement.{Placement, NewSegment, OverLimit, NoFreeRun, run_placement}
 use Rattle.mps_base.specs.Address.{grain_of}
-use Rattle.mps_model.specs.World.{Segment, grains_of_segment, with_segment}
+use Rattle.mps_model.specs.World.{grains_of_segment, with_segment}
 use Rattle.mps_first_heap.specs.StandsFor.{segment_from, segments_from}
 
 sum_cons : (n : ℕ) (ns : List ℕ) → sum (n ∷ ns) ≡ n + sum ns

@@ -1,21 +1,19 @@
 -- How a step is shown to be right.
-use Rattle.std.proofs.Common.{◌≡◌, ℕ, Bool, true, false, refl, sym, ◌∙◌, ap, subst, List, [], None, Some, Err, Ok}
-use Rattle.std.specs.Prelude.{MatchBool, IsTrue}
-use Rattle.mps_base.specs.declared.refusal.Refusal.{Refusal}
+use Rattle.std.proofs.Common.{◌≡◌, ℕ, Bool, true, false, refl, sym, ◌∙◌, ap, subst, [], None, Some}
+use Rattle.std.specs.Prelude.{MatchBool}
 use Rattle.mps_model.specs.declared.call.Call.{Call}
-use Rattle.mps_model.specs.declared.reply.Reply.{Reply}
 use Rattle.mps_model.specs.declared.reply.Reply.TheVariants as reply
-use Rattle.mps_model.specs.Answer.{Answer, Said, is_unsupported, is_block}
+use Rattle.mps_model.specs.Answer.{is_unsupported, is_block}
 use Rattle.mps_model.specs.Step.{Step}
 use Rattle.mps_model.specs.World.{World}
 use Rattle.mps_model.specs.Log.{records_of_step}
 use Rattle.mps_model.specs.Replay.{replay_from}
 use Rattle.mps_model.specs.Reply.{reply_to}
 use Rattle.mps_model.specs.LegalMove.{AreLegalMoves}
-use Rattle.mps_model.specs.History.{IsLegalStep, IsAnsweredStep, AreMovesOf, HeldAreLive, IsPossiblyMarked, judged_world, moved_world, world_after, live_blocks, are_held_kept, has_units_left}
+use Rattle.mps_model.specs.History.{IsAnsweredStep, AreMovesOf, HeldAreLive, IsPossiblyMarked, judged_world, moved_world, world_after, live_blocks, are_held_kept, has_units_left}
 use Rattle.mps_first_heap.specs.Kept.{Kept}
 use Rattle.mps_first_heap.specs.Outcome.{said}
-use Rattle.mps_first_heap.specs.StandsFor.{Past, Agrees, StandsFor, world_of, step_of}
+use Rattle.mps_first_heap.specs.StandsFor.{Past, Agrees, world_of, step_of}
 use Rattle.mps_first_heap.specs.RightStep.{IsRightStep}
 use Rattle.mps_first_heap.proofs.Worlds.{held_are_live, stored, live_blocks-world_of}
 

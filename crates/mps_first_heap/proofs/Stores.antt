@@ -1,10 +1,8 @@
 -- A block put behind all others in a store.
-use Rattle.std.proofs.Common.{◌≡◌, ℕ, ◌+◌, ◌*◌, ◌<◌, ◌≤◌, Bool, true, false, refl, sym, ◌∙◌, ap, subst, List, [], ◌∷◌, ◌++◌, length, None, Some, Option, arith}
-use Rattle.std.specs.Prelude.{nat_lt, ◌==◌, is_some, if◌then◌else◌}
+use Rattle.std.proofs.Common.{◌≡◌, ℕ, ◌*◌, ◌<◌, ◌≤◌, true, false, refl, sym, ◌∙◌, ap, List, [], ◌∷◌, ◌++◌, None, Some, arith}
+use Rattle.std.specs.Prelude.{nat_lt, is_some, if◌then◌else◌}
 use Rattle.std.specs.List.{AllByRecursion}
 use Rattle.std.proofs.lemmas.Bool.{lt-ltb, le-ltb, ne_eqb}
-use Rattle.mps_format.specs.Fields.{size_field}
-use Rattle.mps_format.specs.Front.{is_front}
 use Rattle.mps_format.specs.Laws.{front_facts}
 use Rattle.std.specs.Prelude.{slice_index, slice_set}
 use Rattle.mps_model.specs.Graph.{Object, size_of}

@@ -1,20 +1,15 @@
 -- The heap answers `unsupported` exactly where that is said.
-use Rattle.std.proofs.Common.{◌≡◌, ℕ, zero, suc, ◌+◌, ◌-◌, ◌*◌, ◌<◌, ◌≤◌, Bool, true, false, refl, sym, ◌∙◌, ap, subst, List, [], ◌∷◌, length, map, None, Some, Err, Ok, Option, arith, slice_index, inl, inr, take, drop, ◌⊎◌}
-use Rattle.std.specs.Prelude.{◌↔◌, nat_lt, nat_le, is_some, not, ◌&&◌, ◌||◌, ◌==◌, if◌then◌else◌, Result}
-use Rattle.std.proofs.lemmas.Bool.{false≢true, and_parts, ltb-true, ltb-false, or_left, or_right, or_from, cases_lt, lt-ltb, not-true}
+use Rattle.std.proofs.Common.{◌≡◌, ◌<◌, true, false, refl, sym, ◌∙◌, ap, Err}
+use Rattle.std.specs.Prelude.{◌↔◌, nat_lt, not, ◌||◌}
+use Rattle.std.proofs.lemmas.Bool.{false≢true, or_right, or_from, lt-ltb}
 use Rattle.mps_base.specs.declared.refusal.Refusal.{Refusal}
-use Rattle.mps_base.specs.declared.refusal.Refusal.TheVariants as refusal
 use Rattle.mps_model.specs.declared.call.Call.{Call}
-use Rattle.mps_model.specs.declared.call.Call.TheVariants as call
 use Rattle.mps_model.specs.declared.reply.Reply.{Reply}
 use Rattle.mps_model.specs.declared.reply.Reply.TheVariants as reply
 use Rattle.mps_model.specs.Answer.{Said, is_unsupported}
-use Rattle.mps_model.specs.Checked.{Act, Checked}
 use Rattle.mps_model.specs.Reply.{act}
 use Rattle.mps_model.specs.World.{World}
 use Rattle.mps_first_heap.specs.Kept.{Kept}
-use Rattle.mps_first_heap.specs.Outcome.{is_made}
-use Rattle.mps_first_heap.specs.StandsFor.{Past, Agrees, world_of}
 use Rattle.mps_first_heap.specs.Unsupported.{is_built, is_out_of_turn, makes_second, is_told, is_untold, is_unsupported_call}
 
 -- a reply is `unsupported` exactly where the call is

@@ -1,23 +1,21 @@
 -- What holds of the worlds for which the heap stands: what the client holds is live, and which blocks are live.
-use Rattle.std.proofs.Common.{◌≡◌, ℕ, zero, suc, ◌+◌, ◌-◌, ◌*◌, ◌<◌, ◌≤◌, Bool, true, false, refl, sym, ◌∙◌, ap, subst, List, [], ◌∷◌, ◌++◌, length, take, drop, map, Option, Some, None, arith, add-one, add-zero, rules, slice_index, set, get_or, inl, inr}
-use Rattle.std.specs.Prelude.{slice_get, slice_set, IsTrue, if◌then◌else◌, nat_lt, replicate, sum, min, is_some, not, ◌&&◌, ◌||◌, ◌==◌}
+use Rattle.std.proofs.Common.{◌≡◌, ℕ, zero, suc, ◌+◌, ◌*◌, ◌<◌, ◌≤◌, Bool, true, false, refl, sym, ◌∙◌, ap, subst, List, [], ◌∷◌, ◌++◌, length, take, drop, map, Option, Some, None, arith, add-zero, slice_index, inl, inr}
+use Rattle.std.specs.Prelude.{slice_get, if◌then◌else◌, nat_lt, is_some, not, ◌&&◌}
 use Rattle.std.specs.List.{list_all, AllByRecursion, flat_map}
 use Rattle.std.specs.Option.{option_map_or}
 use Rattle.std.proofs.lemmas.Option.{none-some, same_Some}
 use Rattle.std.proofs.lemmas.List.{get_or-take, get_or-drop}
 use Rattle.mps_base.specs.declared.names.Name.{Name}
 use Rattle.mps_format.specs.Front.{is_front, front_layout}
-use Rattle.std.proofs.lemmas.Bool.{false≢true, cases_lt, not-true, cond-true, lt-ltb, le-ltb, ltb-true, and_parts, and_from, ne_eqb}
+use Rattle.std.proofs.lemmas.Bool.{false≢true, cases_lt, not-true, cond-true, ltb-true, and_parts, and_from}
 use Rattle.mps_format.specs.Fields.{size_field}
-use Rattle.mps_format.specs.Laws.{front_facts}
-use Rattle.mps_model.specs.Graph.{Cell, NumberCell, ReferenceCell, Object, entries, entry_at, slots_of, size_of, targets_of, targets_of_cells, targets_of_point, targets}
-use Rattle.mps_model.specs.World.{World, is_live, live_ids, numbers_of}
-use Rattle.mps_model.specs.Replay.{Block, Store, with_block, block_at}
+use Rattle.mps_model.specs.Graph.{NumberCell, ReferenceCell, Object, entries, entry_at, slots_of, size_of, targets_of, targets_of_point, targets}
+use Rattle.mps_model.specs.World.{World, live_ids, numbers_of}
+use Rattle.mps_model.specs.Replay.{Block, Store, with_block}
 use Rattle.mps_model.specs.History.{HeldAreLive, block_of, blocks_of_ids, live_blocks}
-use Rattle.mps_model.specs.Accessing.{address_of}
 use Rattle.mps_first_heap.specs.Kept.{Kept, is_name, words_of_head, is_number_cell}
-use Rattle.mps_first_heap.specs.StandsFor.{Past, Agrees, world_of, world_with, segments_from, front_pool, point_place_of, place_in_slot, cell_in, cells_in, cells_at, object_in, reservation_in, point_with, one_where, some_where, some_address, is_null_or_below, IsBlockAt, bound_of}
-use Rattle.mps_first_heap.proofs.Lists.{no_targets, length-cells_in, length-block_words, slice_get-cells_in}
+use Rattle.mps_first_heap.specs.StandsFor.{Past, Agrees, world_of, world_with, segments_from, front_pool, point_place_of, place_in_slot, cell_in, cells_at, object_in, reservation_in, point_with, one_where, some_where, some_address, is_null_or_below, IsBlockAt, bound_of}
+use Rattle.mps_first_heap.proofs.Lists.{no_targets, length-block_words, slice_get-cells_in}
 
 -- ---- live objects
 

@@ -1,6 +1,6 @@
 -- What the first heap keeps, as plain data: an arena of words, one table, one pool of the format `front`, and one point.
 -- Places are numbers of words; 0 is null.
-use Rattle.std.specs.Prelude.{ℕ, ◌+◌, Bool, true, false, nat_lt, not, ◌&&◌, ◌||◌, if◌then◌else◌, Option, Some, None, List, [], length, slice_index}
+use Rattle.std.specs.Prelude.{ℕ, Bool, false, nat_lt, not, ◌&&◌, ◌||◌, if◌then◌else◌, Option, Some, None, List, [], length, slice_index}
 use Rattle.mps_base.specs.declared.names.Name.{Name}
 use Rattle.mps_base.specs.declared.names.Slot.{Slot}
 use Rattle.mps_format.specs.Fields.{size_field}

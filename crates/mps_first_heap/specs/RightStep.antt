@@ -1,12 +1,16 @@
--- What is promised of a step.
-use Rattle.std.specs.Prelude.{◌≡◌, ℕ, Some}
+-- What is promised of a call, in each world for which the heap stands, and whichever its line is.
+use Rattle.std.specs.Prelude.{◌≡◌, ◌↔◌, ℕ, IsTrue, Some}
+use Rattle.mps_model.specs.declared.call.Call.{Call}
+use Rattle.mps_model.specs.declared.reply.Reply.TheVariants as reply
 use Rattle.mps_model.specs.Step.{Step}
 use Rattle.mps_model.specs.World.{World}
 use Rattle.mps_model.specs.Log.{records_of_step}
 use Rattle.mps_model.specs.Replay.{replay_from}
 use Rattle.mps_model.specs.History.{IsLegalStep, world_after, live_blocks}
+use Rattle.mps_first_heap.specs.declared.done.Done.{Done}
 use Rattle.mps_first_heap.specs.Kept.{Kept}
-use Rattle.mps_first_heap.specs.StandsFor.{StandsFor}
+use Rattle.mps_first_heap.specs.StandsFor.{StandsFor, step_of}
+use Rattle.mps_first_heap.specs.Unsupported.{is_unsupported_call}
 
 -- the records of the step, replayed from the live blocks before it, give those after it, however many pools there were
 abbrev pub IsReplayed : World → Step → Type 0
@@ -17,3 +21,19 @@ pub record IsRightStep (w : World) (s : Step) (kept : Kept) : Type 0 where
   pub is_legal : IsLegalStep w s
   pub stands : StandsFor kept (world_after w s)
   pub is_replayed : IsReplayed w s
+
+-- the call's step is legal
+abbrev pub IsLegalCall : (old : Kept) → Call → Done → Type 0
+IsLegalCall old call done = (w : World) (line : ℕ) → StandsFor old w → IsLegalStep w (step_of line call done)
+
+-- what is kept then stands for the world after the step
+abbrev pub StandsAfter : (old : Kept) → Call → Done → (new : Kept) → Type 0
+StandsAfter old call done new = (w : World) (line : ℕ) → StandsFor old w → StandsFor new (world_after w (step_of line call done))
+
+-- the records of the step tell which blocks are live after it
+abbrev pub IsReplayedCall : (old : Kept) → Call → Done → Type 0
+IsReplayedCall old call done = (w : World) (line : ℕ) → StandsFor old w → IsReplayed w (step_of line call done)
+
+-- the reply is `unsupported` exactly where that is said of the call
+abbrev pub IsUnsupportedWhereDue : (old : Kept) → Call → Done → Type 0
+IsUnsupportedWhereDue old call done = (w : World) → StandsFor old w → (done.reply ≡ reply.Unsupported) ↔ IsTrue (is_unsupported_call w call)

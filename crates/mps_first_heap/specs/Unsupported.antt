@@ -1,5 +1,5 @@
 -- Which calls the first heap doesn't support.
-use Rattle.std.specs.Prelude.{◌≡◌, ℕ, ◌<◌, ◌≤◌, Bool, true, false, nat_lt, not, ◌&&◌, ◌||◌, ◌==◌, if◌then◌else◌, Ok, Err, List, length}
+use Rattle.std.specs.Prelude.{◌≤◌, Bool, true, false, nat_lt, not, ◌||◌, ◌==◌, if◌then◌else◌, Ok, Err, length}
 use Rattle.mps_base.specs.declared.names.Kind.TheVariants as kind
 use Rattle.mps_base.specs.declared.names.Rank.TheVariants as rank
 use Rattle.mps_base.specs.declared.refusal.Refusal.{Refusal}
@@ -62,3 +62,9 @@ is_untold (Err why) = not (is_told why)
 abbrev pub is_unsupported_call : World → Call → Bool
 is_unsupported_call w call =
     not (is_built call) || is_out_of_turn w call || makes_second w call || is_untold (act false w w call)
+
+-- whether a call takes memory: it makes the arena or a table
+abbrev pub takes_memory : Call → Bool
+takes_memory (call.Arena grains limit) = true
+takes_memory (call.Table table length) = true
+takes_memory _ = false

@@ -1,9 +1,9 @@
 // What each call comes to.
-ghost use Rattle.std.specs.Prelude.{◌≡◌, IfOk, OnErr};
+ghost use Rattle.std.specs.Prelude.{◌≡◌, IfOk, OnErr, IsTrue};
 ghost use Rattle.mps_first_heap.specs.Outcome.{outcome};
 ghost use Rattle.mps_first_heap.specs.View.{kept_of};
 ghost use Rattle.mps_first_heap.specs.Comes.{ComesTo};
-ghost use Rattle.mps_first_heap.specs.Unsupported.{IsInRange};
+ghost use Rattle.mps_first_heap.specs.Unsupported.{IsInRange, takes_memory};
 
 use crate::arena::Arena;
 use crate::done::Done;
@@ -18,6 +18,7 @@ pub fn answer(heap: &mut Arena, alloc: Global, call: &Call) -> Result<Done, Allo
     requires { IsInRange call.now }
     ensures ok { IfOk result (λ done. ComesTo (outcome (kept_of heap.old) call.now) done (kept_of heap.new)) }
     ensures err { OnErr result (heap.new ≡ heap.old) }
+    ensures memory { OnErr result (IsTrue (takes_memory call.now)) }
 {
     match *call {
         Call::Arena { grains, limit } => make_arena(heap, alloc, grains, limit),

@@ -23,15 +23,15 @@ impl Model for FirstHeap {
 }
 
 impl FirstHeap {
-    ghost use Rattle.std.specs.Prelude.{◌≡◌, IfOk, OnErr};
-    ghost use Rattle.mps_first_heap.specs.Kept.{nothing_kept};
-    ghost use Rattle.mps_first_heap.specs.Outcome.{outcome};
-    ghost use Rattle.mps_first_heap.specs.Comes.{ComesTo};
-    ghost use Rattle.mps_first_heap.specs.Unsupported.{IsInRange};
+    ghost use Rattle.std.specs.Prelude.{◌≡◌, IfOk, OnErr, IsTrue};
+    ghost use Rattle.mps_model.specs.World.{empty_world};
+    ghost use Rattle.mps_first_heap.specs.StandsFor.{StandsFor};
+    ghost use Rattle.mps_first_heap.specs.RightStep.{IsLegalCall, StandsAfter, IsReplayedCall, IsUnsupportedWhereDue};
+    ghost use Rattle.mps_first_heap.specs.Unsupported.{IsInRange, takes_memory};
 
     /// The heap before its arena is made. It takes no memory.
     pub fn new(alloc: Global) -> FirstHeap
-        ensures { result ≡ nothing_kept }
+        ensures { StandsFor result empty_world }
     {
         FirstHeap {
             arena: Arena {
@@ -51,11 +51,15 @@ impl FirstHeap {
         }
     }
 
-    /// Answers a call. An `Err` is for want of memory, and leaves the heap as it was.
+    /// Answers a call. An `Err` is for want of memory, which only `arena` and `table` take.
     pub fn call(&mut self, alloc: Global, call: &Call) -> Result<Done, AllocError>
         requires { IsInRange call.now }
-        ensures ok { IfOk result (λ done. ComesTo (outcome self.old call.now) done self.new) }
+        ensures legal { IfOk result (λ done. IsLegalCall self.old call.now done) }
+        ensures stands { IfOk result (λ done. StandsAfter self.old call.now done self.new) }
+        ensures replayed { IfOk result (λ done. IsReplayedCall self.old call.now done) }
+        ensures unsupported { IfOk result (λ done. IsUnsupportedWhereDue self.old call.now done) }
         ensures err { OnErr result (self.new ≡ self.old) }
+        ensures memory { OnErr result (IsTrue (takes_memory call.now)) }
     {
         answer(&mut self.arena, alloc, call)
     }

@@ -26,7 +26,12 @@ fn is_made(heap: &Arena) -> bool
 }
 
 /// Makes the arena, where there is none yet. The numbers are in grains.
-pub fn make_arena(heap: &mut Arena, alloc: Global, grains: u64, limit: u64) -> Result<Done, AllocError>
+pub fn make_arena(
+    heap: &mut Arena,
+    alloc: Global,
+    grains: u64,
+    limit: u64,
+) -> Result<Done, AllocError>
     requires grains { grains ≤ 2048 }
     requires limit { limit ≤ 2048 }
     ensures ok { IfOk result (λ done. ComesTo (after_arena (kept_of heap.old) grains limit) done (kept_of heap.new)) }
@@ -54,7 +59,12 @@ pub fn make_arena(heap: &mut Arena, alloc: Global, grains: u64, limit: u64) -> R
 }
 
 /// Makes the table, where there is none yet.
-pub fn make_table(heap: &mut Arena, alloc: Global, name: Name, length: u64) -> Result<Done, AllocError>
+pub fn make_table(
+    heap: &mut Arena,
+    alloc: Global,
+    name: Name,
+    length: u64,
+) -> Result<Done, AllocError>
     ensures ok { IfOk result (λ done. ComesTo (after_table (kept_of heap.old) name length) done (kept_of heap.new)) }
     ensures err { OnErr result (heap.new ≡ heap.old) }
 {
@@ -82,7 +92,12 @@ pub fn make_pool(heap: &mut Arena, name: Name, kind: Kind, format: u64) -> Done
 pub fn make_point(heap: &mut Arena, name: Name, pool: Name, rank: Rank) -> Done
     ensures { ComesTo (after_point (kept_of heap.old) name pool rank) result (kept_of heap.new) }
 {
-    if rank != Rank::Exact || !is_made(heap) || heap.point.is_some() || is_taken(heap, name) || !is_pool(heap, pool) {
+    if rank != Rank::Exact
+        || !is_made(heap)
+        || heap.point.is_some()
+        || is_taken(heap, name)
+        || !is_pool(heap, pool)
+    {
         return said(Reply::Unsupported);
     }
     heap.point = Some(name);

@@ -1,0 +1,99 @@
+-- All calls together, and what the public contract says of them.
+use Rattle.std.proofs.Common.{ℕ, refl, sym, subst, [], Ok, Err, Result}
+use Rattle.std.proofs.Common.{arith, lit≤}
+use Rattle.std.proofs.lemmas.Bool.{false≢true}
+use Rattle.std.specs.Prelude.{IfOk}
+use Rattle.mps_model.specs.declared.call.Call.{Call}
+use Rattle.mps_model.specs.declared.call.Call.TheVariants as call
+use Rattle.mps_model.specs.World.{World, empty_world}
+use Rattle.mps_first_heap.specs.declared.done.Done.{Done}
+use Rattle.mps_first_heap.specs.Kept.{Kept, nothing_kept}
+use Rattle.mps_first_heap.specs.Outcome.{outcome}
+use Rattle.mps_first_heap.specs.Comes.{ComesTo}
+use Rattle.mps_first_heap.specs.StandsFor.{Past, Agrees, StandsFor, world_of, step_of}
+use Rattle.mps_first_heap.specs.Unsupported.{IsInRange}
+use Rattle.mps_first_heap.specs.RightStep.{IsRightStep, IsLegalCall, StandsAfter, IsReplayedCall, IsUnsupportedWhereDue}
+use Rattle.mps_first_heap.proofs.Steps.{unsupported_step}
+use Rattle.mps_first_heap.proofs.Numbers.{right_number}
+use Rattle.mps_first_heap.proofs.Inits.{right_init}
+use Rattle.mps_first_heap.proofs.Commits.{right_commit}
+use Rattle.mps_first_heap.proofs.Reserves.{right_reserve}
+use Rattle.mps_first_heap.proofs.Makings.{right_arena, right_table, right_pool, right_point}
+use Rattle.mps_first_heap.proofs.Unsupporting.{IsExact, exact_unsupported, by_form}
+use Rattle.mps_first_heap.proofs.ExactUses.{exact_number, exact_init, exact_commit}
+use Rattle.mps_first_heap.proofs.ExactReserves.{exact_reserve}
+use Rattle.mps_first_heap.proofs.ExactMakings.{exact_arena, exact_table, exact_pool, exact_point}
+
+-- each call's step is right
+right_call : (h : Kept) (p : Past) (line : ℕ) (c : Call) → IsInRange c → Agrees h p → IsRightStep (world_of h p) (step_of line c (outcome h c).done) (outcome h c).kept
+right_call h p line (call.Arena grains limit) range a = right_arena h p line grains limit a
+right_call h p line (call.Table table slots) range a = right_table h p line table slots range.1 a
+right_call h p line (call.Pool pool kind format) range a = right_pool h p line pool kind format a
+right_call h p line (call.Point point pool rank) range a = right_point h p line point pool rank a
+right_call h p line (call.Reserve point head) range a = right_reserve h p line point head a
+right_call h p line (call.InitNumber point cell value) range a = right_init h p line point cell value a
+right_call h p line (call.Commit point target) range a = right_commit h p line point target a
+right_call h p line (call.Number slot cell) range a = right_number h p line slot cell a
+right_call h p line other range a = unsupported_step h p line other a
+
+-- each call is unsupported exactly where that is said
+exact_call : (h : Kept) (p : Past) (c : Call) → IsInRange c → Agrees h p → IsExact (world_of h p) c (outcome h c).done.reply
+exact_call h p (call.Arena grains limit) range a = exact_arena h p grains limit
+exact_call h p (call.Table table slots) range a = exact_table h p table slots range.1 a
+exact_call h p (call.Pool pool kind format) range a = exact_pool h p pool kind format a
+exact_call h p (call.Point point pool rank) range a = exact_point h p point pool rank a
+exact_call h p (call.Reserve point head) range a = exact_reserve h p point head a
+exact_call h p (call.InitNumber point cell value) range a = exact_init h p point cell value a
+exact_call h p (call.Commit point target) range a = exact_commit h p point target a
+exact_call h p (call.Number slot cell) range a = exact_number h p slot cell a
+exact_call h p other range a = exact_unsupported (world_of h p) other (by_form (world_of h p) other refl)
+
+-- ---- for what a call came to
+
+came_right : (h new : Kept) (c : Call) (done : Done) → IsInRange c → ComesTo (outcome h c) done new → (w : World) (line : ℕ) → StandsFor h w → IsRightStep w (step_of line c done) new
+came_right h new c done range came w line s =
+    subst (λ (k : Kept). IsRightStep w (step_of line c done) k) (sym came.is_kept)
+    (subst (λ (d : Done). IsRightStep w (step_of line c d) (outcome h c).kept) (sym came.is_told)
+    (subst (λ (v : World). IsRightStep v (step_of line c (outcome h c).done) (outcome h c).kept) (sym s.world) (right_call h s.past line c range s.agrees)))
+
+-- what follows for the value of an `Ok`
+ok_then : {T E : Type 0} (r : Result T E) {P Q : T → Type 0} → IfOk r P → ((x : T) → P x → Q x) → IfOk r Q
+ok_then (Ok x) h f = f x h
+ok_then (Err e) h f = h
+
+pub legal_call : {E : Type 0} (h new : Kept) (c : Call) (r : Result Done E) → IsInRange c → IfOk r (λ done. ComesTo (outcome h c) done new) → IfOk r (λ done. IsLegalCall h c done)
+legal_call h new c r range came = ok_then r came (λ done e w line s. (came_right h new c done range e w line s).is_legal)
+
+pub stands_after : {E : Type 0} (h new : Kept) (c : Call) (r : Result Done E) → IsInRange c → IfOk r (λ done. ComesTo (outcome h c) done new) → IfOk r (λ done. StandsAfter h c done new)
+stands_after h new c r range came = ok_then r came (λ done e w line s. (came_right h new c done range e w line s).stands)
+
+pub replayed_call : {E : Type 0} (h new : Kept) (c : Call) (r : Result Done E) → IsInRange c → IfOk r (λ done. ComesTo (outcome h c) done new) → IfOk r (λ done. IsReplayedCall h c done)
+replayed_call h new c r range came = ok_then r came (λ done e w line s. (came_right h new c done range e w line s).is_replayed)
+
+pub unsupported_where_due : {E : Type 0} (h new : Kept) (c : Call) (r : Result Done E) → IsInRange c → IfOk r (λ done. ComesTo (outcome h c) done new) → IfOk r (λ done. IsUnsupportedWhereDue h c done)
+unsupported_where_due h new c r range came = ok_then r came (λ done e w s.
+    subst (λ (d : Done). IsExact w c d.reply) (sym e.is_told) (subst (λ (v : World). IsExact v c (outcome h c).done.reply) (sym s.world) (exact_call h s.past c range s.agrees)))
+
+-- ---- before the first call
+
+nothing_agrees : Agrees nothing_kept (record { ids = []; places = []; segments = []; names = [] })
+nothing_agrees = record {
+  names = λ _. refl;
+  slots = refl;
+  ids = refl;
+  held = refl;
+  in_arena = lit≤ tt;
+  arena = λ h. absurd (omega (arith, h));
+  blocks = tt;
+  reservation = λ e. absurd (false≢true e);
+  at_hand = (lit≤ tt, lit≤ tt);
+  not_null = λ _. refl;
+  fresh = λ k _. refl;
+  before_arena = λ _. (refl, refl);
+  before_pool = λ _. refl;
+  before_point = λ _. record { front = refl; behind = refl; reserved = refl; closed = refl };
+}
+
+-- nothing kept stands for the empty world
+pub nothing_stands : StandsFor nothing_kept empty_world
+nothing_stands = record { past = record { ids = []; places = []; segments = []; names = [] }; world = refl; agrees = nothing_agrees }
