@@ -1,8 +1,8 @@
 -- Ascending runs lie apart, and which words they cover.
-use Rattle.std.proofs.Common.{ℕ, ◌+◌, ◌-◌, ◌<◌, ◌≤◌, ◌≡◌, ◌⊎◌, ◌&&◌, Bool, true, false, not, cond, leb, ltb, List, [], ◌∷◌, Contains, refl, sym, ap, ◌∙◌, subst, inl, inr, arith}
-use Rattle.std.proofs.lemmas.Bool.{cases_lt, cases_eq, cases_Bool, cond-true, cond-false, le-leb, lt-ltb, lt-leb, le-ltb, leb-true, ltb-true, and_parts, and_from, and_left, and_right, both_ways, false_from_ne_true, true≢false}
+use Rattle.std.proofs.Common.{ℕ, ◌<◌, ◌≤◌, ◌≡◌, ◌⊎◌, Bool, true, false, cond, leb, ltb, List, [], ◌∷◌, Contains, sym, ap, ◌∙◌, subst, inl, inr, arith}
+use Rattle.std.proofs.lemmas.Bool.{cases_lt, cases_Bool, cond-true, cond-false, le-leb, lt-ltb, lt-leb, le-ltb, leb-true, ltb-true, and_parts, and_from, and_left, and_right, both_ways, false_from_ne_true, true≢false}
 use Rattle.mps_base.specs.Run.{Run, end_of, IsAscending, with_run, without_run}
-use Rattle.mps_base.proofs.Runs.{with_run_first, with_run_later, without_run_first, without_run_later, contains_cases, contains_first, contains_later, contained_bounds, IsAscending-lower}
+use Rattle.mps_base.proofs.Runs.{with_run_first, with_run_later, without_run_first, without_run_later, contains_cases, contains_first, contains_later, contained_bounds}
 use Rattle.mps_seg.specs.Extents.{has_word, is_covered}
 
 pub has_word-true : (r : Run) (word : ℕ) → r.from ≤ word → word < end_of r → has_word r word ≡ true

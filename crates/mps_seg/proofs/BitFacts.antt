@@ -1,11 +1,11 @@
 -- The bits of a table that was written.
-use Rattle.std.proofs.Common.{ℕ, ◌+◌, ◌-◌, ◌<◌, ◌≤◌, ◌≡◌, ◌≢◌, ◌⊎◌, ◌&&◌, Bool, true, false, not, List, length, map, get_or, set, refl, sym, ap, ◌∙◌, subst, inl, inr, arith, length-set, get_or-set_same, get_or-set_other}
+use Rattle.std.proofs.Common.{ℕ, ◌<◌, ◌≤◌, ◌≡◌, ◌≢◌, ◌⊎◌, ◌&&◌, Bool, true, false, not, List, length, map, get_or, set, refl, sym, ap, ◌∙◌, inl, inr, arith, length-set, get_or-set_same, get_or-set_other}
 use Rattle.std.specs.List.{range_with_len}
-use Rattle.std.proofs.lemmas.Bool.{cases_lt, cases_eq, cases_Bool, both_ways, and_parts}
+use Rattle.std.proofs.lemmas.Bool.{cases_lt, cases_eq, both_ways, and_parts}
 use Rattle.std.proofs.lemmas.List.{same_lists, get_or_past, get_or_default}
 use Rattle.std.proofs.lemmas.List.FromFn.{length-map-range_with_len, get_or-map-range_with_len}
 use Rattle.mps_bits.specs.Table.{bit, with_range}
-use Rattle.mps_bits.proofs.Ranges.{length-with_range, with_range_inside, with_range_outside}
+use Rattle.mps_bits.proofs.Ranges.{with_range_inside, with_range_outside}
 use Rattle.mps_seg.specs.Inside.{minus}
 
 pub bit_is : (bits : List Bool) (i : ℕ) → bit bits i ≡ get_or bits i false

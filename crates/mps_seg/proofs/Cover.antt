@@ -1,16 +1,16 @@
 -- An extent put among the others, and one taken out.
-use Rattle.std.proofs.Common.{ℕ, ◌+◌, ◌-◌, ◌<◌, ◌≤◌, ◌^◌, ◌≡◌, ◌≢◌, ◌⊎◌, ◌&&◌, Bool, true, false, not, Option, Some, None, IsSome, List, length, get_or, set, Contains, refl, sym, ap, ◌∙◌, subst, inl, inr, arith, length-set}
-use Rattle.std.proofs.lemmas.Bool.{cases_lt, cases_eq, cases_Bool, both_ways, false_from_ne_true, and_left, and_right, and_parts, not-true}
+use Rattle.std.proofs.Common.{ℕ, ◌+◌, ◌-◌, ◌<◌, ◌≤◌, ◌≡◌, ◌≢◌, ◌⊎◌, ◌&&◌, Bool, true, false, not, Option, Some, IsSome, List, length, set, Contains, refl, sym, ap, ◌∙◌, subst, inl, inr, arith, length-set}
+use Rattle.std.proofs.lemmas.Bool.{cases_lt, cases_eq, both_ways, false_from_ne_true, and_right, and_parts, not-true}
 use Rattle.mps_base.specs.Run.{Run, end_of, IsAscending, with_run, without_run}
 use Rattle.mps_base.proofs.Runs.{contained_bounds, IsAscending-without_run}
 use Rattle.mps_bits.specs.Table.{bit, with_range, next_set}
 use Rattle.mps_bits.proofs.Ranges.{length-with_range}
 use Rattle.mps_seg.specs.Extents.{ExtentLists, has_word, is_covered}
-use Rattle.mps_seg.specs.Inside.{length_at, runs_with, minus, extents, lists_of, IsSound}
+use Rattle.mps_seg.specs.Inside.{length_at, minus, extents, lists_of, IsSound}
 use Rattle.mps_seg.proofs.BitFacts.{bit_is, bit-set_same, bit-set_other, bit_within, bit-with_range_inside, bit-with_range_outside, minus_is_begin, length-minus, bit-minus, minus-set_first, minus_less, minus_same}
 use Rattle.mps_seg.proofs.Decode.{runs_with-put, runs_with-taken, runs_with_same, run_of_bit, bit_of_run}
 use Rattle.mps_seg.proofs.Lengths.{IsLast, next_last, length_at_is, last_of, length_kept}
-use Rattle.mps_seg.proofs.Apart.{has_word-true, has_word-parts, has_word-below, has_word-above, contains_put, apart_from_put, apart_each, covered_by, covers_contained, uncovered_by_put, covered_put_has, covered_put_other, uncovered_taken, covered_taken_other}
+use Rattle.mps_seg.proofs.Apart.{has_word-true, has_word-below, has_word-above, contains_put, apart_from_put, apart_each, covers_contained, uncovered_by_put, covered_put_has, covered_put_other, uncovered_taken, covered_taken_other}
 
 -- ---- lists of extents, by the bits where they begin
 

@@ -1,24 +1,25 @@
 -- Segments by grain, the runs of grains that they hold, and extents that lie in them.
-use Rattle.std.proofs.Common.{ℕ, zero, suc, ◌+◌, ◌-◌, ◌*◌, ◌/◌, ◌<◌, ◌≤◌, ◌≡◌, ◌≢◌, ◌⊎◌, Bool, true, false, not, cond, ◌&&◌, leb, ltb, eqb, Option, Some, None, Result, Ok, Err, List, [], ◌∷◌, ◌++◌, length, get_or, set, drop, replicate, map, filter, Contains, refl, sym, ap, ◌∙◌, subst, inl, inr, arith, length-set}
+use Rattle.std.proofs.Common.{ℕ, zero, suc, ◌+◌, ◌*◌, ◌/◌, ◌<◌, ◌≤◌, ◌≡◌, ◌≢◌, ◌⊎◌, Bool, not, ◌&&◌, leb, ltb, eqb, Option, Some, None, Result, Ok, Err, List, [], ◌∷◌, ◌++◌, length, get_or, set, drop, replicate, map, filter, Contains, refl, sym, ap, ◌∙◌, subst, inl, inr, arith, length-set}
 use Rattle.std.specs.List.{flat_map}
 use Rattle.std.proofs.Math.Seq.{drop-cons}
 use Rattle.std.proofs.lemmas.Bool.{cases_lt, cases_eq, cases_Bool, both_ways, and_from, le-leb, cond-true, cond-false, lt-ltb, le-ltb, eq-eqb, ne_eqb}
 use Rattle.std.proofs.lemmas.List.{length-replicate}
 use Rattle.mps_base.specs.Run.{Run, end_of, IsAscending, total, gaps, lowest_fitting, longest, with_run, without_run}
-use Rattle.mps_base.specs.Placement.{Placement, Place, NewSegment, OverLimit, NoFreeRun, run_placement}
-use Rattle.mps_base.specs.Address.{address_of_grain, grain_of}
+use Rattle.mps_base.specs.Placement.{NewSegment, run_placement}
+use Rattle.mps_base.specs.Address.{address_of_grain}
 use Rattle.mps_base.specs.declared.names.Rank.{Rank}
 use Rattle.mps_base.specs.declared.address.Addr.{Addr}
 use Rattle.mps_base.specs.declared.refusal.Refusal.{Refusal}
 use Rattle.mps_base.specs.declared.refusal.Refusal.TheVariants.{CommitLimit, NoRun}
 use Rattle.mps_base.proofs.Runs.{with_run_first, with_run_later, without_run_first, without_run_later, contains_cases, contains_first, contains_later, contained_bounds, in_lowest_gap, IsAscending-without_run}
-use Rattle.mps_arena.specs.Arena.{ArenaState, new_arena, answer_of, held_after, placement_in}
+use Rattle.mps_arena.specs.Arena.{ArenaState, new_arena, answer_of, placement_in}
 use Rattle.mps_seg.specs.declared.entry.Entry.{Entry}
 use Rattle.mps_seg.specs.declared.entry.Entry.TheVariants.{Free, First}
 use Rattle.mps_seg.specs.Extents.{ExtentLists, nothing_covered, runs_within, AreWhole}
-use Rattle.mps_seg.specs.Segment.{Segment, is_open_to, grains_of_segment, end_of_segment, with_segment, without_segment}
-use Rattle.mps_seg.specs.Segs.{SegsState, segments_after, placement_for, gaps_in, gaps_of}
-use Rattle.mps_seg.specs.Table.{segments_from, segments_in, segs_state, gaps_at, LiesIn, IsHeld, IsWholeAt}
+use Rattle.mps_seg.specs.Segment.{LiesIn, Segment, is_open_to, same_rank, grains_of_segment, end_of_segment, with_segment, without_segment}
+use Rattle.mps_seg.specs.Segs.{SegsState, gaps_in, gaps_of, CanCover}
+use Rattle.mps_seg.specs.Table.{segments_from, segments_in, segs_state, gaps_at, IsHeld, IsWholeAt}
+use Rattle.mps_seg.proofs.Query.{within_ascending}
 use Rattle.mps_seg.proofs.Apart.{contains_put, apart_from_put, apart_each}
 
 -- the runs of grains of the entries
@@ -189,9 +190,9 @@ contains_still from t (s ∷ rs) there other =
 
 -- ---- changed extents
 
-pub held_after_cover : (arena : ArenaState) (table : List Entry) (ex : ExtentLists) (r : Run) (reservations : List Run) → IsHeld arena table ex → 0 < r.count → LiesIn (map grains_of_segment (segments_in table)) r
+pub held_after_cover : (arena : ArenaState) (table : List Entry) (ex : ExtentLists) (r : Run) (reservations : List Run) → IsHeld arena table ex → 0 < r.count → IsAscending 0 ex.size (with_run r ex.covered) → LiesIn (map grains_of_segment (segments_in table)) r
     → IsHeld arena table (record ex { covered = with_run r ex.covered; reservations = reservations })
-held_after_cover arena table ex r reservations held some lies =
+held_after_cover arena table ex r reservations held some free lies =
     let P : List Run → Type 0 = λ rs. LiesIn rs r in
     record {
       held = held.held;
@@ -199,6 +200,7 @@ held_after_cover arena table ex r reservations held some lies =
       few = held.few;
       size = held.size;
       covered_size = held.covered_size;
+      covered_ascending = free;
       some = λ t there. elim (contains_put_cases r t ex.covered there) [
         | inl same ↦ omega (arith, some, ap (λ (x : Run). x.count) same)
         | inr later ↦ held.some t later
@@ -217,6 +219,7 @@ held_after_less arena table ex from blocks reservations held = record {
   few = held.few;
   size = held.size;
   covered_size = held.covered_size;
+  covered_ascending = IsAscending-without_run 0 ex.size from ex.covered held.covered_ascending;
   some = λ t there. held.some t (contains_without from t ex.covered there);
   inside = λ t there. held.inside t (contains_without from t ex.covered there);
 }
@@ -229,6 +232,7 @@ held_after_commit arena table ex blocks reservations held = record {
   few = held.few;
   size = held.size;
   covered_size = held.covered_size;
+  covered_ascending = held.covered_ascending;
   some = held.some;
   inside = held.inside;
 }
@@ -243,6 +247,7 @@ pub record TakenAt (arena : ArenaState) (need grain : ℕ) (base : Addr) : Type 
   pub place : placement_in arena need ≡ NewSegment grain need
   pub lowest : lowest_fitting need (gaps 1 (arena.grains + 1) arena.held) ≡ Some grain
   pub base_is : base.0 / 4096 ≡ grain
+  pub base_at : base.0 ≡ address_of_grain grain
 
 pub taken_at : (arena : ArenaState) (need : ℕ) (base : Addr) → Ok base ≡ answer_of (placement_in arena need) → (grain : ℕ) × TakenAt arena need grain base
 taken_at arena need base answer =
@@ -253,7 +258,7 @@ taken_at arena need base answer =
           let both : left ≡ right = answer ∙ ap answer_of place in
           let same : base ≡ record { 0 = address_of_grain grain } = cc in
           let at : base.0 ≡ address_of_grain grain = ap (λ (a : Addr). a.0) same in
-          (grain, record { place = place; lowest = lowest; base_is = omega (arith, at) })
+          (grain, record { place = place; lowest = lowest; base_is = omega (arith, at); base_at = at })
       | refused why refusal ↦
           let left : Result Addr Refusal = Ok base in
           let never : left ≡ Err why = answer ∙ refusal in
@@ -316,6 +321,7 @@ held_after_taking arena table ex need grain pool generation rank held some lowes
       few = held.few;
       size = size ∙ held.size;
       covered_size = held.covered_size;
+      covered_ascending = held.covered_ascending;
       some = held.some;
       inside = λ t there.
           let lies = held.inside t there in
@@ -340,6 +346,7 @@ new_is_held grains limit few = record {
   few = few;
   size = length-replicate (grains + 1) Free;
   covered_size = refl;
+  covered_ascending = omega arith;
   some = λ t (k, within, is). absurd (omega arith);
   inside = λ t (k, within, is). absurd (omega arith);
 }
@@ -492,6 +499,7 @@ held_after_giving arena table ex grain n p g r held is empty =
       few = held.few;
       size = length-set table grain Free ∙ held.size;
       covered_size = held.covered_size;
+      covered_ascending = held.covered_ascending;
       some = held.some;
       inside = λ t there.
           let lies = held.inside t there in
@@ -657,3 +665,115 @@ segment_at table base s there begins =
 
 pub segment_end_fits : (arena : ArenaState) (table : List Entry) (ex : ExtentLists) (grain n p g : ℕ) (r : Rank) → IsHeld arena table ex → get_or table grain Free ≡ First n p g r → 512 * (grain + n) ≤ ex.size
 segment_end_fits arena table ex grain n p g r held is = omega (arith, (whole_at arena table ex grain (First n p g r) held is).1)
+
+-- ---- where something can be covered
+
+-- a run that lies apart from each of ascending runs can be put among them
+pub put_apart : (low high : ℕ) (rs : List Run) (r : Run) → IsAscending low high rs → 0 < r.count → low ≤ r.from → end_of r ≤ high
+    → ((t : Run) → Contains rs t → (end_of r ≤ t.from) ⊎ (end_of t ≤ r.from)) → IsAscending low high (with_run r rs)
+put_apart low high [] r ascending some above below apart = (above, some, below)
+put_apart low high (s ∷ rs) r ascending some above below apart =
+    let P : List Run → Type 0 = λ xs. IsAscending low high xs in
+    let first = apart s (contains_first rs s) in
+    elim (cases_lt r.from s.from) [
+      | inl before ↦
+          let room : end_of r ≤ s.from = elim first [ inl behind ↦ behind | inr ahead ↦ absurd (omega (arith, ahead, ascending.1)) ] in
+          subst P (sym (with_run_first r s rs before)) (above, some, (room, ascending.1, ascending.2))
+      | inr after ↦
+          let room : end_of s ≤ r.from = elim first [ inl behind ↦ absurd (omega (arith, behind, some)) | inr ahead ↦ ahead ] in
+          subst P (sym (with_run_later r s rs after))
+          (ascending.0, ascending.1, put_apart (end_of s) high rs r ascending.2 some room below (λ t there. apart t (contains_later rs t s there)))
+    ]
+
+-- one side of a bound, for each of runs that are whole
+side_of : (low high : ℕ) (rs : List Run) (t : Run) → AreWhole low high rs → Contains rs t → (end_of t ≤ low) ⊎ ((high ≤ t.from) ⊎ ((low ≤ t.from) × (t.from < high)))
+side_of low high [] t whole (k, within, is) = absurd (omega arith)
+side_of low high (s ∷ rs) t whole there =
+    elim (contains_cases rs t s there) [
+      | inl same ↦
+          let from : s.from ≡ t.from = ap (λ (x : Run). x.from) same in
+          let end : end_of s ≡ end_of t = ap (λ (x : Run). end_of x) same in
+          elim (cases_lt t.from low) [
+            | inl before ↦ inl (omega (arith, end, whole.0.1 (omega (arith, from))))
+            | inr begun ↦ elim (cases_lt t.from high) [ inl under ↦ inr (inr (begun, under)) | inr past ↦ inr (inl past) ]
+          ]
+      | inr later ↦ side_of low high rs t whole.1 later
+    ]
+
+-- a run in a gap of a held run of grains can be covered
+pub gap_is_free : (arena : ArenaState) (table : List Entry) (ex : ExtentLists) (grain n p g : ℕ) (k : Rank) (words place : ℕ) → IsHeld arena table ex → get_or table grain Free ≡ First n p g k → 0 < words
+    → lowest_fitting words (gaps (512 * grain) (512 * grain + 512 * n) (runs_within (512 * grain) (512 * grain + 512 * n) ex.covered)) ≡ Some place
+    → CanCover (segs_state arena table ex) (record { from = place; count = words })
+gap_is_free arena table ex grain n p g k words place held is some lowest =
+    let low = 512 * grain in
+    let high = 512 * grain + 512 * n in
+    let r : Run = record { from = place; count = words } in
+    let whole = whole_at arena table ex grain (First n p g k) held is in
+    let within = within_ascending 0 ex.size low high low ex.covered held.covered_ascending whole.0 (omega arith) (omega arith) (inr refl) in
+    let gap = in_lowest_gap low high (runs_within low high ex.covered) words place some within lowest in
+    let apart = λ (t : Run) (there : Contains ex.covered t).
+    let here : (end_of r ≤ t.from) ⊎ (end_of t ≤ r.from) =
+    elim (side_of low high ex.covered t whole.0 there) [
+      | inl before ↦ inr (omega (arith, before, gap.above))
+      | inr rest ↦ elim rest [
+        | inl past ↦ inl (omega (arith, past, gap.below))
+        | inr inside ↦ apart_from_put low high (runs_within low high ex.covered) r t gap.ascending (begins_within low high ex.covered t there inside.0 inside.1)
+      ]
+    ]
+    in here
+    in
+    let P : ℕ → Type 0 = λ size. IsAscending 0 size (with_run r ex.covered) in
+    record {
+      free = subst P held.covered_size (put_apart 0 ex.size ex.covered r held.covered_ascending some (omega arith) (omega (arith, gap.below, whole.1)) apart);
+      inside = record {
+        grains = record { from = grain; count = n };
+        there = entry_is_held table grain n p g k is;
+        after = gap.above;
+        before = omega (arith, gap.below);
+      };
+    }
+
+-- a new segment can be covered from its base on
+pub new_is_free : (arena : ArenaState) (table : List Entry) (ex : ExtentLists) (need grain pool generation words : ℕ) (rank : Rank) → IsHeld arena table ex → 0 < need → 0 < words → words ≤ 512 * need
+    → lowest_fitting need (gaps 1 (arena.grains + 1) arena.held) ≡ Some grain
+    → CanCover (segs_state (record arena { held = with_run (record { from = grain; count = need }) arena.held }) (set table grain (First need pool generation rank)) ex) (record { from = 512 * grain; count = words })
+new_is_free arena table ex need grain pool generation words rank held some covered fits lowest =
+    let segment : Run = record { from = grain; count = need } in
+    let r : Run = record { from = 512 * grain; count = words } in
+    let gap = in_lowest_gap 1 (arena.grains + 1) arena.held need grain some held.ascending lowest in
+    let after = held_after_taking arena table ex need grain pool generation rank held some lowest in
+    let apart = λ (t : Run) (there : Contains ex.covered t).
+    let lies = held.inside t there in
+    let here : (end_of r ≤ t.from) ⊎ (end_of t ≤ r.from) =
+    elim (apart_from_put 1 (arena.grains + 1) arena.held segment lies.grains gap.ascending lies.there) [
+      | inl behind ↦ inl (omega (arith, behind, lies.after))
+      | inr ahead ↦ inr (omega (arith, ahead, lies.before))
+    ]
+    in here
+    in
+    let P : ℕ → Type 0 = λ size. IsAscending 0 size (with_run r ex.covered) in
+    let Q : List Run → Type 0 = λ rs. Contains rs segment in
+    record {
+      free = subst P held.covered_size (put_apart 0 ex.size ex.covered r held.covered_ascending covered (omega arith) (omega (arith, gap.below, held.covered_size)) apart);
+      inside = record {
+        grains = segment;
+        there = subst Q after.held (contains_put segment arena.held);
+        after = omega arith;
+        before = omega arith;
+      };
+    }
+
+pub gap_at_is_free : (arena : ArenaState) (table : List Entry) (ex : ExtentLists) (grain : ℕ) (e : Entry) (pool : ℕ) (rank : Rank) (words place : ℕ) → IsHeld arena table ex → get_or table grain Free ≡ e → 0 < words
+    → lowest_fitting words (gaps_at grain e pool rank ex) ≡ Some place → CanCover (segs_state arena table ex) (record { from = place; count = words })
+gap_at_is_free arena table ex grain Free pool rank words place held is some lowest = let never : None ≡ Some place = lowest in cc
+gap_at_is_free arena table ex grain (First n p g k) pool rank words place held is some lowest =
+    let mine = gaps (512 * grain) (512 * grain + 512 * n) (runs_within (512 * grain) (512 * grain + 512 * n) ex.covered) in
+    elim (cases_Bool (eqb p pool && same_rank k rank)) [
+      | inl opened ↦
+          gap_is_free arena table ex grain n p g k words place held is some
+          (ap (λ (rs : List Run). lowest_fitting words rs) (sym (cond-true (eqb p pool && same_rank k rank) mine [] opened)) ∙ lowest)
+      | inr closed ↦
+          let none = ap (λ (rs : List Run). lowest_fitting words rs) (sym (cond-false (eqb p pool && same_rank k rank) mine [] closed)) ∙ lowest in
+          let never : None ≡ Some place = none in
+          cc
+    ]

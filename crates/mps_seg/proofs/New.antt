@@ -1,12 +1,12 @@
 -- Tables in which no bit is set.
-use Rattle.std.proofs.Common.{ℕ, zero, suc, ◌+◌, ◌-◌, ◌<◌, ◌≤◌, ◌^◌, ◌≡◌, ◌&&◌, Bool, true, false, not, List, [], ◌∷◌, length, get_or, replicate, refl, sym, ap, ◌∙◌, subst, inl, inr, arith}
+use Rattle.std.proofs.Common.{ℕ, zero, suc, ◌<◌, ◌^◌, ◌≡◌, Bool, false, List, [], length, replicate, refl, sym, ap, ◌∙◌, subst, inl, inr, arith}
 use Rattle.std.proofs.lemmas.Bool.{cases_lt, both_ways, false_from_ne_true}
 use Rattle.std.proofs.lemmas.List.{length-replicate, get_or-replicate}
 use Rattle.mps_base.specs.Run.{Run, IsAscending}
 use Rattle.mps_bits.specs.Table.{bit}
-use Rattle.mps_seg.specs.Extents.{ExtentLists, is_covered, nothing_covered}
+use Rattle.mps_seg.specs.Extents.{is_covered, nothing_covered}
 use Rattle.mps_seg.specs.Inside.{length_at, runs_with, minus, extents, lists_of, IsSound}
-use Rattle.mps_seg.proofs.BitFacts.{bit_is, bit_past, bit_within, length-minus, minus_is_begin, same_bits}
+use Rattle.mps_seg.proofs.BitFacts.{bit_is, bit_past, length-minus, minus_is_begin, same_bits}
 
 no_bit : (n i : ℕ) → bit (replicate n false) i ≡ false
 no_bit n i =

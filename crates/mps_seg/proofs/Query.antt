@@ -1,14 +1,16 @@
 -- The answers of the searches, as functions of the runs.
-use Rattle.std.proofs.Common.{ℕ, zero, suc, ◌+◌, ◌-◌, ◌<◌, ◌≤◌, ◌≡◌, ◌≢◌, ◌⊎◌, ◌&&◌, Bool, true, false, cond, leb, ltb, Option, Some, None, IfSome, List, [], ◌∷◌, ◌++◌, length, get_or, Contains, refl, sym, ap, ◌∙◌, subst, inl, inr, arith}
-use Rattle.std.proofs.lemmas.Bool.{cases_lt, cases_eq, cases_Bool, both_ways, cond-true, cond-false, and_from, and_left, and_right, and_parts, le-leb, lt-leb, lt-ltb, le-ltb, leb-true, ltb-true, false_from_ne_true, false≢true, true≢false}
-use Rattle.mps_base.specs.Run.{Run, end_of, IsAscending, gaps, between, lowest_fitting}
+use Rattle.std.proofs.Common.{ℕ, zero, suc, ◌+◌, ◌-◌, ◌<◌, ◌≤◌, ◌≡◌, ◌⊎◌, ◌&&◌, Bool, true, false, cond, leb, ltb, Option, Some, None, option_map, ◌/◌, IfSome, List, [], ◌∷◌, length, get_or, Contains, refl, sym, ap, ◌∙◌, subst, inl, inr, arith}
+use Rattle.std.proofs.lemmas.Bool.{cases_lt, cases_Bool, both_ways, cond-true, cond-false, and_from, and_left, and_right, and_parts, le-leb, lt-leb, lt-ltb, le-ltb, ltb-true, false_from_ne_true, false≢true, true≢false}
+use Rattle.mps_base.specs.Run.{Run, end_of, IsAscending, gaps, lowest_fitting}
 use Rattle.mps_base.proofs.Runs.{contains_cases, contains_first, contains_later, contained_bounds, lowest_fitting_here, lowest_fitting_later, lowest_gap_here, last_gap_short}
-use Rattle.mps_bits.specs.Table.{bit, lowest_from, highest_below, next_set_below, previous_set, is_clear_run, lowest_clear_run}
-use Rattle.mps_bits.proofs.Places.{IsLowest, IsHighest, Lowest, found, missing, lowest_cases, lowest_from_is, lowest_from_none, highest_below_is}
+use Rattle.mps_bits.specs.Table.{bit, next_set_below, previous_set, is_clear_run, lowest_clear_run}
+use Rattle.mps_bits.proofs.Places.{found, missing, lowest_cases, lowest_from_is, lowest_from_none, highest_below_is}
 use Rattle.mps_bits.proofs.Ranges.{clear_run_from, clear_run_at}
-use Rattle.mps_seg.specs.Extents.{ExtentLists, has_word, is_covered, run_over, first_run, runs_within, AreWhole}
+use Rattle.mps_base.specs.declared.address.Addr.{Addr}
+use Rattle.mps_seg.specs.Segs.{at_word}
+use Rattle.mps_seg.specs.Extents.{has_word, is_covered, run_over, first_run, runs_within, AreWhole}
 use Rattle.mps_seg.specs.Inside.{length_at, runs_with, extents, IsSound}
-use Rattle.mps_seg.proofs.BitFacts.{bit_is, bit_within}
+use Rattle.mps_seg.proofs.BitFacts.{bit_is}
 use Rattle.mps_seg.proofs.Cover.{extent_at, begin_of, among_all}
 use Rattle.mps_seg.proofs.Apart.{has_word-true, has_word-parts, has_word-below, has_word-above, apart_each, covered_by, covers_contained, covered_first, covered_later, uncovered_below}
 
@@ -164,7 +166,7 @@ within_not low high r rs (inl below) =
 within_not low high r rs (inr above) =
     cond-false (leb low r.from && ltb r.from high) (r ∷ runs_within low high rs) (runs_within low high rs) (and_right (leb low r.from) (ltb r.from high) (le-ltb r.from high above))
 
-within_ascending : (a end low high b : ℕ) (rs : List Run) → IsAscending a end rs → AreWhole low high rs → low ≤ b → b ≤ high → (b ≤ a) ⊎ (b ≡ low) → IsAscending b high (runs_within low high rs)
+pub within_ascending : (a end low high b : ℕ) (rs : List Run) → IsAscending a end rs → AreWhole low high rs → low ≤ b → b ≤ high → (b ≤ a) ⊎ (b ≡ low) → IsAscending b high (runs_within low high rs)
 within_ascending a end low high b [] ascending whole above below from = below
 within_ascending a end low high b (r ∷ rs) ascending whole above below from =
     let P : List Run → Type 0 = λ xs. IsAscending b high xs in
@@ -303,3 +305,31 @@ first_run-below low high (r ∷ rs) at is =
           omega (arith, same, ltb-true r.from high (and_parts (leb low r.from) (ltb r.from high) here).1)
       | inr not_here ↦ first_run-below low high rs at (sym (cond-false (leb low r.from && ltb r.from high) (Some r.from) (first_run low high rs) not_here) ∙ is)
     ]
+
+-- a run over a word is one of the runs
+pub run_over-contains : (rs : List Run) (word at : ℕ) → run_over rs word ≡ Some at → (n : ℕ) × Contains rs (record { from = at; count = n })
+run_over-contains [] word at is = let never : None ≡ Some at = is in cc
+run_over-contains (r ∷ rs) word at is =
+    elim (cases_Bool (has_word r word)) [
+      | inl here ↦
+          let both : Some r.from ≡ Some at = sym (cond-true (has_word r word) (Some r.from) (run_over rs word) here) ∙ is in
+          let same : r.from ≡ at = cc in
+          let P : ℕ → Type 0 = λ a. Contains (r ∷ rs) (record { from = a; count = r.count }) in
+          (r.count, subst P same (contains_first rs r))
+      | inr not_here ↦
+          let later = run_over-contains rs word at (sym (cond-false (has_word r word) (Some r.from) (run_over rs word) not_here) ∙ is) in
+          (later.0, contains_later rs (record { from = at; count = later.0 }) r later.1)
+    ]
+
+-- the block that a search by an address found
+pub block_found : (rs : List Run) (word : ℕ) (at : Addr) → Some at ≡ option_map at_word (run_over rs word) → (n : ℕ) × Contains rs (record { from = at.0 / 8; count = n })
+block_found rs word at is = go (run_over rs word) refl is
+  where
+    go : (o : Option ℕ) → run_over rs word ≡ o → Some at ≡ option_map at_word o → (n : ℕ) × Contains rs (record { from = at.0 / 8; count = n })
+    go None found_none given = let never : Some at ≡ None = given in cc
+    go (Some place) found_at given =
+        let both : Some at ≡ Some (at_word place) = given in
+        let same : at ≡ at_word place = cc in
+        let word_is : place ≡ at.0 / 8 = omega (arith, ap (λ (a : Addr). a.0) same) in
+        let P : ℕ → Type 0 = λ p. (n : ℕ) × Contains rs (record { from = p; count = n }) in
+        subst P word_is (run_over-contains rs word place found_at)

@@ -1,5 +1,5 @@
 -- The words that blocks and reservations cover, as runs of words in ascending order.
-use Rattle.std.specs.Prelude.{ℕ, ◌+◌, ◌≤◌, ◌<◌, ◌≡◌, ◌&&◌, Bool, true, false, nat_le, nat_lt, if◌then◌else◌, Option, Some, None, List, [], ◌∷◌, refl}
+use Rattle.std.specs.Prelude.{ℕ, ◌≤◌, ◌<◌, ◌≡◌, ◌&&◌, Bool, true, false, nat_le, nat_lt, if◌then◌else◌, Option, Some, None, List, [], ◌∷◌, refl}
 use Rattle.mps_base.specs.Run.{Run, end_of}
 
 -- what is covered among so many words: by blocks, and by reservations

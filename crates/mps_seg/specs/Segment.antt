@@ -1,7 +1,7 @@
 -- Segments: runs of grains that are held for a pool.
-use Rattle.std.specs.Prelude.{ℕ, ◌+◌, ◌*◌, ◌≡◌, Bool, true, false, not, ◌&&◌, ◌==◌, nat_lt, if◌then◌else◌, List, [], ◌∷◌, filter, map, refl}
-use Rattle.mps_base.specs.Run.{Run}
-use Rattle.mps_base.specs.Address.{word_of, grain_of}
+use Rattle.std.specs.Prelude.{ℕ, ◌+◌, ◌*◌, ◌≤◌, Contains, Bool, true, false, not, ◌&&◌, ◌==◌, nat_lt, if◌then◌else◌, List, [], ◌∷◌, filter}
+use Rattle.mps_base.specs.Run.{Run, end_of}
+use Rattle.mps_base.specs.Address.{grain_of}
 use Rattle.mps_base.specs.declared.names.Rank.{Rank}
 use Rattle.mps_base.specs.declared.names.Rank.TheVariants as rank
 
@@ -39,3 +39,10 @@ same_rank _ _ = false
 -- whether a segment is of a pool and a rank
 abbrev pub is_open_to : ℕ → Rank → Segment → Bool
 is_open_to pool at_rank s = s.pool == pool && same_rank s.rank at_rank
+
+-- a run of words lies in a run of grains
+pub record LiesIn (held : List Run) (r : Run) : Type 0 where
+  pub grains : Run
+  pub there : Contains held grains
+  pub after : 512 * grains.from ≤ r.from
+  pub before : end_of r ≤ 512 * end_of grains

@@ -1,14 +1,14 @@
 -- What a client sees of the segments, and the answers of their calls.
-use Rattle.std.specs.Prelude.{ℕ, ◌+◌, ◌*◌, ◌≡◌, Option, Some, None, List, [], ◌∷◌, map, replicate, filter}
+use Rattle.std.specs.Prelude.{ℕ, ◌+◌, ◌*◌, ◌≡◌, List, [], map, replicate, filter}
 use Rattle.std.specs.List.{flat_map}
-use Rattle.mps_base.specs.Run.{Run, gaps, end_of}
-use Rattle.mps_base.specs.Address.{word_of, grain_of, grains_needed, address_of_grain, address_of_word}
+use Rattle.mps_base.specs.Run.{Run, IsAscending, with_run, gaps}
+use Rattle.mps_base.specs.Address.{word_of, grains_needed, address_of_grain, address_of_word}
 use Rattle.mps_base.specs.Placement.{Placement, Place, NewSegment, OverLimit, NoFreeRun, run_placement}
 use Rattle.mps_base.specs.Trail.{Moves, with_move}
 use Rattle.mps_base.specs.declared.address.Addr.{Addr}
-use Rattle.mps_base.specs.declared.moves.Move.TheVariants.{Seg, Unseg}
+use Rattle.mps_base.specs.declared.moves.Move.TheVariants.{Seg}
 use Rattle.mps_base.specs.declared.names.Rank.{Rank}
-use Rattle.mps_seg.specs.Segment.{Segment, end_of_segment, grains_of_segment, with_segment, is_open_to}
+use Rattle.mps_seg.specs.Segment.{Segment, LiesIn, end_of_segment, grains_of_segment, with_segment, is_open_to}
 use Rattle.mps_seg.specs.Extents.{runs_within}
 
 -- The arena's words and size, the held segments in ascending order, and the runs of words that blocks and reservations cover, in
@@ -85,3 +85,8 @@ at_word word = record { 0 = address_of_word word }
 pub record IsEmptyAt (state : SegsState) (base : ℕ) (s : Segment) : Type 0 where
   pub begins : s.base ≡ base
   pub empty : runs_within (word_of s.base) (word_of (end_of_segment s)) state.covered ≡ []
+
+-- a run of words in a segment of which nothing is covered yet
+pub record CanCover (state : SegsState) (r : Run) : Type 0 where
+  pub free : IsAscending 0 (512 * (state.grains + 1)) (with_run r state.covered)
+  pub inside : LiesIn (held_grains state) r

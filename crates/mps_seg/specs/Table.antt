@@ -1,12 +1,12 @@
 -- How the table by grain stands for the segments.
 use Rattle.std.specs.Prelude.{ℕ, suc, ◌==◌, ◌&&◌, if◌then◌else◌, ◌+◌, ◌*◌, ◌≤◌, ◌<◌, ◌≡◌, List, [], ◌∷◌, length, map, Contains}
 use Rattle.mps_base.specs.declared.names.Rank.{Rank}
-use Rattle.mps_base.specs.Run.{Run, end_of, gaps, IsAscending}
+use Rattle.mps_base.specs.Run.{Run, gaps, IsAscending}
 use Rattle.mps_base.specs.Address.{address_of_grain}
 use Rattle.mps_arena.specs.Arena.{ArenaState}
 use Rattle.mps_seg.specs.declared.entry.Entry.{Entry}
 use Rattle.mps_seg.specs.declared.entry.Entry.TheVariants.{Free, First}
-use Rattle.mps_seg.specs.Segment.{Segment, grains_of_segment, same_rank}
+use Rattle.mps_seg.specs.Segment.{Segment, LiesIn, grains_of_segment, same_rank}
 use Rattle.mps_seg.specs.Segs.{SegsState}
 use Rattle.mps_seg.specs.Extents.{ExtentLists, runs_within, AreWhole}
 
@@ -37,13 +37,6 @@ segs_state arena table extents = record {
   summaries = [];
 }
 
--- a run of words lies in a run of grains
-pub record LiesIn (held : List Run) (r : Run) : Type 0 where
-  pub grains : Run
-  pub there : Contains held grains
-  pub after : 512 * grains.from ≤ r.from
-  pub before : end_of r ≤ 512 * end_of grains
-
 -- the segments are the held runs, and each extent lies in one
 pub record IsHeld (arena : ArenaState) (table : List Entry) (extents : ExtentLists) : Type 0 where
   pub held : arena.held ≡ map grains_of_segment (segments_in table)
@@ -51,6 +44,7 @@ pub record IsHeld (arena : ArenaState) (table : List Entry) (extents : ExtentLis
   pub few : arena.grains ≤ 2048
   pub size : length table ≡ arena.grains + 1
   pub covered_size : extents.size ≡ 512 * (arena.grains + 1)
+  pub covered_ascending : IsAscending 0 extents.size extents.covered
   pub some : (r : Run) → Contains extents.covered r → 0 < r.count
   pub inside : (r : Run) → Contains extents.covered r → LiesIn arena.held r
 

@@ -66,7 +66,7 @@ impl Extents {
         } }
     {
         let last = self.ends.next_set(at).unwrap();
-        self.covered.clear_range(at, last + 1);
+        self.covered.clear_range(at, last + 1); // its words are a gap again
         self.begins.clear(at);
         self.ends.clear(last);
     }

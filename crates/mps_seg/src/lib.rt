@@ -7,3 +7,6 @@ mod segs;
 
 pub use extents::Extents;
 pub use segs::Segs;
+
+#[cfg(test)]
+mod tests;

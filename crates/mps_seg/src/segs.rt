@@ -2,14 +2,14 @@
 #![tactic(auto)]
 
 ghost use Rattle.std.specs.Prelude.{◌≡◌, ℕ, ◌+◌, ◌*◌, ◌/◌, ◌%◌, ◌^◌, ◌<◌, ◌≤◌, IfOk, IfErr, IfSome, OnOk, MatchResult, Contains, option_map, length, slice_range};
-ghost use Rattle.mps_base.specs.Run.{IsAscending, with_run, without_run, lowest_fitting, total};
+ghost use Rattle.mps_base.specs.Run.{with_run, without_run, lowest_fitting, total};
 ghost use Rattle.mps_base.specs.Address.{word_of};
 ghost use Rattle.mps_base.specs.Trail.{with_move};
 ghost use Rattle.mps_arena.specs.Arena.{answer_of};
 ghost use Rattle.mps_seg.specs.Extents.{run_over, first_run};
 ghost use Rattle.mps_seg.specs.Segment.{Segment, end_of_segment, same_rank, without_segment};
-ghost use Rattle.mps_seg.specs.Table.{LiesIn, IsWholeAt, gaps_at};
-ghost use Rattle.mps_seg.specs.Segs.{SegsState, new_segments, placement_for, segments_after, moves_after, gaps_of, held_grains, at_word, IsEmptyAt};
+ghost use Rattle.mps_seg.specs.Table.{IsWholeAt, gaps_at};
+ghost use Rattle.mps_seg.specs.Segs.{SegsState, new_segments, placement_for, segments_after, moves_after, gaps_of, held_grains, at_word, IsEmptyAt, CanCover};
 ghost use Rattle.std.specs.Borrow.{sem};
 ghost use Rattle.mps_seg.specs.Lending.{LendsWords};
 
@@ -68,6 +68,7 @@ impl Segs {
         ensures answer { result ≡ answer_of (placement_for self.old words) }
         ensures state { self.new ≡ record self.old { segments = segments_after (placement_for self.old words) pool generation rank self.old.segments } }
         ensures moves { trail.new ≡ moves_after (placement_for self.old words) pool generation trail.old }
+        ensures free { IfOk result (λ base. CanCover self.new (record { from = word_of base.0; count = words })) }
     {
         let grains = (words + 511) / 512;
         let base = self.arena.take_run(grains)?;
@@ -105,9 +106,7 @@ impl Segs {
     /// Covers `words` words from `at` on by a reservation.
     pub fn cover(&mut self, at: Addr, words: u32)
         requires some { 0 < words }
-        requires aligned { at.0 % 8 ≡ 0 }
-        requires free { IsAscending 0 (512 * (self.old.grains + 1)) (with_run (record { from = word_of at.0; count = words }) self.old.covered) }
-        requires inside { LiesIn (held_grains self.old) (record { from = word_of at.0; count = words }) }
+        requires free { CanCover self.old (record { from = word_of at.0; count = words }) }
         ensures { self.new ≡ record self.old {
           covered = with_run (record { from = word_of at.0; count = words }) self.old.covered;
           reservations = with_run (record { from = word_of at.0; count = words }) self.old.reservations;
@@ -119,7 +118,8 @@ impl Segs {
     /// The lowest gap of at least `words` words in the segments of a pool and a rank.
     pub fn lowest_gap(&self, pool: u32, rank: Rank, words: u32) -> Option<Addr>
         requires { 0 < words }
-        ensures { result ≡ option_map at_word (lowest_fitting words (gaps_of self.now pool rank)) }
+        ensures lowest { result ≡ option_map at_word (lowest_fitting words (gaps_of self.now pool rank)) }
+        ensures free { IfSome result (λ at. CanCover self.now (record { from = word_of at.0; count = words })) }
     {
         for (grain, entry) in self.table.iter().enumerate() {
             if let Some(word) = gap_behind(&self.extents, grain, *entry, pool, rank, words) {
@@ -131,8 +131,7 @@ impl Segs {
 
     /// The lowest block of the segment at `base` that begins at or above `from`, an address in that segment.
     pub fn walk(&self, base: Addr, from: Addr) -> Option<Addr>
-        requires held { (s : Segment) × Contains self.now.segments s × (s.base ≡ base.0) }
-        requires aligned { from.0 % 8 ≡ 0 }
+        requires { (s : Segment) × Contains self.now.segments s × (s.base ≡ base.0) }
         ensures { (s : Segment) → Contains self.now.segments s → s.base ≡ base.0
             → result ≡ option_map at_word (first_run (word_of from.0) (word_of (end_of_segment s)) self.now.blocks) }
     {

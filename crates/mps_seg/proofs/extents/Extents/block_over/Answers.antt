@@ -1,12 +1,9 @@
-use Rattle.std.proofs.Common.{ℕ, ◌+◌, ◌-◌, ◌≡◌, ◌≤◌, ◌<◌, Bool, true, false, List, Option, Some, None, IsSome, length, set, Contains, refl, sym, ap, ◌∙◌, subst, arith}
-use Rattle.mps_base.specs.Run.{Run, IsAscending, gaps, lowest_fitting, with_run, without_run}
-use Rattle.mps_bits.specs.Table.{bit, with_range, next_set, previous_set}
-use Rattle.mps_seg.specs.Extents.{ExtentLists, run_over, first_run, runs_within, AreWhole}
-use Rattle.mps_seg.specs.Inside.{extents, lists_of, minus, length_at, IsSound}
+use Rattle.std.proofs.Common.{ℕ, ◌≡◌, true, false, Option, Some, IsSome, refl, sym, ap, ◌∙◌, subst, arith}
+use Rattle.mps_bits.specs.Table.{bit}
+use Rattle.mps_seg.specs.Extents.{ExtentLists, run_over}
 use Rattle.mps_seg.proofs.extents.Extents.block_over.Goals as goal
-use Rattle.std.proofs.lemmas.Bool.{not-true, not-false}
 use Rattle.mps_seg.proofs.BitFacts.{bit_past, bit_within}
-use Rattle.mps_seg.proofs.Query.{Over, extent_over, no_block_over, block_over_is, reservation_over}
+use Rattle.mps_seg.proofs.Query.{extent_over, no_block_over, block_over_is, reservation_over}
 
 pub returns-then-word-len : goal.returns-then-word-len
 returns-then-word-len c =

@@ -1,10 +1,9 @@
-use Rattle.std.proofs.Common.{ℕ, ◌+◌, ◌-◌, ◌≡◌, ◌≤◌, ◌<◌, Bool, true, false, List, Option, Some, None, length, set, Contains, refl, sym, ap, ◌∙◌, subst, arith}
-use Rattle.mps_base.specs.Run.{Run, IsAscending, gaps, lowest_fitting, with_run, without_run}
-use Rattle.mps_bits.specs.Table.{bit, with_range, next_set, previous_set}
-use Rattle.mps_seg.specs.Extents.{ExtentLists, run_over, first_run, runs_within, AreWhole}
-use Rattle.mps_seg.specs.Inside.{extents, lists_of, minus, length_at, IsSound}
+use Rattle.std.proofs.Common.{Bool, List, Contains, sym, ap, ◌∙◌, subst, arith}
+use Rattle.mps_base.specs.Run.{Run, with_run, without_run}
+use Rattle.mps_seg.specs.Extents.{ExtentLists}
+use Rattle.mps_seg.specs.Inside.{lists_of, IsSound}
 use Rattle.mps_seg.proofs.extents.Extents.commit_block.Goals as goal
-use Rattle.mps_seg.proofs.Cover.{Taken, IsReserved, last_word, taken_fits, taken_last, taken_is_sound, is_reserved, uncover_lists, drop_lists, begin_of, among_all, found_last, next_is_some, left_without_block, left_without_reservation, commit_lists, commit_is_sound}
+use Rattle.mps_seg.proofs.Cover.{Taken, taken_fits, is_reserved, commit_lists, commit_is_sound}
 
 pub set-requires : goal.set-requires
 set-requires c =

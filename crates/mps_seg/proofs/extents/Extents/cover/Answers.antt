@@ -1,9 +1,9 @@
-use Rattle.std.proofs.Common.{ℕ, ◌+◌, ◌-◌, ◌≡◌, ◌≤◌, ◌<◌, Bool, true, List, length, set, sym, ap, ◌∙◌, subst, arith}
-use Rattle.mps_base.specs.Run.{Run, IsAscending, with_run}
+use Rattle.std.proofs.Common.{◌+◌, Bool, true, List, set, sym, ap, ◌∙◌, subst, arith}
+use Rattle.mps_base.specs.Run.{Run, with_run}
 use Rattle.mps_bits.specs.Table.{with_range}
 use Rattle.mps_seg.specs.Extents.{ExtentLists}
-use Rattle.mps_seg.specs.Inside.{extents, lists_of, IsSound}
-use Rattle.mps_seg.proofs.Cover.{Put, put_of, put_bounds, put_is_sound, put_lists}
+use Rattle.mps_seg.specs.Inside.{lists_of, IsSound}
+use Rattle.mps_seg.proofs.Cover.{put_of, put_bounds, put_is_sound, put_lists}
 use Rattle.mps_seg.proofs.extents.Extents.cover.Goals as goal
 
 pub overflow_add-at : goal.overflow_add-at

@@ -1,10 +1,10 @@
-use Rattle.std.proofs.Common.{ℕ, ◌+◌, ◌-◌, ◌≡◌, ◌≤◌, ◌<◌, Bool, true, false, List, Option, Some, None, length, set, Contains, refl, sym, ap, ◌∙◌, subst, arith, length-set}
-use Rattle.mps_base.specs.Run.{Run, IsAscending, gaps, lowest_fitting, with_run, without_run}
-use Rattle.mps_bits.specs.Table.{bit, with_range, next_set, previous_set}
-use Rattle.mps_seg.specs.Extents.{ExtentLists, run_over, first_run, runs_within, AreWhole}
-use Rattle.mps_seg.specs.Inside.{extents, lists_of, minus, length_at, IsSound}
+use Rattle.std.proofs.Common.{ℕ, ◌+◌, ◌≡◌, Bool, false, List, set, Contains, sym, ap, ◌∙◌, subst, arith, length-set}
+use Rattle.mps_base.specs.Run.{Run, without_run}
+use Rattle.mps_bits.specs.Table.{with_range}
+use Rattle.mps_seg.specs.Extents.{ExtentLists}
+use Rattle.mps_seg.specs.Inside.{lists_of, IsSound}
 use Rattle.mps_seg.proofs.extents.Extents.drop_block.Goals as goal
-use Rattle.mps_seg.proofs.Cover.{Taken, IsReserved, last_word, taken_fits, taken_last, taken_is_sound, is_reserved, uncover_lists, drop_lists, begin_of, among_all, found_last, next_is_some, left_without_block, left_without_reservation, commit_lists, commit_is_sound}
+use Rattle.mps_seg.proofs.Cover.{Taken, last_word, taken_fits, taken_is_sound, drop_lists, begin_of, among_all, found_last, next_is_some, left_without_block}
 
 pub unwrap-last-requires : goal.unwrap-last-requires
 unwrap-last-requires c =

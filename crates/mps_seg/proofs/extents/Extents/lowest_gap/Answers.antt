@@ -1,8 +1,6 @@
-use Rattle.std.proofs.Common.{ℕ, ◌+◌, ◌-◌, ◌≡◌, ◌≤◌, ◌<◌, Bool, true, false, List, Option, Some, None, IsSome, length, set, Contains, refl, sym, ap, ◌∙◌, subst, arith}
-use Rattle.mps_base.specs.Run.{Run, IsAscending, gaps, lowest_fitting, with_run, without_run}
-use Rattle.mps_bits.specs.Table.{bit, with_range, next_set, previous_set}
-use Rattle.mps_seg.specs.Extents.{ExtentLists, run_over, first_run, runs_within, AreWhole}
-use Rattle.mps_seg.specs.Inside.{extents, lists_of, minus, length_at, IsSound}
+use Rattle.std.proofs.Common.{sym, ap, ◌∙◌, subst}
+use Rattle.mps_base.specs.Run.{gaps, lowest_fitting}
+use Rattle.mps_seg.specs.Extents.{ExtentLists, runs_within, AreWhole}
 use Rattle.mps_seg.proofs.extents.Extents.lowest_gap.Goals as goal
 use Rattle.mps_seg.proofs.Query.{lowest_gap_is, lowest_gap_below}
 

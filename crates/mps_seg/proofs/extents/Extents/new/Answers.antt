@@ -1,4 +1,4 @@
-use Rattle.std.proofs.Common.{ℕ, ◌≡◌, Bool, false, List, replicate, sym, ap, ◌∙◌, subst}
+use Rattle.std.proofs.Common.{Bool, false, List, replicate, sym, ap, ◌∙◌, subst}
 use Rattle.mps_seg.specs.Inside.{lists_of, IsSound}
 use Rattle.mps_seg.proofs.New.{new_is_sound, new_lists}
 use Rattle.mps_seg.proofs.extents.Extents.new.Goals as goal

@@ -1,5 +1,4 @@
-use Rattle.std.proofs.Common.{ℕ, ◌*◌, ◌/◌, ◌≤◌, sym, ap, ◌∙◌, arith}
-use Rattle.mps_seg.specs.Extents.{run_over}
+use Rattle.std.proofs.Common.{◌/◌, sym, arith}
 use Rattle.mps_seg.proofs.Query.{run_over-le}
 use Rattle.mps_seg.proofs.segs.Segs.block_at.Goals as goal
 

@@ -1,15 +1,9 @@
-use Rattle.std.proofs.Common.{ℕ, ◌+◌, ◌-◌, ◌*◌, ◌/◌, ◌≡◌, ◌≤◌, ◌<◌, List, Option, Some, None, length, set, map, replicate, Contains, refl, sym, ap, ◌∙◌, subst, arith}
-use Rattle.mps_base.specs.Run.{Run, IsAscending, with_run, without_run}
-use Rattle.mps_base.specs.Placement.{Placement}
-use Rattle.mps_base.specs.Address.{word_of}
-use Rattle.mps_arena.specs.Arena.{ArenaState, new_arena, held_after, placement_in}
-use Rattle.mps_seg.specs.declared.entry.Entry.{Entry}
-use Rattle.mps_seg.specs.declared.entry.Entry.TheVariants.{Free, First}
-use Rattle.mps_seg.specs.Extents.{ExtentLists, nothing_covered}
-use Rattle.mps_seg.specs.Segment.{Segment, grains_of_segment}
-use Rattle.mps_seg.specs.Segs.{SegsState, placement_for, segments_after, new_segments, held_grains}
-use Rattle.mps_seg.specs.Table.{segments_in, segs_state, LiesIn, IsHeld}
-use Rattle.mps_seg.proofs.Held.{held_after_cover, held_after_less, held_after_commit, taken_at, segments_after_take, held_after_taking, new_is_held, new_segments_in}
+use Rattle.std.proofs.Common.{◌/◌, Contains, sym, subst}
+use Rattle.mps_base.specs.Run.{Run, with_run, without_run}
+use Rattle.mps_seg.specs.Extents.{ExtentLists}
+use Rattle.mps_seg.specs.Segs.{SegsState}
+use Rattle.mps_seg.specs.Table.{IsHeld}
+use Rattle.mps_seg.proofs.Held.{held_after_commit}
 use Rattle.mps_seg.proofs.segs.Segs.commit_block.Goals as goal
 
 pub invariant_of-self : goal.invariant_of-self

@@ -1,20 +1,26 @@
-use Rattle.std.proofs.Common.{ℕ, ◌+◌, ◌-◌, ◌*◌, ◌/◌, ◌≡◌, ◌≤◌, ◌<◌, List, Option, Some, None, length, set, map, replicate, Contains, refl, sym, ap, ◌∙◌, subst, arith}
-use Rattle.mps_base.specs.Run.{Run, IsAscending, with_run, without_run}
-use Rattle.mps_base.specs.Placement.{Placement}
-use Rattle.mps_base.specs.Address.{word_of}
-use Rattle.mps_arena.specs.Arena.{ArenaState, new_arena, held_after, placement_in}
-use Rattle.mps_seg.specs.declared.entry.Entry.{Entry}
-use Rattle.mps_seg.specs.declared.entry.Entry.TheVariants.{Free, First}
-use Rattle.mps_seg.specs.Extents.{ExtentLists, nothing_covered}
-use Rattle.mps_seg.specs.Segment.{Segment, grains_of_segment}
-use Rattle.mps_seg.specs.Segs.{SegsState, placement_for, segments_after, new_segments, held_grains}
-use Rattle.mps_seg.specs.Table.{segments_in, segs_state, LiesIn, IsHeld}
-use Rattle.mps_seg.proofs.Held.{held_after_cover, held_after_less, held_after_commit, taken_at, segments_after_take, held_after_taking, new_is_held, new_segments_in}
+use Rattle.std.proofs.Common.{ℕ, ◌/◌, sym, subst}
+use Rattle.mps_base.specs.Run.{Run, IsAscending, with_run}
+use Rattle.mps_seg.specs.Extents.{ExtentLists}
+use Rattle.mps_seg.specs.Segs.{SegsState, CanCover}
+use Rattle.mps_seg.specs.Table.{IsHeld}
+use Rattle.mps_seg.proofs.Held.{held_after_cover}
 use Rattle.mps_seg.proofs.segs.Segs.cover.Goals as goal
 
 pub invariant_of-self : goal.invariant_of-self
 invariant_of-self c =
+    let arena = c.self.inside.arena in
+    let table = c.self.inside.table.items in
+    let extents = c.self.inside.extents in
     let r : Run = record { from = c.args.at.0 / 8; count = c.args.words } in
-    let P : SegsState → Type 0 = λ s. LiesIn (held_grains s) r in
-    let Q : ExtentLists → Type 0 = λ e. IsHeld c.self.inside.arena c.self.inside.table.items e in
-    subst Q (sym c.cover.ensures) (held_after_cover c.self.inside.arena c.self.inside.table.items c.self.inside.extents r (with_run r c.self.inside.extents.reservations) c.self.invariant c.requires.some (subst P (sym c.self.view_is) c.requires.inside))
+    let can = subst (λ (s : SegsState). CanCover s r) (sym c.self.view_is) c.requires.free in
+    let P : ℕ → Type 0 = λ size. IsAscending 0 size (with_run r extents.covered) in
+    let Q : ExtentLists → Type 0 = λ e. IsHeld arena table e in
+    subst Q (sym c.cover.ensures)
+    (held_after_cover arena table extents r (with_run r extents.reservations) c.self.invariant c.requires.some (subst P (sym c.self.invariant.covered_size) can.free) can.inside)
+
+pub cover-requires-clause-free : goal.cover-requires-clause-free
+cover-requires-clause-free c =
+    let r : Run = record { from = c.args.at.0 / 8; count = c.args.words } in
+    let can = subst (λ (s : SegsState). CanCover s r) (sym c.self.view_is) c.requires.free in
+    let P : ℕ → Type 0 = λ size. IsAscending 0 size (with_run r c.self.inside.extents.covered) in
+    subst P (sym c.self.invariant.covered_size) can.free

@@ -1,13 +1,11 @@
-use Rattle.std.proofs.Common.{ℕ, ◌+◌, ◌-◌, ◌*◌, ◌/◌, ◌≡◌, ◌≤◌, ◌<◌, List, Option, Some, None, length, get_or, set, map, replicate, Contains, refl, sym, ap, ◌∙◌, subst, arith}
+use Rattle.std.proofs.Common.{ℕ, ◌/◌, ◌≡◌, List, set, Contains, sym, ap, ◌∙◌, subst, arith}
 use Rattle.std.proofs.lemmas.List.{get_or_read}
-use Rattle.mps_base.specs.Run.{Run, IsAscending, with_run, without_run}
-use Rattle.mps_base.specs.Address.{word_of, address_of_grain}
+use Rattle.mps_base.specs.Run.{Run}
 use Rattle.mps_arena.specs.Arena.{ArenaState}
-use Rattle.mps_seg.specs.declared.entry.Entry.{Entry}
 use Rattle.mps_seg.specs.declared.entry.Entry.TheVariants.{Free, First}
-use Rattle.mps_seg.specs.Segment.{Segment, grains_of_segment, without_segment}
-use Rattle.mps_seg.specs.Segs.{SegsState, held_grains, IsEmptyAt}
-use Rattle.mps_seg.specs.Table.{segments_in, segs_state, LiesIn, IsHeld}
+use Rattle.mps_seg.specs.Segment.{Segment, without_segment}
+use Rattle.mps_seg.specs.Segs.{SegsState, IsEmptyAt}
+use Rattle.mps_seg.specs.Table.{segments_in, segs_state, IsHeld}
 use Rattle.mps_seg.proofs.Held.{GivesAt, gives_at, entry_is_held, held_after_giving, segments_after_give}
 use Rattle.mps_seg.proofs.segs.Segs.give.Goals as goal
 

@@ -1,16 +1,11 @@
-use Rattle.std.proofs.Common.{ℕ, suc, ◌+◌, ◌-◌, ◌*◌, ◌/◌, ◌≡◌, ◌≤◌, ◌<◌, List, [], ◌++◌, Option, Some, None, option_map, length, get_or, set, drop, map, Contains, refl, sym, ap, ◌∙◌, subst, arith, add-one}
-use Rattle.std.proofs.lemmas.List.{get_or_read, drop_all}
+use Rattle.std.proofs.Common.{ℕ, suc, ◌*◌, ◌/◌, ◌≡◌, ◌≤◌, ◌<◌, List, [], Option, Some, None, option_map, length, get_or, drop, refl, sym, ap, ◌∙◌, subst, arith, add-one}
+use Rattle.std.proofs.lemmas.List.{drop_all}
 use Rattle.mps_base.specs.Run.{Run, lowest_fitting}
-use Rattle.mps_base.specs.Address.{word_of, address_of_grain}
-use Rattle.mps_arena.specs.Arena.{ArenaState}
 use Rattle.mps_seg.specs.declared.entry.Entry.{Entry}
-use Rattle.mps_seg.specs.declared.entry.Entry.TheVariants.{Free, First}
-use Rattle.mps_seg.specs.Extents.{first_run}
-use Rattle.mps_seg.specs.Segment.{Segment, end_of_segment}
-use Rattle.mps_seg.specs.Segs.{SegsState, gaps_of, at_word}
-use Rattle.mps_seg.specs.Table.{segments_in, segs_state, gaps_at, IsHeld, IsWholeAt}
-use Rattle.mps_seg.proofs.Held.{GivesAt, SegmentAt, segment_at, later_gaps, all_gaps, no_gaps, gaps_more, whole_at, lowest_in_first, lowest_behind, segment_end_fits}
-use Rattle.mps_seg.proofs.Query.{first_run-below}
+use Rattle.mps_seg.specs.declared.entry.Entry.TheVariants.{Free}
+use Rattle.mps_seg.specs.Segs.{SegsState, gaps_of, at_word, CanCover}
+use Rattle.mps_seg.specs.Table.{segs_state, gaps_at, IsWholeAt}
+use Rattle.mps_seg.proofs.Held.{later_gaps, all_gaps, no_gaps, gaps_more, whole_at, lowest_in_first, lowest_behind, gap_at_is_free}
 use Rattle.mps_seg.proofs.segs.Segs.lowest_gap.Goals as goal
 
 pub gap_behind-requires-clause-whole : goal.gap_behind-requires-clause-whole
@@ -18,8 +13,8 @@ gap_behind-requires-clause-whole c =
     let P : List Entry → Type 0 = λ es. IsWholeAt c.loop-grain.grain (get_or es c.loop-grain.grain Free) c.self.inside.extents in
     subst P (sym c.deref-entry-items.ensures.value) (whole_at c.self.inside.arena c.self.inside.table.items c.self.inside.extents c.loop-grain.grain (get_or c.self.inside.table.items c.loop-grain.grain Free) c.self.invariant refl)
 
-pub returns-in-Some : goal.returns-in-Some
-returns-in-Some c =
+pub returns-in-Some-clause-lowest : goal.returns-in-Some-clause-lowest
+returns-in-Some-clause-lowest c =
     let arena = c.self.inside.arena in
     let table = c.self.inside.table.items in
     let extents = c.self.inside.extents in
@@ -37,6 +32,20 @@ returns-in-Some c =
     ∙ c.loop-grain.invariant ∙ ap (λ (rs : List Run). lowest_fitting c.args.words rs) (all_gaps arena table extents c.args.pool c.args.rank))
     ∙ ap (λ (x : SegsState). option_map at_word (lowest_fitting c.args.words (gaps_of x c.args.pool c.args.rank))) c.self.view_is
 
+pub returns-in-Some-clause-free : goal.returns-in-Some-clause-free
+returns-in-Some-clause-free c =
+    let arena = c.self.inside.arena in
+    let table = c.self.inside.table.items in
+    let extents = c.self.inside.extents in
+    let grain = c.loop-grain.grain in
+    let Q : List Entry → Type 0 = λ es. Some c.in-Some.word ≡ lowest_fitting c.args.words (gaps_at grain (get_or es grain Free) c.args.pool c.args.rank extents) in
+    let here = subst Q c.deref-entry-items.ensures.value c.in-Some.ensures.lowest in
+    let place : 8 * c.in-Some.word / 8 ≡ c.in-Some.word = omega arith in
+    let P : ℕ → Type 0 = λ w. CanCover (segs_state arena table extents) (record { from = w; count = c.args.words }) in
+    let R : SegsState → Type 0 = λ st. CanCover st (record { from = 8 * c.in-Some.word / 8; count = c.args.words }) in
+    subst R c.self.view_is (subst P (sym place)
+    (gap_at_is_free arena table extents grain (get_or table grain Free) c.args.pool c.args.rank c.args.words c.in-Some.word c.self.invariant refl c.requires (sym here)))
+
 pub loop-grain-preserved : goal.loop-grain-preserved
 loop-grain-preserved c =
     let arena = c.self.inside.arena in
@@ -53,8 +62,8 @@ loop-grain-preserved c =
     (sym (lowest_behind c.args.words (gaps_at grain (get_or table grain Free) c.args.pool c.args.rank extents) (later_gaps st c.args.pool c.args.rank (suc grain) (drop (suc grain) table)) (sym here))
     ∙ ap (λ (rs : List Run). lowest_fitting c.args.words rs) (sym (gaps_more arena table extents c.args.pool c.args.rank grain within)) ∙ c.loop-grain.invariant)
 
-pub returns : goal.returns
-returns c =
+pub returns-clause-lowest : goal.returns-clause-lowest
+returns-clause-lowest c =
     let arena = c.self.inside.arena in
     let table = c.self.inside.table.items in
     let extents = c.self.inside.extents in

@@ -1,15 +1,10 @@
-use Rattle.std.proofs.Common.{ℕ, suc, ◌+◌, ◌-◌, ◌*◌, ◌/◌, ◌≡◌, ◌≤◌, ◌<◌, List, ◌++◌, Option, Some, None, option_map, length, get_or, set, drop, map, Contains, refl, sym, ap, ◌∙◌, subst, arith, add-one}
-use Rattle.std.proofs.lemmas.List.{get_or_read, drop_all}
-use Rattle.mps_base.specs.Run.{Run, lowest_fitting}
-use Rattle.mps_base.specs.Address.{word_of, address_of_grain}
-use Rattle.mps_arena.specs.Arena.{ArenaState}
-use Rattle.mps_seg.specs.declared.entry.Entry.{Entry}
+use Rattle.std.proofs.Common.{ℕ, ◌+◌, ◌*◌, ◌/◌, ◌≡◌, Option, option_map, Contains, sym, ap, ◌∙◌, subst, arith}
+use Rattle.std.proofs.lemmas.List.{get_or_read}
 use Rattle.mps_seg.specs.declared.entry.Entry.TheVariants.{Free, First}
 use Rattle.mps_seg.specs.Extents.{first_run}
-use Rattle.mps_seg.specs.Segment.{Segment, end_of_segment}
-use Rattle.mps_seg.specs.Segs.{SegsState, gaps_of, at_word}
-use Rattle.mps_seg.specs.Table.{segments_in, segs_state, gaps_at, IsHeld, IsWholeAt}
-use Rattle.mps_seg.proofs.Held.{GivesAt, SegmentAt, segment_at, later_gaps, all_gaps, no_gaps, gaps_more, whole_at, lowest_in_first, lowest_behind, segment_end_fits}
+use Rattle.mps_seg.specs.Segment.{end_of_segment}
+use Rattle.mps_seg.specs.Segs.{SegsState, at_word}
+use Rattle.mps_seg.proofs.Held.{SegmentAt, segment_at, segment_end_fits}
 use Rattle.mps_seg.proofs.Query.{first_run-below}
 use Rattle.mps_seg.proofs.segs.Segs.walk.Goals as goal
 
@@ -19,10 +14,10 @@ index-requires c =
     let table = c.self.inside.table.items in
     let extents = c.self.inside.extents in
     let grain = c.args.base.0 / 4096 in
-    let s = c.requires.held.0 in
+    let s = c.requires.0 in
     let P : SegsState → Type 0 = λ st. Contains st.segments s in
-    let there = subst P (sym c.self.view_is) c.requires.held.1 in
-    let at : SegmentAt table c.args.base.0 s = segment_at table c.args.base.0 s there c.requires.held.2 in
+    let there = subst P (sym c.self.view_is) c.requires.1 in
+    let at : SegmentAt table c.args.base.0 s = segment_at table c.args.base.0 s there c.requires.2 in
     omega (arith, at.within, c.self.inside.table.ok.0)
 
 pub unreachable-requires : goal.unreachable-requires
@@ -31,10 +26,10 @@ unreachable-requires c =
     let table = c.self.inside.table.items in
     let extents = c.self.inside.extents in
     let grain = c.args.base.0 / 4096 in
-    let s = c.requires.held.0 in
+    let s = c.requires.0 in
     let P : SegsState → Type 0 = λ st. Contains st.segments s in
-    let there = subst P (sym c.self.view_is) c.requires.held.1 in
-    let at : SegmentAt table c.args.base.0 s = segment_at table c.args.base.0 s there c.requires.held.2 in
+    let there = subst P (sym c.self.view_is) c.requires.1 in
+    let at : SegmentAt table c.args.base.0 s = segment_at table c.args.base.0 s there c.requires.2 in
     let read : c.index.result.now ≡ First s.grains s.pool s.generation s.rank = get_or_read table grain c.index.result.now at.within c.index.ensures Free ∙ at.is in
     let never : Free ≡ First s.grains s.pool s.generation s.rank = sym c.in_default.is ∙ read in
     cc
@@ -45,10 +40,10 @@ first_block-requires c =
     let table = c.self.inside.table.items in
     let extents = c.self.inside.extents in
     let grain = c.args.base.0 / 4096 in
-    let s = c.requires.held.0 in
+    let s = c.requires.0 in
     let P : SegsState → Type 0 = λ st. Contains st.segments s in
-    let there = subst P (sym c.self.view_is) c.requires.held.1 in
-    let at : SegmentAt table c.args.base.0 s = segment_at table c.args.base.0 s there c.requires.held.2 in
+    let there = subst P (sym c.self.view_is) c.requires.1 in
+    let at : SegmentAt table c.args.base.0 s = segment_at table c.args.base.0 s there c.requires.2 in
     let read : c.index.result.now ≡ First s.grains s.pool s.generation s.rank = get_or_read table grain c.index.result.now at.within c.index.ensures Free ∙ at.is in
     let both : First c.in-First.grains c.in-First.pool c.in-First.generation c.in-First.rank ≡ First s.grains s.pool s.generation s.rank = sym c.in-First.is ∙ read in
     let grains : c.in-First.grains ≡ s.grains = cc in
@@ -79,10 +74,10 @@ overflow_mul-result c =
     let table = c.self.inside.table.items in
     let extents = c.self.inside.extents in
     let grain = c.args.base.0 / 4096 in
-    let s = c.requires.held.0 in
+    let s = c.requires.0 in
     let P : SegsState → Type 0 = λ st. Contains st.segments s in
-    let there = subst P (sym c.self.view_is) c.requires.held.1 in
-    let at : SegmentAt table c.args.base.0 s = segment_at table c.args.base.0 s there c.requires.held.2 in
+    let there = subst P (sym c.self.view_is) c.requires.1 in
+    let at : SegmentAt table c.args.base.0 s = segment_at table c.args.base.0 s there c.requires.2 in
     let read : c.index.result.now ≡ First s.grains s.pool s.generation s.rank = get_or_read table grain c.index.result.now at.within c.index.ensures Free ∙ at.is in
     let both : First c.in-First.grains c.in-First.pool c.in-First.generation c.in-First.rank ≡ First s.grains s.pool s.generation s.rank = sym c.in-First.is ∙ read in
     let grains : c.in-First.grains ≡ s.grains = cc in

@@ -1,0 +1,73 @@
+#!/bin/sh
+# Measures how long a block takes in the segments: made in the lowest gap of a pool or in a new segment, and freed again.
+# First a pool of 4 MiB is filled with blocks of 2 to 64 words, then pools of 1,000, 10,000 and 100,000 blocks of 2 to 16 words.
+# It makes a program over a copy of the crates, proves it, and runs it.
+home=$(cd "$(dirname "$0")/.." && pwd)
+folder=$(mktemp -d)
+cd "$folder" || exit 1
+mkdir crates
+for crate in mps_base mps_bits mps_arena mps_seg; do
+    mkdir "crates/$crate"
+    for part in src specs proofs; do
+        [ -d "$home/crates/$crate/$part" ] && cp -r "$home/crates/$crate/$part" "crates/$crate/$part"
+    done
+done
+grep -E '^mps_(base|bits|arena|seg):' "$home/crates.txt" > crates.txt
+echo 'segment_times: mps_base mps_seg' >> crates.txt
+program=crates/segment_times
+mkdir -p $program/src $program/proofs/fill $program/proofs/free_over
+sed -n '/^fn fill(/,/^}/p; /^fn free_over(/,/^}/p' "$home/crates/mps_seg/src/tests.rt" > functions
+for name in fill free_over; do
+    sed "s/mps_seg\.proofs\.tests\.$name/segment_times.proofs.$name/" "$home/crates/mps_seg/proofs/tests/$name/Answers.antt" > $program/proofs/$name/Answers.antt
+done
+cat > $program/src/main.rt <<'P'
+// How long a block takes in the segments.
+#![tactic(auto)]
+
+ghost use Rattle.std.specs.Prelude.{◌<◌, ◌≤◌};
+
+use mps_base::{Addr, Rank, Refusal, Trail};
+use mps_seg::Segs;
+use std::io;
+use std::time::Instant;
+
+fn measure(rt: &HostRuntime, grains: u32, count: u32, least: u64, most: u64) -> io::Result<()>
+    requires { (0 < grains) × (grains ≤ 2048) × (0 < least) × (least ≤ most) × (most < 65536) }
+{
+    let mut segs = Segs::new(rt.alloc(), grains, grains)?;
+    let mut trail = Trail::new(rt.alloc(), 1)?;
+    let mut places = Vec::new(rt.alloc());
+    let mut seed = 1u64;
+    let began = Instant::now(rt)?;
+    for _ in 0..count {
+        seed = seed.wrapping_mul(6364136223846793005).wrapping_add(1442695040888963407);
+        let words = (least + (seed >> 33) % (most - least + 1)) as u32;
+        let mut trail = Trail::new(rt.alloc(), 1)?;
+        match fill(&mut segs, &mut trail, 0, words) {
+            Ok(at) => places.push(at)?,
+            Err(_) => break,
+        }
+    }
+    let filled = began.elapsed(rt)?.as_nanos();
+    let began = Instant::now(rt)?;
+    for at in &places {
+        let _ = free_over(&mut segs, at.0);
+    }
+    let freed = began.elapsed(rt)?.as_nanos();
+    trail.clear();
+    let blocks = places.len().max(1) as u128;
+    println!(rt; "{} blocks of {} to {} words in {} grains: made in {} ns each, freed in {} ns each", places.len(), least, most, segs.committed(), filled / blocks, freed / blocks)
+}
+
+fn main(rt: HostRuntime) -> io::Result<()> {
+    measure(&rt, 1024, 1_000_000, 2, 64)?;
+    for count in [1_000, 10_000, 100_000] {
+        measure(&rt, 2048, count, 2, 16)?;
+    }
+    Ok(())
+}
+
+P
+cat functions >> $program/src/main.rt
+(cd $program && rt run)
+cd / && rm -r "$folder"

@@ -1,0 +1,151 @@
+// Placements at the edges, and many pseudo-random ones beside a plain table of owners.
+ghost use Rattle.std.specs.Prelude.{◌<◌, ◌≤◌};
+
+use crate::Segs;
+use mps_base::{Addr, Rank, Refusal, Trail};
+use std::alloc::{AllocError, Global};
+
+/// Makes a block in the lowest gap of a pool, or else at the base of a new segment.
+fn fill(segs: &mut Segs, trail: &mut Trail, pool: u32, words: u32) -> Result<Addr, Refusal>
+    requires some { 0 < words }
+    requires few { words ≤ 65536 }
+    requires room { 0 < trail.old.spare }
+{
+    if let Some(at) = segs.lowest_gap(pool, Rank::Exact, words) {
+        segs.cover(at, words);
+        segs.commit_block(at);
+        return Ok(at);
+    }
+    let at = segs.take(trail, pool, words, 0, Rank::Exact)?;
+    segs.cover(at, words);
+    segs.commit_block(at);
+    Ok(at)
+}
+
+/// Frees the block over a byte, and says where it began.
+fn free_over(segs: &mut Segs, n: u64) -> Option<Addr> {
+    let at = segs.block_at(n)?;
+    segs.drop_block(at);
+    Some(at)
+}
+
+#[test]
+fn places_blocks_at_the_lowest_gap(rt: HostRuntime) -> Result<(), AllocError> {
+    let mut segs = Segs::new(rt.alloc(), 4, 3)?;
+    let mut trail = Trail::new(rt.alloc(), 1)?;
+    assert!(rt; fill(&mut segs, &mut trail, 0, 500) == Ok(Addr(0x1000)));
+    for (pool, words, want) in [
+        (0u32, 10u32, Ok(Addr(0x1fa0))),
+        (0, 3, Ok(Addr(0x2000))),
+        (0, 2, Ok(Addr(0x1ff0))),
+        (
+            1,
+            513,
+            Err(Refusal::CommitLimit {
+                committed: 2,
+                need: 2,
+                limit: 3,
+            }),
+        ),
+        (1, 512, Ok(Addr(0x3000))),
+        (
+            1,
+            1,
+            Err(Refusal::CommitLimit {
+                committed: 3,
+                need: 1,
+                limit: 3,
+            }),
+        ),
+    ] {
+        let mut trail = Trail::new(rt.alloc(), 1)?;
+        if words > 0 && words <= 65536 {
+            assert!(rt;
+                fill(&mut segs, &mut trail, pool, words) == want,
+                "{words} words"
+            );
+        }
+    }
+    assert_eq!(rt; segs.committed(), 3);
+    assert!(rt; segs.block_at(0x1f9f) == Some(Addr(0x1000)));
+    assert!(rt; segs.block_at(0x1fa0) == Some(Addr(0x1fa0)));
+    assert!(rt; segs.block_at(0x2018) == None);
+    assert!(rt; free_over(&mut segs, 0x1000) == Some(Addr(0x1000)));
+    assert!(rt; segs.block_at(0x1000) == None);
+    assert!(rt; segs.lowest_gap(0, Rank::Exact, 500) == Some(Addr(0x1000)));
+    assert!(rt; segs.lowest_gap(0, Rank::Exact, 510) == None);
+    assert!(rt; segs.lowest_gap(0, Rank::Weak, 1) == None);
+    assert!(rt; segs.set_limit(2) == Err(Refusal::BelowCommitted));
+    Ok(())
+}
+
+/// The first of the words from `low` on, below `high`, that begins `words` words without an owner.
+fn plain_gap(owners: &[u64], low: usize, high: usize, words: usize) -> Option<usize> {
+    let mut free = 0usize;
+    for word in low..high {
+        if owners.get(word).copied() == Some(0) {
+            free = free.saturating_add(1);
+            if free == words {
+                return Some((word - low).saturating_sub(words - 1).saturating_add(low));
+            }
+        } else {
+            free = 0;
+        }
+    }
+    None
+}
+
+/// Makes `owner` the owner of some words.
+fn own(owners: &mut [u64], from: usize, words: usize, owner: u64) {
+    for word in owners.iter_mut().skip(from).take(words) {
+        *word = owner;
+    }
+}
+
+#[test]
+fn agrees_with_a_plain_table(rt: HostRuntime) -> Result<(), AllocError> {
+    let mut segs = Segs::new(rt.alloc(), 4, 4)?;
+    let mut owners = vec![in rt.alloc(); 0u64; 2560]?;
+    let mut sizes = vec![in rt.alloc(); 0usize; 2560]?;
+    let mut seed = 1u64;
+    let mut held = 0usize;
+    for _ in 0..2000 {
+        seed = seed
+            .wrapping_mul(6364136223846793005)
+            .wrapping_add(1442695040888963407);
+        let words = (seed >> 33) % 64 + 1;
+        let word = ((seed >> 40) % 2560) as usize;
+        if seed >> 63 == 0 {
+            let mut trail = Trail::new(rt.alloc(), 1)?;
+            let mut want = None;
+            for grain in 1..=held {
+                if want.is_none() && grain < 5 {
+                    want = plain_gap(&owners, 512 * grain, 512 * grain + 512, words as usize);
+                }
+            }
+            if want.is_none() && held < 4 {
+                held += 1;
+                want = Some(512 * held);
+            }
+            let got = fill(&mut segs, &mut trail, 7, words as u32)
+                .ok()
+                .map(|at| (at.0 / 8) as usize);
+            assert!(rt; got == want, "{words} words");
+            if let Some(at) = got {
+                own(&mut owners, at, words as usize, at as u64);
+                if at < sizes.len() {
+                    sizes[at] = words as usize;
+                }
+            }
+        } else {
+            let owner = owners.get(word).copied().unwrap_or(0);
+            let got = free_over(&mut segs, 8 * word as u64).map_or(0, |at| at.0 / 8);
+            assert_eq!(rt; got, owner);
+            if owner != 0 {
+                let words = sizes.get(owner as usize).copied().unwrap_or(0);
+                own(&mut owners, owner as usize, words, 0);
+            }
+        }
+    }
+    Ok(())
+}
