@@ -1,6 +1,6 @@
 -- What the first heap keeps, as plain data: an arena of words, one table, one pool of the format `front`, and one point.
 -- Places are numbers of words; 0 is null.
-use Rattle.std.specs.Prelude.{ℕ, Bool, false, nat_lt, not, ◌&&◌, ◌||◌, if◌then◌else◌, Option, Some, None, List, [], length, slice_index}
+use Rattle.std.specs.Prelude.{ℕ, Bool, false, nat_lt, not, ◌&&◌, ◌||◌, if◌then◌else◌, Option, Some, None, List, [], length, slice_index, ◌≡◌, refl, true}
 use Rattle.mps_base.specs.declared.names.Name.{Name}
 use Rattle.mps_base.specs.declared.names.Slot.{Slot}
 use Rattle.mps_format.specs.Fields.{size_field}
@@ -81,3 +81,21 @@ is_number_cell head cell =
 -- the head of the block at a place
 abbrev pub head_at : Kept → (place : ℕ) → ℕ
 head_at h place = slice_index h.words place
+
+two_words : words_of_head 0x201 ≡ 2
+two_words = refl
+
+no_head : words_of_head 0x101 ≡ 0
+no_head = refl
+
+the_last_cell_is_a_number : is_number_cell 0x100000301 2 ≡ true
+the_last_cell_is_a_number = refl
+
+a_reference_is_no_number : is_number_cell 0x100000301 1 ≡ false
+a_reference_is_no_number = refl
+
+the_head_is_no_number : is_number_cell 0x201 0 ≡ false
+the_head_is_no_number = refl
+
+no_cell_behind_the_block : is_number_cell 0x201 2 ≡ false
+no_cell_behind_the_block = refl

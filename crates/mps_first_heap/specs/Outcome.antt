@@ -1,5 +1,5 @@
 -- What each call does to what the heap keeps, and what it is told.
-use Rattle.std.specs.Prelude.{ℕ, ◌+◌, ◌-◌, ◌*◌, Bool, true, false, nat_lt, nat_le, not, ◌&&◌, ◌==◌, if◌then◌else◌, Option, Some, None, is_some, length, replicate, slice_index, slice_set}
+use Rattle.std.specs.Prelude.{◌≡◌, refl, ℕ, ◌+◌, ◌-◌, ◌*◌, Bool, true, false, nat_lt, nat_le, not, ◌&&◌, ◌==◌, if◌then◌else◌, Option, Some, None, is_some, length, replicate, slice_index, slice_set}
 use Rattle.mps_base.specs.Address.{grains_needed}
 use Rattle.mps_base.specs.declared.moves.Move.{Move}
 use Rattle.mps_base.specs.declared.moves.Move.TheVariants as moves
@@ -166,3 +166,25 @@ outcome h (call.InitNumber point cell value) = after_init h point cell value
 outcome h (call.Commit point target) = after_commit h point target
 outcome h (call.Number slot cell) = answered h (number_reply h slot cell)
 outcome h _ = unsupported h
+
+-- two grains, of which one is held, and a limit of two
+abbrev example : Kept
+example = record nothing_kept { grains = 2; limit = 2; held = 1; front = 512; behind = 1024 }
+
+at_the_front_of_the_next_grain : (reserve_behind example 0x20001 1).kept.reserved ≡ 1024
+at_the_front_of_the_next_grain = refl
+
+its_segment_is_told : (reserve_behind example 0x20001 1).done.moved ≡ Some (moves.Seg (record { 0 = 0x2000 }) 1 0 0)
+its_segment_is_told = refl
+
+one_grain_over_the_limit : (reserve_behind example 0x20101 2).done.reply ≡ reply.Refused (refusal.CommitLimit 1 2 2)
+one_grain_over_the_limit = refl
+
+one_grain_over_the_arena : (reserve_behind (record example { limit = 3 }) 0x20101 2).done.reply ≡ reply.Unsupported
+one_grain_over_the_arena = refl
+
+room_for_a_block_of_512_words : (reserve_placed example 0x20001).done.moved ≡ None
+room_for_a_block_of_512_words = refl
+
+no_number_in_null : number_at example 0 1 ≡ reply.Refused refusal.NullRef
+no_number_in_null = refl

@@ -1,5 +1,5 @@
 -- When what the heap keeps stands for a world of the model.
-use Rattle.std.specs.Prelude.{◌≡◌, ℕ, zero, suc, ◌+◌, ◌-◌, ◌*◌, ◌<◌, ◌≤◌, Bool, true, false, nat_lt, IsTrue, if◌then◌else◌, Option, Some, None, is_some, List, [], ◌∷◌, map, length, take, drop, slice_index, sum}
+use Rattle.std.specs.Prelude.{◌≡◌, ℕ, zero, suc, ◌+◌, ◌-◌, ◌*◌, ◌<◌, ◌≤◌, Bool, true, false, nat_lt, IsTrue, if◌then◌else◌, Option, Some, None, is_some, List, [], ◌∷◌, map, length, take, drop, slice_index, sum, refl}
 use Rattle.std.specs.List.{list_all, AllByRecursion}
 use Rattle.mps_base.specs.declared.moves.Move.{Move}
 use Rattle.mps_base.specs.declared.names.Kind.TheVariants as kind
@@ -12,8 +12,8 @@ use Rattle.mps_model.specs.declared.call.Call.{Call}
 use Rattle.mps_model.specs.Answer.{Said}
 use Rattle.mps_model.specs.Step.{Step}
 use Rattle.mps_model.specs.Graph.{Cell, HeadCell, NumberCell, ReferenceCell, Automatic, Object, Point, Reservation, Thing, TableThing, PoolThing, PointThing, NamedThing, thing_in, Slots}
-use Rattle.mps_model.specs.World.{World, Pool, Collected, Segment, PointPlace, Unclamped}
-use Rattle.mps_first_heap.specs.Kept.{Kept, is_name}
+use Rattle.mps_model.specs.World.{World, empty_world, Pool, Collected, Segment, PointPlace, Unclamped}
+use Rattle.mps_first_heap.specs.Kept.{Kept, nothing_kept, is_name}
 use Rattle.mps_first_heap.specs.declared.done.Done.{Done}
 
 -- ---- the objects that words are
@@ -196,3 +196,13 @@ moves_of (Some move) = move ∷ []
 -- the step of a call in a line that came to this
 abbrev pub step_of : (line : ℕ) → Call → Done → Step
 step_of line call done = record { line = line; call = call; moves = moves_of done.moved; answer = Said done.reply }
+
+a_block_with_a_reference :
+    cells_at (0 ∷ 0x100000301 ∷ 0 ∷ 7 ∷ 9 ∷ []) 1 ≡ HeadCell ∷ ReferenceCell None 0 ∷ NumberCell 7 ∷ []
+a_block_with_a_reference = refl
+
+the_second_segment_lies_behind_the_first : segments_from 1 (2 ∷ 3 ∷ []) ≡ segment_from 1 2 ∷ segment_from 3 3 ∷ []
+the_second_segment_lies_behind_the_first = refl
+
+the_empty_world : world_of nothing_kept (record { ids = []; places = []; segments = []; names = [] }) ≡ empty_world
+the_empty_world = refl

@@ -1,12 +1,13 @@
 -- Which calls the first heap doesn't support.
-use Rattle.std.specs.Prelude.{◌≤◌, Bool, true, false, nat_lt, not, ◌||◌, ◌==◌, if◌then◌else◌, Ok, Err, length}
+use Rattle.std.specs.Prelude.{◌≤◌, Bool, true, false, nat_lt, not, ◌||◌, ◌==◌, if◌then◌else◌, Ok, Err, length, ◌≡◌, ◌∷◌, [], None, refl}
 use Rattle.mps_base.specs.declared.names.Kind.TheVariants as kind
 use Rattle.mps_base.specs.declared.names.Rank.TheVariants as rank
 use Rattle.mps_base.specs.declared.refusal.Refusal.{Refusal}
 use Rattle.mps_base.specs.declared.refusal.Refusal.TheVariants as refusal
 use Rattle.mps_model.specs.declared.call.Call.{Call}
 use Rattle.mps_model.specs.declared.call.Call.TheVariants as call
-use Rattle.mps_model.specs.World.{World}
+use Rattle.mps_base.specs.declared.names.Name.{Name}
+use Rattle.mps_model.specs.World.{World, Collected, empty_world}
 use Rattle.mps_model.specs.Checked.{Act, Checked}
 use Rattle.mps_model.specs.Reply.{act}
 
@@ -68,3 +69,45 @@ abbrev pub takes_memory : Call → Bool
 takes_memory (call.Arena grains limit) = true
 takes_memory (call.Table table length) = true
 takes_memory _ = false
+
+-- the name `p`
+abbrev example : Name
+example = record { len = 1; bytes = 112 ∷ 0 ∷ 0 ∷ 0 ∷ 0 ∷ 0 ∷ 0 ∷ 0 ∷ 0 ∷ 0 ∷ 0 ∷ 0 ∷ 0 ∷ 0 ∷ 0 ∷ 0 ∷ [] }
+
+-- the world after `arena 1 1`
+abbrev example_world : World
+example_world = record empty_world { grains = 1; limit = 1 }
+
+the_arena_comes_first : is_unsupported_call empty_world (call.Arena 1 1) ≡ false
+the_arena_comes_first = refl
+
+a_pool_does_not_come_first : is_unsupported_call empty_world (call.Pool example kind.Amc 1) ≡ true
+a_pool_does_not_come_first = refl
+
+no_second_arena : is_unsupported_call example_world (call.Arena 1 1) ≡ true
+no_second_arena = refl
+
+a_pool : is_unsupported_call example_world (call.Pool example kind.Amc 1) ≡ false
+a_pool = refl
+
+a_pool_of_another_format : is_unsupported_call example_world (call.Pool example kind.Amc 2) ≡ true
+a_pool_of_another_format = refl
+
+a_pool_of_another_kind : is_unsupported_call example_world (call.Pool example kind.Amcz 1) ≡ true
+a_pool_of_another_kind = refl
+
+no_second_pool :
+    is_unsupported_call
+    (record example_world { pools = record { kind = Collected kind.Amc; format = 1; chain = None } ∷ [] })
+    (call.Pool example kind.Amc 1)
+    ≡ true
+no_second_pool = refl
+
+a_name_of_nothing : is_unsupported_call example_world (call.Reserve example 0x201) ≡ true
+a_name_of_nothing = refl
+
+a_null_slot_is_told : is_untold (Err refusal.NullRef) ≡ false
+a_null_slot_is_told = refl
+
+no_room_is_not_told : is_untold (Err (refusal.NoRun 2 1)) ≡ true
+no_room_is_not_told = refl

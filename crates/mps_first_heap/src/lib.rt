@@ -13,3 +13,6 @@ mod using;
 
 pub use done::Done;
 pub use heap::FirstHeap;
+
+#[cfg(test)]
+mod tests;
