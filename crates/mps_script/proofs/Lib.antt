@@ -1,3 +1,2 @@
 pub mod FirstWord
 pub mod Digits
-pub mod Hexadecimal

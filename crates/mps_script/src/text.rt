@@ -1,149 +1,77 @@
 // The answer line of a reply.
-ghost use Rattle.std.specs.Prelude.{◌≡◌, ◌+◌, ◌<◌, ◌≤◌, ◌∷◌, ◌++◌, length, take, decimal, true};
-ghost use Rattle.mps_script.specs.Text.{digit_byte, hexadecimal_digits, hexadecimal, spaced, refusal_numbers, head_text, plain_text_of, text_of, is_printable};
+ghost use Rattle.std.specs.Prelude.{◌≡◌, ◌+◌, ◌≤◌, ◌++◌, length, take, decimal, true};
+ghost use Rattle.mps_model.specs.Answer.{Said};
+ghost use Rattle.mps_model.specs.Text.{hexadecimal, and_number, refusal_text, reply_text, line_of_answer};
+ghost use Rattle.mps_script.specs.Text.{is_printable};
 
 use itoa::Buffer;
 use mps_base::Refusal;
+use mps_format::put_head_text;
 use mps_model::Reply;
+use mps_numbers::{put_decimal, put_hexadecimal, put_text as put};
 
 /// Room for any answer line, in bytes.
 pub const LONGEST_ANSWER: usize = 64;
 
-/// Writes a piece behind the first `at` bytes, and answers where it ends.
-fn put(out: &mut [u8], at: usize, piece: &[u8]) -> usize
-    requires { at + length piece.now ≤ length out.old }
-    ensures behind { result ≡ at + length piece.now }
-    ensures written { take result out.new ≡ take at out.old ++ piece.now }
-{
-    out[at..at + piece.len()].copy_from_slice(piece);
-    at + piece.len()
-}
-
-fn put_number(out: &mut [u8], at: usize, n: u64) -> usize
-    requires { at + 20 ≤ length out.old }
-    ensures behind { result ≤ at + 20 }
-    ensures written { take result out.new ≡ take at out.old ++ decimal n }
-{
-    let mut buffer = Buffer::new();
-    put(out, at, buffer.format(n).as_bytes())
-}
-
+/// A space and a number.
 fn put_spaced(out: &mut [u8], at: usize, n: u64) -> usize
     requires { at + 21 ≤ length out.old }
     ensures behind { result ≤ at + 21 }
-    ensures written { take result out.new ≡ take at out.old ++ spaced n }
+    ensures written { take result out.new ≡ take at out.old ++ and_number n }
 {
-    let at = put(out, at, b" ");
-    put_number(out, at, n)
+    let at = put(b" ", out, at);
+    put_decimal(n, out, at)
 }
 
-/// The digits of a number in hexadecimal, at most so many.
-fn put_digits(out: &mut [u8], at: usize, most: u32, n: u64) -> usize
-    requires { at + most ≤ length out.old }
-    ensures behind { result ≤ at + most }
-    ensures written { take result out.new ≡ take at out.old ++ hexadecimal_digits most n }
-{
-    if most == 0 {
-        return at;
-    }
-    if n < 16 {
-        return put(out, at, &[digit(n)]);
-    }
-    let at = put_digits(out, at, most - 1, n / 16);
-    put(out, at, &[digit(n % 16)])
-}
-
-fn digit(n: u64) -> u8
-    requires { n < 16 }
-    ensures { result ≡ digit_byte n }
-{
-    if n < 10 {
-        b'0' + n as u8
-    } else {
-        b'a' - 10 + n as u8
-    }
-}
-
+/// A word in hexadecimal.
 fn put_word(out: &mut [u8], at: usize, n: u64) -> usize
     requires { at + 18 ≤ length out.old }
     ensures behind { result ≤ at + 18 }
     ensures written { take result out.new ≡ take at out.old ++ hexadecimal n }
 {
-    let at = put(out, at, b"0x");
-    put_digits(out, at, 16, n)
+    let at = put(b"0x", out, at);
+    put_hexadecimal(n, out, at)
 }
 
-fn put_head(out: &mut [u8], head: u64) -> usize
-    requires { 64 ≤ length out.old }
-    ensures behind { result ≤ 50 }
-    ensures written { take result out.new ≡ head_text head }
-{
-    let size = head / 256 % 16777216;
-    let extra = head / 4294967296;
-    match head % 256 {
-        1 => {
-            let at = put(out, 0, b"f:");
-            put_pair(out, at, size, extra)
-        }
-        2 => {
-            let at = put(out, 0, b"m:");
-            put_pair(out, at, size, extra)
-        }
-        _ => {
-            let at = put(out, 0, b"l:");
-            put_number(out, at, size)
-        }
-    }
-}
-
-fn put_pair(out: &mut [u8], at: usize, size: u64, extra: u64) -> usize
-    requires { at + 41 ≤ length out.old }
-    ensures behind { result ≤ at + 41 }
-    ensures written { take result out.new ≡ take at out.old ++ (decimal size ++ (58 ∷ decimal extra)) }
-{
-    let at = put_number(out, at, size);
-    let at = put(out, at, b":");
-    put_number(out, at, extra)
-}
-
+/// The number of a refusal, and the numbers that it prints behind it.
 fn put_refusal(out: &mut [u8], at: usize, why: &Refusal) -> usize
     requires { at + 48 ≤ length out.old }
     ensures behind { result ≤ at + 48 }
-    ensures written { take result out.new ≡ take at out.old ++ refusal_numbers why.now }
+    ensures written { take result out.new ≡ take at out.old ++ refusal_text why.now }
 {
     match *why {
-        Refusal::BadName => put(out, at, b"1"),
-        Refusal::NameTaken => put(out, at, b"2"),
-        Refusal::BadIndex => put(out, at, b"3"),
-        Refusal::NullRef => put(out, at, b"4"),
-        Refusal::NotARef => put(out, at, b"5"),
-        Refusal::NotANumber => put(out, at, b"6"),
-        Refusal::BadHead => put(out, at, b"7"),
-        Refusal::Open => put(out, at, b"8"),
-        Refusal::NotOpen => put(out, at, b"9"),
+        Refusal::BadName => put(b"1", out, at),
+        Refusal::NameTaken => put(b"2", out, at),
+        Refusal::BadIndex => put(b"3", out, at),
+        Refusal::NullRef => put(b"4", out, at),
+        Refusal::NotARef => put(b"5", out, at),
+        Refusal::NotANumber => put(b"6", out, at),
+        Refusal::BadHead => put(b"7", out, at),
+        Refusal::Open => put(b"8", out, at),
+        Refusal::NotOpen => put(b"9", out, at),
         Refusal::CommitLimit {
             committed,
             need,
             limit,
         } => {
-            let at = put(out, at, b"10");
+            let at = put(b"10", out, at);
             put_three(out, at, committed, need, limit)
         }
         Refusal::NoRun { need, longest } => {
-            let at = put(out, at, b"11");
+            let at = put(b"11", out, at);
             put_two(out, at, need, longest)
         }
-        Refusal::NotABlock => put(out, at, b"12"),
-        Refusal::WrongPool => put(out, at, b"13"),
-        Refusal::NotRegistered => put(out, at, b"14"),
-        Refusal::BadSize => put(out, at, b"15"),
+        Refusal::NotABlock => put(b"12", out, at),
+        Refusal::WrongPool => put(b"13", out, at),
+        Refusal::NotRegistered => put(b"14", out, at),
+        Refusal::BadSize => put(b"15", out, at),
         Refusal::TooMany { limit } => {
-            let at = put(out, at, b"16");
+            let at = put(b"16", out, at);
             put_small(out, at, limit)
         }
-        Refusal::Running => put(out, at, b"17"),
-        Refusal::BelowCommitted => put(out, at, b"18"),
-        Refusal::OutOfMemory => put(out, at, b"19"),
+        Refusal::Running => put(b"17", out, at),
+        Refusal::BelowCommitted => put(b"18", out, at),
+        Refusal::OutOfMemory => put(b"19", out, at),
     }
 }
 
@@ -151,26 +79,28 @@ fn put_refusal(out: &mut [u8], at: usize, why: &Refusal) -> usize
 fn put_small(out: &mut [u8], at: usize, n: u32) -> usize
     requires { at + 11 ≤ length out.old }
     ensures behind { result ≤ at + 11 }
-    ensures written { take result out.new ≡ take at out.old ++ spaced n }
+    ensures written { take result out.new ≡ take at out.old ++ and_number n }
 {
-    let at = put(out, at, b" ");
+    let at = put(b" ", out, at);
     let mut buffer = Buffer::new();
-    put(out, at, buffer.format(n).as_bytes())
+    put(buffer.format(n).as_bytes(), out, at)
 }
 
+/// A space and a number, twice.
 fn put_two(out: &mut [u8], at: usize, first: u32, second: u32) -> usize
     requires { at + 22 ≤ length out.old }
     ensures behind { result ≤ at + 22 }
-    ensures written { take result out.new ≡ take at out.old ++ (spaced first ++ spaced second) }
+    ensures written { take result out.new ≡ take at out.old ++ (and_number first ++ and_number second) }
 {
     let at = put_small(out, at, first);
     put_small(out, at, second)
 }
 
+/// A space and a number, three times.
 fn put_three(out: &mut [u8], at: usize, first: u32, second: u32, third: u32) -> usize
     requires { at + 33 ≤ length out.old }
     ensures behind { result ≤ at + 33 }
-    ensures written { take result out.new ≡ take at out.old ++ (spaced first ++ (spaced second ++ spaced third)) }
+    ensures written { take result out.new ≡ take at out.old ++ (and_number first ++ (and_number second ++ and_number third)) }
 {
     let at = put_small(out, at, first);
     put_two(out, at, second, third)
@@ -180,31 +110,31 @@ fn put_three(out: &mut [u8], at: usize, first: u32, second: u32, third: u32) -> 
 fn put_plain(out: &mut [u8], reply: &Reply) -> usize
     requires { 64 ≤ length out.old }
     ensures behind { result ≤ 60 }
-    ensures written { take result out.new ≡ plain_text_of reply.now }
+    ensures written { take result out.new ≡ reply_text reply.now }
 {
     match *reply {
-        Reply::Ok => put(out, 0, b"ok"),
-        Reply::Flipped => put(out, 0, b"flipped"),
-        Reply::Number(n) => put_number(out, 0, n),
+        Reply::Ok => put(b"ok", out, 0),
+        Reply::Flipped => put(b"flipped", out, 0),
+        Reply::Number(n) => put_decimal(n, out, 0),
         Reply::Word(n) => put_word(out, 0, n),
-        Reply::Yes => put(out, 0, b"yes"),
-        Reply::No => put(out, 0, b"no"),
-        Reply::Block => put(out, 0, b"block"),
-        Reply::Plain => put(out, 0, b"number"),
-        Reply::More => put(out, 0, b"more"),
-        Reply::Idle => put(out, 0, b"idle"),
-        Reply::None_ => put(out, 0, b"none"),
-        Reply::Head(head) => put_head(out, head),
+        Reply::Yes => put(b"yes", out, 0),
+        Reply::No => put(b"no", out, 0),
+        Reply::Block => put(b"block", out, 0),
+        Reply::Plain => put(b"number", out, 0),
+        Reply::More => put(b"more", out, 0),
+        Reply::Idle => put(b"idle", out, 0),
+        Reply::None_ => put(b"none", out, 0),
+        Reply::Head(head) => put_head_text(head, out),
         Reply::Pair(first, second) => {
-            let at = put_number(out, 0, first);
+            let at = put_decimal(first, out, 0);
             put_spaced(out, at, second)
         }
         Reply::Words(_, _) => 0,
         Reply::Refused(why) => {
-            let at = put(out, 0, b"refused ");
+            let at = put(b"refused ", out, 0);
             put_refusal(out, at, &why)
         }
-        Reply::Unsupported => put(out, 0, b"unsupported"),
+        Reply::Unsupported => put(b"unsupported", out, 0),
     }
 }
 
@@ -214,8 +144,8 @@ pub fn put_text(out: &mut [u8], reply: &Reply) -> usize
     requires room { 64 ≤ length out.old }
     requires printable { is_printable reply.now ≡ true }
     ensures within { result ≤ 64 }
-    ensures written { take result out.new ≡ text_of reply.now }
+    ensures written { take result out.new ≡ line_of_answer (Said reply.now) }
 {
     let at = put_plain(out, reply);
-    put(out, at, b"\n")
+    put(b"\n", out, at)
 }
