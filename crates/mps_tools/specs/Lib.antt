@@ -6,3 +6,4 @@ pub mod KindSet
 pub mod Input
 pub mod Causes
 pub mod Portable
+pub mod GenLines

@@ -33,3 +33,9 @@ pub record Runs (old new : Outside) : Type 0 where
   pub files : new.files ≡ old.files
   pub logged : new.logged ≡ old.logged
   pub log_faults : new.log_faults ≡ old.log_faults
+
+-- a text was gathered behind what was gathered before, and some of all that was printed
+pub record Gathers (old new : Outside) (before after text : List ℕ) : Type 0 where
+  pub front : List ℕ
+  pub printed : Prints old new front
+  pub same : before ++ text ≡ front ++ after

@@ -3,9 +3,11 @@
 #![tactic(auto)]
 
 mod convert;
+mod generator;
 mod input;
 mod kinds;
 mod labels;
+mod lines;
 mod live_blocks;
 mod notice;
 mod output;
@@ -13,10 +15,13 @@ mod readable;
 mod reading;
 mod record_line;
 mod replaying;
+mod script_lines;
 mod stop;
 mod textual;
 
 pub use convert::cnv;
+pub use generator::generate;
 pub use kinds::Kinds;
+pub use lines::GenLines;
 pub use live_blocks::blocks;
 pub use textual::txt;
