@@ -1,9 +1,9 @@
 -- Texts gathered one behind the other.
-use Rattle.std.proofs.Common.{◌≡◌, ℕ, ◌+◌, ◌≤◌, ◌<◌, List, [], ◌∷◌, ◌++◌, length, refl, sym, ap, subst, ◌∙◌, append_assoc, arith}
+use Rattle.std.proofs.Common.{◌≡◌, ℕ, List, [], ◌∷◌, ◌++◌, refl, sym, ap, subst, ◌∙◌, append_assoc}
 use Rattle.std.specs.List.{flat_map}
 use Rattle.std.proofs.lemmas.List.{append-nil}
-use Rattle.mps_base.specs.Desk.{Outside, HasRisen}
-use Rattle.mps_tools.specs.Streams.{Prints, PrintsPart, Kept, Gathers}
+use Rattle.mps_base.specs.Desk.{Outside}
+use Rattle.mps_tools.specs.Streams.{Prints, Kept, Gathers}
 use Rattle.mps_tools.proofs.Outside.{prints-none, prints-then, prints-as}
 
 -- the lines one behind the other
@@ -23,7 +23,9 @@ gathers-then a b c x y z t u e f = record {
 -- room was made, and a text was gathered
 pub gathers_text : (a b : Outside) (x y text : List ℕ) → Kept a b x y → Gathers a b x (y ++ text) text
 gathers_text a b x y text k = record {
-  front = k.text; printed = k.printed; same = ap (λ (p : List ℕ). p ++ text) k.same ∙ append_assoc k.text y text
+  front = k.text;
+  printed = k.printed;
+  same = ap (λ (p : List ℕ). p ++ text) k.same ∙ append_assoc k.text y text;
 }
 
 -- some of the lines were gathered

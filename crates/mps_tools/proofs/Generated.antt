@@ -1,7 +1,7 @@
 -- The lines that a generator has left, one line on.
-use Rattle.std.proofs.Common.{◌≡◌, ℕ, zero, suc, ◌+◌, ◌-◌, ◌*◌, ◌/◌, ◌%◌, ◌^◌, ◌<◌, ◌≤◌, Bool, true, false, cond, eqb, List, [], ◌∷◌, ◌++◌, drop, refl, sym, ap, ◌∙◌, arith}
+use Rattle.std.proofs.Common.{◌≡◌, ℕ, suc, ◌+◌, ◌-◌, ◌<◌, ◌≤◌, false, eqb, List, [], ◌∷◌, ◌++◌, refl, sym, ap, ◌∙◌, arith}
 use Rattle.std.proofs.lemmas.Bool.{ne_eqb}
-use Rattle.mps_tools.specs.Script.{next_state, number_below, making_lines, ending_lines, allocating_lines, lines_of_kind, step_lines, state_after_step, lines_from}
+use Rattle.mps_tools.specs.Script.{next_state, number_below, ending_lines, allocating_lines, lines_of_kind, step_lines, state_after_step, lines_from}
 
 -- a step more
 pub lines_more : (count step state : ℕ) → step < count
@@ -47,12 +47,12 @@ object_begins old count step state first second third slot target kind text behi
     let f2 : second ≡ next_state (next_state state) = f ∙ ap next_state e in
     let g2 : third ≡ next_state (next_state (next_state state)) = g ∙ ap next_state f2 in
     let lines : step_lines step state ≡ text ∷ behind =
-      sym (step_is step state first second third e f g)
-      ∙ ap (λ (k : ℕ). lines_of_kind k step (number_below 16 first) (number_below 16 second)) (sym kind-is)
-      ∙ ap (λ (s : ℕ). lines_of_kind kind step s (number_below 16 second)) (sym slot-is)
-      ∙ ap (λ (t : ℕ). lines_of_kind kind step slot t) (sym target-is)
-      ∙ makes_an_object kind step slot target small
-      ∙ line in
+    sym (step_is step state first second third e f g)
+    ∙ ap (λ (k : ℕ). lines_of_kind k step (number_below 16 first) (number_below 16 second)) (sym kind-is)
+    ∙ ap (λ (s : ℕ). lines_of_kind kind step s (number_below 16 second)) (sym slot-is)
+    ∙ ap (λ (t : ℕ). lines_of_kind kind step slot t) (sym target-is)
+    ∙ makes_an_object kind step slot target small
+    ∙ line in
     sym was ∙ lines_more count step state lt
     ∙ ap (λ (x : List (List ℕ)). x ++ lines_from (count - (step + 1)) (step + 1) (state_after_step state)) lines
     ∙ ap (λ (s : ℕ). text ∷ (behind ++ lines_from (count - (step + 1)) (step + 1) s)) (sym g2)
@@ -68,11 +68,11 @@ step_ends old count step state first second third slot target kind text was lt e
     let f2 : second ≡ next_state (next_state state) = f ∙ ap next_state e in
     let g2 : third ≡ next_state (next_state (next_state state)) = g ∙ ap next_state f2 in
     let lines : step_lines step state ≡ text ∷ [] =
-      sym (step_is step state first second third e f g)
-      ∙ ap (λ (k : ℕ). lines_of_kind k step (number_below 16 first) (number_below 16 second)) (sym kind-is)
-      ∙ ap (λ (s : ℕ). lines_of_kind kind step s (number_below 16 second)) (sym slot-is)
-      ∙ ap (λ (t : ℕ). lines_of_kind kind step slot t) (sym target-is)
-      ∙ line step in
+    sym (step_is step state first second third e f g)
+    ∙ ap (λ (k : ℕ). lines_of_kind k step (number_below 16 first) (number_below 16 second)) (sym kind-is)
+    ∙ ap (λ (s : ℕ). lines_of_kind kind step s (number_below 16 second)) (sym slot-is)
+    ∙ ap (λ (t : ℕ). lines_of_kind kind step slot t) (sym target-is)
+    ∙ line step in
     sym was ∙ lines_more count step state lt
     ∙ ap (λ (x : List (List ℕ)). x ++ lines_from (count - (step + 1)) (step + 1) (state_after_step state)) lines
     ∙ ap (λ (s : ℕ). text ∷ lines_from (count - (step + 1)) (step + 1) s) (sym g2)

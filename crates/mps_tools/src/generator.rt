@@ -9,7 +9,7 @@ ghost use Rattle.mps_tools.specs.Streams.{Prints, Gathers};
 
 use crate::lines::GenLines;
 use crate::output::Output;
-use crate::stop::{finish, Stop};
+use crate::stop::{Stop, finish};
 use mps_base::{Desk, Failed};
 use std::alloc::Global;
 

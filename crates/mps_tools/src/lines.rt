@@ -7,6 +7,7 @@ use crate::script_lines::{put_allocating, put_ending, put_making, put_step};
 use std::marker::Model;
 
 const MULTIPLIER: u64 = 6364136223846793005;
+
 const INCREMENT: u64 = 1442695040888963407;
 
 // Where a generator stands in its script.

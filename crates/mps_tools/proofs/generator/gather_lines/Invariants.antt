@@ -1,6 +1,4 @@
-use Rattle.std.proofs.Common.{◌≡◌, ◌++◌, List, ℕ, length}
-use Rattle.std.specs.List.{flat_map}
-use Rattle.mps_tools.specs.Streams.{Gathers}
+use Rattle.std.proofs.Common.{length}
 use Rattle.mps_tools.proofs.Gathering.{IsGathered}
 use Rattle.mps_tools.proofs.generator.gather_lines.Given as goal
 

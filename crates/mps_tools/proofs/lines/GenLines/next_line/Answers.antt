@@ -1,4 +1,4 @@
-use Rattle.std.proofs.Common.{◌≡◌, ◌∙◌, ◌+◌, ◌-◌, ◌∷◌, ◌++◌, ℕ, List, take, drop, sym, ap, arith}
+use Rattle.std.proofs.Common.{◌≡◌, ◌∙◌, ◌+◌, ◌-◌, ◌∷◌, ◌++◌, take, drop, sym, ap}
 use Rattle.mps_tools.specs.Script.{allocating_lines, lines_from}
 use Rattle.mps_tools.specs.GenLines.{lines_behind}
 use Rattle.mps_tools.proofs.Generated.{object_begins, step_ends, ending_begins, object_goes_on}
