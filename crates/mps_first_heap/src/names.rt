@@ -39,7 +39,7 @@ pub fn is_pool(heap: &Arena, name: Name) -> bool
 }
 
 /// Whether neither the table nor the pool has this name.
-fn is_elsewhere_free(heap: &Arena, name: Name) -> bool
+fn is_no_table_or_pool(heap: &Arena, name: Name) -> bool
     ensures { result ≡ (not (is_name (kept_of heap.now).table name) && not (is_name (kept_of heap.now).pool name)) }
 {
     !is_name(heap.table, name) && !is_name(heap.pool, name)
@@ -49,7 +49,7 @@ fn is_elsewhere_free(heap: &Arena, name: Name) -> bool
 pub fn is_point(heap: &Arena, name: Name) -> bool
     ensures { result ≡ is_point (kept_of heap.now) name }
 {
-    is_elsewhere_free(heap, name) && is_name(heap.point, name)
+    is_no_table_or_pool(heap, name) && is_name(heap.point, name)
 }
 
 /// Whether the table has this slot.
