@@ -3,3 +3,6 @@ pub mod Between
 pub mod NextLine
 pub mod Soundness
 pub mod RecordBytes
+pub mod LineByLine
+pub mod Steps
+pub mod SoFar

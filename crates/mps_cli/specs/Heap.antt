@@ -1,7 +1,6 @@
 -- The private heap: what keeps its reads and writes within the arena. Places are numbers of words, and 0 is null.
 use Rattle.std.specs.Prelude.{ℕ, ◌≡◌, ◌+◌, ◌*◌, ◌<◌, ◌≤◌, Bool, true, false, not, ◌&&◌, nat_lt, Option, Some, None, List, length, slice_index, slice_set}
 use Rattle.mps_format.specs.Front.{front_layout}
-use Rattle.mps_base.specs.declared.names.Name.{Name}
 use Rattle.mps_cli.specs.declared.heap.Heap.{Heap}
 use Rattle.mps_cli.specs.declared.heap.Point.{Point}
 use Rattle.mps_cli.specs.declared.heap.Reservation.{Reservation}
@@ -69,12 +68,3 @@ StoresSlot None None index at = Unit {0}
 StoresSlot None (Some u) index at = ⊥
 StoresSlot (Some t) None index at = ⊥
 StoresSlot (Some t) (Some u) index at = (u.name ≡ t.name) × (u.slots.items ≡ slice_set t.slots.items index at)
-
--- how many pools were made
-abbrev pub pools_of : Option Heap → ℕ
-pools_of None = 0
-pools_of (Some h) = pools_with h.pool
-  where
-    pools_with : Option Name → ℕ
-    pools_with None = 0
-    pools_with (Some name) = 1

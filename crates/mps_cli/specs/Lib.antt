@@ -4,3 +4,4 @@ pub mod Write
 pub mod Buffer
 pub mod Heap
 pub mod Records
+pub mod Script

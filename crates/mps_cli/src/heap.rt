@@ -3,7 +3,7 @@
 ghost use Rattle.std.specs.Prelude.{Some, ◌≡◌, ◌+◌, ◌*◌, ◌<◌, ◌≤◌, ℕ, None, IfSome, IfOk, OnErr, true, length, slice_index, vec_len};
 ghost use Rattle.mps_format.specs.Front.{front_layout};
 ghost use Rattle.mps_script.specs.Text.{is_printable};
-ghost use Rattle.mps_cli.specs.Heap.{IsSound, IsSoundHeap, pools_of, IsBlockBefore, HasSlot, StoresSlot, has_number};
+ghost use Rattle.mps_cli.specs.Heap.{IsSound, IsSoundHeap, IsBlockBefore, HasSlot, StoresSlot, has_number};
 
 use crate::done::{Done, replied};
 use mps_base::{Addr, Move, Name, Refusal, Slot};
@@ -55,16 +55,6 @@ pub fn answer(heap: &mut Option<Heap>, alloc: Global, call: &Call) -> Result<Don
     match heap {
         None => begin(heap, alloc, call),
         Some(heap) => heap.answer(alloc, call),
-    }
-}
-
-/// How many pools were made.
-pub fn pools_made(heap: &Option<Heap>) -> u64
-    ensures { result ≡ pools_of heap.now }
-{
-    match heap {
-        Some(heap) if heap.pool.is_some() => 1,
-        _ => 0,
     }
 }
 

@@ -16,19 +16,25 @@ mod write;
 
 use mps_base::HostDesk;
 use std::alloc::AllocError;
-use std::env;
+use std::io::ErrorKind;
 use std::process::ExitCode;
+use std::{env, io};
 
 fn main(rt: HostRuntime) -> ExitCode {
-    let Ok(mut arguments) = env::args(&rt) else {
-        return ExitCode::from(8);
-    };
-    let _program = arguments.next();
-    let collected: Result<Vec<String>, AllocError> = arguments.collect(rt.alloc());
-    let Ok(words) = collected else {
-        return ExitCode::from(8);
+    let words = match words(&rt) {
+        Ok(words) => words,
+        Err(error) if error.kind() == ErrorKind::InvalidData => Vec::new(rt.alloc()),
+        Err(_) => return ExitCode::from(8),
     };
     let mut desk = HostDesk::new(&rt, rt.alloc());
     let status = mps::mps(rt.alloc(), &words, &mut desk);
     ExitCode::from(desk.finish(status))
+}
+
+/// The words of the command line behind the program's name. Words that are no text are words without a meaning.
+fn words(rt: &HostRuntime) -> io::Result<Vec<String>> {
+    let mut arguments = env::args(rt)?;
+    let _program = arguments.next();
+    let words: Result<Vec<String>, AllocError> = arguments.collect(rt.alloc());
+    Ok(words?)
 }

@@ -1,11 +1,16 @@
 // The run of a script.
-ghost use Rattle.std.specs.Prelude.{◌≡◌, ◌≢◌, ◌≤◌, IfSome, None};
+ghost use Rattle.std.specs.Prelude.{◌≡◌, ◌≢◌, ◌≤◌, ◌+◌, ◌∷◌, [], ℕ, List, true, false, Some, IfSome, IfNone};
+ghost use Rattle.mps_base.specs.Desk.{standard_input};
+ghost use Rattle.mps_script.specs.Line.{call_of_line};
 ghost use Rattle.mps_cli.specs.Heap.{IsSound};
 ghost use Rattle.mps_cli.specs.Ending.{HasCause, CountsGrow};
+ghost use Rattle.mps_cli.specs.Buffer.{left_of};
+ghost use Rattle.mps_cli.specs.Script.{Command, StepsRan, RanTo, RanLines, IsBadHere, is_good, is_whole, commands_of_call};
 ghost use Rattle.mps_cli.specs.declared.ending.Ending.TheVariants.{NoMeaning};
 
+use crate::done::pools_made;
 use crate::ending::Ending;
-use crate::heap::{Heap, answer, pools_made};
+use crate::heap::{Heap, answer};
 use crate::lines::Lines;
 use crate::log::{log_header, log_records};
 use crate::next::Next;
@@ -26,19 +31,21 @@ pub fn run<D: Desk>(alloc: Global, desk: &mut D) -> Ending
     ensures meaning { result ≢ NoMeaning }
     ensures cause { HasCause result (D.outside desk.old) (D.outside desk.new) }
     ensures counts { CountsGrow (D.outside desk.old) (D.outside desk.new) }
+    ensures ran { is_whole result ≡ true → (script : List ℕ) → (D.outside desk.old).text standard_input ≡ Some script
+        → RanTo result script (D.outside desk.old) (D.outside desk.new) }
 {
     let Ok(mut lines) = Lines::new(alloc) else {
         return Ending::OutOfMemory;
     };
-    if desk.open(INPUT).is_err() {
+    let Ok(()) = desk.open(INPUT) else {
         return Ending::ReadFailed;
-    }
-    if desk.create(LOG).is_err() {
+    };
+    let Ok(()) = desk.create(LOG) else {
         return Ending::LogFailed;
-    }
-    if log_header(desk).is_err() {
+    };
+    let Ok(()) = log_header(desk) else {
         return Ending::LogFailed;
-    }
+    };
     run_lines(alloc, desk, &mut lines)
 }
 
@@ -46,25 +53,29 @@ fn run_lines<D: Desk>(alloc: Global, desk: &mut D, lines: &mut Lines) -> Ending
     ensures meaning { result ≢ NoMeaning }
     ensures cause { HasCause result (D.outside desk.old) (D.outside desk.new) }
     ensures counts { CountsGrow (D.outside desk.old) (D.outside desk.new) }
+    ensures ran { is_whole result ≡ true → (script : List ℕ) → left_of lines.old (D.outside desk.old).input ≡ Some script
+        → RanLines result script (D.outside desk.old) (D.outside desk.new) }
 {
     let mut heap = None;
+    let mut pools: u64 = 0;
     let mut line: u32 = 0;
     loop {
         let Ok(next) = lines.next(desk) else {
             return Ending::ReadFailed;
         };
-        if next == Next::End {
-            return Ending::Done;
+        match next {
+            Next::End => return Ending::Done,
+            Next::TooLong if line < u32::MAX => return Ending::BadLine { line: line + 1 },
+            Next::TooLong => return Ending::TooLong,
+            Next::Line => {}
         }
         if line == u32::MAX {
             return Ending::TooLong;
         }
         line += 1;
-        if next == Next::TooLong {
-            return Ending::BadLine { line };
-        }
-        if let Some(ending) = run_line(alloc, desk, &mut heap, lines.line(), line) {
-            return ending;
+        match run_line(alloc, desk, &mut heap, &mut pools, lines.line(), line) {
+            Some(ending) => return ending,
+            None => {}
         }
     }
 }
@@ -74,18 +85,25 @@ fn run_line<D: Desk>(
     alloc: Global,
     desk: &mut D,
     heap: &mut Option<Heap>,
+    pools: &mut u64,
     bytes: &[u8],
     line: u32,
 ) -> Option<Ending>
-    requires { IsSound heap.old }
+    requires sound { IsSound heap.old }
+    requires pools { pools.old ≤ line }
     ensures sound { IsSound heap.new }
+    ensures steps { IfNone result (StepsRan (commands_of_call line (call_of_line bytes.now)) pools.old pools.new
+        (D.outside desk.old) (D.outside desk.new)) }
+    ensures good { IfNone result (is_good bytes.now ≡ true) }
+    ensures few { pools.new ≤ pools.old + 1 }
+    ensures whole { IfSome result (λ ending. is_whole ending ≡ true → IsBadHere bytes.now line ending (D.outside desk.old) (D.outside desk.new)) }
     ensures meaning { IfSome result (λ ending. ending ≢ NoMeaning) }
     ensures cause { IfSome result (λ ending. HasCause ending (D.outside desk.old) (D.outside desk.new)) }
     ensures counts { CountsGrow (D.outside desk.old) (D.outside desk.new) }
 {
     match call_of(bytes) {
         Ok(None) => None,
-        Ok(Some(call)) => run_call(alloc, desk, heap, &call, line),
+        Ok(Some(call)) => run_call(alloc, desk, heap, pools, &call, line),
         Err(_) => Some(Ending::BadLine { line }),
     }
 }
@@ -95,24 +113,30 @@ fn run_call<D: Desk>(
     alloc: Global,
     desk: &mut D,
     heap: &mut Option<Heap>,
+    pools: &mut u64,
     call: &Call,
     line: u32,
 ) -> Option<Ending>
-    requires { IsSound heap.old }
+    requires sound { IsSound heap.old }
+    requires pools { pools.old ≤ line }
     ensures sound { IsSound heap.new }
+    ensures steps { IfNone result (StepsRan (record { line = line; call = call.now } ∷ []) pools.old pools.new
+        (D.outside desk.old) (D.outside desk.new)) }
+    ensures few { pools.new ≤ pools.old + 1 }
+    ensures whole { IfSome result (λ ending. is_whole ending ≡ false) }
     ensures meaning { IfSome result (λ ending. ending ≢ NoMeaning) }
     ensures cause { IfSome result (λ ending. HasCause ending (D.outside desk.old) (D.outside desk.new)) }
     ensures counts { CountsGrow (D.outside desk.old) (D.outside desk.new) }
 {
-    let pools = pools_made(heap);
     let Ok(done) = answer(heap, alloc, call) else {
         return Some(Ending::OutOfMemory);
     };
-    if log_records(desk, line, pools, call, &done).is_err() {
+    let Ok(()) = log_records(desk, line, *pools, call, &done) else {
         return Some(Ending::LogFailed);
-    }
-    if print(desk, &done.reply).is_err() {
+    };
+    let Ok(()) = print(desk, &done.reply) else {
         return Some(Ending::WriteFailed);
-    }
+    };
+    *pools += pools_made(call, &done.reply);
     None
 }

@@ -1,12 +1,17 @@
-use Rattle.std.proofs.Common.{◌-◌}
+use Rattle.std.proofs.Common.{◌≤◌, ◌-◌}
 use Rattle.mps_cli.specs.Heap.{IsSound}
 use Rattle.mps_cli.specs.Ending.{CountsGrow}
+use Rattle.mps_cli.specs.Buffer.{left_of}
+use Rattle.mps_cli.proofs.SoFar.{SoFar}
 use Rattle.mps_cli.proofs.run.run_lines.Given as goal
 
 abbrev pub invariant-loop-next : goal.invariant-loop-next
 invariant-loop-next g l = record {
   sound : IsSound l.heap;
+  few : l.pools ≤ l.line;
   counts : CountsGrow (g.D.Desk.outside l.initial.desk) (g.D.Desk.outside l.desk);
+  so_far : SoFar l.line l.pools (g.D.Desk.outside l.initial.desk) (g.D.Desk.outside l.desk)
+      (left_of l.initial.lines (g.D.Desk.outside l.initial.desk).input) (left_of l.lines (g.D.Desk.outside l.desk).input);
 }
 
 abbrev pub decreases-loop-next : goal.decreases-loop-next

@@ -1,0 +1,96 @@
+-- A script line by line.
+use Rattle.std.proofs.Common.{◌≡◌, ℕ, zero, suc, ◌+◌, ◌-◌, ◌<◌, ◌≤◌, Bool, true, false, ◌&&◌, not, List, [], ◌∷◌, ◌++◌, length, take, drop, refl, sym, ◌∙◌, ap, arith, append_assoc, append-nil, add-one}
+use Rattle.std.specs.List.{slice_split, onto_first, position_or_len, list_all}
+use Rattle.std.proofs.lemmas.List.Splits.{slice_split-cons_yes, slice_split-cons_no}
+use Rattle.std.proofs.lemmas.List.{drop-drop}
+use Rattle.std.proofs.lemmas.Grind.{common_steps}
+use Rattle.mps_script.specs.Line.{is_line_feed, lines_of, without_empty_last, call_of_line}
+use Rattle.mps_cli.specs.Buffer.{length_of_line}
+use Rattle.mps_cli.specs.Script.{commands_from, commands_of_call, is_good}
+
+abbrev rest_parts : List ℕ → List (List ℕ)
+rest_parts [] = []
+rest_parts (y ∷ ys) = slice_split is_line_feed ys
+
+length_yes : (x : ℕ) (xs : List ℕ) → is_line_feed x ≡ true → length_of_line (x ∷ xs) ≡ 0
+length_yes x xs h = rw h
+
+length_no : (x : ℕ) (xs : List ℕ) → is_line_feed x ≡ false → length_of_line (x ∷ xs) ≡ 1 + length_of_line xs
+length_no x xs h = rw h
+
+take_more : (x n : ℕ) (xs : List ℕ) → take (1 + n) (x ∷ xs) ≡ x ∷ take n xs
+take_more x n xs = grind (arith, common_steps)
+
+drop_more : (x n : ℕ) (xs : List ℕ) → drop (1 + n) (x ∷ xs) ≡ drop n xs
+drop_more x n xs = grind (arith, common_steps)
+
+split_front_at : (x : ℕ) (xs : List ℕ) (b : Bool) → is_line_feed x ≡ b
+    → slice_split is_line_feed xs ≡ take (length_of_line xs) xs ∷ rest_parts (drop (length_of_line xs) xs)
+    → slice_split is_line_feed (x ∷ xs) ≡ take (length_of_line (x ∷ xs)) (x ∷ xs) ∷ rest_parts (drop (length_of_line (x ∷ xs)) (x ∷ xs))
+split_front_at x xs true h ih = rw (slice_split-cons_yes is_line_feed x xs h, length_yes x xs h)
+split_front_at x xs false h ih =
+    rw (slice_split-cons_no is_line_feed x xs h, length_no x xs h, take_more x (length_of_line xs) xs, drop_more x (length_of_line xs) xs, ih)
+
+split_front : (xs : List ℕ) → slice_split is_line_feed xs ≡ take (length_of_line xs) xs ∷ rest_parts (drop (length_of_line xs) xs)
+split_front [] = refl
+split_front (x ∷ xs) = split_front_at x xs (is_line_feed x) refl (split_front xs)
+
+-- a first line before others stays
+kept_before : (line : List ℕ) (ys : List ℕ) → without_empty_last (line ∷ slice_split is_line_feed ys) ≡ line ∷ without_empty_last (slice_split is_line_feed ys)
+kept_before line ys = rw (split_front ys) (kept line (take (length_of_line ys) ys) (rest_parts (drop (length_of_line ys) ys)))
+  where
+    kept : (line m : List ℕ) (ms : List (List ℕ)) → without_empty_last (line ∷ m ∷ ms) ≡ line ∷ without_empty_last (m ∷ ms)
+    kept [] m ms = refl
+    kept (x ∷ xs) m ms = refl
+
+only_line : (line : List ℕ) → 0 < length line → without_empty_last (line ∷ []) ≡ line ∷ []
+only_line [] h = absurd (omega arith)
+only_line (x ∷ xs) h = refl
+
+first_at : (bytes rest : List ℕ) → 0 < length bytes → drop (length_of_line bytes) bytes ≡ rest
+    → lines_of bytes ≡ take (length_of_line bytes) bytes ∷ lines_of (drop 1 rest)
+first_at bytes [] h e =
+    let long : length bytes ≤ length_of_line bytes = grind (arith, common_steps, ap length e) in
+    let all : take (length_of_line bytes) bytes ≡ bytes = grind (arith, common_steps) in
+    ap without_empty_last (split_front bytes ∙ ap (λ r. take (length_of_line bytes) bytes ∷ rest_parts r) e)
+    ∙ rw all (only_line bytes h)
+first_at bytes (y ∷ ys) h e =
+    ap without_empty_last (split_front bytes ∙ ap (λ r. take (length_of_line bytes) bytes ∷ rest_parts r) e)
+    ∙ kept_before (take (length_of_line bytes) bytes) ys
+
+-- the first line of what is left, and the lines behind it
+pub first_line : (bytes : List ℕ) → 0 < length bytes
+    → lines_of bytes ≡ take (length_of_line bytes) bytes ∷ lines_of (drop (length_of_line bytes + 1) bytes)
+first_line bytes h =
+    let e : drop 1 (drop (length_of_line bytes) bytes) ≡ drop (length_of_line bytes + 1) bytes = drop-drop 1 (length_of_line bytes) bytes in
+    first_at bytes (drop (length_of_line bytes) bytes) h refl ∙ ap (λ r. take (length_of_line bytes) bytes ∷ lines_of r) e
+
+-- ---- one line more
+
+none_behind : (n : ℕ) (l : List ℕ) (behind : List (List ℕ)) → drop n [] ≡ l ∷ behind → ⊥
+none_behind zero l behind e = cc
+none_behind (suc n) l behind e = cc
+
+one_more : (n : ℕ) (ls : List (List ℕ)) (l : List ℕ) (behind : List (List ℕ)) → drop n ls ≡ l ∷ behind
+    → (take (suc n) ls ≡ take n ls ++ l ∷ []) × (drop (suc n) ls ≡ behind) × (n < length ls)
+one_more n [] l behind e = absurd (none_behind n l behind e)
+one_more zero (x ∷ xs) l behind e = (let a : x ≡ l = cc in ap (λ y. y ∷ []) a, (let b : xs ≡ behind = cc in b), omega arith)
+one_more (suc n) (x ∷ xs) l behind e =
+    let ih = one_more n xs l behind e in
+    (ap (λ r. x ∷ r) ih.0, ih.1, omega (arith, ih.2))
+
+pub take_one_more : (n : ℕ) (ls : List (List ℕ)) (l : List ℕ) (behind : List (List ℕ)) → drop n ls ≡ l ∷ behind
+    → (take (n + 1) ls ≡ take n ls ++ l ∷ []) × (drop (n + 1) ls ≡ behind) × (n < length ls)
+take_one_more n ls l behind e =
+    let m = one_more n ls l behind e in
+    (ap (λ k. take k ls) (add-one n) ∙ m.0, ap (λ k. drop k ls) (add-one n) ∙ m.1, m.2)
+
+pub good_append : (xs ys : List (List ℕ)) → list_all is_good xs ≡ true → list_all is_good ys ≡ true → list_all is_good (xs ++ ys) ≡ true
+good_append [] ys h k = k
+good_append (x ∷ xs) ys h k = grind (arith, common_steps)
+
+pub commands_append : (n : ℕ) (xs ys : List (List ℕ)) → commands_from n (xs ++ ys) ≡ commands_from n xs ++ commands_from (n + length xs) ys
+commands_append n [] ys = ap (λ m. commands_from m ys) (omega arith)
+commands_append n (x ∷ xs) ys =
+    ap (λ r. commands_of_call n (call_of_line x) ++ r) (commands_append (n + 1) xs ys ∙ ap (λ m. commands_from (n + 1) xs ++ commands_from m ys) (omega arith))
+    ∙ sym (append_assoc (commands_of_call n (call_of_line x)) (commands_from (n + 1) xs) (commands_from (n + length (x ∷ xs)) ys))

@@ -1,0 +1,258 @@
+-- What a run has done so far, and what is left to do.
+use Rattle.std.proofs.Common.{◌≡◌, ℕ, ◌+◌, ◌-◌, ◌<◌, ◌≤◌, Bool, true, false, Option, Some, None, List, [], ◌∷◌, ◌++◌, length, take, drop, refl, sym, ◌∙◌, ap, arith, append_assoc, append-nil, subst, zero-add, not, nat_lt}
+use Rattle.std.specs.List.{flat_map, list_all}
+use Rattle.std.specs.Option.{option_map}
+use Rattle.std.proofs.lemmas.List.Sums.{prefix_len-le-length}
+use Rattle.std.proofs.lemmas.List.{map-append, length-take-le}
+use Rattle.std.proofs.lemmas.Grind.{flat_map-append, common_steps}
+use Rattle.mps_base.specs.Desk.{Outside, OnlyReads, OnlyReports}
+use Rattle.mps_base.specs.Record.{Record, record_bytes, records_bytes, header_bytes}
+use Rattle.mps_model.specs.Step.{Step, History}
+use Rattle.mps_model.specs.Log.{log_from, log_of, pools_made}
+use Rattle.mps_model.proofs.Appending.{log_from-append}
+use Rattle.mps_script.specs.Line.{lines_of, call_of_line, longest_line, is_line_feed}
+use Rattle.mps_cli.specs.Write.{appended}
+use Rattle.mps_cli.specs.Ending.{CountsGrow, HasCause, status_of}
+use Rattle.mps_cli.specs.Buffer.{Waiting, ComesNextOf, ComesNext, left_of, length_of_line}
+use Rattle.mps_cli.specs.Script.{Command, StepsRan, HasRun, RanLines, RanTo, RanWith, NoFaultRose, is_whole, is_whole_status, IsBadHere, EndsAt, answers_of, text_of_answer, commands_of, command_of_step, commands_of_call, commands_from, is_good}
+use Rattle.mps_cli.specs.declared.ending.Ending.{Ending}
+use Rattle.mps_cli.specs.declared.ending.Ending.TheVariants as ending
+use Rattle.mps_cli.specs.declared.next.Next.{Next}
+use Rattle.mps_cli.specs.declared.next.Next.TheVariants.{Line, TooLong, End}
+use Rattle.mps_cli.proofs.LineByLine.{first_line, take_one_more, good_append, commands_append}
+
+-- so many lines of a script were run, and these bytes are left of it
+pub record ReadUpTo (lines : ℕ) (history : History) (script rest : List ℕ) : Type 0 where
+  pub run : HasRun script lines history
+  pub behind : drop lines (lines_of script) ≡ lines_of rest
+
+-- the same, where the script is told
+abbrev pub ReadSoFar : (lines : ℕ) → History → (script left : Option (List ℕ)) → Type 0
+ReadSoFar lines history None left = left ≡ None
+ReadSoFar lines history (Some script) None = ⊥
+ReadSoFar lines history (Some script) (Some rest) = ReadUpTo lines history script rest
+
+-- what was printed and logged since the first line is that of a history
+pub record SoFar (lines pools : ℕ) (old now : Outside) (script left : Option (List ℕ)) : Type 0 where
+  pub history : History
+  pub made : pools ≡ pools_made history
+  pub printed : now.printed ≡ appended old.printed (answers_of history)
+  pub logged : now.logged ≡ appended old.logged (records_bytes (log_of history))
+  pub read : ReadSoFar lines history script left
+
+appended_empty : (told : Option (List ℕ)) → told ≡ appended told []
+appended_empty None = refl
+appended_empty (Some bytes) = ap Some (sym (append-nil bytes))
+
+appended_twice : (told : Option (List ℕ)) (a b : List ℕ) → appended (appended told a) b ≡ appended told (a ++ b)
+appended_twice None a b = refl
+appended_twice (Some bytes) a b = ap Some (append_assoc bytes a b)
+
+read_nothing : (left : Option (List ℕ)) → ReadSoFar 0 [] left left
+read_nothing None = refl
+read_nothing (Some script) = record { run = record { grammatical = refl; commands = refl }; behind = refl }
+
+-- before the first line
+pub at_start : (o : Outside) (left : Option (List ℕ)) → SoFar 0 0 o o left left
+at_start o left = record {
+  history = [];
+  made = refl;
+  printed = appended_empty o.printed;
+  logged = appended_empty o.logged;
+  read = read_nothing left;
+}
+
+-- one line more of a script
+read_more : (n : ℕ) (h steps : History) (script rest line rest2 : List ℕ) → ReadUpTo n h script rest
+    → 0 < length rest → line ≡ take (length_of_line rest) rest → rest2 ≡ drop (length_of_line rest + 1) rest
+    → is_good line ≡ true → commands_of steps ≡ commands_of_call (n + 1) (call_of_line line)
+    → ReadUpTo (n + 1) (h ++ steps) script rest2
+read_more n h steps script rest line rest2 r pos at behind good answers =
+    let first : lines_of rest ≡ line ∷ lines_of rest2 = rw (at, behind) (first_line rest pos) in
+    let more = take_one_more n (lines_of script) line (lines_of rest2) (r.behind ∙ first) in
+    let long : length (take n (lines_of script)) ≡ n = length-take-le n (lines_of script) (omega (arith, more.2)) in
+    let one : list_all is_good (line ∷ []) ≡ true = grind (arith, common_steps) in
+    let last : commands_from (1 + length (take n (lines_of script))) (line ∷ []) ≡ commands_of_call (n + 1) (call_of_line line) =
+    append-nil (commands_of_call (1 + length (take n (lines_of script))) (call_of_line line))
+    ∙ ap (λ m. commands_of_call m (call_of_line line)) (omega arith) in
+    record {
+      run = record {
+        grammatical = rw more.0 (good_append (take n (lines_of script)) (line ∷ []) r.run.grammatical one);
+        commands = rw more.0 (map-append command_of_step h steps
+            ∙ (ap (λ cs. cs ++ commands_of steps) r.run.commands
+            ∙ (ap (λ cs. commands_from 1 (take n (lines_of script)) ++ cs) (answers ∙ sym last)
+            ∙ sym (commands_append 1 (take n (lines_of script)) (line ∷ [])))));
+      };
+      behind = more.1;
+    }
+
+read_next : (n : ℕ) (h steps : History) (script left : Option (List ℕ)) (line : List ℕ) (left2 : Option (List ℕ))
+    → ReadSoFar n h script left → ComesNextOf Line left line left2
+    → is_good line ≡ true → commands_of steps ≡ commands_of_call (n + 1) (call_of_line line)
+    → ReadSoFar (n + 1) (h ++ steps) script left2
+read_next n h steps None None line left2 r next good answers = next
+read_next n h steps None (Some rest) line left2 r next good answers = absurd (let e : Some rest ≡ None = r in cc)
+read_next n h steps (Some script) None line left2 r next good answers = absurd r
+read_next n h steps (Some script) (Some rest) line None r next good answers = absurd (let e : None ≡ Some (drop (length_of_line rest + 1) rest) = next.2 in cc)
+read_next n h steps (Some script) (Some rest) line (Some rest2) r next good answers =
+    read_more n h steps script rest line rest2 r next.0 next.1 (let e : Some rest2 ≡ Some (drop (length_of_line rest + 1) rest) = next.2 in cc) good answers
+
+-- one line more
+pub one_line_more : (n pools pools2 : ℕ) (old o1 o2 o3 : Outside) (script left left2 : Option (List ℕ)) (line : List ℕ)
+    → SoFar n pools old o1 script left → OnlyReads o1 o2 → ComesNextOf Line left line left2
+    → is_good line ≡ true → StepsRan (commands_of_call (n + 1) (call_of_line line)) pools pools2 o2 o3
+    → SoFar (n + 1) pools2 old o3 script left2
+one_line_more n pools pools2 old o1 o2 o3 script left left2 line f reads next good s = record {
+  history = f.history ++ s.steps;
+  made = s.pools ∙ (ap (λ p. p + pools_made s.steps) f.made ∙ sym (pools_made-append f.history s.steps));
+  printed = s.printed
+      ∙ (ap (λ told. appended told (answers_of s.steps)) (reads.printed ∙ f.printed)
+      ∙ (appended_twice old.printed (answers_of f.history) (answers_of s.steps)
+      ∙ ap (appended old.printed) (sym (flat_map-append (λ (t : Step). text_of_answer t.answer) f.history s.steps))));
+  logged = s.logged
+      ∙ (ap (λ told. appended told (records_bytes (log_from pools s.steps))) (reads.logged ∙ f.logged)
+      ∙ (appended_twice old.logged (records_bytes (log_of f.history)) (records_bytes (log_from pools s.steps))
+      ∙ ap (appended old.logged)
+      (sym (flat_map-append record_bytes (log_of f.history) (log_from pools s.steps))
+      ∙ ap records_bytes (sym (log_from-append 0 f.history s.steps
+      ∙ ap (λ p. log_of f.history ++ log_from p s.steps) (zero-add (pools_made f.history) ∙ sym f.made))))));
+  read = read_next n f.history s.steps script left line left2 f.read next good s.answers;
+}
+  where
+    pools_made-append : (h steps : History) → pools_made (h ++ steps) ≡ pools_made h + pools_made steps
+    pools_made-append [] steps = omega arith
+    pools_made-append (t ∷ h) steps = omega (arith, pools_made-append h steps)
+
+-- ---- where a run ends
+
+ends_with : (n pools : ℕ) (old o1 o2 : Outside) (script rest : List ℕ) (ends : Ending)
+    → SoFar n pools old o1 (Some script) (Some rest) → OnlyReads o1 o2
+    → EndsAt ends n (lines_of rest) → RanLines ends script old o2
+ends_with n pools old o1 o2 script rest ends f reads at = record {
+  history = f.history;
+  lines = n;
+  run = f.read.run;
+  printed = reads.printed ∙ f.printed;
+  logged = reads.logged ∙ f.logged;
+  ends_at = subst (EndsAt ends n) (sym f.read.behind) at;
+}
+
+-- at the end of the input
+pub ends_done : (n pools : ℕ) (old o1 o2 : Outside) (script : List ℕ) (left left2 : Option (List ℕ)) (line : List ℕ)
+    → SoFar n pools old o1 (Some script) left → OnlyReads o1 o2 → ComesNextOf End left line left2
+    → RanLines ending.Done script old o2
+ends_done n pools old o1 o2 script None left2 line f reads next = absurd f.read
+ends_done n pools old o1 o2 script (Some rest) left2 line f reads next =
+    ends_with n pools old o1 o2 script rest ending.Done f reads (ap lines_of next)
+
+some_line : (rest : List ℕ) → 0 < length rest → 0 < length (lines_of rest)
+some_line rest pos = let e = first_line rest pos in omega (arith, ap length e)
+
+line_bound : (xs : List ℕ) → length_of_line xs ≤ length xs
+line_bound xs = prefix_len-le-length (λ b. not (is_line_feed b)) xs
+
+-- where there are more lines than can be counted
+pub ends_too_long : (n pools : ℕ) (old o1 o2 : Outside) (script : List ℕ) (left left2 : Option (List ℕ)) (line : List ℕ) (next : Next)
+    → SoFar n pools old o1 (Some script) left → OnlyReads o1 o2 → ComesNextOf next left line left2 → (next ≡ End → ⊥) → n ≡ 4294967295
+    → RanLines ending.TooLong script old o2
+ends_too_long n pools old o1 o2 script None left2 line next f reads comes not_end count = absurd f.read
+ends_too_long n pools old o1 o2 script (Some rest) left2 line End f reads comes not_end count = absurd (not_end refl)
+ends_too_long n pools old o1 o2 script (Some rest) left2 line Line f reads comes not_end count =
+    ends_with n pools old o1 o2 script rest ending.TooLong f reads (count, some_line rest comes.0)
+ends_too_long n pools old o1 o2 script (Some rest) left2 line TooLong f reads comes not_end count =
+    ends_with n pools old o1 o2 script rest ending.TooLong f reads (count, some_line rest (omega (arith, comes, line_bound rest)))
+
+long_line_is_bad : (line : List ℕ) → longest_line < length line → is_good line ≡ false
+long_line_is_bad line h = let t : nat_lt longest_line (length line) ≡ true = grind (arith, common_steps) in rw t
+
+first_is_bad : (rest line : List ℕ) → 0 < length rest → line ≡ take (length_of_line rest) rest → is_good line ≡ false
+    → list_all is_good (take 1 (lines_of rest)) ≡ false
+first_is_bad rest line pos at bad =
+    let e : lines_of rest ≡ line ∷ lines_of (drop (length_of_line rest + 1) rest) = rw at (first_line rest pos) in
+    rw (e, bad)
+
+-- at a line that is too long
+pub ends_long_line : (n pools : ℕ) (old o1 o2 : Outside) (script : List ℕ) (left left2 : Option (List ℕ)) (line : List ℕ)
+    → SoFar n pools old o1 (Some script) left → OnlyReads o1 o2 → ComesNextOf TooLong left line left2
+    → RanLines (ending.BadLine (n + 1)) script old o2
+ends_long_line n pools old o1 o2 script None left2 line f reads comes = absurd f.read
+ends_long_line n pools old o1 o2 script (Some rest) left2 line f reads comes =
+    let long : length (take (length_of_line rest) rest) ≡ length_of_line rest = length-take-le (length_of_line rest) rest (line_bound rest) in
+    let bad : is_good (take (length_of_line rest) rest) ≡ false = long_line_is_bad (take (length_of_line rest) rest) (omega (arith, comes)) in
+    let pos : 0 < length rest = omega (arith, comes, line_bound rest) in
+    ends_with n pools old o1 o2 script rest (ending.BadLine (n + 1)) f reads
+    (refl, first_is_bad rest (take (length_of_line rest) rest) pos refl bad)
+
+-- at a line that is bad
+pub ends_bad_line : (n pools : ℕ) (old o1 o2 o3 : Outside) (script : List ℕ) (left left2 : Option (List ℕ)) (line : List ℕ) (ends : Ending)
+    → SoFar n pools old o1 (Some script) left → OnlyReads o1 o2 → ComesNextOf Line left line left2
+    → IsBadHere line (n + 1) ends o2 o3 → RanLines ends script old o3
+ends_bad_line n pools old o1 o2 o3 script None left2 line ends f reads comes bad = absurd f.read
+ends_bad_line n pools old o1 o2 o3 script (Some rest) left2 line ends f reads comes bad = record {
+  history = f.history;
+  lines = n;
+  run = f.read.run;
+  printed = bad.printed ∙ (reads.printed ∙ f.printed);
+  logged = bad.logged ∙ (reads.logged ∙ f.logged);
+  ends_at = subst (λ e. EndsAt e n (drop n (lines_of script))) (sym bad.is_end)
+      (subst (EndsAt (ending.BadLine (n + 1)) n) (sym f.read.behind) (refl, first_is_bad rest line comes.0 comes.1 bad.bad));
+}
+
+-- ---- counts
+
+pub counts_line : (a b c d : Outside) → CountsGrow a b → b.in_faults ≤ c.in_faults → OnlyReads b c → CountsGrow c d → CountsGrow a d
+counts_line a b c d f grew reads g = record {
+  in_faults = omega (arith, f.in_faults, grew, g.in_faults);
+  log_faults = omega (arith, f.log_faults, reads.log_faults, g.log_faults);
+  out_faults = omega (arith, f.out_faults, reads.out_faults, g.out_faults);
+}
+
+-- ---- a whole run
+
+-- the lines of a script were run behind the header of the log
+pub ran_behind_header : (ends : Ending) (script : List ℕ) (old start new : Outside) (header : List ℕ)
+    → header ≡ header_bytes 1 → start.printed ≡ old.printed → start.logged ≡ appended old.logged header
+    → RanLines ends script start new → RanTo ends script old new
+ran_behind_header ends script old start new header is printed logged r = record {
+  history = r.history;
+  lines = r.lines;
+  run = r.run;
+  printed = r.printed ∙ ap (λ told. appended told (answers_of r.history)) printed;
+  logged = r.logged
+      ∙ (ap (λ told. appended told (records_bytes (log_of r.history))) logged
+      ∙ (appended_twice old.logged header (records_bytes (log_of r.history))
+      ∙ ap (λ h. appended old.logged (h ++ records_bytes (log_of r.history))) is));
+  ends_at = r.ends_at;
+}
+
+-- the same after a report
+pub ran_then_reported : (ends : Ending) (script : List ℕ) (old mid new : Outside) → RanTo ends script old mid → OnlyReports mid new → RanTo ends script old new
+ran_then_reported ends script old mid new r o = record {
+  history = r.history;
+  lines = r.lines;
+  run = r.run;
+  printed = o.printed ∙ r.printed;
+  logged = o.logged ∙ r.logged;
+  ends_at = r.ends_at;
+}
+
+pub whole_status : (ends : Ending) → is_whole_status (status_of ends) ≡ true → is_whole ends ≡ true
+whole_status ending.Done h = refl
+whole_status (ending.BadLine line) h = refl
+whole_status ending.TooLong h = refl
+whole_status ending.NoMeaning h = h
+whole_status ending.ReadFailed h = h
+whole_status ending.WriteFailed h = h
+whole_status ending.LogFailed h = h
+whole_status ending.OutOfMemory h = h
+
+pub complete_ending : (ends : Ending) (old new : Outside) → HasCause ends old new → NoFaultRose old new
+    → (ends ≡ ending.NoMeaning → ⊥) → (status_of ends ≡ 8 → ⊥) → is_whole_status (status_of ends) ≡ true
+complete_ending ending.Done old new h f m o = refl
+complete_ending (ending.BadLine line) old new h f m o = refl
+complete_ending ending.TooLong old new h f m o = refl
+complete_ending ending.NoMeaning old new h f m o = absurd (m refl)
+complete_ending ending.ReadFailed old new h f m o = absurd (f.reading h)
+complete_ending ending.WriteFailed old new h f m o = absurd (f.printing h)
+complete_ending ending.LogFailed old new h f m o = absurd (f.logging h)
+complete_ending ending.OutOfMemory old new h f m o = absurd (o refl)

@@ -1,0 +1,32 @@
+-- The steps that a run makes, one after another.
+use Rattle.std.proofs.Common.{◌≡◌, ℕ, ◌+◌, ◌<◌, ◌≤◌, Bool, true, false, Option, Some, None, List, [], ◌∷◌, ◌++◌, length, take, drop, refl, sym, ◌∙◌, ap, arith, append_assoc, append-nil, subst}
+use Rattle.std.specs.Option.{option_to_list}
+use Rattle.mps_base.specs.Desk.{Outside, OnlyLogs, OnlyPrints}
+use Rattle.mps_base.specs.Record.{Record, records_bytes}
+use Rattle.mps_model.specs.declared.call.Call.{Call}
+use Rattle.mps_model.specs.Answer.{Said}
+use Rattle.mps_model.specs.Step.{Step, History}
+use Rattle.mps_model.specs.Log.{log_from, log_of, pools_made, pools_made_by}
+use Rattle.mps_script.specs.Text.{text_of}
+use Rattle.mps_cli.specs.Write.{appended}
+use Rattle.mps_cli.specs.Records.{records_of_done}
+use Rattle.mps_cli.specs.Script.{Command, StepsRan, answers_of, commands_of}
+use Rattle.mps_cli.specs.declared.done.Done.{Done}
+
+-- a command that was answered is one step
+pub one_step : (line pools count : ℕ) (call : Call) (done : Done) (old mid new : Outside)
+    → mid.logged ≡ appended old.logged (records_bytes (records_of_done line pools call done)) → OnlyLogs old mid
+    → new.printed ≡ appended mid.printed (text_of done.reply) → OnlyPrints mid new
+    → count ≡ pools_made_by call (Said done.reply)
+    → StepsRan (record { line = line; call = call } ∷ []) pools (pools + count) old new
+one_step line pools count call done old mid new logged logs printed prints made = record {
+  steps = step ∷ [];
+  answers = refl;
+  printed = printed ∙ (ap (λ told. appended told (text_of done.reply)) logs.printed ∙ ap (appended old.printed) (sym (append-nil (text_of done.reply))));
+  logged = prints.logged ∙ (logged ∙ ap (λ rs. appended old.logged (records_bytes rs)) (sym (append-nil (records_of_done line pools call done))));
+  pools = ap (λ n. pools + n) (made ∙ omega arith);
+  input = prints.input ∙ logs.input;
+}
+  where
+    step : Step
+    step = record { line = line; call = call; moves = option_to_list done.moved; answer = Said done.reply }

@@ -1,0 +1,19 @@
+use Rattle.std.proofs.Common.{◌≡◌, Some, ◌∙◌, ap, refl, ◌++◌}
+use Rattle.mps_base.specs.Record.{header_bytes}
+use Rattle.mps_cli.specs.Buffer.{Waiting, left_of}
+use Rattle.mps_cli.specs.Write.{appended}
+use Rattle.mps_cli.proofs.SoFar.{ran_behind_header}
+use Rattle.mps_cli.proofs.run.run.Goals as goal
+
+pub returns-clause-ran : goal.returns-clause-ran
+returns-clause-ran g c whole script e =
+    let input : (g.D.Desk.outside c.log_header.new.desk).input ≡ Some script =
+    c.in-Ok-log_header.ensures.others.input ∙ (c.in-Ok-create.ensures.others.input ∙ (c.in-Ok-open.ensures.input ∙ e)) in
+    let left : left_of c.in-Ok.lines (g.D.Desk.outside c.log_header.new.desk).input ≡ Some script =
+    ap (left_of c.in-Ok.lines) input ∙ ap (λ (w : Waiting). left_of w (Some script)) c.in-Ok.ensures in
+    ran_behind_header c.run_lines.result script (g.D.Desk.outside c.args.desk.now) (g.D.Desk.outside c.log_header.new.desk)
+    (g.D.Desk.outside c.run_lines.new.desk) (header_bytes 1) refl
+    (c.in-Ok-log_header.ensures.others.printed ∙ (c.in-Ok-create.ensures.others.printed ∙ c.in-Ok-open.ensures.others.printed))
+    (c.in-Ok-log_header.ensures.logged
+    ∙ ap (λ told. appended told (header_bytes 1)) (c.in-Ok-create.ensures.logged ∙ c.in-Ok-open.ensures.others.logged))
+    (c.run_lines.ensures.ran whole script left)
