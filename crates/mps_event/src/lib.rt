@@ -19,3 +19,6 @@ pub use reading::first;
 pub use record::RecordRef;
 pub use version::Version;
 pub use writing::put;
+
+#[cfg(test)]
+mod tests;
