@@ -3,7 +3,7 @@ use Rattle.std.proofs.Common.{◌≡◌, ℕ, zero, suc, ◌+◌, ◌-◌, ◌*�
 use Rattle.std.specs.Prelude.{IsTrue, IfOk, IfSome, MatchOption, find}
 use Rattle.std.specs.List.{All, AllByRecursion}
 use Rattle.std.proofs.lemmas.Bool.{eqb-true, ltb-false, le-ltb}
-use Rattle.std.proofs.lemmas.List.{length-append, length-drop, drop-take, take-append-drop}
+use Rattle.std.proofs.lemmas.List.{append_cancel_left, length-append, length-drop, drop-take, take-append-drop}
 use Rattle.std.proofs.lemmas.List.Elements.{All-from_recursion, recursion_from_All}
 use Rattle.byteorder.specs.Endian.{little_number}
 use Rattle.byteorder.specs.Numbers.{little_from-lt, little_from-take, little_number-reads_back}
@@ -323,3 +323,16 @@ read_again version ended r rest h =
     let code : r.code < 2 ^ 16 = rw (← code-is version r.code event.event event.known) (code-lt event.event) in
     let count : length r.fields < 2 ^ 16 = omega (arith, event.count, count-le event.event) in
     reads_spelled version ended (record_bytes r ++ rest) r event (spelled_by r rest code count h.line_fits h.fields_fit)
+
+-- two records at the front of the same bytes
+abbrev done_record : Record → Result (Option Record) LogFault
+done_record r = Ok (Some r)
+
+same_read : (a b : Record) → done_record a ≡ done_record b → a ≡ b
+same_read a b e = cc
+
+pub one_front : (version : Version) (a b : Record) (x y : List ℕ) → IsRecord version a → IsRecord version b → record_bytes a ++ x ≡ record_bytes b ++ y
+    → (a ≡ b) × (x ≡ y)
+one_front version a b x y ga gb e =
+    let same : a ≡ b = same_read a b (sym (read_again version true a x ga) ∙ ap (first_of version true) e ∙ read_again version true b y gb) in
+    (same, append_cancel_left (record_bytes b) x y (ap (λ (r : Record). record_bytes r ++ x) (sym same) ∙ e))

@@ -5,6 +5,7 @@
 mod event;
 mod fault;
 mod headers;
+mod laws;
 mod name;
 mod reading;
 mod record;
@@ -14,6 +15,7 @@ mod writing;
 pub use event::Event;
 pub use fault::{BadMagic, LogFault};
 pub use headers::{header, header_of};
+pub use laws::no_record_begins_another;
 pub use name::is_padded_name;
 pub use reading::first;
 pub use record::RecordRef;
