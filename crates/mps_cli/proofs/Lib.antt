@@ -1,7 +1,6 @@
 pub mod Outsides
 pub mod Between
 pub mod NextLine
-pub mod Soundness
 pub mod RecordBytes
 pub mod LineByLine
 pub mod Steps

@@ -1,5 +1,5 @@
 -- What a run has done so far, and what is left to do.
-use Rattle.std.proofs.Common.{◌≡◌, ℕ, ◌+◌, ◌-◌, ◌<◌, ◌≤◌, Bool, true, false, Option, Some, None, List, [], ◌∷◌, ◌++◌, length, take, drop, refl, sym, ◌∙◌, ap, arith, append_assoc, append-nil, subst, zero-add, not, nat_lt}
+use Rattle.std.proofs.Common.{◌≡◌, ℕ, ◌+◌, ◌-◌, ◌<◌, ◌≤◌, Bool, true, false, Option, Some, None, List, [], ◌∷◌, ◌++◌, length, take, drop, refl, sym, ◌∙◌, ap, arith, append_assoc, append-nil, option_and_then, subst, zero-add, not, nat_lt}
 use Rattle.std.specs.List.{flat_map, list_all}
 use Rattle.std.specs.Option.{option_map}
 use Rattle.std.proofs.lemmas.List.Sums.{prefix_len-le-length}
@@ -9,7 +9,12 @@ use Rattle.mps_base.specs.Desk.{Outside, OnlyReads, OnlyReports}
 use Rattle.mps_base.specs.Record.{Record, record_bytes, records_bytes, header_bytes}
 use Rattle.mps_model.specs.Step.{Step, History}
 use Rattle.mps_model.specs.Log.{log_from, log_of, pools_made}
-use Rattle.mps_model.proofs.Appending.{log_from-append}
+use Rattle.mps_model.specs.World.{World, empty_world}
+use Rattle.mps_model.specs.Replay.{Store, replay, replay_from, store_after}
+use Rattle.mps_model.specs.History.{IsLegalHistory, world_after_history, live_blocks}
+use Rattle.mps_model.proofs.Appending.{log_from-append, IsLegalFrom-append, world_after_steps-append}
+use Rattle.mps_first_heap.specs.Kept.{Kept}
+use Rattle.mps_first_heap.specs.StandsFor.{StandsFor}
 use Rattle.mps_script.specs.Line.{lines_of, call_of_line, longest_line, is_line_feed}
 use Rattle.mps_cli.specs.Write.{appended}
 use Rattle.mps_cli.specs.Ending.{CountsGrow, HasCause, status_of}
@@ -23,7 +28,8 @@ use Rattle.mps_cli.proofs.LineByLine.{first_line, take_one_more, good_append, co
 
 -- so many lines of a script were run, and these bytes are left of it
 pub record ReadUpTo (lines : ℕ) (history : History) (script rest : List ℕ) : Type 0 where
-  pub run : HasRun script lines history
+  pub grammatical : list_all is_good (take lines (lines_of script)) ≡ true
+  pub commands : commands_of history ≡ commands_from 1 (take lines (lines_of script))
   pub behind : drop lines (lines_of script) ≡ lines_of rest
 
 -- the same, where the script is told
@@ -33,12 +39,15 @@ ReadSoFar lines history (Some script) None = ⊥
 ReadSoFar lines history (Some script) (Some rest) = ReadUpTo lines history script rest
 
 -- what was printed and logged since the first line is that of a history
-pub record SoFar (lines pools : ℕ) (old now : Outside) (script left : Option (List ℕ)) : Type 0 where
+pub record SoFar (kept : Kept) (lines pools : ℕ) (old now : Outside) (script left : Option (List ℕ)) : Type 0 where
   pub history : History
   pub made : pools ≡ pools_made history
   pub printed : now.printed ≡ appended old.printed (answers_of history)
   pub logged : now.logged ≡ appended old.logged (records_bytes (log_of history))
   pub read : ReadSoFar lines history script left
+  pub legal : IsLegalHistory history
+  pub stands : StandsFor kept (world_after_history history)
+  pub replayed : replay (log_of history) ≡ Some (live_blocks (world_after_history history))
 
 appended_empty : (told : Option (List ℕ)) → told ≡ appended told []
 appended_empty None = refl
@@ -50,16 +59,19 @@ appended_twice (Some bytes) a b = ap Some (append_assoc bytes a b)
 
 read_nothing : (left : Option (List ℕ)) → ReadSoFar 0 [] left left
 read_nothing None = refl
-read_nothing (Some script) = record { run = record { grammatical = refl; commands = refl }; behind = refl }
+read_nothing (Some script) = record { grammatical = refl; commands = refl; behind = refl }
 
 -- before the first line
-pub at_start : (o : Outside) (left : Option (List ℕ)) → SoFar 0 0 o o left left
-at_start o left = record {
+pub at_start : (kept : Kept) (o : Outside) (left : Option (List ℕ)) → StandsFor kept empty_world → SoFar kept 0 0 o o left left
+at_start kept o left stands = record {
   history = [];
   made = refl;
   printed = appended_empty o.printed;
   logged = appended_empty o.logged;
   read = read_nothing left;
+  legal = tt;
+  stands = stands;
+  replayed = refl;
 }
 
 -- one line more of a script
@@ -76,13 +88,11 @@ read_more n h steps script rest line rest2 r pos at behind good answers =
     append-nil (commands_of_call (1 + length (take n (lines_of script))) (call_of_line line))
     ∙ ap (λ m. commands_of_call m (call_of_line line)) (omega arith) in
     record {
-      run = record {
-        grammatical = rw more.0 (good_append (take n (lines_of script)) (line ∷ []) r.run.grammatical one);
-        commands = rw more.0 (map-append command_of_step h steps
-            ∙ (ap (λ cs. cs ++ commands_of steps) r.run.commands
-            ∙ (ap (λ cs. commands_from 1 (take n (lines_of script)) ++ cs) (answers ∙ sym last)
-            ∙ sym (commands_append 1 (take n (lines_of script)) (line ∷ [])))));
-      };
+      grammatical = rw more.0 (good_append (take n (lines_of script)) (line ∷ []) r.grammatical one);
+      commands = rw more.0 (map-append command_of_step h steps
+          ∙ (ap (λ cs. cs ++ commands_of steps) r.commands
+          ∙ (ap (λ cs. commands_from 1 (take n (lines_of script)) ++ cs) (answers ∙ sym last)
+          ∙ sym (commands_append 1 (take n (lines_of script)) (line ∷ [])))));
       behind = more.1;
     }
 
@@ -97,12 +107,26 @@ read_next n h steps (Some script) (Some rest) line None r next good answers = ab
 read_next n h steps (Some script) (Some rest) line (Some rest2) r next good answers =
     read_more n h steps script rest line rest2 r next.0 next.1 (let e : Some rest2 ≡ Some (drop (length_of_line rest + 1) rest) = next.2 in cc) good answers
 
+-- replaying records behind others
+replay_step : (next : Option Store) (middle : Store) (rs behind : List Record)
+    → ((store : Store) → replay_from store rs ≡ Some middle → replay_from store (rs ++ behind) ≡ replay_from middle behind)
+    → option_and_then (λ after. replay_from after rs) next ≡ Some middle
+    → option_and_then (λ after. replay_from after (rs ++ behind)) next ≡ replay_from middle behind
+replay_step None middle rs behind ih e = absurd (let a : None ≡ Some middle = e in cc)
+replay_step (Some store) middle rs behind ih e = ih store e
+
+replay_behind : (store middle : Store) (front behind : List Record) → replay_from store front ≡ Some middle
+    → replay_from store (front ++ behind) ≡ replay_from middle behind
+replay_behind store middle [] behind e = ap (λ s. replay_from s behind) (let a : store ≡ middle = cc in a)
+replay_behind store middle (r ∷ rs) behind e =
+    replay_step (store_after store r) middle rs behind (λ s h. replay_behind s middle rs behind h) e
+
 -- one line more
-pub one_line_more : (n pools pools2 : ℕ) (old o1 o2 o3 : Outside) (script left left2 : Option (List ℕ)) (line : List ℕ)
-    → SoFar n pools old o1 script left → OnlyReads o1 o2 → ComesNextOf Line left line left2
-    → is_good line ≡ true → StepsRan (commands_of_call (n + 1) (call_of_line line)) pools pools2 o2 o3
-    → SoFar (n + 1) pools2 old o3 script left2
-one_line_more n pools pools2 old o1 o2 o3 script left left2 line f reads next good s = record {
+pub one_line_more : (kept kept2 : Kept) (n pools pools2 : ℕ) (old o1 o2 o3 : Outside) (script left left2 : Option (List ℕ)) (line : List ℕ)
+    → SoFar kept n pools old o1 script left → OnlyReads o1 o2 → ComesNextOf Line left line left2
+    → is_good line ≡ true → StepsRan (commands_of_call (n + 1) (call_of_line line)) kept kept2 pools pools2 o2 o3
+    → SoFar kept2 (n + 1) pools2 old o3 script left2
+one_line_more kept kept2 n pools pools2 old o1 o2 o3 script left left2 line f reads next good s = record {
   history = f.history ++ s.steps;
   made = s.pools ∙ (ap (λ p. p + pools_made s.steps) f.made ∙ sym (pools_made-append f.history s.steps));
   printed = s.printed
@@ -117,6 +141,12 @@ one_line_more n pools pools2 old o1 o2 o3 script left left2 line f reads next go
       ∙ ap records_bytes (sym (log_from-append 0 f.history s.steps
       ∙ ap (λ p. log_of f.history ++ log_from p s.steps) (zero-add (pools_made f.history) ∙ sym f.made))))));
   read = read_next n f.history s.steps script left line left2 f.read next good s.answers;
+  legal = IsLegalFrom-append empty_world f.history s.steps f.legal (s.legal (world_after_history f.history) f.stands);
+  stands = subst (StandsFor kept2) (sym (world_after_steps-append empty_world f.history s.steps)) (s.stands (world_after_history f.history) f.stands);
+  replayed = ap replay (log_from-append 0 f.history s.steps)
+      ∙ (replay_behind [] (live_blocks (world_after_history f.history)) (log_of f.history) (log_from (0 + pools_made f.history) s.steps) f.replayed
+      ∙ (s.replayed (world_after_history f.history) (0 + pools_made f.history) f.stands
+      ∙ ap (λ w. Some (live_blocks w)) (sym (world_after_steps-append empty_world f.history s.steps))));
 }
   where
     pools_made-append : (h steps : History) → pools_made (h ++ steps) ≡ pools_made h + pools_made steps
@@ -125,25 +155,25 @@ one_line_more n pools pools2 old o1 o2 o3 script left left2 line f reads next go
 
 -- ---- where a run ends
 
-ends_with : (n pools : ℕ) (old o1 o2 : Outside) (script rest : List ℕ) (ends : Ending)
-    → SoFar n pools old o1 (Some script) (Some rest) → OnlyReads o1 o2
+ends_with : (kept : Kept) (n pools : ℕ) (old o1 o2 : Outside) (script rest : List ℕ) (ends : Ending)
+    → SoFar kept n pools old o1 (Some script) (Some rest) → OnlyReads o1 o2
     → EndsAt ends n (lines_of rest) → RanLines ends script old o2
-ends_with n pools old o1 o2 script rest ends f reads at = record {
+ends_with kept n pools old o1 o2 script rest ends f reads at = record {
   history = f.history;
   lines = n;
-  run = f.read.run;
+  run = record { grammatical = f.read.grammatical; commands = f.read.commands; legal = f.legal; replayed = f.replayed };
   printed = reads.printed ∙ f.printed;
   logged = reads.logged ∙ f.logged;
   ends_at = subst (EndsAt ends n) (sym f.read.behind) at;
 }
 
 -- at the end of the input
-pub ends_done : (n pools : ℕ) (old o1 o2 : Outside) (script : List ℕ) (left left2 : Option (List ℕ)) (line : List ℕ)
-    → SoFar n pools old o1 (Some script) left → OnlyReads o1 o2 → ComesNextOf End left line left2
+pub ends_done : (kept : Kept) (n pools : ℕ) (old o1 o2 : Outside) (script : List ℕ) (left left2 : Option (List ℕ)) (line : List ℕ)
+    → SoFar kept n pools old o1 (Some script) left → OnlyReads o1 o2 → ComesNextOf End left line left2
     → RanLines ending.Done script old o2
-ends_done n pools old o1 o2 script None left2 line f reads next = absurd f.read
-ends_done n pools old o1 o2 script (Some rest) left2 line f reads next =
-    ends_with n pools old o1 o2 script rest ending.Done f reads (ap lines_of next)
+ends_done kept n pools old o1 o2 script None left2 line f reads next = absurd f.read
+ends_done kept n pools old o1 o2 script (Some rest) left2 line f reads next =
+    ends_with kept n pools old o1 o2 script rest ending.Done f reads (ap lines_of next)
 
 some_line : (rest : List ℕ) → 0 < length rest → 0 < length (lines_of rest)
 some_line rest pos = let e = first_line rest pos in omega (arith, ap length e)
@@ -152,15 +182,15 @@ line_bound : (xs : List ℕ) → length_of_line xs ≤ length xs
 line_bound xs = prefix_len-le-length (λ b. not (is_line_feed b)) xs
 
 -- where there are more lines than can be counted
-pub ends_too_long : (n pools : ℕ) (old o1 o2 : Outside) (script : List ℕ) (left left2 : Option (List ℕ)) (line : List ℕ) (next : Next)
-    → SoFar n pools old o1 (Some script) left → OnlyReads o1 o2 → ComesNextOf next left line left2 → (next ≡ End → ⊥) → n ≡ 4294967295
+pub ends_too_long : (kept : Kept) (n pools : ℕ) (old o1 o2 : Outside) (script : List ℕ) (left left2 : Option (List ℕ)) (line : List ℕ) (next : Next)
+    → SoFar kept n pools old o1 (Some script) left → OnlyReads o1 o2 → ComesNextOf next left line left2 → (next ≡ End → ⊥) → n ≡ 4294967295
     → RanLines ending.TooLong script old o2
-ends_too_long n pools old o1 o2 script None left2 line next f reads comes not_end count = absurd f.read
-ends_too_long n pools old o1 o2 script (Some rest) left2 line End f reads comes not_end count = absurd (not_end refl)
-ends_too_long n pools old o1 o2 script (Some rest) left2 line Line f reads comes not_end count =
-    ends_with n pools old o1 o2 script rest ending.TooLong f reads (count, some_line rest comes.0)
-ends_too_long n pools old o1 o2 script (Some rest) left2 line TooLong f reads comes not_end count =
-    ends_with n pools old o1 o2 script rest ending.TooLong f reads (count, some_line rest (omega (arith, comes, line_bound rest)))
+ends_too_long kept n pools old o1 o2 script None left2 line next f reads comes not_end count = absurd f.read
+ends_too_long kept n pools old o1 o2 script (Some rest) left2 line End f reads comes not_end count = absurd (not_end refl)
+ends_too_long kept n pools old o1 o2 script (Some rest) left2 line Line f reads comes not_end count =
+    ends_with kept n pools old o1 o2 script rest ending.TooLong f reads (count, some_line rest comes.0)
+ends_too_long kept n pools old o1 o2 script (Some rest) left2 line TooLong f reads comes not_end count =
+    ends_with kept n pools old o1 o2 script rest ending.TooLong f reads (count, some_line rest (omega (arith, comes, line_bound rest)))
 
 long_line_is_bad : (line : List ℕ) → longest_line < length line → is_good line ≡ false
 long_line_is_bad line h = let t : nat_lt longest_line (length line) ≡ true = grind (arith, common_steps) in rw t
@@ -172,26 +202,26 @@ first_is_bad rest line pos at bad =
     rw (e, bad)
 
 -- at a line that is too long
-pub ends_long_line : (n pools : ℕ) (old o1 o2 : Outside) (script : List ℕ) (left left2 : Option (List ℕ)) (line : List ℕ)
-    → SoFar n pools old o1 (Some script) left → OnlyReads o1 o2 → ComesNextOf TooLong left line left2
+pub ends_long_line : (kept : Kept) (n pools : ℕ) (old o1 o2 : Outside) (script : List ℕ) (left left2 : Option (List ℕ)) (line : List ℕ)
+    → SoFar kept n pools old o1 (Some script) left → OnlyReads o1 o2 → ComesNextOf TooLong left line left2
     → RanLines (ending.BadLine (n + 1)) script old o2
-ends_long_line n pools old o1 o2 script None left2 line f reads comes = absurd f.read
-ends_long_line n pools old o1 o2 script (Some rest) left2 line f reads comes =
+ends_long_line kept n pools old o1 o2 script None left2 line f reads comes = absurd f.read
+ends_long_line kept n pools old o1 o2 script (Some rest) left2 line f reads comes =
     let long : length (take (length_of_line rest) rest) ≡ length_of_line rest = length-take-le (length_of_line rest) rest (line_bound rest) in
     let bad : is_good (take (length_of_line rest) rest) ≡ false = long_line_is_bad (take (length_of_line rest) rest) (omega (arith, comes)) in
     let pos : 0 < length rest = omega (arith, comes, line_bound rest) in
-    ends_with n pools old o1 o2 script rest (ending.BadLine (n + 1)) f reads
+    ends_with kept n pools old o1 o2 script rest (ending.BadLine (n + 1)) f reads
     (refl, first_is_bad rest (take (length_of_line rest) rest) pos refl bad)
 
 -- at a line that is bad
-pub ends_bad_line : (n pools : ℕ) (old o1 o2 o3 : Outside) (script : List ℕ) (left left2 : Option (List ℕ)) (line : List ℕ) (ends : Ending)
-    → SoFar n pools old o1 (Some script) left → OnlyReads o1 o2 → ComesNextOf Line left line left2
+pub ends_bad_line : (kept : Kept) (n pools : ℕ) (old o1 o2 o3 : Outside) (script : List ℕ) (left left2 : Option (List ℕ)) (line : List ℕ) (ends : Ending)
+    → SoFar kept n pools old o1 (Some script) left → OnlyReads o1 o2 → ComesNextOf Line left line left2
     → IsBadHere line (n + 1) ends o2 o3 → RanLines ends script old o3
-ends_bad_line n pools old o1 o2 o3 script None left2 line ends f reads comes bad = absurd f.read
-ends_bad_line n pools old o1 o2 o3 script (Some rest) left2 line ends f reads comes bad = record {
+ends_bad_line kept n pools old o1 o2 o3 script None left2 line ends f reads comes bad = absurd f.read
+ends_bad_line kept n pools old o1 o2 o3 script (Some rest) left2 line ends f reads comes bad = record {
   history = f.history;
   lines = n;
-  run = f.read.run;
+  run = record { grammatical = f.read.grammatical; commands = f.read.commands; legal = f.legal; replayed = f.replayed };
   printed = bad.printed ∙ (reads.printed ∙ f.printed);
   logged = bad.logged ∙ (reads.logged ∙ f.logged);
   ends_at = subst (λ e. EndsAt e n (drop n (lines_of script))) (sym bad.is_end)
@@ -256,3 +286,17 @@ complete_ending ending.ReadFailed old new h f m o = absurd (f.reading h)
 complete_ending ending.WriteFailed old new h f m o = absurd (f.printing h)
 complete_ending ending.LogFailed old new h f m o = absurd (f.logging h)
 complete_ending ending.OutOfMemory old new h f m o = absurd (o refl)
+
+-- no steps
+pub no_steps : (commands : List Command) (kept : Kept) (pools : ℕ) (o : Outside) → commands ≡ [] → StepsRan commands kept kept pools pools o o
+no_steps commands kept pools o none = record {
+  steps = [];
+  legal = λ w s. tt;
+  stands = λ w s. s;
+  replayed = λ w n s. refl;
+  answers = sym none;
+  printed = appended_empty o.printed;
+  logged = appended_empty o.logged;
+  pools = omega arith;
+  input = refl;
+}

@@ -1,26 +1,35 @@
 -- The steps that a run makes, one after another.
 use Rattle.std.proofs.Common.{◌≡◌, ℕ, ◌+◌, ◌<◌, ◌≤◌, Bool, true, false, Option, Some, None, List, [], ◌∷◌, ◌++◌, length, take, drop, refl, sym, ◌∙◌, ap, arith, append_assoc, append-nil, subst}
-use Rattle.std.specs.Option.{option_to_list}
 use Rattle.mps_base.specs.Desk.{Outside, OnlyLogs, OnlyPrints}
 use Rattle.mps_base.specs.Record.{Record, records_bytes}
 use Rattle.mps_model.specs.declared.call.Call.{Call}
 use Rattle.mps_model.specs.Answer.{Said}
 use Rattle.mps_model.specs.Step.{Step, History}
-use Rattle.mps_model.specs.Log.{log_from, log_of, pools_made, pools_made_by}
+use Rattle.mps_model.specs.Log.{log_from, log_of, records_of_step, pools_made, pools_made_by}
 use Rattle.mps_script.specs.Text.{text_of}
 use Rattle.mps_cli.specs.Write.{appended}
 use Rattle.mps_cli.specs.Records.{records_of_done}
 use Rattle.mps_cli.specs.Script.{Command, StepsRan, answers_of, commands_of}
-use Rattle.mps_cli.specs.declared.done.Done.{Done}
+use Rattle.mps_first_heap.specs.declared.done.Done.{Done}
+use Rattle.mps_first_heap.specs.Kept.{Kept}
+use Rattle.mps_first_heap.specs.StandsFor.{moves_of}
+use Rattle.mps_first_heap.specs.RightStep.{IsLegalCall, StandsAfter, IsReplayedCall}
+use Rattle.mps_model.specs.World.{World}
+use Rattle.mps_model.specs.Replay.{replay_from}
+use Rattle.mps_model.specs.History.{live_blocks}
 
 -- a command that was answered is one step
-pub one_step : (line pools count : ℕ) (call : Call) (done : Done) (old mid new : Outside)
+pub one_step : (line pools count : ℕ) (call : Call) (done : Done) (before after : Kept) (old mid new : Outside)
+    → IsLegalCall before call done → StandsAfter before call done after → IsReplayedCall before call done
     → mid.logged ≡ appended old.logged (records_bytes (records_of_done line pools call done)) → OnlyLogs old mid
     → new.printed ≡ appended mid.printed (text_of done.reply) → OnlyPrints mid new
     → count ≡ pools_made_by call (Said done.reply)
-    → StepsRan (record { line = line; call = call } ∷ []) pools (pools + count) old new
-one_step line pools count call done old mid new logged logs printed prints made = record {
+    → StepsRan (record { line = line; call = call } ∷ []) before after pools (pools + count) old new
+one_step line pools count call done before after old mid new is_legal stands replayed logged logs printed prints made = record {
   steps = step ∷ [];
+  legal = λ w s. (is_legal w line s, tt);
+  stands = λ w s. stands w line s;
+  replayed = λ w n s. ap (replay_from (live_blocks w)) (append-nil (records_of_step n step)) ∙ replayed w line s n;
   answers = refl;
   printed = printed ∙ (ap (λ told. appended told (text_of done.reply)) logs.printed ∙ ap (appended old.printed) (sym (append-nil (text_of done.reply))));
   logged = prints.logged ∙ (logged ∙ ap (λ rs. appended old.logged (records_bytes rs)) (sym (append-nil (records_of_done line pools call done))));
@@ -29,4 +38,4 @@ one_step line pools count call done old mid new logged logs printed prints made 
 }
   where
     step : Step
-    step = record { line = line; call = call; moves = option_to_list done.moved; answer = Said done.reply }
+    step = record { line = line; call = call; moves = moves_of done.moved; answer = Said done.reply }

@@ -2,6 +2,5 @@ pub mod Command
 pub mod Ending
 pub mod Write
 pub mod Buffer
-pub mod Heap
 pub mod Records
 pub mod Script

@@ -1,13 +1,13 @@
 -- The records of what a command came to.
 use Rattle.std.specs.Prelude.{ℕ, List, ◌++◌}
-use Rattle.std.specs.Option.{option_to_list}
 use Rattle.mps_base.specs.Record.{Record}
 use Rattle.mps_model.specs.declared.call.Call.{Call}
 use Rattle.mps_model.specs.Answer.{Said}
 use Rattle.mps_model.specs.Log.{records_of, records_of_command}
-use Rattle.mps_cli.specs.declared.done.Done.{Done}
+use Rattle.mps_first_heap.specs.declared.done.Done.{Done}
+use Rattle.mps_first_heap.specs.StandsFor.{moves_of}
 
 -- those of its move, and then its own, where so many pools were made before it
 abbrev pub records_of_done : (line pools : ℕ) → Call → Done → List Record
 records_of_done line pools call done =
-    records_of (option_to_list done.moved) line ++ records_of_command pools call (Said done.reply) line
+    records_of (moves_of done.moved) line ++ records_of_command pools call (Said done.reply) line

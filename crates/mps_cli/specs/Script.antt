@@ -8,6 +8,11 @@ use Rattle.mps_model.specs.declared.call.Call.TheVariants as call
 use Rattle.mps_model.specs.Answer.{Answer, Said, Dumped}
 use Rattle.mps_model.specs.Step.{Step, History}
 use Rattle.mps_model.specs.Log.{log_of, log_from, log_bytes, pools_made}
+use Rattle.mps_model.specs.World.{World}
+use Rattle.mps_model.specs.Replay.{replay, replay_from}
+use Rattle.mps_model.specs.History.{IsLegalFrom, IsLegalHistory, world_after_steps, world_after_history, live_blocks}
+use Rattle.mps_first_heap.specs.Kept.{Kept}
+use Rattle.mps_first_heap.specs.StandsFor.{StandsFor}
 use Rattle.mps_model.specs.Text.{line_of_answer}
 use Rattle.mps_script.specs.declared.line.BadLine.{BadLine}
 use Rattle.mps_script.specs.Line.{call_of_line, lines_of}
@@ -85,11 +90,21 @@ pub record HasRun (script : List ℕ) (lines : ℕ) (history : History) : Type 0
   pub grammatical : list_all is_good (take lines (lines_of script)) ≡ true
   -- the history answers their commands, in order and each with its line
   pub commands : commands_of history ≡ commands_from 1 (take lines (lines_of script))
+  -- it is a legal history of the model
+  pub legal : IsLegalHistory history
+  -- the blocks that replaying its log gives are those that are live in the world after it
+  pub replayed : replay (log_of history) ≡ Some (live_blocks (world_after_history history))
 
 -- steps were made that answer these commands: what was printed is the answer line of each and nothing else, and what was
 -- logged is their records and nothing else
-pub record StepsRan (commands : List Command) (pools_before pools_after : ℕ) (old new : Outside) : Type 0 where
+pub record StepsRan (commands : List Command) (before after : Kept) (pools_before pools_after : ℕ) (old new : Outside) : Type 0 where
   pub steps : History
+  -- in each world for which the heap stood they are legal, the heap stands for the world after them, and their records tell
+  -- which blocks are live
+  pub legal : (w : World) → StandsFor before w → IsLegalFrom w steps
+  pub stands : (w : World) → StandsFor before w → StandsFor after (world_after_steps w steps)
+  pub replayed : (w : World) (pools : ℕ) → StandsFor before w
+      → replay_from (live_blocks w) (log_from pools steps) ≡ Some (live_blocks (world_after_steps w steps))
   pub answers : commands_of steps ≡ commands
   pub printed : new.printed ≡ appended old.printed (answers_of steps)
   pub logged : new.logged ≡ appended old.logged (records_bytes (log_from pools_before steps))

@@ -10,10 +10,10 @@ ghost use Rattle.mps_model.specs.Answer.{Said};
 ghost use Rattle.mps_cli.specs.Write.{appended};
 ghost use Rattle.mps_cli.specs.Records.{records_of_done};
 
-use crate::done::Done;
 use crate::write::log_all;
 use mps_base::{Desk, Failed, Kind, Move};
 use mps_event::{Event, Version, header_of, put};
+use mps_first_heap::Done;
 use mps_model::{Call, Reply};
 
 /// Writes the header of a log.

@@ -3,13 +3,13 @@
 #![tactic(auto)]
 
 mod command;
-mod done;
 mod ending;
-mod heap;
+mod heap_call;
 mod lines;
 mod log;
 mod mps;
 mod next;
+mod pools;
 mod print;
 mod run;
 mod write;

@@ -2,20 +2,20 @@
 ghost use Rattle.std.specs.Prelude.{◌≡◌, ◌≢◌, ◌≤◌, ◌+◌, ◌∷◌, [], ℕ, List, true, false, Some, IfSome, IfNone};
 ghost use Rattle.mps_base.specs.Desk.{standard_input};
 ghost use Rattle.mps_script.specs.Line.{call_of_line};
-ghost use Rattle.mps_cli.specs.Heap.{IsSound};
 ghost use Rattle.mps_cli.specs.Ending.{HasCause, CountsGrow};
 ghost use Rattle.mps_cli.specs.Buffer.{left_of};
 ghost use Rattle.mps_cli.specs.Script.{Command, StepsRan, RanTo, RanLines, IsBadHere, is_good, is_whole, commands_of_call};
 ghost use Rattle.mps_cli.specs.declared.ending.Ending.TheVariants.{NoMeaning};
 
-use crate::done::pools_made;
 use crate::ending::Ending;
-use crate::heap::{Heap, answer};
+use crate::heap_call::answer;
 use crate::lines::Lines;
 use crate::log::{log_header, log_records};
 use crate::next::Next;
+use crate::pools::pools_made;
 use crate::print::print;
 use mps_base::Desk;
+use mps_first_heap::FirstHeap;
 use mps_model::Call;
 use mps_script::call_of;
 use std::alloc::Global;
@@ -56,7 +56,7 @@ fn run_lines<D: Desk>(alloc: Global, desk: &mut D, lines: &mut Lines) -> Ending
     ensures ran { is_whole result ≡ true → (script : List ℕ) → left_of lines.old (D.outside desk.old).input ≡ Some script
         → RanLines result script (D.outside desk.old) (D.outside desk.new) }
 {
-    let mut heap = None;
+    let mut heap = FirstHeap::new(alloc);
     let mut pools: u64 = 0;
     let mut line: u32 = 0;
     loop {
@@ -84,15 +84,13 @@ fn run_lines<D: Desk>(alloc: Global, desk: &mut D, lines: &mut Lines) -> Ending
 fn run_line<D: Desk>(
     alloc: Global,
     desk: &mut D,
-    heap: &mut Option<Heap>,
+    heap: &mut FirstHeap,
     pools: &mut u64,
     bytes: &[u8],
     line: u32,
 ) -> Option<Ending>
-    requires sound { IsSound heap.old }
-    requires pools { pools.old ≤ line }
-    ensures sound { IsSound heap.new }
-    ensures steps { IfNone result (StepsRan (commands_of_call line (call_of_line bytes.now)) pools.old pools.new
+    requires { pools.old ≤ line }
+    ensures steps { IfNone result (StepsRan (commands_of_call line (call_of_line bytes.now)) heap.old heap.new pools.old pools.new
         (D.outside desk.old) (D.outside desk.new)) }
     ensures good { IfNone result (is_good bytes.now ≡ true) }
     ensures few { pools.new ≤ pools.old + 1 }
@@ -112,15 +110,13 @@ fn run_line<D: Desk>(
 fn run_call<D: Desk>(
     alloc: Global,
     desk: &mut D,
-    heap: &mut Option<Heap>,
+    heap: &mut FirstHeap,
     pools: &mut u64,
     call: &Call,
     line: u32,
 ) -> Option<Ending>
-    requires sound { IsSound heap.old }
-    requires pools { pools.old ≤ line }
-    ensures sound { IsSound heap.new }
-    ensures steps { IfNone result (StepsRan (record { line = line; call = call.now } ∷ []) pools.old pools.new
+    requires { pools.old ≤ line }
+    ensures steps { IfNone result (StepsRan (record { line = line; call = call.now } ∷ []) heap.old heap.new pools.old pools.new
         (D.outside desk.old) (D.outside desk.new)) }
     ensures few { pools.new ≤ pools.old + 1 }
     ensures whole { IfSome result (λ ending. is_whole ending ≡ false) }

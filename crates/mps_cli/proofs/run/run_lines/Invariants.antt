@@ -1,5 +1,4 @@
 use Rattle.std.proofs.Common.{◌≤◌, ◌-◌}
-use Rattle.mps_cli.specs.Heap.{IsSound}
 use Rattle.mps_cli.specs.Ending.{CountsGrow}
 use Rattle.mps_cli.specs.Buffer.{left_of}
 use Rattle.mps_cli.proofs.SoFar.{SoFar}
@@ -7,10 +6,9 @@ use Rattle.mps_cli.proofs.run.run_lines.Given as goal
 
 abbrev pub invariant-loop-next : goal.invariant-loop-next
 invariant-loop-next g l = record {
-  sound : IsSound l.heap;
   few : l.pools ≤ l.line;
   counts : CountsGrow (g.D.Desk.outside l.initial.desk) (g.D.Desk.outside l.desk);
-  so_far : SoFar l.line l.pools (g.D.Desk.outside l.initial.desk) (g.D.Desk.outside l.desk)
+  so_far : SoFar l.heap l.line l.pools (g.D.Desk.outside l.initial.desk) (g.D.Desk.outside l.desk)
       (left_of l.initial.lines (g.D.Desk.outside l.initial.desk).input) (left_of l.lines (g.D.Desk.outside l.desk).input);
 }
 
