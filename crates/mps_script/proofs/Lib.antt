@@ -1,2 +1,4 @@
 pub mod FirstWord
 pub mod Digits
+pub mod Decimals
+pub mod Heads

@@ -1,6 +1,8 @@
 // Numbers as words.
-ghost use Rattle.std.specs.Prelude.{◌≡◌, ◌≤◌};
+ghost use Rattle.std.specs.Prelude.{◌≡◌, ℕ, ◌<◌, ◌≤◌, ◌^◌, decimal, IfSome};
 ghost use Rattle.mps_script.specs.Number.{digit_of, digits_value, are_digits, below_word, is_canonical, number_in, decimal_number, hexadecimal_number, number_of, number_within};
+
+use mps_numbers::decimal_number as read_decimal;
 
 /// What a digit stands for, up to 15 for `f`; 16 for a byte that is no digit.
 fn digit(byte: u8) -> u64
@@ -58,11 +60,13 @@ fn number(base: u64, digits: &[u8]) -> Option<u64>
     value(base, digits)
 }
 
-/// A decimal number.
+/// A decimal number, which is read from just the text that is written for it.
 pub fn decimal(word: &[u8]) -> Option<u64>
-    ensures { result ≡ decimal_number word.now }
+    ensures number { result ≡ decimal_number word.now }
+    ensures written { IfSome result (λ n. word.now ≡ decimal n) }
+    ensures exact { (n : ℕ) → n < 2 ^ 64 → word.now ≡ decimal n → result ≡ Some n }
 {
-    number(10, word)
+    read_decimal(word)
 }
 
 /// A hexadecimal number, behind `0x`.
