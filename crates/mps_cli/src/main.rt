@@ -12,6 +12,8 @@ mod next;
 mod pools;
 mod print;
 mod run;
+#[cfg(test)]
+mod tests;
 mod write;
 
 use mps_base::HostDesk;
