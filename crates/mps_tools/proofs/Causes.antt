@@ -2,13 +2,13 @@
 use Rattle.std.proofs.Common.{◌≡◌, ℕ, ◌≤◌, true, List, Result, Ok, Err, refl, sym, subst, ◌∙◌, arith, inl, inr}
 use Rattle.std.specs.Prelude.{OnOk, IfErr}
 use Rattle.mps_base.specs.Desk.{Outside, HasRisen, OnlyReads}
-use Rattle.mps_tools.specs.declared.stop.Stop.{Stop}
-use Rattle.mps_tools.specs.declared.stop.Stop.TheVariants as stop
+use Rattle.mps_output.specs.declared.stop.Stop.{Stop}
+use Rattle.mps_output.specs.declared.stop.Stop.TheVariants as stop
 use Rattle.mps_tools.specs.Input.{Buffered, ReadsMore}
-use Rattle.mps_tools.specs.Reports.{status_of, report_of}
-use Rattle.mps_tools.specs.Streams.{Runs, Prints, Reports}
+use Rattle.mps_output.specs.Reports.{status_of, report_of}
+use Rattle.mps_output.specs.Streams.{Runs, Prints, Reports}
 use Rattle.mps_tools.specs.Causes.{IsFaulty, CauseOf, IsCaused, CauseFrom, IsCausedFrom, IsTold, IsStatus, Works, Answers}
-use Rattle.mps_tools.proofs.Outside.{risen_later, risen_earlier}
+use Rattle.mps_output.proofs.Outside.{risen_later, risen_earlier}
 
 pub runs-none : (o : Outside) → Runs o o
 runs-none o = record { in_counted = omega arith; out_counted = omega arith; files = refl; logged = refl; log_faults = refl }

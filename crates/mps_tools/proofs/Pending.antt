@@ -6,7 +6,7 @@ use Rattle.std.proofs.lemmas.List.{append-nil, drop-drop, drop-take, length-appe
 use Rattle.std.proofs.Math.Seq.{take-add}
 use Rattle.mps_base.specs.Desk.{Outside, HasRisen, OnlyReads}
 use Rattle.mps_tools.specs.Input.{Buffered, ReadsMore}
-use Rattle.mps_tools.proofs.Outside.{risen_later, risen_earlier}
+use Rattle.mps_output.proofs.Outside.{risen_later, risen_earlier}
 
 abbrev pub buffered : List ℕ → (ended failed : Bool) → Buffered
 buffered pending ended failed = record { pending = pending; ended = ended; failed = failed }

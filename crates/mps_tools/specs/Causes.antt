@@ -1,10 +1,10 @@
 -- The causes of a tool's stop, and what its status says of the outside.
-use Rattle.std.specs.Prelude.{◌≡◌, ℕ, ◌⊎◌, true, Result, Ok, Err, List}
+use Rattle.std.specs.Prelude.{◌≡◌, ℕ, ◌⊎◌, true, Result, Ok, Err}
 use Rattle.mps_base.specs.Desk.{Outside, HasRisen}
-use Rattle.mps_tools.specs.declared.stop.Stop.{Stop}
-use Rattle.mps_tools.specs.declared.stop.Stop.TheVariants as stop
+use Rattle.mps_output.specs.declared.stop.Stop.{Stop}
+use Rattle.mps_output.specs.declared.stop.Stop.TheVariants as stop
 use Rattle.mps_tools.specs.Input.{Buffered}
-use Rattle.mps_tools.specs.Streams.{Runs, Prints}
+use Rattle.mps_output.specs.Streams.{Runs}
 
 -- a read failed before, or the count of such faults rose since
 abbrev pub IsFaulty : (old new : Outside) → Buffered → Type 0
@@ -69,15 +69,3 @@ pub record Answers (old new : Outside) (status : ℕ) : Type 0 where
   pub read_fault : status ≡ 3 → HasRisen old.in_faults new.in_faults
   pub write_fault : status ≡ 4 → HasRisen old.out_faults new.out_faults
   pub runs : Runs old new
-
--- how the printing of a text ended: all was printed, or a write failed, or there was no memory before anything was printed
-abbrev pub IsGenerated : {T : Type 0} → (old new : Outside) → (text : List ℕ) → Result T Stop → Type 0
-IsGenerated old new text (Ok value) = Prints old new text
-IsGenerated old new text (Err stop.ReadFailed) = ⊥
-IsGenerated old new text (Err stop.WriteFailed) = HasRisen old.out_faults new.out_faults
-IsGenerated old new text (Err stop.BadHeader) = ⊥
-IsGenerated old new text (Err (stop.BadRecord offset fault)) = ⊥
-IsGenerated old new text (Err (stop.BadReplay offset)) = ⊥
-IsGenerated old new text (Err (stop.BadLine line)) = ⊥
-IsGenerated old new text (Err stop.TooLong) = ⊥
-IsGenerated old new text (Err stop.OutOfMemory) = new ≡ old

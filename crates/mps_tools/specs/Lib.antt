@@ -1,9 +1,5 @@
-pub mod Streams
-pub mod Reports
 pub mod Kinds
-pub mod Script
 pub mod KindSet
 pub mod Input
 pub mod Causes
 pub mod Portable
-pub mod GenLines

@@ -6,17 +6,16 @@ ghost use Rattle.std.specs.List.{flat_map};
 ghost use Rattle.mps_event.specs.Event.{event_of};
 ghost use Rattle.mps_tools.specs.Portable.{record_line, field_text, is_wanted};
 ghost use Rattle.mps_tools.specs.KindSet.{bits_of};
-ghost use Rattle.mps_tools.specs.Streams.{Runs};
+ghost use Rattle.mps_output.specs.Streams.{Runs};
 
 use crate::input::Input;
 use crate::kinds::Kinds;
-use crate::output::Output;
 use crate::reading::{
     MOST_OF_A_RECORD, after_the_last, flush_after, make_room, open_log, put_first_line,
 };
-use crate::stop::{Stop, finish};
 use mps_base::Desk;
 use mps_event::{Event, RecordRef, Version, first};
+use mps_output::{Output, Stop, finish};
 use std::alloc::Global;
 
 /// Prints the portable text of the log of this name, of the records of these kinds, and answers the status of the

@@ -2,15 +2,14 @@
 
 ghost use Rattle.std.specs.Prelude.{◌≡◌, ◌≤◌, ◌+◌, length, IfOk, IfSome};
 ghost use Rattle.mps_tools.specs.Causes.{IsCaused, IsTold, Works, Answers};
-ghost use Rattle.mps_tools.specs.Streams.{Runs};
+ghost use Rattle.mps_output.specs.Streams.{Runs};
 
 use crate::input::Input;
-use crate::output::Output;
 use crate::reading::{MOST_OF_A_RECORD, after_the_last, flush_after, make_room, open_log};
 use crate::replaying::{Extent, Replay, ReplayFault};
-use crate::stop::{Stop, finish};
 use mps_base::Desk;
 use mps_event::{Version, first};
+use mps_output::{Output, Stop, finish};
 use std::alloc::Global;
 
 /// Prints the blocks that are live at the end of the log of this name, after all of it was read, in ascending order of

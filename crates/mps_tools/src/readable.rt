@@ -3,9 +3,9 @@
 ghost use Rattle.std.specs.Prelude.{◌≤◌, ◌+◌, length};
 
 use crate::labels::{Labels, name_of};
-use crate::output::Output;
 use crate::record_line::RecordLine;
 use mps_event::Event;
+use mps_output::Output;
 
 // A field whose number is shown in decimal. The name stands between a space and an equals sign.
 fn put_decimal(name: &[u8], number: u64, output: &mut Output)

@@ -4,13 +4,12 @@ ghost use Rattle.std.specs.Prelude.{◌≡◌, ◌≤◌, ◌+◌, ◌++◌, ◌
 ghost use Rattle.mps_base.specs.Desk.{HasRisen};
 ghost use Rattle.mps_tools.specs.Causes.{IsCaused, IsTold, Works};
 ghost use Rattle.mps_tools.specs.Portable.{first_line};
-ghost use Rattle.mps_tools.specs.Streams.{Runs};
+ghost use Rattle.mps_output.specs.Streams.{Runs};
 
 use crate::input::Input;
-use crate::output::Output;
-use crate::stop::Stop;
 use mps_base::Desk;
 use mps_event::{Version, header};
+use mps_output::{Output, Stop};
 
 // The most bytes of a record.
 pub(crate) const MOST_OF_A_RECORD: usize = 40;

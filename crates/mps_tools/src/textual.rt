@@ -3,17 +3,16 @@
 ghost use Rattle.std.specs.Prelude.{◌≡◌, ◌≤◌, ◌+◌, true, false, length, IfOk, IfSome};
 ghost use Rattle.mps_base.specs.Desk.{HasRisen};
 ghost use Rattle.mps_tools.specs.Causes.{IsCaused, IsTold, Works, Answers};
-ghost use Rattle.mps_tools.specs.Streams.{Runs};
+ghost use Rattle.mps_output.specs.Streams.{Runs};
 
 use crate::input::Input;
 use crate::labels::{LabelFault, Labels};
-use crate::output::Output;
 use crate::readable::{label_before, put_readable};
 use crate::reading::{after_the_last, flush_after, make_room, put_first_line};
 use crate::record_line::record_of_line;
-use crate::stop::{Stop, finish};
 use mps_base::Desk;
 use mps_event::Version;
+use mps_output::{Output, Stop, finish};
 use std::alloc::Global;
 
 // The most bytes of a line, without its line feed.

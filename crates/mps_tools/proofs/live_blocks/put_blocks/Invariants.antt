@@ -1,4 +1,4 @@
-use Rattle.mps_tools.specs.Streams.{Runs}
+use Rattle.mps_output.specs.Streams.{Runs}
 use Rattle.mps_tools.proofs.live_blocks.put_blocks.Given as goal
 
 abbrev pub invariant-loop-at : goal.invariant-loop-at

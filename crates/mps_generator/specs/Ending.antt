@@ -1,0 +1,18 @@
+-- How the printing of a generated script ends.
+use Rattle.std.specs.Prelude.{◌≡◌, ℕ, Result, Ok, Err, List}
+use Rattle.mps_base.specs.Desk.{Outside, HasRisen}
+use Rattle.mps_output.specs.declared.stop.Stop.{Stop}
+use Rattle.mps_output.specs.declared.stop.Stop.TheVariants as stop
+use Rattle.mps_output.specs.Streams.{Prints}
+
+-- how the printing of a text ended: all was printed, or a write failed, or there was no memory before anything was printed
+abbrev pub IsGenerated : {T : Type 0} → (old new : Outside) → (text : List ℕ) → Result T Stop → Type 0
+IsGenerated old new text (Ok value) = Prints old new text
+IsGenerated old new text (Err stop.ReadFailed) = ⊥
+IsGenerated old new text (Err stop.WriteFailed) = HasRisen old.out_faults new.out_faults
+IsGenerated old new text (Err stop.BadHeader) = ⊥
+IsGenerated old new text (Err (stop.BadRecord offset fault)) = ⊥
+IsGenerated old new text (Err (stop.BadReplay offset)) = ⊥
+IsGenerated old new text (Err (stop.BadLine line)) = ⊥
+IsGenerated old new text (Err stop.TooLong) = ⊥
+IsGenerated old new text (Err stop.OutOfMemory) = new ≡ old
