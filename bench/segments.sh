@@ -15,11 +15,9 @@ done
 grep -E '^mps_(base|bits|arena|seg):' "$home/crates.txt" > crates.txt
 echo 'segment_times: mps_base mps_seg' >> crates.txt
 program=crates/segment_times
-mkdir -p $program/src $program/proofs/fill $program/proofs/free_over
+mkdir -p $program/src $program/proofs/free_over
 sed -n '/^fn fill(/,/^}/p; /^fn free_over(/,/^}/p' "$home/crates/mps_seg/src/tests.rt" > functions
-for name in fill free_over; do
-    sed "s/mps_seg\.proofs\.tests\.$name/segment_times.proofs.$name/" "$home/crates/mps_seg/proofs/tests/$name/Answers.antt" > $program/proofs/$name/Answers.antt
-done
+sed 's/mps_seg\.proofs\.tests\.free_over/segment_times.proofs.free_over/' "$home/crates/mps_seg/proofs/tests/free_over/Answers.antt" > $program/proofs/free_over/Answers.antt
 cat > $program/src/main.rt <<'P'
 // How long a block takes in the segments.
 #![tactic(auto)]

@@ -1,8 +1,8 @@
 -- An extent put among the others, and one taken out.
-use Rattle.std.proofs.Common.{ℕ, ◌+◌, ◌-◌, ◌<◌, ◌≤◌, ◌≡◌, ◌≢◌, ◌⊎◌, ◌&&◌, Bool, true, false, not, Option, Some, IsSome, List, length, set, Contains, refl, sym, ap, ◌∙◌, subst, inl, inr, arith, length-set}
+use Rattle.std.proofs.Common.{ℕ, ◌+◌, ◌-◌, ◌<◌, ◌≤◌, ◌≡◌, ◌≢◌, ◌⊎◌, ◌&&◌, Bool, true, false, not, Option, Some, IsSome, List, [], ◌∷◌, length, set, Contains, refl, sym, ap, ◌∙◌, subst, inl, inr, arith, length-set}
 use Rattle.std.proofs.lemmas.Bool.{cases_lt, cases_eq, both_ways, false_from_ne_true, and_right, and_parts, not-true}
 use Rattle.mps_base.specs.Run.{Run, end_of, IsAscending, with_run, without_run}
-use Rattle.mps_base.proofs.Runs.{contained_bounds, IsAscending-without_run}
+use Rattle.mps_base.proofs.Runs.{with_run_first, with_run_later, without_run_first, without_run_later, contains_first, contains_later, contained_bounds, IsAscending-without_run}
 use Rattle.mps_bits.specs.Table.{bit, with_range, next_set}
 use Rattle.mps_bits.proofs.Ranges.{length-with_range}
 use Rattle.mps_seg.specs.Extents.{ExtentLists, has_word, is_covered}
@@ -222,7 +222,7 @@ pub record Taken (covered begins ends blocks : List Bool) (r : Run) : Type 0 whe
 abbrev pub last_word : Run → ℕ
 last_word r = r.from + r.count - 1
 
-taken_bounds : (covered begins ends blocks : List Bool) (r : Run) → Taken covered begins ends blocks r → (0 < r.count) × (end_of r ≤ length begins)
+pub taken_bounds : (covered begins ends blocks : List Bool) (r : Run) → Taken covered begins ends blocks r → (0 < r.count) × (end_of r ≤ length begins)
 taken_bounds covered begins ends blocks r taken =
     let bounds = contained_bounds 0 (length begins) (extents begins ends) r taken.sound.ascending taken.there in
     (bounds.1, bounds.2)
@@ -233,10 +233,6 @@ taken_last covered begins ends blocks r taken =
     let bounds = taken_bounds covered begins ends blocks r taken in
     let P : ℕ → Type 0 = λ n. IsLast ends r.from (r.from + n - 1) in
     subst P (sym b.1) (last_of ends r.from (omega (arith, b.1, bounds.0)))
-
-pub taken_fits : (covered begins ends blocks : List Bool) (r : Run) → Taken covered begins ends blocks r → (r.from ≤ last_word r) × (last_word r < length begins)
-taken_fits covered begins ends blocks r taken =
-    let bounds = taken_bounds covered begins ends blocks r taken in (omega (arith, bounds.0), omega (arith, bounds.0, bounds.1))
 
 taken_same : (covered begins ends blocks : List Bool) (r : Run) → Taken covered begins ends blocks r → SameLengths begins ends (set ends (last_word r) false) r.from
 taken_same covered begins ends blocks r taken = record {
@@ -261,7 +257,7 @@ taken_extents covered begins ends blocks r taken =
 
 pub taken_is_sound : (covered begins ends blocks blocks' : List Bool) (r : Run) → Taken covered begins ends blocks r → length blocks' ≡ length blocks
     → ((word : ℕ) → bit blocks' word ≡ true → (bit begins word ≡ true) × (word ≢ r.from))
-    → IsSound (with_range covered r.from (last_word r + 1) false) (set begins r.from false) (set ends (last_word r) false) blocks'
+    → IsSound (with_range covered r.from (end_of r) false) (set begins r.from false) (set ends (last_word r) false) blocks'
 taken_is_sound covered begins ends blocks blocks' r taken size left =
     let sound = taken.sound in
     let bounds = taken_bounds covered begins ends blocks r taken in
@@ -269,15 +265,15 @@ taken_is_sound covered begins ends blocks blocks' r taken size left =
     let last = taken_last covered begins ends blocks r taken in
     let begun = length-set begins r.from false in
     let ended = length-set ends (last_word r) false in
-    let room : last_word r + 1 ≤ length covered = omega (arith, bounds.0, bounds.1, sound.same_size.0) in
-    let order : r.from ≤ last_word r + 1 = omega arith in
-    let ranged = length-with_range covered r.from (last_word r + 1) false order room in
+    let room : end_of r ≤ length covered = omega (arith, bounds.0, bounds.1, sound.same_size.0) in
+    let order : r.from ≤ end_of r = omega arith in
+    let ranged = length-with_range covered r.from (end_of r) false order room in
     let now = taken_extents covered begins ends blocks r taken in
     let P : List Run → Type 0 = λ rs. IsAscending 0 (length begins) rs in
     let Q : ℕ → Type 0 = λ n. IsAscending 0 n (extents (set begins r.from false) (set ends (last_word r) false)) in
-    let outside = λ (word : ℕ) (out : (word < r.from) ⊎ (last_word r + 1 ≤ word)) (other : has_word r word ≡ false).
-    let here : bit (with_range covered r.from (last_word r + 1) false) word ≡ is_covered (extents (set begins r.from false) (set ends (last_word r) false)) word =
-    bit-with_range_outside covered r.from (last_word r + 1) word false order room out ∙ sound.covered_is word
+    let outside = λ (word : ℕ) (out : (word < r.from) ⊎ (end_of r ≤ word)) (other : has_word r word ≡ false).
+    let here : bit (with_range covered r.from (end_of r) false) word ≡ is_covered (extents (set begins r.from false) (set ends (last_word r) false)) word =
+    bit-with_range_outside covered r.from (end_of r) word false order room out ∙ sound.covered_is word
     ∙ sym (covered_taken_other 0 (length begins) (extents begins ends) r word sound.ascending taken.there other) ∙ ap (λ (rs : List Run). is_covered rs word) (sym now)
     in here
     in
@@ -289,7 +285,7 @@ taken_is_sound covered begins ends blocks blocks' r taken size left =
         | inl before ↦ outside word (inl before) (has_word-below r word before)
         | inr above ↦ elim (cases_lt word (end_of r)) [
           | inl below ↦
-              bit-with_range_inside covered r.from (last_word r + 1) word false order room above (omega (arith, some))
+              bit-with_range_inside covered r.from (end_of r) word false order room above (omega (arith, some))
               ∙ sym (uncovered_taken 0 (length begins) (extents begins ends) r word sound.ascending taken.there (has_word-true r word above below))
               ∙ ap (λ (rs : List Run). is_covered rs word) (sym now)
           | inr past ↦ outside word (inr (omega (arith, some))) (has_word-above r word past)
@@ -302,12 +298,12 @@ taken_is_sound covered begins ends blocks blocks' r taken size left =
         | inr other ↦
             let was : bit ends word ≡ true = sym (bit-set_other ends (last_word r) word false other) ∙ is in
             elim (cases_lt word r.from) [
-              | inl before ↦ bit-with_range_outside covered r.from (last_word r + 1) word false order room (inl before) ∙ sound.ends_inside word was
+              | inl before ↦ bit-with_range_outside covered r.from (end_of r) word false order room (inl before) ∙ sound.ends_inside word was
               | inr above ↦ elim (cases_lt word (last_word r)) [
                 | inl below ↦ absurd (both_ways (bit ends word) (last.lower word above below) was)
                 | inr past ↦
-                    let behind : last_word r + 1 ≤ word = omega (arith, other) in
-                    bit-with_range_outside covered r.from (last_word r + 1) word false order room (inr behind) ∙ sound.ends_inside word was
+                    let behind : end_of r ≤ word = omega (arith, other) in
+                    bit-with_range_outside covered r.from (end_of r) word false order room (inr behind) ∙ sound.ends_inside word was
               ]
             ]
       ];
@@ -345,6 +341,20 @@ is_reserved begins ends blocks r there =
       reserved = b.0;
       no_block = not-true (bit blocks r.from) parts.1;
     }
+
+-- the reservation of so many words that begins at a place, and the block
+pub reservation_of : (covered begins ends blocks : List Bool) (r : Run) (seen : ExtentLists) → IsSound covered begins ends blocks → lists_of begins ends blocks ≡ seen → Contains seen.reservations r
+    → Taken covered begins ends blocks r × IsReserved begins ends blocks r
+reservation_of covered begins ends blocks r seen sound is listed =
+    let P : ExtentLists → Type 0 = λ e. Contains e.reservations r in
+    let reserved = is_reserved begins ends blocks r (subst P (sym is) listed) in (record { sound = sound; there = reserved.there }, reserved)
+
+pub block_of : (covered begins ends blocks : List Bool) (r : Run) (seen : ExtentLists) → IsSound covered begins ends blocks → lists_of begins ends blocks ≡ seen → Contains seen.blocks r
+    → Taken covered begins ends blocks r × (bit blocks r.from ≡ true)
+block_of covered begins ends blocks r seen sound is listed =
+    let P : ExtentLists → Type 0 = λ e. Contains e.blocks r in
+    let there = subst P (sym is) listed in
+    (record { sound = sound; there = among_all begins blocks ends r sound.blocks_begin there }, (begin_of blocks ends r there).0)
 
 -- where one bit of the first table is gone
 others_stay : (bits : List Bool) (at : ℕ) (value : Bool) → (j : ℕ) → j ≢ at → bit (set bits at value) j ≡ bit bits j
@@ -408,7 +418,7 @@ drop_lists covered begins ends blocks r taken block =
 no_change : (begins ends : List Bool) (at : ℕ) → SameLengths begins ends ends at
 no_change begins ends at = record { others = λ s is other. refl }
 
-pub commit_lists : (covered begins ends blocks : List Bool) (r : Run) → IsSound covered begins ends blocks → IsReserved begins ends blocks r
+commit_lists : (covered begins ends blocks : List Bool) (r : Run) → IsSound covered begins ends blocks → IsReserved begins ends blocks r
     → lists_of begins ends (set blocks r.from true) ≡ record (lists_of begins ends blocks) {
       blocks = with_run r (extents blocks ends);
       reservations = without_run r.from (extents (minus begins blocks) ends);
@@ -434,7 +444,7 @@ commit_lists covered begins ends blocks r sound reserved =
     ap (λ (rs : List Run). lists (length begins) (extents begins ends) rs (extents (minus begins blocks') ends)) put
     ∙ ap (λ (rs : List Run). lists (length begins) (extents begins ends) (with_run r (extents blocks ends)) rs) gone
 
-pub commit_is_sound : (covered begins ends blocks : List Bool) (r : Run) → IsSound covered begins ends blocks → IsReserved begins ends blocks r → IsSound covered begins ends (set blocks r.from true)
+commit_is_sound : (covered begins ends blocks : List Bool) (r : Run) → IsSound covered begins ends blocks → IsReserved begins ends blocks r → IsSound covered begins ends (set blocks r.from true)
 commit_is_sound covered begins ends blocks r sound reserved =
     let b = begin_of begins ends r reserved.there in
     record {
@@ -448,6 +458,53 @@ commit_is_sound covered begins ends blocks r sound reserved =
         | inr other ↦ sound.blocks_begin word (sym (bit-set_other blocks r.from word true other) ∙ is)
       ];
     }
+
+-- ---- a block put where nothing is covered
+
+-- a run put among others where none begins, and taken out again
+put_and_taken : (r : Run) (rs : List Run) → ((s : Run) → Contains rs s → s.from ≢ r.from) → without_run r.from (with_run r rs) ≡ rs
+put_and_taken r [] other = without_run_first r.from r [] refl
+put_and_taken r (s ∷ rs) other =
+    elim (cases_lt r.from s.from) [
+      | inl before ↦ ap (λ (xs : List Run). without_run r.from xs) (with_run_first r s rs before) ∙ without_run_first r.from r (s ∷ rs) refl
+      | inr after ↦
+          ap (λ (xs : List Run). without_run r.from xs) (with_run_later r s rs after)
+          ∙ without_run_later r.from s (with_run r rs) (λ e. other s (contains_first rs s) (sym e))
+          ∙ ap (λ (xs : List Run). s ∷ xs) (put_and_taken r rs (λ t there. other t (contains_later rs t s there)))
+    ]
+
+put_is_reserved : (covered begins ends blocks : List Bool) (at words : ℕ) → Put covered begins ends blocks at words
+    → IsReserved (set begins at true) (set ends (at + words - 1) true) blocks (record { from = at; count = words })
+put_is_reserved covered begins ends blocks at words put =
+    let r : Run = record { from = at; count = words } in
+    let P : List Run → Type 0 = λ rs. Contains rs r in
+    is_reserved (set begins at true) (set ends (at + words - 1) true) blocks r
+    (subst P (sym (ap (λ (e : ExtentLists). e.reservations) (put_lists covered begins ends blocks at words put))) (contains_put r (extents (minus begins blocks) ends)))
+
+pub block_is_sound : (covered begins ends blocks : List Bool) (at words : ℕ) → Put covered begins ends blocks at words
+    → IsSound (with_range covered at (at + words) true) (set begins at true) (set ends (at + words - 1) true) (set blocks at true)
+block_is_sound covered begins ends blocks at words put =
+    commit_is_sound (with_range covered at (at + words) true) (set begins at true) (set ends (at + words - 1) true) blocks (record { from = at; count = words })
+    (put_is_sound covered begins ends blocks at words put) (put_is_reserved covered begins ends blocks at words put)
+
+pub block_lists : (covered begins ends blocks : List Bool) (at words : ℕ) → Put covered begins ends blocks at words
+    → lists_of (set begins at true) (set ends (at + words - 1) true) (set blocks at true) ≡ record (lists_of begins ends blocks) {
+      covered = with_run (record { from = at; count = words }) (extents begins ends);
+      blocks = with_run (record { from = at; count = words }) (extents blocks ends);
+    }
+block_lists covered begins ends blocks at words put =
+    let r : Run = record { from = at; count = words } in
+    let none = no_begin covered begins ends blocks at words put in
+    let other = λ (s : Run) (there : Contains (extents (minus begins blocks) ends) s).
+    let here : s.from ≢ at = λ e.
+    both_ways (bit begins at) none (ap (λ (j : ℕ). bit begins j) (sym e) ∙ minus_is_begin begins blocks s.from (begin_of (minus begins blocks) ends s there).0)
+    in here
+    in
+    commit_lists (with_range covered at (at + words) true) (set begins at true) (set ends (at + words - 1) true) blocks r
+    (put_is_sound covered begins ends blocks at words put) (put_is_reserved covered begins ends blocks at words put)
+    ∙ ap (λ (e : ExtentLists). record e { blocks = with_run r e.blocks; reservations = without_run at e.reservations }) (put_lists covered begins ends blocks at words put)
+    ∙ ap (λ (rs : List Run). record (lists_of begins ends blocks) { covered = with_run r (extents begins ends); blocks = with_run r (extents blocks ends); reservations = rs })
+    (put_and_taken r (extents (minus begins blocks) ends) other)
 
 -- the blocks that are left when one is taken out, and when a reservation is
 pub left_without_block : (covered begins ends blocks : List Bool) (at : ℕ) → IsSound covered begins ends blocks → at < length blocks → (word : ℕ) → bit (set blocks at false) word ≡ true → (bit begins word ≡ true) × (word ≢ at)

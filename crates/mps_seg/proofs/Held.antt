@@ -190,9 +190,9 @@ contains_still from t (s ∷ rs) there other =
 
 -- ---- changed extents
 
-pub held_after_cover : (arena : ArenaState) (table : List Entry) (ex : ExtentLists) (r : Run) (reservations : List Run) → IsHeld arena table ex → 0 < r.count → IsAscending 0 ex.size (with_run r ex.covered) → LiesIn (map grains_of_segment (segments_in table)) r
-    → IsHeld arena table (record ex { covered = with_run r ex.covered; reservations = reservations })
-held_after_cover arena table ex r reservations held some free lies =
+pub held_after_cover : (arena : ArenaState) (table : List Entry) (ex : ExtentLists) (r : Run) (blocks reservations : List Run) → IsHeld arena table ex → 0 < r.count → IsAscending 0 ex.size (with_run r ex.covered) → LiesIn (map grains_of_segment (segments_in table)) r
+    → IsHeld arena table (record ex { covered = with_run r ex.covered; blocks = blocks; reservations = reservations })
+held_after_cover arena table ex r blocks reservations held some free lies =
     let P : List Run → Type 0 = λ rs. LiesIn rs r in
     record {
       held = held.held;
@@ -224,18 +224,35 @@ held_after_less arena table ex from blocks reservations held = record {
   inside = λ t there. held.inside t (contains_without from t ex.covered there);
 }
 
-pub held_after_commit : (arena : ArenaState) (table : List Entry) (ex : ExtentLists) (blocks reservations : List Run) → IsHeld arena table ex
-    → IsHeld arena table (record ex { blocks = blocks; reservations = reservations })
-held_after_commit arena table ex blocks reservations held = record {
-  held = held.held;
-  ascending = held.ascending;
-  few = held.few;
-  size = held.size;
-  covered_size = held.covered_size;
-  covered_ascending = held.covered_ascending;
-  some = held.some;
-  inside = held.inside;
-}
+-- a run taken out of ascending ones, and put back
+taken_and_put : (low high : ℕ) (rs : List Run) (r : Run) → IsAscending low high rs → Contains rs r → with_run r (without_run r.from rs) ≡ rs
+taken_and_put low high [] r ascending (k, within, is) = absurd (omega arith)
+taken_and_put low high (s ∷ rs) r ascending there =
+    elim (contains_cases rs r s there) [
+      | inl same ↦
+          ap (λ (xs : List Run). with_run r xs) (without_run_first r.from s rs (ap (λ (x : Run). x.from) (sym same)))
+          ∙ before_all (end_of s) high rs r ascending.2 (omega (arith, ascending.1, ap (λ (x : Run). x.from) same)) ∙ ap (λ (x : Run). x ∷ rs) (sym same)
+      | inr later ↦
+          let bounds = contained_bounds (end_of s) high rs r ascending.2 later in
+          ap (λ (xs : List Run). with_run r xs) (without_run_later r.from s rs (λ e. omega (arith, bounds.0, ascending.1, e)))
+          ∙ with_run_later r s (without_run r.from rs) (omega (arith, bounds.0)) ∙ ap (λ (xs : List Run). s ∷ xs) (taken_and_put (end_of s) high rs r ascending.2 later)
+    ]
+  where
+    before_all : (low high : ℕ) (rs : List Run) (r : Run) → IsAscending low high rs → r.from < low → with_run r rs ≡ r ∷ rs
+    before_all low high [] r ascending before = refl
+    before_all low high (s ∷ rs) r ascending before = with_run_first r s rs (omega (arith, ascending.0))
+
+-- words that were covered can be covered again
+pub free_again : (arena : ArenaState) (table : List Entry) (ex : ExtentLists) (r : Run) (blocks reservations : List Run) → IsHeld arena table ex → Contains ex.covered r
+    → CanCover (segs_state arena table (record ex { covered = without_run r.from ex.covered; blocks = blocks; reservations = reservations })) r
+free_again arena table ex r blocks reservations held there =
+    let P : List Run → Type 0 = λ rs. IsAscending 0 (512 * (arena.grains + 1)) rs in
+    let Q : ℕ → Type 0 = λ size. IsAscending 0 size ex.covered in
+    let R : List Run → Type 0 = λ rs. LiesIn rs r in
+    record {
+      free = subst P (sym (taken_and_put 0 ex.size ex.covered r held.covered_ascending there)) (subst Q held.covered_size held.covered_ascending);
+      inside = subst R held.held (held.inside r there);
+    }
 
 -- ---- a segment taken
 

@@ -52,50 +52,63 @@ impl Extents {
           reservations = with_run (record { from = at; count = words }) self.old.reservations;
         } }
     {
-        self.covered.set_range(at, at + words);
+        self.covered.set_range(at, at + words); // no gap fits there now
         self.begins.set(at);
         self.ends.set(at + words - 1);
     }
 
-    /// Takes away the reservation that begins at `at`.
-    pub fn uncover(&mut self, at: usize)
-        requires { (words : ℕ) × Contains self.old.reservations (record { from = at; count = words }) }
-        ensures { self.new ≡ record self.old {
+    /// Takes away the reservation of `words` words that begins at `at`.
+    pub fn uncover(&mut self, at: usize, words: usize)
+        requires { Contains self.old.reservations (record { from = at; count = words }) }
+        ensures state { self.new ≡ record self.old {
           covered = without_run at self.old.covered;
           reservations = without_run at self.old.reservations;
         } }
+        ensures among { Contains self.old.covered (record { from = at; count = words }) }
     {
-        let last = self.ends.next_set(at).unwrap();
-        self.covered.clear_range(at, last + 1); // its words are a gap again
+        self.covered.clear_range(at, at + words); // its words are a gap again
         self.begins.clear(at);
-        self.ends.clear(last);
+        self.ends.clear(at + words - 1);
     }
 
-    /// Makes a block of the reservation that begins at `at`.
-    pub fn commit_block(&mut self, at: usize)
-        requires { (words : ℕ) × Contains self.old.reservations (record { from = at; count = words }) }
-        ensures { (words : ℕ) → Contains self.old.reservations (record { from = at; count = words })
-            → self.new ≡ record self.old {
-              blocks = with_run (record { from = at; count = words }) self.old.blocks;
-              reservations = without_run at self.old.reservations;
-            } }
+    /// Covers `words` words from `at` on by a block.
+    pub fn commit_block(&mut self, at: usize, words: usize)
+        requires some { 0 < words }
+        requires free { IsAscending 0 self.old.size (with_run (record { from = at; count = words }) self.old.covered) }
+        ensures { self.new ≡ record self.old {
+          covered = with_run (record { from = at; count = words }) self.old.covered;
+          blocks = with_run (record { from = at; count = words }) self.old.blocks;
+        } }
     {
+        self.covered.set_range(at, at + words);
+        self.begins.set(at);
+        self.ends.set(at + words - 1);
         self.blocks.set(at);
     }
 
-    /// Takes away the block that begins at `at`.
-    pub fn drop_block(&mut self, at: usize)
-        requires { (words : ℕ) × Contains self.old.blocks (record { from = at; count = words }) }
-        ensures { self.new ≡ record self.old {
+    /// Takes away the block of `words` words that begins at `at`.
+    pub fn drop_block(&mut self, at: usize, words: usize)
+        requires { Contains self.old.blocks (record { from = at; count = words }) }
+        ensures state { self.new ≡ record self.old {
           covered = without_run at self.old.covered;
           blocks = without_run at self.old.blocks;
         } }
+        ensures among { Contains self.old.covered (record { from = at; count = words }) }
+    {
+        self.covered.clear_range(at, at + words);
+        self.begins.clear(at);
+        self.ends.clear(at + words - 1);
+        self.blocks.clear(at);
+    }
+
+    /// How many words the block has that begins at `at`.
+    pub fn block_words(&self, at: usize) -> usize
+        requires { (words : ℕ) × Contains self.now.blocks (record { from = at; count = words }) }
+        ensures size { Contains self.now.blocks (record { from = at; count = result }) }
+        ensures within { at + result ≤ self.now.size }
     {
         let last = self.ends.next_set(at).unwrap();
-        self.covered.clear_range(at, last + 1);
-        self.begins.clear(at);
-        self.ends.clear(last);
-        self.blocks.clear(at);
+        last - at + 1
     }
 
     /// Where the block begins that covers a word.

@@ -103,7 +103,7 @@ impl Segs {
         trail.push(Move::Unseg { base });
     }
 
-    /// Covers `words` words from `at` on by a reservation.
+    /// Covers `words` words from `at` on, which no block and no reservation covers, by a reservation.
     pub fn cover(&mut self, at: Addr, words: u32)
         requires some { 0 < words }
         requires free { CanCover self.old (record { from = word_of at.0; count = words }) }
@@ -153,38 +153,49 @@ impl Segs {
         Some(Addr(8 * word as u64))
     }
 
-    /// Takes away the reservation that begins at `at`.
-    pub fn uncover(&mut self, at: Addr)
-        requires { (words : ℕ) × Contains self.old.reservations (record { from = word_of at.0; count = words }) }
-        ensures { self.new ≡ record self.old {
+    /// Ends the reservation of `words` words that begins at `at`. A block or a reservation may cover them again.
+    pub fn uncover(&mut self, at: Addr, words: u32)
+        requires { Contains self.old.reservations (record { from = word_of at.0; count = words }) }
+        ensures state { self.new ≡ record self.old {
           covered = without_run (word_of at.0) self.old.covered;
           reservations = without_run (word_of at.0) self.old.reservations;
         } }
+        ensures free { CanCover self.new (record { from = word_of at.0; count = words }) }
     {
-        self.extents.uncover((at.0 / 8) as usize);
+        self.extents.uncover((at.0 / 8) as usize, words as usize);
     }
 
-    /// Makes a block of the reservation that begins at `at`.
-    pub fn commit_block(&mut self, at: Addr)
-        requires { (words : ℕ) × Contains self.old.reservations (record { from = word_of at.0; count = words }) }
-        ensures { (words : ℕ) → Contains self.old.reservations (record { from = word_of at.0; count = words })
-            → self.new ≡ record self.old {
-              blocks = with_run (record { from = word_of at.0; count = words }) self.old.blocks;
-              reservations = without_run (word_of at.0) self.old.reservations;
-            } }
-    {
-        self.extents.commit_block((at.0 / 8) as usize);
-    }
-
-    /// Takes away the block that begins at `at`. Its words stay as they are.
-    pub fn drop_block(&mut self, at: Addr)
-        requires { (words : ℕ) × Contains self.old.blocks (record { from = word_of at.0; count = words }) }
+    /// Covers `words` words from `at` on, which no block and no reservation covers, by a block.
+    pub fn commit_block(&mut self, at: Addr, words: u32)
+        requires some { 0 < words }
+        requires free { CanCover self.old (record { from = word_of at.0; count = words }) }
         ensures { self.new ≡ record self.old {
+          covered = with_run (record { from = word_of at.0; count = words }) self.old.covered;
+          blocks = with_run (record { from = word_of at.0; count = words }) self.old.blocks;
+        } }
+    {
+        self.extents
+            .commit_block((at.0 / 8) as usize, words as usize);
+    }
+
+    /// Takes away the block of `words` words that begins at `at`. Its words stay as they are, and may be covered again.
+    pub fn drop_block(&mut self, at: Addr, words: u32)
+        requires { Contains self.old.blocks (record { from = word_of at.0; count = words }) }
+        ensures state { self.new ≡ record self.old {
           covered = without_run (word_of at.0) self.old.covered;
           blocks = without_run (word_of at.0) self.old.blocks;
         } }
+        ensures free { CanCover self.new (record { from = word_of at.0; count = words }) }
     {
-        self.extents.drop_block((at.0 / 8) as usize);
+        self.extents.drop_block((at.0 / 8) as usize, words as usize);
+    }
+
+    /// How many words the block has that begins at `at`.
+    pub fn block_words(&self, at: Addr) -> u32
+        requires { (words : ℕ) × Contains self.now.blocks (record { from = word_of at.0; count = words }) }
+        ensures { Contains self.now.blocks (record { from = word_of at.0; count = result }) }
+    {
+        self.extents.block_words((at.0 / 8) as usize) as u32
     }
 
     /// Sets the commit limit, in grains. Refuses `BelowCommitted` where more grains are held.

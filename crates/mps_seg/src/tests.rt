@@ -12,20 +12,19 @@ fn fill(segs: &mut Segs, trail: &mut Trail, pool: u32, words: u32) -> Result<Add
     requires room { 0 < trail.old.spare }
 {
     if let Some(at) = segs.lowest_gap(pool, Rank::Exact, words) {
-        segs.cover(at, words);
-        segs.commit_block(at);
+        segs.commit_block(at, words);
         return Ok(at);
     }
     let at = segs.take(trail, pool, words, 0, Rank::Exact)?;
-    segs.cover(at, words);
-    segs.commit_block(at);
+    segs.commit_block(at, words);
     Ok(at)
 }
 
 /// Frees the block over a byte, and says where it began.
 fn free_over(segs: &mut Segs, n: u64) -> Option<Addr> {
     let at = segs.block_at(n)?;
-    segs.drop_block(at);
+    let words = segs.block_words(at);
+    segs.drop_block(at, words);
     Some(at)
 }
 

@@ -1,23 +1,40 @@
-use Rattle.std.proofs.Common.{Bool, List, Contains, sym, ap, ◌∙◌, subst, arith}
-use Rattle.mps_base.specs.Run.{Run, with_run, without_run}
+use Rattle.std.proofs.Common.{◌+◌, ◌-◌, Bool, true, List, set, sym, ap, ◌∙◌, subst, arith}
+use Rattle.mps_base.specs.Run.{Run, with_run}
+use Rattle.mps_bits.specs.Table.{with_range}
 use Rattle.mps_seg.specs.Extents.{ExtentLists}
 use Rattle.mps_seg.specs.Inside.{lists_of, IsSound}
+use Rattle.mps_seg.proofs.Cover.{put_of, put_bounds, block_is_sound, block_lists}
 use Rattle.mps_seg.proofs.extents.Extents.commit_block.Goals as goal
-use Rattle.mps_seg.proofs.Cover.{Taken, taken_fits, is_reserved, commit_lists, commit_is_sound}
+
+pub overflow_add-at : goal.overflow_add-at
+overflow_add-at c =
+    let put = put_of c.self.inside.covered c.self.inside.begins c.self.inside.ends c.self.inside.blocks c.args.at c.args.words c.args.self.now c.self.invariant c.requires.some c.self.view_is c.requires.free in
+    omega (arith, put_bounds c.self.inside.covered c.self.inside.begins c.self.inside.ends c.self.inside.blocks c.args.at c.args.words put, c.self.invariant.small)
+
+pub set_range-requires-clause-within : goal.set_range-requires-clause-within
+set_range-requires-clause-within c =
+    let put = put_of c.self.inside.covered c.self.inside.begins c.self.inside.ends c.self.inside.blocks c.args.at c.args.words c.args.self.now c.self.invariant c.requires.some c.self.view_is c.requires.free in
+    omega (arith, put_bounds c.self.inside.covered c.self.inside.begins c.self.inside.ends c.self.inside.blocks c.args.at c.args.words put, c.self.invariant.same_size.0)
 
 pub set-requires : goal.set-requires
 set-requires c =
-    let covered = c.self.inside.covered in
-    let begins = c.self.inside.begins in
-    let ends = c.self.inside.ends in
-    let blocks = c.self.inside.blocks in
-    let sound = c.self.invariant in
-    let r : Run = record { from = c.args.at; count = c.requires.0 } in
-    let P : ExtentLists → Type 0 = λ e. Contains e.reservations r in
-    let reserved = is_reserved begins ends blocks r (subst P (sym c.self.view_is) c.requires.1) in
-    let taken : Taken covered begins ends blocks r = record { sound = sound; there = reserved.there } in
-    let fits = taken_fits covered begins ends blocks r taken in
-    omega (arith, fits.0, fits.1, sound.same_size.2)
+    let put = put_of c.self.inside.covered c.self.inside.begins c.self.inside.ends c.self.inside.blocks c.args.at c.args.words c.args.self.now c.self.invariant c.requires.some c.self.view_is c.requires.free in
+    omega (arith, put_bounds c.self.inside.covered c.self.inside.begins c.self.inside.ends c.self.inside.blocks c.args.at c.args.words put, c.requires.some)
+
+pub overflow_add-at-2 : goal.overflow_add-at-2
+overflow_add-at-2 c =
+    let put = put_of c.self.inside.covered c.self.inside.begins c.self.inside.ends c.self.inside.blocks c.args.at c.args.words c.args.self.now c.self.invariant c.requires.some c.self.view_is c.requires.free in
+    omega (arith, put_bounds c.self.inside.covered c.self.inside.begins c.self.inside.ends c.self.inside.blocks c.args.at c.args.words put, c.self.invariant.small)
+
+pub set-requires-2 : goal.set-requires-2
+set-requires-2 c =
+    let put = put_of c.self.inside.covered c.self.inside.begins c.self.inside.ends c.self.inside.blocks c.args.at c.args.words c.args.self.now c.self.invariant c.requires.some c.self.view_is c.requires.free in
+    omega (arith, put_bounds c.self.inside.covered c.self.inside.begins c.self.inside.ends c.self.inside.blocks c.args.at c.args.words put, c.requires.some, c.self.invariant.same_size.1)
+
+pub set-requires-3 : goal.set-requires-3
+set-requires-3 c =
+    let put = put_of c.self.inside.covered c.self.inside.begins c.self.inside.ends c.self.inside.blocks c.args.at c.args.words c.args.self.now c.self.invariant c.requires.some c.self.view_is c.requires.free in
+    omega (arith, put_bounds c.self.inside.covered c.self.inside.begins c.self.inside.ends c.self.inside.blocks c.args.at c.args.words put, c.requires.some, c.self.invariant.same_size.2)
 
 pub invariant_of-self : goal.invariant_of-self
 invariant_of-self c =
@@ -25,14 +42,13 @@ invariant_of-self c =
     let begins = c.self.inside.begins in
     let ends = c.self.inside.ends in
     let blocks = c.self.inside.blocks in
-    let sound = c.self.invariant in
-    let r : Run = record { from = c.args.at; count = c.requires.0 } in
-    let P : ExtentLists → Type 0 = λ e. Contains e.reservations r in
-    let reserved = is_reserved begins ends blocks r (subst P (sym c.self.view_is) c.requires.1) in
-    let taken : Taken covered begins ends blocks r = record { sound = sound; there = reserved.there } in
-    let fits = taken_fits covered begins ends blocks r taken in
-    let Q : List Bool → Type 0 = λ t. IsSound covered begins ends t in
-    subst Q (sym c.set.ensures.bits) (commit_is_sound covered begins ends blocks r sound reserved)
+    let put = put_of covered begins ends blocks c.args.at c.args.words c.args.self.now c.self.invariant c.requires.some c.self.view_is c.requires.free in
+    let P : List Bool → Type 0 = λ t. IsSound t c.set.new.self c.set-2.new.self c.set-3.new.self in
+    let Q : List Bool → Type 0 = λ t. IsSound (with_range covered c.args.at (c.args.at + c.args.words) true) t c.set-2.new.self c.set-3.new.self in
+    let R : List Bool → Type 0 = λ t. IsSound (with_range covered c.args.at (c.args.at + c.args.words) true) (set begins c.args.at true) t c.set-3.new.self in
+    let S : List Bool → Type 0 = λ t. IsSound (with_range covered c.args.at (c.args.at + c.args.words) true) (set begins c.args.at true) (set ends (c.args.at + c.args.words - 1) true) t in
+    subst P (sym c.set_range.ensures.bits) (subst Q (sym c.set.ensures.bits) (subst R (sym c.set-2.ensures.bits) (subst S (sym c.set-3.ensures.bits)
+    (block_is_sound covered begins ends blocks c.args.at c.args.words put))))
 
 pub returns : goal.returns
 returns c =
@@ -40,11 +56,10 @@ returns c =
     let begins = c.self.inside.begins in
     let ends = c.self.inside.ends in
     let blocks = c.self.inside.blocks in
-    let sound = c.self.invariant in
-    λ words there.
-    let r : Run = record { from = c.args.at; count = words } in
-    let P : ExtentLists → Type 0 = λ e. Contains e.reservations r in
-    let reserved = is_reserved begins ends blocks r (subst P (sym c.self.view_is) there) in
-    ap (λ (t : List Bool). lists_of begins ends t) c.set.ensures.bits
-    ∙ commit_lists covered begins ends blocks r sound reserved
-    ∙ ap (λ (e : ExtentLists). record e { blocks = with_run r e.blocks; reservations = without_run c.args.at e.reservations }) c.self.view_is
+    let put = put_of covered begins ends blocks c.args.at c.args.words c.args.self.now c.self.invariant c.requires.some c.self.view_is c.requires.free in
+    let r : Run = record { from = c.args.at; count = c.args.words } in
+    ap (λ (t : List Bool). lists_of t c.set-2.new.self c.set-3.new.self) c.set.ensures.bits
+    ∙ ap (λ (t : List Bool). lists_of (set begins c.args.at true) t c.set-3.new.self) c.set-2.ensures.bits
+    ∙ ap (λ (t : List Bool). lists_of (set begins c.args.at true) (set ends (c.args.at + c.args.words - 1) true) t) c.set-3.ensures.bits
+    ∙ block_lists covered begins ends blocks c.args.at c.args.words put
+    ∙ ap (λ (e : ExtentLists). record e { covered = with_run r e.covered; blocks = with_run r e.blocks }) c.self.view_is

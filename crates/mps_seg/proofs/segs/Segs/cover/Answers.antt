@@ -16,7 +16,7 @@ invariant_of-self c =
     let P : ℕ → Type 0 = λ size. IsAscending 0 size (with_run r extents.covered) in
     let Q : ExtentLists → Type 0 = λ e. IsHeld arena table e in
     subst Q (sym c.cover.ensures)
-    (held_after_cover arena table extents r (with_run r extents.reservations) c.self.invariant c.requires.some (subst P (sym c.self.invariant.covered_size) can.free) can.inside)
+    (held_after_cover arena table extents r extents.blocks (with_run r extents.reservations) c.self.invariant c.requires.some (subst P (sym c.self.invariant.covered_size) can.free) can.inside)
 
 pub cover-requires-clause-free : goal.cover-requires-clause-free
 cover-requires-clause-free c =
