@@ -1,12 +1,10 @@
 -- What comes next of what waits comes next of all that is left.
-use Rattle.std.proofs.Common.{◌≡◌, ℕ, ◌+◌, ◌-◌, ◌<◌, ◌≤◌, Bool, true, false, not, Option, Some, None, IfSome, List, [], ◌∷◌, ◌++◌, length, take, drop, refl, sym, ◌∙◌, ap, arith, append_assoc, length-append}
-use Rattle.std.specs.List.{prefix_len}
-use Rattle.std.specs.Option.{option_map}
+use Rattle.std.proofs.Common.{◌≡◌, ℕ, ◌+◌, ◌<◌, ◌≤◌, not, Option, Some, None, IfSome, List, [], ◌∷◌, ◌++◌, length, take, drop, refl, sym, ◌∙◌, ap, arith, append_assoc, length-append}
 use Rattle.std.proofs.lemmas.List.{drop-append-le, take-append-le}
 use Rattle.std.proofs.lemmas.List.Folds.{prefix_len-append}
 use Rattle.std.proofs.lemmas.List.Sums.{prefix_len-le-length}
 use Rattle.std.proofs.lemmas.Grind.{common_steps}
-use Rattle.mps_script.specs.Line.{is_line_feed, longest_line}
+use Rattle.mps_script.specs.Line.{is_line_feed}
 use Rattle.mps_cli.specs.Buffer.{Waiting, TakesIn, HeldGives, IsLast, ComesNextOf, left_of, length_of_line}
 use Rattle.mps_cli.specs.declared.next.Next.{Next}
 use Rattle.mps_cli.specs.declared.next.Next.TheVariants.{Line, TooLong, End}

@@ -1,10 +1,9 @@
 -- One change of the outside after another.
-use Rattle.std.proofs.Common.{◌≡◌, ℕ, ◌+◌, ◌-◌, ◌≤◌, ◌<◌, Option, Some, None, List, ◌++◌, length, take, drop, refl, sym, ◌∙◌, ap, arith, append_assoc, inl, inr, ◌⊎◌}
-use Rattle.std.specs.Option.{option_map}
+use Rattle.std.proofs.Common.{◌≡◌, ℕ, ◌+◌, ◌-◌, ◌≤◌, Option, Some, None, List, ◌++◌, length, take, drop, refl, ◌∙◌, ap, arith, append_assoc, inl, inr}
 use Rattle.std.proofs.Math.Seq.{take-add}
 use Rattle.std.proofs.lemmas.List.{take_rest}
 use Rattle.std.proofs.lemmas.Grind.{common_steps}
-use Rattle.mps_base.specs.Desk.{Outside, OnlyLogs, OnlyPrints, OnlyReports, OnlyReads, HasRisen, added, last_count}
+use Rattle.mps_base.specs.Desk.{Outside, OnlyLogs, OnlyPrints, OnlyReports, OnlyReads, HasRisen, added}
 use Rattle.mps_cli.specs.Write.{appended}
 
 pub only_logs_self : (a : Outside) → OnlyLogs a a

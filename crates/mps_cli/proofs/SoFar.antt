@@ -1,7 +1,6 @@
 -- What a run has done so far, and what is left to do.
-use Rattle.std.proofs.Common.{◌≡◌, ℕ, ◌+◌, ◌-◌, ◌<◌, ◌≤◌, Bool, true, false, Option, Some, None, List, [], ◌∷◌, ◌++◌, length, take, drop, refl, sym, ◌∙◌, ap, arith, append_assoc, append-nil, option_and_then, subst, zero-add, not, nat_lt}
-use Rattle.std.specs.List.{flat_map, list_all}
-use Rattle.std.specs.Option.{option_map}
+use Rattle.std.proofs.Common.{◌≡◌, ℕ, ◌+◌, ◌<◌, ◌≤◌, true, false, Option, Some, None, List, [], ◌∷◌, ◌++◌, length, take, drop, refl, sym, ◌∙◌, ap, arith, append_assoc, append-nil, option_and_then, subst, zero-add, not, nat_lt}
+use Rattle.std.specs.List.{list_all}
 use Rattle.std.proofs.lemmas.List.Sums.{prefix_len-le-length}
 use Rattle.std.proofs.lemmas.List.{map-append, length-take-le}
 use Rattle.std.proofs.lemmas.Grind.{flat_map-append, common_steps}
@@ -11,15 +10,15 @@ use Rattle.mps_model.specs.Step.{Step, History}
 use Rattle.mps_model.specs.Log.{log_from, log_of, pools_made}
 use Rattle.mps_model.specs.World.{World, empty_world}
 use Rattle.mps_model.specs.Replay.{Store, replay, replay_from, store_after}
-use Rattle.mps_model.specs.History.{IsLegalHistory, world_after_history, live_blocks}
+use Rattle.mps_model.specs.History.{IsLegalHistory, world_after, world_after_steps, world_after_history, live_blocks}
 use Rattle.mps_model.proofs.Appending.{log_from-append, IsLegalFrom-append, world_after_steps-append}
 use Rattle.mps_first_heap.specs.Kept.{Kept}
 use Rattle.mps_first_heap.specs.StandsFor.{StandsFor}
 use Rattle.mps_script.specs.Line.{lines_of, call_of_line, longest_line, is_line_feed}
 use Rattle.mps_cli.specs.Write.{appended}
 use Rattle.mps_cli.specs.Ending.{CountsGrow, HasCause, status_of}
-use Rattle.mps_cli.specs.Buffer.{Waiting, ComesNextOf, ComesNext, left_of, length_of_line}
-use Rattle.mps_cli.specs.Script.{Command, StepsRan, HasRun, RanLines, RanTo, RanWith, NoFaultRose, is_whole, is_whole_status, IsBadHere, EndsAt, answers_of, text_of_answer, commands_of, command_of_step, commands_of_call, commands_from, is_good}
+use Rattle.mps_cli.specs.Buffer.{ComesNextOf, length_of_line}
+use Rattle.mps_cli.specs.Script.{Command, StepsRan, AreUnsupportedWhereDue, RanLines, RanTo, NoFaultRose, is_whole, is_whole_status, IsBadHere, EndsAt, answers_of, text_of_answer, commands_of, command_of_step, commands_of_call, commands_from, is_good}
 use Rattle.mps_cli.specs.declared.ending.Ending.{Ending}
 use Rattle.mps_cli.specs.declared.ending.Ending.TheVariants as ending
 use Rattle.mps_cli.specs.declared.next.Next.{Next}
@@ -46,6 +45,7 @@ pub record SoFar (kept : Kept) (lines pools : ℕ) (old now : Outside) (script l
   pub logged : now.logged ≡ appended old.logged (records_bytes (log_of history))
   pub read : ReadSoFar lines history script left
   pub legal : IsLegalHistory history
+  pub unsupported : AreUnsupportedWhereDue empty_world history
   pub stands : StandsFor kept (world_after_history history)
   pub replayed : replay (log_of history) ≡ Some (live_blocks (world_after_history history))
 
@@ -70,6 +70,7 @@ at_start kept o left stands = record {
   logged = appended_empty o.logged;
   read = read_nothing left;
   legal = tt;
+  unsupported = tt;
   stands = stands;
   replayed = refl;
 }
@@ -121,6 +122,12 @@ replay_behind store middle [] behind e = ap (λ s. replay_from s behind) (let a 
 replay_behind store middle (r ∷ rs) behind e =
     replay_step (store_after store r) middle rs behind (λ s h. replay_behind s middle rs behind h) e
 
+-- steps behind others
+unsupported-append : (w : World) (h steps : History) → AreUnsupportedWhereDue w h → AreUnsupportedWhereDue (world_after_steps w h) steps
+    → AreUnsupportedWhereDue w (h ++ steps)
+unsupported-append w [] steps before behind = behind
+unsupported-append w (s ∷ ss) steps before behind = (before.0, unsupported-append (world_after w s) ss steps before.1 behind)
+
 -- one line more
 pub one_line_more : (kept kept2 : Kept) (n pools pools2 : ℕ) (old o1 o2 o3 : Outside) (script left left2 : Option (List ℕ)) (line : List ℕ)
     → SoFar kept n pools old o1 script left → OnlyReads o1 o2 → ComesNextOf Line left line left2
@@ -142,6 +149,7 @@ one_line_more kept kept2 n pools pools2 old o1 o2 o3 script left left2 line f re
       ∙ ap (λ p. log_of f.history ++ log_from p s.steps) (zero-add (pools_made f.history) ∙ sym f.made))))));
   read = read_next n f.history s.steps script left line left2 f.read next good s.answers;
   legal = IsLegalFrom-append empty_world f.history s.steps f.legal (s.legal (world_after_history f.history) f.stands);
+  unsupported = unsupported-append empty_world f.history s.steps f.unsupported (s.unsupported (world_after_history f.history) f.stands);
   stands = subst (StandsFor kept2) (sym (world_after_steps-append empty_world f.history s.steps)) (s.stands (world_after_history f.history) f.stands);
   replayed = ap replay (log_from-append 0 f.history s.steps)
       ∙ (replay_behind [] (live_blocks (world_after_history f.history)) (log_of f.history) (log_from (0 + pools_made f.history) s.steps) f.replayed
@@ -161,7 +169,7 @@ ends_with : (kept : Kept) (n pools : ℕ) (old o1 o2 : Outside) (script rest : L
 ends_with kept n pools old o1 o2 script rest ends f reads at = record {
   history = f.history;
   lines = n;
-  run = record { grammatical = f.read.grammatical; commands = f.read.commands; legal = f.legal; replayed = f.replayed };
+  run = record { grammatical = f.read.grammatical; commands = f.read.commands; legal = f.legal; unsupported = f.unsupported; replayed = f.replayed };
   printed = reads.printed ∙ f.printed;
   logged = reads.logged ∙ f.logged;
   ends_at = subst (EndsAt ends n) (sym f.read.behind) at;
@@ -221,7 +229,7 @@ ends_bad_line kept n pools old o1 o2 o3 script None left2 line ends f reads come
 ends_bad_line kept n pools old o1 o2 o3 script (Some rest) left2 line ends f reads comes bad = record {
   history = f.history;
   lines = n;
-  run = record { grammatical = f.read.grammatical; commands = f.read.commands; legal = f.legal; replayed = f.replayed };
+  run = record { grammatical = f.read.grammatical; commands = f.read.commands; legal = f.legal; unsupported = f.unsupported; replayed = f.replayed };
   printed = bad.printed ∙ (reads.printed ∙ f.printed);
   logged = bad.logged ∙ (reads.logged ∙ f.logged);
   ends_at = subst (λ e. EndsAt e n (drop n (lines_of script))) (sym bad.is_end)
@@ -292,6 +300,7 @@ pub no_steps : (commands : List Command) (kept : Kept) (pools : ℕ) (o : Outsid
 no_steps commands kept pools o none = record {
   steps = [];
   legal = λ w s. tt;
+  unsupported = λ w s. tt;
   stands = λ w s. s;
   replayed = λ w n s. refl;
   answers = sym none;

@@ -1,5 +1,5 @@
 -- What the words of the command line mean.
-use Rattle.std.specs.Prelude.{ℕ, ◌≡◌, Bool, true, false, codes, Option, Some, None, if◌then◌else◌, List, [], ◌∷◌, refl}
+use Rattle.std.specs.Prelude.{ℕ, ◌≡◌, Bool, true, false, codes, List, [], ◌∷◌, refl}
 use Rattle.std.specs.Str.{bytes_eq}
 
 -- whether the words, which are those behind the program's name, have a meaning

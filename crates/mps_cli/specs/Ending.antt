@@ -1,5 +1,5 @@
 -- How a run ends: its status, and the fault that is its cause.
-use Rattle.std.specs.Prelude.{ℕ, ◌≡◌, ◌≤◌, codes, decimal, List, [], ◌∷◌, ◌++◌}
+use Rattle.std.specs.Prelude.{ℕ, ◌≤◌, codes, decimal, List, [], ◌++◌}
 use Rattle.mps_base.specs.Desk.{Outside, HasRisen}
 use Rattle.mps_cli.specs.declared.ending.Ending.{Ending}
 use Rattle.mps_cli.specs.declared.ending.Ending.TheVariants.{Done, NoMeaning, ReadFailed, WriteFailed, LogFailed, BadLine, TooLong, OutOfMemory}

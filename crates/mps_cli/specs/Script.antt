@@ -1,18 +1,20 @@
 -- What a run of a script tells: its commands, each with its line, and what was printed and logged for them.
-use Rattle.std.specs.Prelude.{ℕ, ◌≡◌, ◌+◌, ◌<◌, ◌==◌, ◌||◌, Bool, true, false, Option, Some, None, Result, Ok, Err, List, [], ◌∷◌, ◌++◌, map, length, take, drop, codes, refl}
+use Rattle.std.specs.Prelude.{ℕ, ◌≡◌, ◌↔◌, ◌+◌, ◌<◌, ◌==◌, ◌||◌, IsTrue, Bool, true, false, Option, Some, None, Result, Ok, Err, List, [], ◌∷◌, ◌++◌, map, length, take, drop, codes, refl}
 use Rattle.std.specs.List.{flat_map, list_all}
 use Rattle.mps_base.specs.Desk.{Outside, HasRisen}
 use Rattle.mps_base.specs.Record.{records_bytes}
 use Rattle.mps_model.specs.declared.call.Call.{Call}
 use Rattle.mps_model.specs.declared.call.Call.TheVariants as call
+use Rattle.mps_model.specs.declared.reply.Reply.TheVariants as reply
 use Rattle.mps_model.specs.Answer.{Answer, Said, Dumped}
 use Rattle.mps_model.specs.Step.{Step, History}
 use Rattle.mps_model.specs.Log.{log_of, log_from, log_bytes, pools_made}
-use Rattle.mps_model.specs.World.{World}
+use Rattle.mps_model.specs.World.{World, empty_world}
 use Rattle.mps_model.specs.Replay.{replay, replay_from}
-use Rattle.mps_model.specs.History.{IsLegalFrom, IsLegalHistory, world_after_steps, world_after_history, live_blocks}
+use Rattle.mps_model.specs.History.{IsLegalFrom, IsLegalHistory, world_after, world_after_steps, world_after_history, live_blocks}
 use Rattle.mps_first_heap.specs.Kept.{Kept}
 use Rattle.mps_first_heap.specs.StandsFor.{StandsFor}
+use Rattle.mps_first_heap.specs.Unsupported.{is_unsupported_call}
 use Rattle.mps_model.specs.Text.{line_of_answer}
 use Rattle.mps_script.specs.declared.line.BadLine.{BadLine}
 use Rattle.mps_script.specs.Line.{call_of_line, lines_of}
@@ -62,6 +64,15 @@ text_of_answer (Dumped words) = line_of_answer (Dumped words)
 abbrev pub answers_of : History → List ℕ
 answers_of history = flat_map (λ (s : Step). text_of_answer s.answer) history
 
+-- a command is answered `unsupported` exactly where that is said of it, in the world before it
+abbrev pub IsUnsupportedWhereDue : World → Step → Type 0
+IsUnsupportedWhereDue w s = (s.answer ≡ Said reply.Unsupported) ↔ IsTrue (is_unsupported_call w s.call)
+
+-- so are all commands of a history, from a world on
+abbrev pub AreUnsupportedWhereDue : World → History → Type 0
+AreUnsupportedWhereDue w [] = Unit {0}
+AreUnsupportedWhereDue w (s ∷ ss) = IsUnsupportedWhereDue w s × AreUnsupportedWhereDue (world_after w s) ss
+
 -- where the run ends, after so many lines and with these behind them
 abbrev pub EndsAt : Ending → (lines : ℕ) → (behind : List (List ℕ)) → Type 0
 EndsAt ending.Done lines behind = behind ≡ []
@@ -92,6 +103,8 @@ pub record HasRun (script : List ℕ) (lines : ℕ) (history : History) : Type 0
   pub commands : commands_of history ≡ commands_from 1 (take lines (lines_of script))
   -- it is a legal history of the model
   pub legal : IsLegalHistory history
+  -- a command is answered `unsupported` exactly where it isn't built
+  pub unsupported : AreUnsupportedWhereDue empty_world history
   -- the blocks that replaying its log gives are those that are live in the world after it
   pub replayed : replay (log_of history) ≡ Some (live_blocks (world_after_history history))
 
@@ -99,9 +112,10 @@ pub record HasRun (script : List ℕ) (lines : ℕ) (history : History) : Type 0
 -- logged is their records and nothing else
 pub record StepsRan (commands : List Command) (before after : Kept) (pools_before pools_after : ℕ) (old new : Outside) : Type 0 where
   pub steps : History
-  -- in each world for which the heap stood they are legal, the heap stands for the world after them, and their records tell
-  -- which blocks are live
+  -- in each world for which the heap stood they are legal and `unsupported` where that is due, the heap stands for the world
+  -- after them, and their records tell which blocks are live
   pub legal : (w : World) → StandsFor before w → IsLegalFrom w steps
+  pub unsupported : (w : World) → StandsFor before w → AreUnsupportedWhereDue w steps
   pub stands : (w : World) → StandsFor before w → StandsFor after (world_after_steps w steps)
   pub replayed : (w : World) (pools : ℕ) → StandsFor before w
       → replay_from (live_blocks w) (log_from pools steps) ≡ Some (live_blocks (world_after_steps w steps))

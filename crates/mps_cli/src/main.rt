@@ -4,7 +4,6 @@
 
 mod command;
 mod ending;
-mod heap_call;
 mod lines;
 mod log;
 mod mps;

@@ -26,8 +26,9 @@ pub fn mps<D: Desk>(alloc: Global, words: &[String], desk: &mut D) -> u8
         → result ≢ 8 → is_whole_status result ≡ true }
 
     // A whole run of a script that the desk tells: there is a history of its commands, each with its line, up to the end or
-    // to the line that the status tells of. What was printed is the answer line of each step and nothing else; what was
-    // logged is the header and the records of that history.
+    // to the line that the status tells of. It is legal, and a command is `unsupported` exactly where it isn't built. What
+    // was printed is the answer line of each step and nothing else; what was logged is the header and the records of that
+    // history, and replaying them gives the live blocks of the world after it.
     ensures ran { is_whole_status result ≡ true → (script : List ℕ) → (D.outside desk.old).text standard_input ≡ Some script
         → RanWith result script (D.outside desk.old) (D.outside desk.new) }
 {

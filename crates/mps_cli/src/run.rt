@@ -2,13 +2,13 @@
 ghost use Rattle.std.specs.Prelude.{◌≡◌, ◌≢◌, ◌≤◌, ◌+◌, ◌∷◌, [], ℕ, List, true, false, Some, IfSome, IfNone};
 ghost use Rattle.mps_base.specs.Desk.{standard_input};
 ghost use Rattle.mps_script.specs.Line.{call_of_line};
+ghost use Rattle.mps_first_heap.specs.Unsupported.{IsInRange};
 ghost use Rattle.mps_cli.specs.Ending.{HasCause, CountsGrow};
 ghost use Rattle.mps_cli.specs.Buffer.{left_of};
 ghost use Rattle.mps_cli.specs.Script.{Command, StepsRan, RanTo, RanLines, IsBadHere, is_good, is_whole, commands_of_call};
 ghost use Rattle.mps_cli.specs.declared.ending.Ending.TheVariants.{NoMeaning};
 
 use crate::ending::Ending;
-use crate::heap_call::answer;
 use crate::lines::Lines;
 use crate::log::{log_header, log_records};
 use crate::next::Next;
@@ -115,7 +115,8 @@ fn run_call<D: Desk>(
     call: &Call,
     line: u32,
 ) -> Option<Ending>
-    requires { pools.old ≤ line }
+    requires in_range { IsInRange call.now }
+    requires counted { pools.old ≤ line }
     ensures steps { IfNone result (StepsRan (record { line = line; call = call.now } ∷ []) heap.old heap.new pools.old pools.new
         (D.outside desk.old) (D.outside desk.new)) }
     ensures few { pools.new ≤ pools.old + 1 }
@@ -124,7 +125,7 @@ fn run_call<D: Desk>(
     ensures cause { IfSome result (λ ending. HasCause ending (D.outside desk.old) (D.outside desk.new)) }
     ensures counts { CountsGrow (D.outside desk.old) (D.outside desk.new) }
 {
-    let Ok(done) = answer(heap, alloc, call) else {
+    let Ok(done) = heap.call(alloc, call) else {
         return Some(Ending::OutOfMemory);
     };
     let Ok(()) = log_records(desk, line, *pools, call, &done) else {

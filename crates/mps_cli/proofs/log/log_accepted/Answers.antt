@@ -1,4 +1,4 @@
-use Rattle.std.proofs.Common.{arith, append-nil}
+use Rattle.std.proofs.Common.{append-nil}
 use Rattle.mps_cli.proofs.log.log_accepted.Goals as goal
 
 pub returns-in-Arena-clause-logged : goal.returns-in-Arena-clause-logged

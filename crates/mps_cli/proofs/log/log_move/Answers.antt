@@ -1,4 +1,3 @@
-use Rattle.std.proofs.Common.{arith}
 use Rattle.mps_cli.proofs.log.log_move.Goals as goal
 
 pub returns-in-Seg-clause-logged : goal.returns-in-Seg-clause-logged

@@ -1,7 +1,5 @@
-use Rattle.std.proofs.Common.{◌≡◌, ◌≤◌, length, take, ◌∙◌, arith}
+use Rattle.std.proofs.Common.{◌≤◌, length, arith}
 use Rattle.std.proofs.lemmas.Grind.{common_steps}
-use Rattle.mps_base.specs.Record.{record_bytes}
-use Rattle.mps_event.specs.Event.{code_of}
 use Rattle.mps_cli.proofs.RecordBytes.{front_of_record}
 use Rattle.mps_cli.proofs.log.put_record.Goals as goal
 

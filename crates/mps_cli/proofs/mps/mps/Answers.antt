@@ -1,4 +1,4 @@
-use Rattle.std.proofs.Common.{◌≡◌, ◌∙◌, ap, sym, refl, subst, true}
+use Rattle.std.proofs.Common.{◌≡◌, subst, true}
 use Rattle.mps_cli.specs.Script.{is_whole_status}
 use Rattle.mps_cli.proofs.SoFar.{ran_then_reported, whole_status}
 use Rattle.mps_cli.proofs.mps.mps.Goals as goal

@@ -1,4 +1,4 @@
-use Rattle.std.proofs.Common.{◌≡◌, Some, ◌∙◌, ap, refl, ◌++◌}
+use Rattle.std.proofs.Common.{◌≡◌, Some, ◌∙◌, ap, refl}
 use Rattle.mps_base.specs.Record.{header_bytes}
 use Rattle.mps_cli.specs.Buffer.{Waiting, left_of}
 use Rattle.mps_cli.specs.Write.{appended}

@@ -1,8 +1,8 @@
-use Rattle.std.proofs.Common.{◌≡◌, ◌+◌, Some, true, subst, sym, ap, ◌∙◌, refl, arith}
+use Rattle.std.proofs.Common.{◌≡◌, ◌+◌, true, subst, sym, ap, arith}
 use Rattle.mps_script.specs.Line.{call_of_line}
 use Rattle.mps_cli.specs.Buffer.{ComesNextOf, left_of}
 use Rattle.mps_cli.specs.Script.{IsBadHere, StepsRan, commands_of_call, is_good}
-use Rattle.mps_cli.specs.declared.next.Next.TheVariants.{Line, TooLong, End}
+use Rattle.mps_cli.specs.declared.next.Next.TheVariants.{Line, TooLong}
 use Rattle.mps_cli.proofs.SoFar.{SoFar, one_line_more, ends_long_line, ends_too_long, ends_bad_line, counts_line}
 use Rattle.mps_cli.proofs.run.run_lines.Goals as goal
 

@@ -1,6 +1,6 @@
-use Rattle.std.proofs.Common.{◌∙◌, sym, refl, arith, subst}
+use Rattle.std.proofs.Common.{subst}
 use Rattle.mps_cli.specs.Buffer.{ComesNextOf, left_of}
-use Rattle.mps_cli.proofs.NextLine.{held_comes, taking_keeps_left, end_comes}
+use Rattle.mps_cli.proofs.NextLine.{held_comes}
 use Rattle.mps_cli.proofs.lines.Lines.next.Goals as goal
 
 pub returns-in-Some-clause-next : goal.returns-in-Some-clause-next

@@ -1,4 +1,4 @@
-use Rattle.std.proofs.Common.{◌≡◌, ◌+◌, ◌<◌, ◌≤◌, ◌∙◌, ap, ◌++◌, length, take, drop, arith}
+use Rattle.std.proofs.Common.{◌∙◌, ap, ◌++◌, take, arith}
 use Rattle.std.proofs.lemmas.Grind.{common_steps}
 use Rattle.mps_cli.proofs.Between.{between_grown}
 use Rattle.mps_cli.proofs.lines.Lines.read_behind.Goals as goal
