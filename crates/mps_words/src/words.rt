@@ -1,7 +1,14 @@
 // Reading the words of a command line by hand.
 
-ghost use Rattle.std.specs.Prelude.{IfSome};
+ghost use Rattle.std.specs.Prelude.{◌≡◌, option_map, IfSome, [], ◌∷◌};
+ghost use Rattle.std.specs.Int.RustNames.{bit_or};
+ghost use Rattle.mps_tools.specs.KindSet.{bits_of};
+ghost use Rattle.mps_script.specs.Number.{decimal_number as number_written};
+ghost use Rattle.mps_words.specs.Files.{is_file, is_file_to_read};
+ghost use Rattle.mps_words.specs.Kinds.{kind_named, kinds_named, all_kinds};
+ghost use Rattle.mps_words.specs.Words.{running, converting, reading, listing, generating, run_meaning, cnv_meaning, txt_meaning, blocks_meaning, gen_meaning, meaning_behind, meaning};
 ghost use Rattle.mps_words.specs.Runnable.{IsRunnable};
+ghost use Rattle.mps_words.specs.Seen.{meaning_of, texts};
 
 use crate::command::Command;
 use bitflags::Flags;
@@ -19,30 +26,44 @@ const MOST_STEPS: u64 = 1_000_000;
 
 /// What the words behind the program's name ask for. None where they have no meaning.
 pub fn command_of(words: &[String]) -> Option<Command<'_>>
-    ensures { IfSome result IsRunnable }
+    ensures exact { option_map meaning_of result ≡ meaning (texts words.now) }
+    ensures runnable { IfSome result IsRunnable }
 {
     let (name, rest) = words.split_first()?;
-    match name.as_str() {
-        "run" => run_of(rest),
-        "cnv" => convert_of(rest),
-        "txt" => read_of(rest),
-        "blocks" => blocks_of(rest),
-        "gen" => generate_of(rest),
+    command_named(name.as_str(), rest)
+}
+
+// The command of a name, and of the words behind it.
+fn command_named<'a>(name: &str, words: &'a [String]) -> Option<Command<'a>>
+    ensures exact { option_map meaning_of result ≡ meaning_behind name.now (texts words.now) }
+    ensures runnable { IfSome result IsRunnable }
+{
+    match name {
+        "run" => run_of(words),
+        "cnv" => convert_of(words),
+        "txt" => read_of(words),
+        "blocks" => blocks_of(words),
+        "gen" => generate_of(words),
         _ => None,
     }
 }
 
 // `[-o LOG] [SCRIPT]`
 fn run_of(words: &[String]) -> Option<Command<'_>>
-    ensures { IfSome result IsRunnable }
+    ensures { option_map meaning_of result ≡ run_meaning (texts words.now) }
 {
-    let (log, rest) = option("-o", words)?;
-    let log = log.unwrap_or(LOG);
-    let script = match rest {
-        [] => STANDARD_INPUT,
-        [script] => script.as_str(),
-        _ => return None,
-    };
+    match words {
+        [] => running(LOG, STANDARD_INPUT),
+        [script] => running(LOG, script.as_str()),
+        [name, log] if name.as_str() == "-o" => running(log.as_str(), STANDARD_INPUT),
+        [name, log, script] if name.as_str() == "-o" => running(log.as_str(), script.as_str()),
+        _ => None,
+    }
+}
+
+fn running<'a>(log: &'a str, script: &'a str) -> Option<Command<'a>>
+    ensures { option_map meaning_of result ≡ running log.now script.now }
+{
     if is_file(log) && is_file_to_read(script) {
         Some(Command::Run { log, script })
     } else {
@@ -52,20 +73,52 @@ fn run_of(words: &[String]) -> Option<Command<'_>>
 
 // `[-f LOG] [-k KINDS]`, in either order
 fn convert_of(words: &[String]) -> Option<Command<'_>>
-    ensures { IfSome result IsRunnable }
+    ensures { option_map meaning_of result ≡ cnv_meaning (texts words.now) }
 {
-    let (before, rest) = option("-f", words)?;
-    let (kinds, rest) = option("-k", rest)?;
-    let (behind, rest) = match before {
-        None => option("-f", rest)?,
-        Some(_) => (None, rest),
-    };
-    let log = before.or(behind).unwrap_or(LOG);
-    let kinds = match kinds {
-        None => Kinds::all(),
-        Some(names) => kinds_of(names)?,
-    };
-    if rest.is_empty() && is_file_to_read(log) {
+    match words {
+        [] => converting(LOG, every_kind()),
+        [name, value] => convert_by_one(name.as_str(), value.as_str()),
+        [first, value, second, other] => convert_by_both(
+            first.as_str(),
+            value.as_str(),
+            second.as_str(),
+            other.as_str(),
+        ),
+        _ => None,
+    }
+}
+
+// One of the two options, with its value.
+fn convert_by_one<'a>(name: &str, value: &'a str) -> Option<Command<'a>>
+    ensures { option_map meaning_of result ≡ cnv_meaning (name.now ∷ value.now ∷ []) }
+{
+    match name {
+        "-f" => converting(value, every_kind()),
+        "-k" => converting(LOG, kinds_of(value)?),
+        _ => None,
+    }
+}
+
+// Both options, each with its value.
+fn convert_by_both<'a>(
+    first: &str,
+    value: &'a str,
+    second: &str,
+    other: &'a str,
+) -> Option<Command<'a>>
+    ensures { option_map meaning_of result ≡ cnv_meaning (first.now ∷ value.now ∷ second.now ∷ other.now ∷ []) }
+{
+    match (first, second) {
+        ("-f", "-k") => converting(value, kinds_of(other)?),
+        ("-k", "-f") => converting(other, kinds_of(value)?),
+        _ => None,
+    }
+}
+
+fn converting(log: &str, kinds: Kinds) -> Option<Command<'_>>
+    ensures { option_map meaning_of result ≡ converting log.now (Some (bits_of kinds)) }
+{
+    if is_file_to_read(log) {
         Some(Command::Convert { log, kinds })
     } else {
         None
@@ -74,11 +127,19 @@ fn convert_of(words: &[String]) -> Option<Command<'_>>
 
 // `[-l TEXT]`
 fn read_of(words: &[String]) -> Option<Command<'_>>
-    ensures { IfSome result IsRunnable }
+    ensures { option_map meaning_of result ≡ txt_meaning (texts words.now) }
 {
-    let (text, rest) = option("-l", words)?;
-    let text = text.unwrap_or(STANDARD_INPUT);
-    if rest.is_empty() && is_file_to_read(text) {
+    match words {
+        [] => reading(STANDARD_INPUT),
+        [name, text] if name.as_str() == "-l" => reading(text.as_str()),
+        _ => None,
+    }
+}
+
+fn reading(text: &str) -> Option<Command<'_>>
+    ensures { option_map meaning_of result ≡ reading text.now }
+{
+    if is_file_to_read(text) {
         Some(Command::Read { text })
     } else {
         None
@@ -87,11 +148,19 @@ fn read_of(words: &[String]) -> Option<Command<'_>>
 
 // `[-f LOG]`
 fn blocks_of(words: &[String]) -> Option<Command<'_>>
-    ensures { IfSome result IsRunnable }
+    ensures { option_map meaning_of result ≡ blocks_meaning (texts words.now) }
 {
-    let (log, rest) = option("-f", words)?;
-    let log = log.unwrap_or(LOG);
-    if rest.is_empty() && is_file_to_read(log) {
+    match words {
+        [] => listing(LOG),
+        [name, log] if name.as_str() == "-f" => listing(log.as_str()),
+        _ => None,
+    }
+}
+
+fn listing(log: &str) -> Option<Command<'_>>
+    ensures { option_map meaning_of result ≡ listing log.now }
+{
+    if is_file_to_read(log) {
         Some(Command::Blocks { log })
     } else {
         None
@@ -100,14 +169,17 @@ fn blocks_of(words: &[String]) -> Option<Command<'_>>
 
 // `SEED COUNT`
 fn generate_of(words: &[String]) -> Option<Command<'_>>
-    ensures { IfSome result IsRunnable }
+    ensures { option_map meaning_of result ≡ gen_meaning (texts words.now) }
 {
-    let (seed, count) = match words {
-        [seed, count] => (seed, count),
-        _ => return None,
-    };
-    let seed = decimal_number(seed.as_bytes())?;
-    let count = decimal_number(count.as_bytes())?;
+    match words {
+        [seed, count] => generating(number(seed.as_str())?, number(count.as_str())?),
+        _ => None,
+    }
+}
+
+fn generating<'a>(seed: u64, count: u64) -> Option<Command<'a>>
+    ensures { option_map meaning_of result ≡ generating (Some seed) (Some count) }
+{
     if count <= MOST_STEPS {
         Some(Command::Generate { seed, count })
     } else {
@@ -115,19 +187,17 @@ fn generate_of(words: &[String]) -> Option<Command<'_>>
     }
 }
 
-// The value of an option, where the words begin with it, and the words behind. None where its value is missing.
-fn option<'a>(name: &str, words: &'a [String]) -> Option<(Option<&'a str>, &'a [String])> {
-    match words {
-        [first, rest @ ..] if first.as_str() == name => match rest {
-            [value, behind @ ..] => Some((Some(value.as_str()), behind)),
-            [] => None,
-        },
-        _ => Some((None, words)),
-    }
+// The number that a word writes.
+fn number(word: &str) -> Option<u64>
+    ensures { result ≡ number_written word.now }
+{
+    decimal_number(word.as_bytes())
 }
 
 // The name of a file: not empty, and not beginning with `-`.
-fn is_file(word: &str) -> bool {
+fn is_file(word: &str) -> bool
+    ensures { result ≡ is_file word.now }
+{
     match word.as_bytes() {
         [] => false,
         [first, ..] => *first != b'-',
@@ -135,20 +205,45 @@ fn is_file(word: &str) -> bool {
 }
 
 // The same, or standard input.
-fn is_file_to_read(word: &str) -> bool {
+fn is_file_to_read(word: &str) -> bool
+    ensures { result ≡ is_file_to_read word.now }
+{
     word == STANDARD_INPUT || is_file(word)
 }
 
+// All kinds.
+#[tactic(auto, unfolding(bitflags::specs::Sets::known_from))]
+fn every_kind() -> Kinds
+    ensures { bits_of result ≡ all_kinds }
+{
+    Kinds::all()
+}
+
 // The kinds that the text names, with commas between them.
-fn kinds_of(text: &str) -> Option<Kinds> {
+fn kinds_of(text: &str) -> Option<Kinds>
+    ensures { option_map bits_of result ≡ kinds_named text.now }
+{
     let mut kinds = Kinds::empty();
-    for name in text.split(',') {
-        kinds.insert(kind_of(name)?);
+    let mut rest = text;
+    while let Some((name, behind)) = rest.split_once(',') {
+        kinds = with_kind(kinds, name)?;
+        rest = behind;
     }
+    with_kind(kinds, rest)
+}
+
+// The kinds, and the one that is named.
+fn with_kind(kinds: Kinds, name: &str) -> Option<Kinds>
+    ensures { option_map bits_of result ≡ option_map (bit_or (bits_of kinds)) (kind_named name.now) }
+{
+    let mut kinds = kinds;
+    kinds.insert(kind_of(name)?);
     Some(kinds)
 }
 
-fn kind_of(name: &str) -> Option<Kinds> {
+fn kind_of(name: &str) -> Option<Kinds>
+    ensures { option_map bits_of result ≡ kind_named name.now }
+{
     match name {
         "arena" => Some(Kinds::ARENA),
         "pool" => Some(Kinds::POOL),

@@ -1,0 +1,2 @@
+pub mod NamedKinds
+pub mod Shapes
