@@ -4,7 +4,7 @@ use Rattle.std.specs.List.{list_all}
 use Rattle.std.proofs.lemmas.List.Sums.{prefix_len-le-length}
 use Rattle.std.proofs.lemmas.List.{map-append, length-take-le}
 use Rattle.std.proofs.lemmas.Grind.{flat_map-append, common_steps}
-use Rattle.mps_base.specs.Desk.{Outside, OnlyReads, OnlyReports}
+use Rattle.mps_base.specs.Desk.{Outside, OnlyReads, OnlyReports, HasRisen}
 use Rattle.mps_base.specs.Record.{Record, record_bytes, records_bytes, header_bytes}
 use Rattle.mps_model.specs.Step.{Step, History}
 use Rattle.mps_model.specs.Log.{log_from, log_of, pools_made}
@@ -16,7 +16,7 @@ use Rattle.mps_first_heap.specs.Kept.{Kept}
 use Rattle.mps_first_heap.specs.StandsFor.{StandsFor}
 use Rattle.mps_script.specs.Line.{lines_of, call_of_line, longest_line, is_line_feed}
 use Rattle.mps_cli.specs.Write.{appended}
-use Rattle.mps_cli.specs.Ending.{CountsGrow, HasCause, status_of}
+use Rattle.mps_cli.specs.Ending.{CountsGrow, HasCause, IsQuiet, Reports, report_of, status_of}
 use Rattle.mps_cli.specs.Buffer.{ComesNextOf, length_of_line}
 use Rattle.mps_cli.specs.Script.{Command, StepsRan, AreUnsupportedWhereDue, RanLines, RanTo, NoFaultRose, is_whole, is_whole_status, IsBadHere, EndsAt, answers_of, text_of_answer, commands_of, command_of_step, commands_of_call, commands_from, is_good}
 use Rattle.mps_cli.specs.declared.ending.Ending.{Ending}
@@ -244,6 +244,20 @@ counts_line a b c d f grew reads g = record {
   log_faults = omega (arith, f.log_faults, reads.log_faults, g.log_faults);
   out_faults = omega (arith, f.out_faults, reads.out_faults, g.out_faults);
 }
+
+-- ---- reports
+
+pub quiet_line : (a b c d : Outside) → IsQuiet a b → OnlyReads b c → IsQuiet c d → IsQuiet a d
+quiet_line a b c d f reads g = record {
+  reported = g.reported ∙ (reads.reported ∙ f.reported);
+  err_faults = g.err_faults ∙ (reads.err_faults ∙ f.err_faults);
+}
+
+-- nothing, and then the report of an ending
+pub reported_after : (ends : Ending) (old mid new : Outside) → IsQuiet old mid → Reports ends mid new → Reports ends old new
+reported_after ends old mid new quiet reports unrisen =
+    reports (λ risen. unrisen (subst (λ n. HasRisen n new.err_faults) quiet.err_faults risen))
+    ∙ ap (λ told. appended told (report_of ends)) quiet.reported
 
 -- ---- a whole run
 

@@ -1,6 +1,8 @@
--- How a run ends: its status, and the fault that is its cause.
-use Rattle.std.specs.Prelude.{ℕ, ◌≤◌, codes, decimal, List, [], ◌++◌}
+-- How a run ends: its status, what is reported of it, and the fault that is its cause.
+use Rattle.std.specs.Prelude.{ℕ, ◌≡◌, ◌≤◌, codes, decimal, List, [], ◌++◌, refl}
+use Rattle.std.specs.Fmt.{digits}
 use Rattle.mps_base.specs.Desk.{Outside, HasRisen}
+use Rattle.mps_cli.specs.Write.{appended}
 use Rattle.mps_cli.specs.declared.ending.Ending.{Ending}
 use Rattle.mps_cli.specs.declared.ending.Ending.TheVariants.{Done, NoMeaning, ReadFailed, WriteFailed, LogFailed, BadLine, TooLong, OutOfMemory}
 
@@ -42,3 +44,22 @@ pub record CountsGrow (old new : Outside) : Type 0 where
   pub in_faults : old.in_faults ≤ new.in_faults
   pub log_faults : old.log_faults ≤ new.log_faults
   pub out_faults : old.out_faults ≤ new.out_faults
+
+-- nothing was reported
+pub record IsQuiet (old new : Outside) : Type 0 where
+  pub reported : new.reported ≡ old.reported
+  pub err_faults : new.err_faults ≡ old.err_faults
+
+-- what was reported is what stood there before and then the line of this ending, where no call of reporting failed
+abbrev pub Reports : Ending → Outside → Outside → Type 0
+Reports ends old new = ¬ HasRisen old.err_faults new.err_faults → new.reported ≡ appended old.reported (report_of ends)
+
+-- the status is that of an ending, and its line is reported
+pub record IsReported (status : ℕ) (old new : Outside) : Type 0 where
+  pub ends : Ending
+  pub status_is : status ≡ status_of ends
+  pub reported : Reports ends old new
+
+pub a_bad_line_is_told : report_of (BadLine 12) ≡ codes "mps: script line 12: bad line\n"
+unfolding digits
+a_bad_line_is_told = refl

@@ -20,7 +20,7 @@ use Rattle.mps_script.specs.declared.line.BadLine.{BadLine}
 use Rattle.mps_script.specs.Line.{call_of_line, lines_of}
 use Rattle.mps_script.specs.Text.{text_of}
 use Rattle.mps_cli.specs.Write.{appended}
-use Rattle.mps_cli.specs.Ending.{status_of}
+use Rattle.mps_cli.specs.Ending.{status_of, Reports}
 use Rattle.mps_cli.specs.declared.ending.Ending.{Ending}
 use Rattle.mps_cli.specs.declared.ending.Ending.TheVariants as ending
 
@@ -158,11 +158,13 @@ a_comment_has_no_command = refl
 abbrev pub is_whole_status : ℕ → Bool
 is_whole_status status = (status == 0) || ((status == 6) || (status == 7))
 
--- the run of a script ended with a status, and what was printed and logged is that of a history of its commands
+-- the run of a script ended with a status: what was printed and logged is that of a history of its commands, and what was
+-- reported tells where it ended
 pub record RanWith (status : ℕ) (script : List ℕ) (old new : Outside) : Type 0 where
   pub ends : Ending
   pub status_is : status ≡ status_of ends
   pub ran : RanTo ends script old new
+  pub reported : Reports ends old new
 
 -- no count of faults rose: of reading, of printing, of the log
 pub record NoFaultRose (old new : Outside) : Type 0 where

@@ -1,11 +1,14 @@
 // How a run of the program ends: its status, and what it reports.
-ghost use Rattle.std.specs.Prelude.{◌≡◌};
+ghost use Rattle.std.specs.Prelude.{◌≡◌, ◌≤◌, ◌+◌, ◌++◌, length, take, decimal};
 ghost use Rattle.mps_base.specs.Desk.{OnlyReports};
-ghost use Rattle.mps_cli.specs.Ending.{status_of as status_number};
+ghost use Rattle.mps_cli.specs.Ending.{status_of as status_number, report_of, Reports};
 
 use crate::write::err_all;
-use itoa::Buffer;
 use mps_base::Desk;
+use mps_numbers::{put_decimal, put_text};
+
+/// The longest report, in bytes.
+const LONGEST_REPORT: usize = 64;
 
 /// How a run ends.
 #[derive(Clone, Copy, Debug, PartialEq, Eq)]
@@ -46,30 +49,42 @@ pub fn status_of(ending: Ending) -> u8
 
 /// Reports how a run ended, in one line; nothing where it was done. A fault while reporting changes nothing else.
 pub fn report<D: Desk>(desk: &mut D, ending: Ending)
-    ensures { OnlyReports (D.outside desk.old) (D.outside desk.new) }
+    ensures reported { Reports ending (D.outside desk.old) (D.outside desk.new) }
+    ensures others { OnlyReports (D.outside desk.old) (D.outside desk.new) }
 {
-    let text: &[u8] = match ending {
-        Ending::Done => return,
-        Ending::NoMeaning => b"mps: usage: run, cnv, txt, blocks or gen\n",
-        Ending::ReadFailed => b"mps: read failed\n",
-        Ending::WriteFailed => b"mps: write failed\n",
-        Ending::LogFailed => b"mps: log failed\n",
-        Ending::BadLine { line } => return report_bad_line(desk, line),
-        Ending::TooLong => b"mps: too long\n",
-        Ending::OutOfMemory => b"mps: out of memory\n",
-    };
-    let _ = err_all(desk, text);
+    let mut text = [0u8; LONGEST_REPORT];
+    let length = put_report(ending, &mut text);
+    let _ = err_all(desk, &text[..length]);
 }
 
-fn report_bad_line<D: Desk>(desk: &mut D, line: u32)
-    ensures { OnlyReports (D.outside desk.old) (D.outside desk.new) }
+/// Writes the report of an ending at the front of the bytes, and answers its length.
+fn put_report(ending: Ending, out: &mut [u8]) -> usize
+    requires { 64 ≤ length out.old }
+    ensures text { take result out.new ≡ report_of ending }
+    ensures short { result ≤ 64 }
 {
-    let mut buffer = Buffer::new();
-    if err_all(desk, b"mps: script line ").is_err() {
-        return;
+    match ending {
+        Ending::Done => 0,
+        Ending::NoMeaning => put_text(b"mps: usage: run, cnv, txt, blocks or gen\n", out, 0),
+        Ending::ReadFailed => put_text(b"mps: read failed\n", out, 0),
+        Ending::WriteFailed => put_text(b"mps: write failed\n", out, 0),
+        Ending::LogFailed => put_text(b"mps: log failed\n", out, 0),
+        Ending::BadLine { line } => {
+            put_with_number(b"mps: script line ", line, b": bad line\n", out)
+        },
+        Ending::TooLong => put_text(b"mps: too long\n", out, 0),
+        Ending::OutOfMemory => put_text(b"mps: out of memory\n", out, 0),
     }
-    if err_all(desk, buffer.format(line).as_bytes()).is_err() {
-        return;
-    }
-    let _ = err_all(desk, b": bad line\n");
+}
+
+/// Writes a decimal number between two texts.
+fn put_with_number(before: &[u8], number: u32, behind: &[u8], out: &mut [u8]) -> usize
+    requires room { 64 ≤ length out.old }
+    requires few { length before.now + 20 + length behind.now ≤ 64 }
+    ensures text { take result out.new ≡ before.now ++ decimal number ++ behind.now }
+    ensures short { result ≤ 64 }
+{
+    let at = put_text(before, out, 0);
+    let at = put_decimal(u64::from(number), out, at);
+    put_text(behind, out, at)
 }

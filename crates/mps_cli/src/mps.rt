@@ -2,7 +2,7 @@
 ghost use Rattle.std.specs.Prelude.{◌≡◌, ◌≢◌, ◌↔◌, ℕ, List, Some, true, false, map, string_bytes};
 ghost use Rattle.mps_base.specs.Desk.{HasRisen, standard_input};
 ghost use Rattle.mps_cli.specs.Command.{has_meaning};
-ghost use Rattle.mps_cli.specs.Ending.{CountsGrow, HasCause};
+ghost use Rattle.mps_cli.specs.Ending.{CountsGrow, HasCause, IsQuiet, IsReported};
 ghost use Rattle.mps_cli.specs.declared.ending.Ending.TheVariants.{NoMeaning};
 ghost use Rattle.mps_cli.specs.Script.{RanTo, RanWith, NoFaultRose, is_whole, is_whole_status};
 
@@ -21,12 +21,15 @@ pub fn mps<D: Desk>(alloc: Global, words: &[String], desk: &mut D) -> u8
     ensures log_failed { result ≡ 5 → HasRisen (D.outside desk.old).log_faults (D.outside desk.new).log_faults }
     ensures counts { CountsGrow (D.outside desk.old) (D.outside desk.new) }
 
+    // One line is reported, which tells of the ending that has this status; where the status is 0, none.
+    ensures reported { IsReported result (D.outside desk.old) (D.outside desk.new) }
+
     // Words with a meaning, no fault and no want of memory: the run is whole, and its status 0, 6 or 7.
     ensures complete { has_meaning (map string_bytes words.now) ≡ true → NoFaultRose (D.outside desk.old) (D.outside desk.new)
         → result ≢ 8 → is_whole_status result ≡ true }
 
     // A whole run of a script that the desk tells: there is a history of its commands, each with its line, up to the end or
-    // to the line that the status tells of. It is legal, and a command is `unsupported` exactly where it isn't built. What
+    // to the line that is reported. It is legal, and a command is `unsupported` exactly where it isn't built. What
     // was printed is the answer line of each step and nothing else; what was logged is the header and the records of that
     // history, and replaying them gives the live blocks of the world after it.
     ensures ran { is_whole_status result ≡ true → (script : List ℕ) → (D.outside desk.old).text standard_input ≡ Some script
@@ -41,6 +44,7 @@ fn run_words<D: Desk>(alloc: Global, words: &[String], desk: &mut D) -> Ending
     ensures usage { (result ≡ NoMeaning) ↔ (has_meaning (map string_bytes words.now) ≡ false) }
     ensures cause { HasCause result (D.outside desk.old) (D.outside desk.new) }
     ensures counts { CountsGrow (D.outside desk.old) (D.outside desk.new) }
+    ensures quiet { IsQuiet (D.outside desk.old) (D.outside desk.new) }
     ensures ran { is_whole result ≡ true → (script : List ℕ) → (D.outside desk.old).text standard_input ≡ Some script
         → RanTo result script (D.outside desk.old) (D.outside desk.new) }
 {

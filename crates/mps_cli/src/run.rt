@@ -3,7 +3,7 @@ ghost use Rattle.std.specs.Prelude.{◌≡◌, ◌≢◌, ◌≤◌, ◌+◌, �
 ghost use Rattle.mps_base.specs.Desk.{standard_input};
 ghost use Rattle.mps_script.specs.Line.{call_of_line};
 ghost use Rattle.mps_first_heap.specs.Unsupported.{IsInRange};
-ghost use Rattle.mps_cli.specs.Ending.{HasCause, CountsGrow};
+ghost use Rattle.mps_cli.specs.Ending.{HasCause, CountsGrow, IsQuiet};
 ghost use Rattle.mps_cli.specs.Buffer.{left_of};
 ghost use Rattle.mps_cli.specs.Script.{Command, StepsRan, RanTo, RanLines, IsBadHere, is_good, is_whole, commands_of_call};
 ghost use Rattle.mps_cli.specs.declared.ending.Ending.TheVariants.{NoMeaning};
@@ -31,6 +31,7 @@ pub fn run<D: Desk>(alloc: Global, desk: &mut D) -> Ending
     ensures meaning { result ≢ NoMeaning }
     ensures cause { HasCause result (D.outside desk.old) (D.outside desk.new) }
     ensures counts { CountsGrow (D.outside desk.old) (D.outside desk.new) }
+    ensures quiet { IsQuiet (D.outside desk.old) (D.outside desk.new) }
     ensures ran { is_whole result ≡ true → (script : List ℕ) → (D.outside desk.old).text standard_input ≡ Some script
         → RanTo result script (D.outside desk.old) (D.outside desk.new) }
 {
@@ -53,6 +54,7 @@ fn run_lines<D: Desk>(alloc: Global, desk: &mut D, lines: &mut Lines) -> Ending
     ensures meaning { result ≢ NoMeaning }
     ensures cause { HasCause result (D.outside desk.old) (D.outside desk.new) }
     ensures counts { CountsGrow (D.outside desk.old) (D.outside desk.new) }
+    ensures quiet { IsQuiet (D.outside desk.old) (D.outside desk.new) }
     ensures ran { is_whole result ≡ true → (script : List ℕ) → left_of lines.old (D.outside desk.old).input ≡ Some script
         → RanLines result script (D.outside desk.old) (D.outside desk.new) }
 {
@@ -98,6 +100,7 @@ fn run_line<D: Desk>(
     ensures meaning { IfSome result (λ ending. ending ≢ NoMeaning) }
     ensures cause { IfSome result (λ ending. HasCause ending (D.outside desk.old) (D.outside desk.new)) }
     ensures counts { CountsGrow (D.outside desk.old) (D.outside desk.new) }
+    ensures quiet { IsQuiet (D.outside desk.old) (D.outside desk.new) }
 {
     match call_of(bytes) {
         Ok(None) => None,
@@ -124,6 +127,7 @@ fn run_call<D: Desk>(
     ensures meaning { IfSome result (λ ending. ending ≢ NoMeaning) }
     ensures cause { IfSome result (λ ending. HasCause ending (D.outside desk.old) (D.outside desk.new)) }
     ensures counts { CountsGrow (D.outside desk.old) (D.outside desk.new) }
+    ensures quiet { IsQuiet (D.outside desk.old) (D.outside desk.new) }
 {
     let Ok(done) = heap.call(alloc, call) else {
         return Some(Ending::OutOfMemory);
