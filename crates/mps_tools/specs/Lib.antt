@@ -3,3 +3,5 @@ pub mod KindSet
 pub mod Input
 pub mod Causes
 pub mod Portable
+pub mod Converted
+pub mod Converting

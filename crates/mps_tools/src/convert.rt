@@ -1,10 +1,13 @@
 // `cnv`: the portable text of a log.
 
-ghost use Rattle.std.specs.Prelude.{◌≡◌, ◌≤◌, ◌<◌, ◌+◌, ◌*◌, ◌++◌, length, IfOk, IfSome};
+ghost use Rattle.std.specs.Prelude.{◌≡◌, ◌≤◌, ◌<◌, ◌+◌, ◌*◌, ◌++◌, ℕ, List, Some, true, length, IfOk, IfSome};
 ghost use Rattle.mps_tools.specs.Causes.{IsCaused, IsTold, Works, Answers};
 ghost use Rattle.std.specs.List.{flat_map};
 ghost use Rattle.mps_event.specs.Event.{event_of};
-ghost use Rattle.mps_tools.specs.Portable.{record_line, field_text, is_wanted};
+ghost use Rattle.mps_tools.specs.Portable.{record_line, field_text, is_wanted, line_of_kinds};
+ghost use Rattle.mps_tools.specs.Input.{IsAtEnd};
+ghost use Rattle.mps_tools.specs.Converted.{ConvertedWith, HasConverted, is_whole_status};
+ghost use Rattle.mps_tools.specs.Converting.{left_of, put_out, PendingGives, NextGives, AllGive};
 ghost use Rattle.mps_tools.specs.KindSet.{bits_of};
 ghost use Rattle.mps_output.specs.Streams.{Runs};
 
@@ -22,7 +25,10 @@ use std::alloc::Global;
 /// program: 0, or with a report 3 where a read failed, 4 where a write failed, 6 at the first record that is wrong, 7
 /// where record 2^32 begins, 8 for want of memory.
 pub fn cnv<D: Desk>(alloc: Global, log: &str, kinds: Kinds, desk: &mut D) -> u8
-    ensures { Answers (D.outside desk.old) (D.outside desk.new) result }
+    ensures answers { Answers (D.outside desk.old) (D.outside desk.new) result }
+    // Where the opened file is told, and the status is none of a fault or for want of memory: exactly this was printed.
+    ensures converted { is_whole_status result ≡ true → (bytes : List ℕ) → (D.outside desk.old).text log.now ≡ Some bytes
+        → ConvertedWith (bits_of kinds) bytes result (D.outside desk.old) (D.outside desk.new) }
 {
     let ending = convert(alloc, log, kinds, desk);
     finish(ending, desk)
@@ -31,6 +37,8 @@ pub fn cnv<D: Desk>(alloc: Global, log: &str, kinds: Kinds, desk: &mut D) -> u8
 fn convert<D: Desk>(alloc: Global, log: &str, kinds: Kinds, desk: &mut D) -> Result<(), Stop>
     ensures cause { IsCaused (D.outside desk.old) (D.outside desk.new) result }
     ensures runs { Runs (D.outside desk.old) (D.outside desk.new) }
+    ensures converted { (bytes : List ℕ) → (D.outside desk.old).text log.now ≡ Some bytes
+        → HasConverted (bits_of kinds) bytes result (D.outside desk.old) (D.outside desk.new) }
 {
     let mut input = match Input::new(alloc) {
         Ok(input) => input,
@@ -53,7 +61,10 @@ fn convert_records<D: Desk>(
     output: &mut Output,
     desk: &mut D,
 ) -> Result<(), Stop>
-    ensures { Works (D.outside desk.old) (D.outside desk.new) input.old input.new result }
+    requires { IsAtEnd (D.outside desk.old) input.old }
+    ensures works { Works (D.outside desk.old) (D.outside desk.new) input.old input.new result }
+    ensures all { (bytes : List ℕ) → left_of (D.outside desk.old) input.old ≡ Some bytes
+        → AllGive version (bits_of kinds) bytes (put_out (D.outside desk.old) output.old) (put_out (D.outside desk.new) output.new) result }
 {
     let mut offset: u64 = 8;
     for _ in 0..u32::MAX {
@@ -74,8 +85,12 @@ fn convert_next<D: Desk>(
     output: &mut Output,
     desk: &mut D,
 ) -> Result<Option<usize>, Stop>
+    requires { IsAtEnd (D.outside desk.old) input.old }
     ensures works { Works (D.outside desk.old) (D.outside desk.new) input.old input.new result }
     ensures size { IfOk result (λ o. IfSome o (λ size. size ≤ 40)) }
+    ensures gives { NextGives version (bits_of kinds) offset (left_of (D.outside desk.old) input.old) (left_of (D.outside desk.new) input.new)
+        (put_out (D.outside desk.old) output.old) (put_out (D.outside desk.new) output.new) result }
+    ensures at_end { IsAtEnd (D.outside desk.new) input.new }
 {
     input.fill(MOST_OF_A_RECORD, desk);
     make_room(output, desk)?;
@@ -95,17 +110,27 @@ fn convert_record(
     requires { length output.old + 512 ≤ 65536 }
     ensures told { IsTold input.now result }
     ensures size { IfOk result (λ o. IfSome o (λ size. (size ≤ 40) × (size ≤ length input.now.pending))) }
+    ensures gives { PendingGives version (bits_of kinds) offset input.now output.old output.new result }
 {
     match first(input.pending(), input.has_ended(), version) {
         Err(fault) => Err(Stop::BadRecord(offset, fault)),
         Ok(None) if input.has_failed() => Err(Stop::ReadFailed),
         Ok(None) => Ok(None),
         Ok(Some(entry)) => {
-            if is_wanted(&entry, version, kinds) {
-                put_record(&entry, output);
-            }
+            put_wanted(&entry, version, kinds, output);
             Ok(Some(entry.size()))
         }
+    }
+}
+
+// The line of a record of one of these kinds.
+fn put_wanted(entry: &RecordRef<'_>, version: Version, kinds: Kinds, output: &mut Output)
+    requires room { length output.old + 512 ≤ 65536 }
+    requires count { length entry.now.fields ≤ 4 }
+    ensures { output.new ≡ output.old ++ line_of_kinds version (bits_of kinds) entry.now }
+{
+    if is_wanted(entry, version, kinds) {
+        put_record(entry, output);
     }
 }
 

@@ -1,10 +1,12 @@
 // What the tools that read a log share.
 
-ghost use Rattle.std.specs.Prelude.{◌≡◌, ◌≤◌, ◌+◌, ◌++◌, ◌⊎◌, true, false, length, OnOk, OnErr};
+ghost use Rattle.std.specs.Prelude.{◌≡◌, ◌≤◌, ◌+◌, ◌++◌, ◌⊎◌, ℕ, List, [], Some, true, false, length, OnOk, OnErr};
 ghost use Rattle.mps_base.specs.Desk.{HasRisen};
 ghost use Rattle.mps_tools.specs.Causes.{IsCaused, IsTold, Works};
 ghost use Rattle.mps_tools.specs.Portable.{first_line};
-ghost use Rattle.mps_output.specs.Streams.{Runs};
+ghost use Rattle.mps_output.specs.Streams.{Runs, Kept};
+ghost use Rattle.mps_tools.specs.Input.{IsAtEnd};
+ghost use Rattle.mps_tools.specs.Converting.{left_of, put_out, LastGives, EndGives, IsToFlush, OpensWith, TakesHeader};
 
 use crate::input::Input;
 use mps_base::Desk;
@@ -16,14 +18,17 @@ pub(crate) const MOST_OF_A_RECORD: usize = 40;
 
 // Opens a log and takes its header.
 pub(crate) fn open_log<D: Desk>(log: &str, input: &mut Input, desk: &mut D) -> Result<Version, Stop>
-    requires { input.old.failed ≡ false }
+    requires { input.old ≡ record { pending = []; ended = false; failed = false } }
+    ensures opened { (bytes : List ℕ) → (D.outside desk.old).text log.now ≡ Some bytes → OpensWith bytes (left_of (D.outside desk.new) input.new) result }
+    ensures at_end { OnOk result (IsAtEnd (D.outside desk.new) input.new) }
+    ensures printed { (D.outside desk.new).printed ≡ (D.outside desk.old).printed }
     ensures cause { IsCaused (D.outside desk.old) (D.outside desk.new) result }
     ensures fault { input.new.failed ≡ true → HasRisen (D.outside desk.old).in_faults (D.outside desk.new).in_faults }
     ensures runs { Runs (D.outside desk.old) (D.outside desk.new) }
 {
-    if desk.open(log).is_err() {
+    let Ok(()) = desk.open(log) else {
         return Err(Stop::ReadFailed);
-    }
+    };
     input.fill(8, desk);
     take_header(input)
 }
@@ -31,6 +36,7 @@ pub(crate) fn open_log<D: Desk>(log: &str, input: &mut Input, desk: &mut D) -> R
 // Takes the header at the front.
 fn take_header(input: &mut Input) -> Result<Version, Stop>
     ensures told { IsTold input.old result }
+    ensures taken { TakesHeader input.old input.new result }
     ensures failed { input.new.failed ≡ input.old.failed }
 {
     match header(input.pending()) {
@@ -57,6 +63,8 @@ pub(crate) fn put_first_line(version: Version, output: &mut Output)
 // Makes room for a line.
 pub(crate) fn make_room<D: Desk>(output: &mut Output, desk: &mut D) -> Result<(), Stop>
     ensures room { OnOk result (length output.new + 512 ≤ 65536) }
+    ensures kept { OnOk result (Kept (D.outside desk.old) (D.outside desk.new) output.old output.new) }
+    ensures input { (D.outside desk.new).input ≡ (D.outside desk.old).input }
     ensures cause { OnErr result (result ≡ Err Stop.WriteFailed) }
     ensures fault { OnErr result (HasRisen (D.outside desk.old).out_faults (D.outside desk.new).out_faults) }
     ensures runs { Runs (D.outside desk.old) (D.outside desk.new) }
@@ -69,14 +77,17 @@ pub(crate) fn make_room<D: Desk>(output: &mut Output, desk: &mut D) -> Result<()
 
 // The end of a log or text whose last record or line has the greatest number.
 pub(crate) fn after_the_last<D: Desk>(input: &mut Input, desk: &mut D) -> Result<(), Stop>
-    ensures { Works (D.outside desk.old) (D.outside desk.new) input.old input.new result }
+    ensures works { Works (D.outside desk.old) (D.outside desk.new) input.old input.new result }
+    ensures gives { IsAtEnd (D.outside desk.old) input.old → LastGives (left_of (D.outside desk.old) input.old) result }
+    ensures printed { (D.outside desk.new).printed ≡ (D.outside desk.old).printed }
 {
     input.fill(1, desk);
     end_of(input)
 }
 
 fn end_of(input: &Input) -> Result<(), Stop>
-    ensures { IsTold input.now result }
+    ensures told { IsTold input.now result }
+    ensures gives { EndGives input.now result }
 {
     if !input.pending().is_empty() {
         Err(Stop::TooLong)
@@ -93,6 +104,7 @@ pub(crate) fn flush_after<D: Desk>(
     output: &mut Output,
     desk: &mut D,
 ) -> Result<(), Stop>
+    ensures printed { IsToFlush result → (D.outside desk.new).printed ≡ put_out (D.outside desk.old) output.old }
     ensures first { (result ≡ ending) ⊎ ((result ≡ Err Stop.WriteFailed) × HasRisen (D.outside desk.old).out_faults (D.outside desk.new).out_faults) }
     ensures runs { Runs (D.outside desk.old) (D.outside desk.new) }
 {

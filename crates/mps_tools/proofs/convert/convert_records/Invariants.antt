@@ -1,9 +1,16 @@
 use Rattle.std.proofs.Common.{◌≤◌, ◌+◌, ◌*◌, Ok}
 use Rattle.mps_tools.specs.Causes.{Works}
+use Rattle.mps_tools.specs.Input.{IsAtEnd}
+use Rattle.mps_tools.specs.KindSet.{bits_of}
+use Rattle.mps_tools.specs.Converting.{left_of, put_out}
+use Rattle.mps_tools.proofs.Converting.{SoFar}
 use Rattle.mps_tools.proofs.convert.convert_records.Given as goal
 
 abbrev pub invariant-loop : goal.invariant-loop
 invariant-loop g l = record {
   works : Works {T = Unit {0}} (g.D.Desk.outside l.initial.desk) (g.D.Desk.outside l.desk) l.initial.input l.input (Ok tt);
   offset : l.offset ≤ 8 + 40 * l.counter;
+  at_end : IsAtEnd (g.D.Desk.outside l.desk) l.input;
+  so_far : SoFar l.version (bits_of l.kinds) l.counter l.offset (left_of (g.D.Desk.outside l.initial.desk) l.initial.input) (left_of (g.D.Desk.outside l.desk) l.input)
+      (put_out (g.D.Desk.outside l.initial.desk) l.initial.output) (put_out (g.D.Desk.outside l.desk) l.output);
 }

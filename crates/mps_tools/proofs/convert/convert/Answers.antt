@@ -1,0 +1,14 @@
+use Rattle.std.proofs.Common.{◌++◌, ◌∙◌, ap, List, ℕ}
+use Rattle.mps_tools.specs.Portable.{first_line}
+use Rattle.mps_tools.specs.KindSet.{bits_of}
+use Rattle.mps_tools.specs.Converting.{put_out}
+use Rattle.mps_tools.proofs.Wholly.{converts_log}
+use Rattle.mps_tools.proofs.convert.convert.Goals as goal
+
+pub returns-clause-converted : goal.returns-clause-converted
+returns-clause-converted g c bytes told =
+    let line = c.put_first_line.ensures ∙ ap (λ (x : List ℕ). x ++ first_line c.in_ok-version.version) c.in-Ok-new.ensures in
+    converts_log _ c.in_ok-version.version (bits_of c.args.kinds) bytes c.put_first_line.new.output
+    (g.D.Desk.outside c.args.desk.now) (g.D.Desk.outside c.open_log.new.desk) (g.D.Desk.outside c.convert_records-ending.new.desk) (g.D.Desk.outside c.flush_after.new.desk)
+    c.open_log.new.input (put_out (g.D.Desk.outside c.convert_records-ending.new.desk) c.convert_records-ending.new.output) c.convert_records-ending.result c.flush_after.result
+    (c.in_ok-version.ensures.opened bytes told) c.open_log.ensures.printed line c.convert_records-ending.ensures.all c.flush_after.ensures.first c.flush_after.ensures.printed

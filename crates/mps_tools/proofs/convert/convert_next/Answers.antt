@@ -1,0 +1,27 @@
+use Rattle.std.proofs.Common.{◌≡◌, drop, ap, sym, subst, ◌∙◌, ℕ, Ok}
+use Rattle.std.specs.Prelude.{unwrap_or}
+use Rattle.std.proofs.lemmas.Result.{err_from_is_err_and}
+use Rattle.mps_tools.specs.Input.{Buffered}
+use Rattle.mps_tools.specs.KindSet.{bits_of}
+use Rattle.mps_tools.specs.Converting.{left_of, put_out, NextGives}
+use Rattle.mps_tools.proofs.Converting.{next_gives, next_stops}
+use Rattle.mps_tools.proofs.convert.convert_next.Goals as goal
+
+pub returns-in_err-size-clause-gives : goal.returns-in_err-size-clause-gives
+returns-in_err-size-clause-gives g c =
+    let p = err_from_is_err_and c.from_residual-in_err-size.result c.from_residual-in_err-size.ensures.1 in
+    rw (p.1, p.2)
+    (next_stops c.args.version (bits_of c.args.kinds) c.args.offset (g.D.Desk.outside c.args.desk.now) (g.D.Desk.outside c.fill.new.desk) (g.D.Desk.outside c.make_room.new.desk)
+    c.args.input.now c.fill.new.self (left_of (g.D.Desk.outside c.make_room.new.desk) c.fill.new.self) c.args.output.now c.make_room.new.output c.convert_record.new.output _
+    c.requires c.fill.ensures.read c.in_ok-make_room.ensures.kept c.in_err-size.ensures.gives)
+
+pub returns-clause-gives : goal.returns-clause-gives
+returns-clause-gives g c =
+    let after : c.take.new.self ≡ record c.fill.new.self { pending = drop (unwrap_or c.in_ok-size.size 0) c.fill.new.self.pending } =
+    c.take.ensures ∙ ap (λ (n : ℕ). record c.fill.new.self { pending = drop n c.fill.new.self.pending }) c.unwrap_or.ensures in
+    subst (λ (b : Buffered). NextGives c.args.version (bits_of c.args.kinds) c.args.offset (left_of (g.D.Desk.outside c.args.desk.now) c.args.input.now) (left_of (g.D.Desk.outside c.make_room.new.desk) b)
+    (put_out (g.D.Desk.outside c.args.desk.now) c.args.output.now) (put_out (g.D.Desk.outside c.make_room.new.desk) c.convert_record.new.output) (Ok c.in_ok-size.size))
+    (sym after)
+    (next_gives c.args.version (bits_of c.args.kinds) c.args.offset (g.D.Desk.outside c.args.desk.now) (g.D.Desk.outside c.fill.new.desk) (g.D.Desk.outside c.make_room.new.desk)
+    c.args.input.now c.fill.new.self c.args.output.now c.make_room.new.output c.convert_record.new.output c.in_ok-size.size
+    c.requires c.fill.ensures.read c.fill.ensures.enough c.in_ok-make_room.ensures.kept c.make_room.ensures.input c.in_ok-size.ensures.gives)
