@@ -480,7 +480,7 @@ begins_within low high (s ∷ rs) t there above below =
     ]
 
 -- ascending runs that begin at one number are one
-same_count : (low high : ℕ) (rs : List Run) (r s : Run) → IsAscending low high rs → Contains rs r → Contains rs s → r.from ≡ s.from → r.count ≡ s.count
+pub same_count : (low high : ℕ) (rs : List Run) (r s : Run) → IsAscending low high rs → Contains rs r → Contains rs s → r.from ≡ s.from → r.count ≡ s.count
 same_count low high [] r s ascending (k, within, is) there e = absurd (omega arith)
 same_count low high (t ∷ rs) r s ascending here there e =
     elim (contains_cases rs r t here) [

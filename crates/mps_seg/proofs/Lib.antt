@@ -1,5 +1,6 @@
 pub mod Apart
 pub mod BitFacts
+pub mod Counts
 pub mod Cover
 pub mod Decode
 pub mod Held

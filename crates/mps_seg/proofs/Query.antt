@@ -16,13 +16,13 @@ use Rattle.mps_seg.proofs.Apart.{has_word-true, has_word-parts, has_word-below, 
 
 -- ---- the run over a word
 
-run_over_none : (rs : List Run) (word : ℕ) → ((r : Run) → Contains rs r → has_word r word ≡ false) → run_over rs word ≡ None
+pub run_over_none : (rs : List Run) (word : ℕ) → ((r : Run) → Contains rs r → has_word r word ≡ false) → run_over rs word ≡ None
 run_over_none [] word none = refl
 run_over_none (r ∷ rs) word none =
     cond-false (has_word r word) (Some r.from) (run_over rs word) (none r (contains_first rs r))
     ∙ run_over_none rs word (λ s there. none s (contains_later rs s r there))
 
-run_over_is : (rs : List Run) (word : ℕ) (r : Run) → Contains rs r → has_word r word ≡ true → ((s : Run) → Contains rs s → has_word s word ≡ true → s.from ≡ r.from) → run_over rs word ≡ Some r.from
+pub run_over_is : (rs : List Run) (word : ℕ) (r : Run) → Contains rs r → has_word r word ≡ true → ((s : Run) → Contains rs s → has_word s word ≡ true → s.from ≡ r.from) → run_over rs word ≡ Some r.from
 run_over_is [] word r (k, within, is) has one = absurd (omega arith)
 run_over_is (s ∷ rs) word r there has one =
     elim (cases_Bool (has_word s word)) [

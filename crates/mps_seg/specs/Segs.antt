@@ -90,3 +90,7 @@ pub record IsEmptyAt (state : SegsState) (base : ℕ) (s : Segment) : Type 0 whe
 pub record CanCover (state : SegsState) (r : Run) : Type 0 where
   pub free : IsAscending 0 (512 * (state.grains + 1)) (with_run r state.covered)
   pub inside : LiesIn (held_grains state) r
+
+-- an address, by its number
+abbrev pub at_byte : ℕ → Addr
+at_byte n = record { 0 = n }

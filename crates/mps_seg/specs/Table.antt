@@ -1,14 +1,14 @@
 -- How the table by grain stands for the segments.
-use Rattle.std.specs.Prelude.{ℕ, suc, ◌==◌, ◌&&◌, if◌then◌else◌, ◌+◌, ◌*◌, ◌≤◌, ◌<◌, ◌≡◌, List, [], ◌∷◌, length, map, Contains}
+use Rattle.std.specs.Prelude.{ℕ, suc, ◌==◌, ◌&&◌, if◌then◌else◌, ◌+◌, ◌*◌, ◌≤◌, ◌<◌, ◌≡◌, Option, Some, None, List, [], ◌∷◌, length, get_or, map, Contains}
 use Rattle.mps_base.specs.declared.names.Rank.{Rank}
-use Rattle.mps_base.specs.Run.{Run, gaps, IsAscending}
+use Rattle.mps_base.specs.Run.{Run, end_of, gaps, total, IsAscending}
 use Rattle.mps_base.specs.Address.{address_of_grain}
 use Rattle.mps_arena.specs.Arena.{ArenaState}
 use Rattle.mps_seg.specs.declared.entry.Entry.{Entry}
 use Rattle.mps_seg.specs.declared.entry.Entry.TheVariants.{Free, First}
 use Rattle.mps_seg.specs.Segment.{Segment, LiesIn, grains_of_segment, same_rank}
 use Rattle.mps_seg.specs.Segs.{SegsState}
-use Rattle.mps_seg.specs.Extents.{ExtentLists, runs_within, AreWhole}
+use Rattle.mps_seg.specs.Extents.{ExtentLists, run_over, runs_within, AreWhole}
 
 -- the segments of the entries, the first of which is that of a grain
 unfoldable pub segments_from : ℕ → List Entry → List Segment
@@ -48,6 +48,25 @@ pub record IsHeld (arena : ArenaState) (table : List Entry) (extents : ExtentLis
   pub some : (r : Run) → Contains extents.covered r → 0 < r.count
   pub inside : (r : Run) → Contains extents.covered r → LiesIn arena.held r
 
+abbrev pub or_zero : Option ℕ → ℕ
+or_zero None = 0
+or_zero (Some n) = n
+
+-- where the run of grains begins in which a grain lies, or 0
+abbrev pub first_over : List Run → ℕ → ℕ
+first_over held grain = or_zero (run_over held grain)
+
+-- how many of the covered words are those of a run of grains
+abbrev pub covered_in : Run → List Run → ℕ
+covered_in grains covered = total (runs_within (512 * grains.from) (512 * end_of grains) covered)
+
+-- the tables by grain say in which run of grains each lies, and of each run how many of its words are covered
+pub record IsCounted (held : List Run) (size : ℕ) (firsts counts : List ℕ) (covered : List Run) : Type 0 where
+  pub firsts_size : length firsts ≡ size
+  pub counts_size : length counts ≡ size
+  pub firsts_are : (grain : ℕ) → grain < size → get_or firsts grain 0 ≡ first_over held grain
+  pub counts_are : (r : Run) → Contains held r → get_or counts r.from 0 ≡ covered_in r covered
+
 -- the gaps of the segment that begins at a grain, where one does and it is of the pool and the rank
 abbrev pub gaps_at : ℕ → Entry → ℕ → Rank → ExtentLists → List Run
 gaps_at grain Free pool rank extents = []
@@ -60,3 +79,8 @@ abbrev pub IsWholeAt : ℕ → Entry → ExtentLists → Type 0
 IsWholeAt grain Free extents = Unit {0}
 IsWholeAt grain (First grains pool generation rank) extents =
     AreWhole (512 * grain) (512 * grain + 512 * grains) extents.covered × (512 * grain + 512 * grains ≤ extents.size)
+
+-- how many words of the segment are covered that begins at a grain
+abbrev pub IsCountAt : ℕ → Entry → ℕ → ExtentLists → Type 0
+IsCountAt grain Free covered extents = Unit {0}
+IsCountAt grain (First grains pool generation rank) covered extents = covered ≡ total (runs_within (512 * grain) (512 * grain + 512 * grains) extents.covered)

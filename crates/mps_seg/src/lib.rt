@@ -3,6 +3,7 @@
 
 mod entry;
 mod extents;
+mod places;
 mod segs;
 
 pub use extents::Extents;

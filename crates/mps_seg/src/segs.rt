@@ -2,19 +2,20 @@
 #![tactic(auto)]
 
 ghost use Rattle.std.specs.Prelude.{◌≡◌, ℕ, ◌+◌, ◌*◌, ◌/◌, ◌%◌, ◌^◌, ◌<◌, ◌≤◌, IfOk, IfErr, IfSome, OnOk, MatchResult, Contains, option_map, length, slice_range};
-ghost use Rattle.mps_base.specs.Run.{with_run, without_run, lowest_fitting, total};
+ghost use Rattle.mps_base.specs.Run.{IsAscending, with_run, without_run, gaps, lowest_fitting, total};
 ghost use Rattle.mps_base.specs.Address.{word_of};
 ghost use Rattle.mps_base.specs.Trail.{with_move};
 ghost use Rattle.mps_arena.specs.Arena.{answer_of};
-ghost use Rattle.mps_seg.specs.Extents.{run_over, first_run};
-ghost use Rattle.mps_seg.specs.Segment.{Segment, end_of_segment, same_rank, without_segment};
-ghost use Rattle.mps_seg.specs.Table.{IsWholeAt, gaps_at};
-ghost use Rattle.mps_seg.specs.Segs.{SegsState, new_segments, placement_for, segments_after, moves_after, gaps_of, held_grains, at_word, IsEmptyAt, CanCover};
+ghost use Rattle.mps_seg.specs.Extents.{run_over, first_run, runs_within, AreWhole};
+ghost use Rattle.mps_seg.specs.Segment.{Segment, end_of_segment, same_rank, segment_over, without_segment};
+ghost use Rattle.mps_seg.specs.Table.{IsWholeAt, IsCountAt, gaps_at};
+ghost use Rattle.mps_seg.specs.Segs.{SegsState, new_segments, placement_for, segments_after, moves_after, gaps_of, held_grains, at_word, at_byte, IsEmptyAt, CanCover};
 ghost use Rattle.std.specs.Borrow.{sem};
 ghost use Rattle.mps_seg.specs.Lending.{LendsWords};
 
 use crate::Extents;
 use crate::entry::Entry;
+use crate::places::note_first;
 use mps_arena::Arena;
 use mps_base::{Addr, Move, Rank, Refusal, Trail};
 use std::alloc::{AllocError, Global};
@@ -25,18 +26,22 @@ use std::marker::Model;
 pub struct Segs {
     arena: Arena,
     table: Vec<Entry>,
+    firsts: Vec<u32>,
+    counts: Vec<u32>,
     extents: Extents,
 }
 
 impl Model for Segs {
     ghost use Rattle.mps_seg.specs.Segs.{SegsState};
-    ghost use Rattle.mps_seg.specs.Table.{segs_state, IsHeld};
+    ghost use Rattle.std.specs.Prelude.{◌+◌};
+    ghost use Rattle.mps_seg.specs.Table.{segs_state, IsHeld, IsCounted};
 
     ghost Value = { SegsState };
 
     ghost view = { λ s. segs_state s.arena s.table.items s.extents };
 
-    ghost invariant = { λ s. IsHeld s.arena s.table.items s.extents };
+    ghost invariant = { λ s. IsHeld s.arena s.table.items s.extents
+        × IsCounted s.arena.held (s.arena.grains + 1) s.firsts.items s.counts.items s.extents.covered };
 }
 
 impl Segs {
@@ -49,6 +54,8 @@ impl Segs {
         Ok(Segs {
             arena: Arena::new(alloc, grains, limit)?,
             table: vec![in alloc; Entry::Free; grains as usize + 1]?,
+            firsts: vec![in alloc; 0u32; grains as usize + 1]?,
+            counts: vec![in alloc; 0u32; grains as usize + 1]?,
             extents: Extents::new(alloc, 512 * (grains as usize + 1))?,
         })
     }
@@ -72,12 +79,15 @@ impl Segs {
     {
         let grains = (words + 511) / 512;
         let base = self.arena.take_run(grains)?;
-        self.table[(base.0 / 4096) as usize] = Entry::First {
+        let first = (base.0 / 4096) as usize;
+        self.table[first] = Entry::First {
             grains,
             pool,
             generation,
             rank,
         };
+        self.counts[first] = 0;
+        note_first(&mut self.firsts, first, grains as usize, first as u32);
         trail.push(Move::Seg {
             base,
             grains,
@@ -100,6 +110,7 @@ impl Segs {
         };
         self.arena.give_run(base, grains);
         self.table[grain] = Entry::Free;
+        note_first(&mut self.firsts, grain, grains as usize, 0);
         trail.push(Move::Unseg { base });
     }
 
@@ -113,6 +124,8 @@ impl Segs {
         } }
     {
         self.extents.cover((at.0 / 8) as usize, words as usize);
+        let first = self.firsts[(at.0 / 4096) as usize] as usize;
+        self.counts[first] += words;
     }
 
     /// The lowest gap of at least `words` words in the segments of a pool and a rank.
@@ -122,7 +135,16 @@ impl Segs {
         ensures free { IfSome result (λ at. CanCover self.now (record { from = word_of at.0; count = words })) }
     {
         for (grain, entry) in self.table.iter().enumerate() {
-            if let Some(word) = gap_behind(&self.extents, grain, *entry, pool, rank, words) {
+            let covered = self.counts[grain];
+            if let Some(word) = gap_behind(
+                &self.extents,
+                grain,
+                *entry,
+                covered,
+                pool,
+                rank,
+                words,
+            ) {
                 return Some(Addr(8 * word as u64));
             }
         }
@@ -145,6 +167,22 @@ impl Segs {
         Some(Addr(8 * word as u64))
     }
 
+    /// The base of the segment in which an address lies.
+    pub fn segment_of(&self, at: Addr) -> Option<Addr>
+        ensures { result ≡ option_map at_byte (segment_over self.now.segments at.0) }
+    {
+        let grain = (at.0 / 4096) as usize;
+        if grain >= self.firsts.len() {
+            return None;
+        }
+        let first = self.firsts[grain];
+        if first == 0 {
+            None
+        } else {
+            Some(Addr(4096 * first as u64))
+        }
+    }
+
     /// The block whose words cover byte `n`.
     pub fn block_at(&self, n: u64) -> Option<Addr>
         ensures { result ≡ option_map at_word (run_over self.now.blocks (n / 8)) }
@@ -163,6 +201,8 @@ impl Segs {
         ensures free { CanCover self.new (record { from = word_of at.0; count = words }) }
     {
         self.extents.uncover((at.0 / 8) as usize, words as usize);
+        let first = self.firsts[(at.0 / 4096) as usize] as usize;
+        self.counts[first] -= words;
     }
 
     /// Covers `words` words from `at` on, which no block and no reservation covers, by a block.
@@ -176,6 +216,8 @@ impl Segs {
     {
         self.extents
             .commit_block((at.0 / 8) as usize, words as usize);
+        let first = self.firsts[(at.0 / 4096) as usize] as usize;
+        self.counts[first] += words;
     }
 
     /// Takes away the block of `words` words that begins at `at`. Its words stay as they are, and may be covered again.
@@ -188,6 +230,8 @@ impl Segs {
         ensures free { CanCover self.new (record { from = word_of at.0; count = words }) }
     {
         self.extents.drop_block((at.0 / 8) as usize, words as usize);
+        let first = self.firsts[(at.0 / 4096) as usize] as usize;
+        self.counts[first] -= words;
     }
 
     /// How many words the block has that begins at `at`.
@@ -251,11 +295,37 @@ fn is_same_rank(a: Rank, b: Rank) -> bool
     }
 }
 
+/// Where the lowest gap of at least `words` words begins between two bounds, between which `covered` words are covered. There is
+/// none where fewer words are left, and this is seen without a search.
+fn gap_between(
+    extents: &Extents,
+    low: usize,
+    high: usize,
+    covered: u32,
+    words: u32,
+) -> Option<usize>
+    requires some { 0 < words }
+    requires ordered { low ≤ high }
+    requires within { high ≤ extents.now.size }
+    requires small { extents.now.size < 2 ^ 32 }
+    requires ascending { IsAscending 0 extents.now.size extents.now.covered }
+    requires whole { AreWhole low high extents.now.covered }
+    requires counted { covered ≡ total (runs_within low high extents.now.covered) }
+    ensures lowest { result ≡ lowest_fitting words (gaps low high (runs_within low high extents.now.covered)) }
+    ensures below { IfSome result (λ word. word < 2 ^ 32) }
+{
+    if high - low < covered as usize + words as usize {
+        return None;
+    }
+    extents.lowest_gap(low, high, words as usize)
+}
+
 /// Where the lowest gap of at least `words` words begins in the segment that begins at a grain, where one does and it is of the pool and the rank.
 fn gap_behind(
     extents: &Extents,
     grain: usize,
     entry: Entry,
+    covered: u32,
     pool: u32,
     rank: Rank,
     words: u32,
@@ -263,7 +333,9 @@ fn gap_behind(
     requires some { 0 < words }
     requires small { grain < 4096 }
     requires room { extents.now.size < 2 ^ 32 }
+    requires ascending { IsAscending 0 extents.now.size extents.now.covered }
     requires whole { IsWholeAt grain entry extents.now }
+    requires counted { IsCountAt grain entry covered extents.now }
     ensures lowest { result ≡ lowest_fitting words (gaps_at grain entry pool rank extents.now) }
     ensures below { IfSome result (λ word. word < 2 ^ 32) }
 {
@@ -276,7 +348,7 @@ fn gap_behind(
         } => {
             if of == pool && is_same_rank(at, rank) {
                 let low = 512 * grain;
-                extents.lowest_gap(low, low + 512 * grains as usize, words as usize)
+                gap_between(extents, low, low + 512 * grains as usize, covered, words)
             } else {
                 None
             }

@@ -1,17 +1,18 @@
 use Rattle.std.proofs.Common.{ℕ, suc, ◌*◌, ◌/◌, ◌≡◌, ◌≤◌, ◌<◌, List, [], Option, Some, None, option_map, length, get_or, drop, refl, sym, ap, ◌∙◌, subst, arith, add-one}
-use Rattle.std.proofs.lemmas.List.{drop_all}
+use Rattle.std.proofs.lemmas.List.{drop_all, get_or_read}
 use Rattle.mps_base.specs.Run.{Run, lowest_fitting}
 use Rattle.mps_seg.specs.declared.entry.Entry.{Entry}
 use Rattle.mps_seg.specs.declared.entry.Entry.TheVariants.{Free}
 use Rattle.mps_seg.specs.Segs.{SegsState, gaps_of, at_word, CanCover}
-use Rattle.mps_seg.specs.Table.{segs_state, gaps_at, IsWholeAt}
+use Rattle.mps_seg.specs.Table.{segs_state, gaps_at, IsWholeAt, IsCountAt}
 use Rattle.mps_seg.proofs.Held.{later_gaps, all_gaps, no_gaps, gaps_more, whole_at, lowest_in_first, lowest_behind, gap_at_is_free}
+use Rattle.mps_seg.proofs.Counts.{count_at}
 use Rattle.mps_seg.proofs.segs.Segs.lowest_gap.Goals as goal
 
 pub gap_behind-requires-clause-whole : goal.gap_behind-requires-clause-whole
 gap_behind-requires-clause-whole c =
     let P : List Entry → Type 0 = λ es. IsWholeAt c.loop-grain.grain (get_or es c.loop-grain.grain Free) c.self.inside.extents in
-    subst P (sym c.deref-entry-items.ensures.value) (whole_at c.self.inside.arena c.self.inside.table.items c.self.inside.extents c.loop-grain.grain (get_or c.self.inside.table.items c.loop-grain.grain Free) c.self.invariant refl)
+    subst P (sym c.deref-entry-items.ensures.value) (whole_at c.self.inside.arena c.self.inside.table.items c.self.inside.extents c.loop-grain.grain (get_or c.self.inside.table.items c.loop-grain.grain Free) c.self.invariant.0 refl)
 
 pub returns-in-Some-clause-lowest : goal.returns-in-Some-clause-lowest
 returns-in-Some-clause-lowest c =
@@ -44,7 +45,7 @@ returns-in-Some-clause-free c =
     let P : ℕ → Type 0 = λ w. CanCover (segs_state arena table extents) (record { from = w; count = c.args.words }) in
     let R : SegsState → Type 0 = λ st. CanCover st (record { from = 8 * c.in-Some.word / 8; count = c.args.words }) in
     subst R c.self.view_is (subst P (sym place)
-    (gap_at_is_free arena table extents grain (get_or table grain Free) c.args.pool c.args.rank c.args.words c.in-Some.word c.self.invariant refl c.requires (sym here)))
+    (gap_at_is_free arena table extents grain (get_or table grain Free) c.args.pool c.args.rank c.args.words c.in-Some.word c.self.invariant.0 refl c.requires (sym here)))
 
 pub loop-grain-preserved : goal.loop-grain-preserved
 loop-grain-preserved c =
@@ -78,3 +79,16 @@ returns-clause-lowest c =
     (sym (ap (λ (rs : List Run). lowest_fitting c.args.words rs) none)
     ∙ c.loop-grain.invariant ∙ ap (λ (rs : List Run). lowest_fitting c.args.words rs) (all_gaps arena table extents c.args.pool c.args.rank))
     ∙ ap (λ (x : SegsState). option_map at_word (lowest_fitting c.args.words (gaps_of x c.args.pool c.args.rank))) c.self.view_is
+
+pub gap_behind-requires-clause-counted : goal.gap_behind-requires-clause-counted
+gap_behind-requires-clause-counted c =
+    let grain = c.loop-grain.grain in
+    let table = c.self.inside.table.items in
+    let counts = c.self.inside.counts.items in
+    let L : List Entry → Type 0 = λ es. grain < length es in
+    let within : grain < length counts = omega (arith, subst L c.deref-entry-items.ensures.value c.loop-grain-test.true, c.self.invariant.0.size, c.self.invariant.1.counts_size) in
+    let read : c.index-covered.result.now ≡ get_or counts grain 0 = get_or_read counts grain c.index-covered.result.now within c.index-covered.ensures 0 in
+    let P : List Entry → Type 0 = λ es. IsCountAt grain (get_or es grain Free) c.index-covered.result.now c.self.inside.extents in
+    let Q : ℕ → Type 0 = λ n. IsCountAt grain (get_or table grain Free) n c.self.inside.extents in
+    subst P (sym c.deref-entry-items.ensures.value) (subst Q (sym read)
+    (count_at c.self.inside.arena table c.self.inside.extents c.self.inside.firsts.items counts grain (get_or table grain Free) c.self.invariant.0 c.self.invariant.1 refl))

@@ -47,7 +47,7 @@ first_block-requires c =
     let read : c.index.result.now ≡ First s.grains s.pool s.generation s.rank = get_or_read table grain c.index.result.now at.within c.index.ensures Free ∙ at.is in
     let both : First c.in-First.grains c.in-First.pool c.in-First.generation c.in-First.rank ≡ First s.grains s.pool s.generation s.rank = sym c.in-First.is ∙ read in
     let grains : c.in-First.grains ≡ s.grains = cc in
-    omega (arith, grains, segment_end_fits arena table extents grain s.grains s.pool s.generation s.rank c.self.invariant at.is)
+    omega (arith, grains, segment_end_fits arena table extents grain s.grains s.pool s.generation s.rank c.self.invariant.0 at.is)
 
 pub returns-in_err-word : goal.returns-in_err-word
 returns-in_err-word c =
@@ -82,7 +82,7 @@ overflow_mul-result c =
     let both : First c.in-First.grains c.in-First.pool c.in-First.generation c.in-First.rank ≡ First s.grains s.pool s.generation s.rank = sym c.in-First.is ∙ read in
     let grains : c.in-First.grains ≡ s.grains = cc in
     let below = first_run-below (c.args.from.0 / 8) (512 * (grain + c.in-First.grains)) extents.blocks c.in_ok-word.word (sym c.first_block.ensures ∙ c.in_ok-word.was) in
-    omega (arith, below, grains, segment_end_fits arena table extents grain s.grains s.pool s.generation s.rank c.self.invariant at.is, c.self.invariant.few, c.self.invariant.covered_size)
+    omega (arith, below, grains, segment_end_fits arena table extents grain s.grains s.pool s.generation s.rank c.self.invariant.0 at.is, c.self.invariant.0.few, c.self.invariant.0.covered_size)
 
 pub returns : goal.returns
 returns c =

@@ -1,0 +1,414 @@
+-- How many words of each segment are covered, and in which segment a grain lies.
+use Rattle.std.proofs.Common.{ℕ, zero, suc, ◌+◌, ◌-◌, ◌*◌, ◌/◌, ◌^◌, ◌<◌, ◌≤◌, ◌≡◌, ◌≢◌, ◌⊎◌, Bool, true, false, ◌&&◌, cond, leb, ltb, Option, Some, None, option_map, Result, Ok, Err, List, [], ◌∷◌, length, get_or, set, replicate, map, Contains, refl, sym, ap, ◌∙◌, subst, inl, inr, arith, length-set, get_or-set_same, get_or-set_other}
+use Rattle.std.proofs.lemmas.Bool.{cases_lt, cases_eq, cases_Bool, both_ways, cond-true, cond-false, and_from, and_left, and_right, le-leb, lt-leb, lt-ltb, le-ltb, false_from_ne_true}
+use Rattle.std.proofs.lemmas.List.{length-replicate, get_or-replicate}
+use Rattle.mps_base.specs.Run.{Run, end_of, IsAscending, total, gaps, lowest_fitting, with_run, without_run}
+use Rattle.mps_base.proofs.Runs.{last_gap_short, lowest_fitting_later, total-cons, total-le, with_run_first, with_run_later, without_run_first, without_run_later, contains_cases, contains_first, contains_later, contained_bounds, in_lowest_gap}
+use Rattle.mps_base.specs.Placement.{Placement, Place, NewSegment, OverLimit, NoFreeRun}
+use Rattle.mps_base.specs.Address.{address_of_grain}
+use Rattle.mps_base.specs.declared.address.Addr.{Addr}
+use Rattle.mps_base.specs.declared.refusal.Refusal.{Refusal}
+use Rattle.mps_arena.specs.Arena.{ArenaState, answer_of, held_after}
+use Rattle.mps_seg.specs.declared.entry.Entry.{Entry}
+use Rattle.mps_seg.specs.declared.entry.Entry.TheVariants.{Free, First}
+use Rattle.mps_seg.specs.Extents.{ExtentLists, has_word, run_over, runs_within, is_covered}
+use Rattle.mps_seg.specs.Segment.{Segment, LiesIn, end_of_segment, grains_of_segment, segment_over}
+use Rattle.mps_seg.specs.Table.{segments_from, segments_in, IsCountAt, first_over, or_zero, covered_in, IsCounted, IsHeld}
+use Rattle.mps_seg.proofs.Apart.{has_word-true, has_word-below, has_word-above, contains_put, apart_from_put, apart_each, uncovered_taken, covers_contained}
+use Rattle.mps_seg.proofs.Query.{run_over_is, run_over_none, run_over-contains, within_ascending}
+use Rattle.mps_seg.proofs.Held.{entry_is_held, contains_put_cases, contains_without, same_count, whole_in}
+
+-- no gap fits where fewer words are free than are asked for
+pub no_room : (low high words : ℕ) (rs : List Run) → 0 < words → IsAscending low high rs → high < low + total rs + words → lowest_fitting words (gaps low high rs) ≡ None
+no_room low high words [] some ascending short = last_gap_short words low high some (omega arith)
+no_room low high words (r ∷ rs) some ascending short =
+    let rest = total-le (end_of r) high rs ascending.2 in
+    let sum = total-cons r rs in
+    lowest_fitting_later words low r.from (gaps (end_of r) high rs) some (omega (arith, rest, sum, short, ascending.0))
+    ∙ no_room (end_of r) high words rs some ascending.2 (omega (arith, sum, short, ascending.0))
+
+-- ---- how many words of the runs begin between two bounds
+
+-- the words of a run, where it begins between the bounds
+abbrev pub words_within : ℕ → ℕ → Run → ℕ
+words_within low high r = cond (leb low r.from && ltb r.from high) r.count 0
+
+words_in : (low high : ℕ) (r : Run) → low ≤ r.from → r.from < high → words_within low high r ≡ r.count
+words_in low high r above below =
+    cond-true (leb low r.from && ltb r.from high) r.count 0 (and_from (leb low r.from) (ltb r.from high) (le-leb low r.from above) (lt-ltb r.from high below))
+
+words_out : (low high : ℕ) (r : Run) → (r.from < low) ⊎ (high ≤ r.from) → words_within low high r ≡ 0
+words_out low high r (inl below) = cond-false (leb low r.from && ltb r.from high) r.count 0 (and_left (leb low r.from) (ltb r.from high) (lt-leb low r.from below))
+words_out low high r (inr above) = cond-false (leb low r.from && ltb r.from high) r.count 0 (and_right (leb low r.from) (ltb r.from high) (le-ltb r.from high above))
+
+total_within-cons : (low high : ℕ) (r : Run) (rs : List Run) → total (runs_within low high (r ∷ rs)) ≡ words_within low high r + total (runs_within low high rs)
+total_within-cons low high r rs =
+    let rest = runs_within low high rs in
+    let inside = leb low r.from && ltb r.from high in
+    elim (cases_Bool inside) [
+      | inl here ↦
+          ap (λ (xs : List Run). total xs) (cond-true inside (r ∷ rest) rest here) ∙ total-cons r rest
+          ∙ ap (λ (n : ℕ). n + total rest) (sym (cond-true inside r.count 0 here))
+      | inr out ↦ omega (arith, ap (λ (xs : List Run). total xs) (cond-false inside (r ∷ rest) rest out), cond-false inside r.count 0 out)
+    ]
+
+total_put : (low high : ℕ) (r : Run) (rs : List Run) → total (runs_within low high (with_run r rs)) ≡ words_within low high r + total (runs_within low high rs)
+total_put low high r [] = total_within-cons low high r []
+total_put low high r (s ∷ rs) =
+    elim (cases_lt r.from s.from) [
+      | inl before ↦ ap (λ (xs : List Run). total (runs_within low high xs)) (with_run_first r s rs before) ∙ total_within-cons low high r (s ∷ rs)
+      | inr after ↦
+          let now = ap (λ (xs : List Run). total (runs_within low high xs)) (with_run_later r s rs after) ∙ total_within-cons low high s (with_run r rs) in
+          omega (arith, now, total_within-cons low high s rs, total_put low high r rs)
+    ]
+
+total_taken : (low high a b : ℕ) (r : Run) (rs : List Run) → IsAscending a b rs → Contains rs r → total (runs_within low high (without_run r.from rs)) + words_within low high r ≡ total (runs_within low high rs)
+total_taken low high a b r [] ascending (k, within, is) = absurd (omega arith)
+total_taken low high a b r (s ∷ rs) ascending there =
+    elim (contains_cases rs r s there) [
+      | inl same ↦
+          let now = ap (λ (xs : List Run). total (runs_within low high xs)) (without_run_first r.from s rs (ap (λ (x : Run). x.from) (sym same))) in
+          omega (arith, now, total_within-cons low high s rs, ap (λ (x : Run). words_within low high x) same)
+      | inr later ↦
+          let bounds = contained_bounds (end_of s) b rs r ascending.2 later in
+          let now =
+          ap (λ (xs : List Run). total (runs_within low high xs)) (without_run_later r.from s rs (λ e. omega (arith, bounds.0, ascending.1, e)))
+          ∙ total_within-cons low high s (without_run r.from rs)
+          in
+          omega (arith, now, total_within-cons low high s rs, total_taken low high (end_of s) b r rs ascending.2 later)
+    ]
+
+none_within : (low high : ℕ) (rs : List Run) → ((t : Run) → Contains rs t → (t.from < low) ⊎ (high ≤ t.from)) → total (runs_within low high rs) ≡ 0
+none_within low high [] out = refl
+none_within low high (r ∷ rs) out =
+    omega (arith, total_within-cons low high r rs, words_out low high r (out r (contains_first rs r)), none_within low high rs (λ t there. out t (contains_later rs t r there)))
+
+-- ---- the run over a number, where runs are put and taken out
+
+run_over_in : (low high : ℕ) (rs : List Run) (r : Run) (n : ℕ) → IsAscending low high rs → Contains rs r → r.from ≤ n → n < end_of r → run_over rs n ≡ Some r.from
+run_over_in low high rs r n ascending there above below =
+    run_over_is rs n r there (has_word-true r n above below) (λ s there' has.
+    elim (cases_eq s.from r.from) [
+      | inl same ↦ same
+      | inr other ↦ elim (apart_each low high rs s r ascending there' there) [
+        | inl same ↦ same
+        | inr apart ↦
+            let never : has_word s n ≡ false = elim apart [ inl after ↦ has_word-above s n (omega (arith, after, above)) | inr before ↦ has_word-below s n (omega (arith, before, below)) ] in
+            absurd (both_ways (has_word s n) never has)
+      ]
+    ])
+
+run_over_put_other : (r : Run) (rs : List Run) (n : ℕ) → has_word r n ≡ false → run_over (with_run r rs) n ≡ run_over rs n
+run_over_put_other r [] n other = cond-false (has_word r n) (Some r.from) None other
+run_over_put_other r (s ∷ rs) n other =
+    elim (cases_lt r.from s.from) [
+      | inl before ↦
+          ap (λ (xs : List Run). run_over xs n) (with_run_first r s rs before) ∙ cond-false (has_word r n) (Some r.from) (run_over (s ∷ rs) n) other
+      | inr after ↦
+          ap (λ (xs : List Run). run_over xs n) (with_run_later r s rs after)
+          ∙ ap (λ (o : Option ℕ). cond (has_word s n) (Some s.from) o) (run_over_put_other r rs n other)
+    ]
+
+run_over_taken_other : (low high : ℕ) (rs : List Run) (r : Run) (n : ℕ) → IsAscending low high rs → Contains rs r → has_word r n ≡ false → run_over (without_run r.from rs) n ≡ run_over rs n
+run_over_taken_other low high [] r n ascending (k, within, is) other = absurd (omega arith)
+run_over_taken_other low high (s ∷ rs) r n ascending there other =
+    elim (contains_cases rs r s there) [
+      | inl same ↦
+          ap (λ (xs : List Run). run_over xs n) (without_run_first r.from s rs (ap (λ (x : Run). x.from) (sym same)))
+          ∙ sym (cond-false (has_word s n) (Some s.from) (run_over rs n) (ap (λ (x : Run). has_word x n) same ∙ other))
+      | inr later ↦
+          let bounds = contained_bounds (end_of s) high rs r ascending.2 later in
+          ap (λ (xs : List Run). run_over xs n) (without_run_later r.from s rs (λ e. omega (arith, bounds.0, ascending.1, e)))
+          ∙ ap (λ (o : Option ℕ). cond (has_word s n) (Some s.from) o) (run_over_taken_other (end_of s) high rs r n ascending.2 later other)
+    ]
+
+run_over_taken_has : (low high : ℕ) (rs : List Run) (r : Run) (n : ℕ) → IsAscending low high rs → Contains rs r → has_word r n ≡ true → run_over (without_run r.from rs) n ≡ None
+run_over_taken_has low high rs r n ascending there has =
+    run_over_none (without_run r.from rs) n (λ s there'.
+    false_from_ne_true (has_word s n) (λ has'.
+    both_ways (is_covered (without_run r.from rs) n) (uncovered_taken low high rs r n ascending there has) (covers_contained (without_run r.from rs) s n there' has')))
+
+-- ---- the tables
+
+-- the segment in which a run of words lies, by the grain in which it begins
+pub record Home (held : List Run) (size : ℕ) (firsts : List ℕ) (grain : ℕ) (r : Run) : Type 0 where
+  pub run : Run
+  pub there : Contains held run
+  pub first : get_or firsts grain 0 ≡ run.from
+  pub grain_within : grain < size
+  pub first_within : run.from < size
+  pub above : 512 * run.from ≤ r.from
+  pub below : r.from < 512 * end_of run
+
+pub home_of : (held : List Run) (size : ℕ) (firsts counts : List ℕ) (covered : List Run) (grain : ℕ) (r : Run) → IsCounted held size firsts counts covered → IsAscending 1 size held → LiesIn held r → 0 < r.count
+    → 512 * grain ≤ r.from → r.from < 512 * grain + 512 → Home held size firsts grain r
+home_of held size firsts counts covered grain r counted ascending lies some above below =
+    let bounds = contained_bounds 1 size held lies.grains ascending lies.there in
+    let within : grain < size = omega (arith, bounds.2, lies.before) in
+    let over = run_over_in 1 size held lies.grains grain ascending lies.there (omega (arith, lies.after)) (omega (arith, lies.before)) in
+    record {
+      run = lies.grains;
+      there = lies.there;
+      first = counted.firsts_are grain within ∙ ap or_zero over;
+      grain_within = within;
+      first_within = omega (arith, bounds.1, bounds.2);
+      above = lies.after;
+      below = omega (arith, lies.before);
+    }
+
+pub home_of_put : (arena : ArenaState) (table : List Entry) (ex : ExtentLists) (firsts counts : List ℕ) (grain : ℕ) (r : Run) → IsHeld arena table ex → IsCounted arena.held (arena.grains + 1) firsts counts ex.covered
+    → LiesIn (map grains_of_segment (segments_in table)) r → 0 < r.count → 512 * grain ≤ r.from → r.from < 512 * grain + 512 → Home arena.held (arena.grains + 1) firsts grain r
+home_of_put arena table ex firsts counts grain r held counted lies some above below =
+    let P : List Run → Type 0 = λ rs. LiesIn rs r in
+    home_of arena.held (arena.grains + 1) firsts counts ex.covered grain r counted held.ascending (subst P (sym held.held) lies) some above below
+
+pub home_of_covered : (arena : ArenaState) (table : List Entry) (ex : ExtentLists) (firsts counts : List ℕ) (grain : ℕ) (r : Run) → IsHeld arena table ex → IsCounted arena.held (arena.grains + 1) firsts counts ex.covered
+    → Contains ex.covered r → 512 * grain ≤ r.from → r.from < 512 * grain + 512 → Home arena.held (arena.grains + 1) firsts grain r
+home_of_covered arena table ex firsts counts grain r held counted listed above below =
+    home_of arena.held (arena.grains + 1) firsts counts ex.covered grain r counted held.ascending (held.inside r listed) (held.some r listed) above below
+
+-- a run begins in one segment alone
+in_home : (size : ℕ) (held : List Run) (h t r : Run) → IsAscending 1 size held → Contains held h → Contains held t → 512 * h.from ≤ r.from → r.from < 512 * end_of h → h.from ≡ t.from → words_within (512 * t.from) (512 * end_of t) r ≡ r.count
+in_home size held h t r ascending there there' above below same =
+    let count = same_count 1 size held h t ascending there there' same in
+    words_in (512 * t.from) (512 * end_of t) r (omega (arith, same, above)) (omega (arith, same, below, count))
+
+out_of_home : (size : ℕ) (held : List Run) (h t r : Run) → IsAscending 1 size held → Contains held h → Contains held t → 512 * h.from ≤ r.from → r.from < 512 * end_of h → h.from ≢ t.from → words_within (512 * t.from) (512 * end_of t) r ≡ 0
+out_of_home size held h t r ascending there there' above below other =
+    elim (apart_each 1 size held h t ascending there there') [
+      | inl same ↦ absurd (other same)
+      | inr apart ↦
+          words_out (512 * t.from) (512 * end_of t) r
+          (elim apart [ inl after ↦ inl (omega (arith, after, below)) | inr before ↦ inr (omega (arith, before, above)) ])
+    ]
+
+pub counted_after_put : (held : List Run) (size : ℕ) (firsts counts : List ℕ) (covered : List Run) (grain : ℕ) (r : Run) → IsCounted held size firsts counts covered → IsAscending 1 size held → Home held size firsts grain r
+    → IsCounted held size firsts (set counts (get_or firsts grain 0) (get_or counts (get_or firsts grain 0) 0 + r.count)) (with_run r covered)
+counted_after_put held size firsts counts covered grain r counted ascending home =
+    let first = get_or firsts grain 0 in
+    let now = get_or counts first 0 + r.count in
+    record {
+      firsts_size = counted.firsts_size;
+      counts_size = length-set counts first now ∙ counted.counts_size;
+      firsts_are = counted.firsts_are;
+      counts_are = λ t there.
+          let was = counted.counts_are t there in
+          let put = total_put (512 * t.from) (512 * end_of t) r covered in
+          elim (cases_eq t.from first) [
+            | inl here ↦
+                let more = in_home size held home.run t r ascending home.there there home.above home.below (sym home.first ∙ sym here) in
+                ap (λ (k : ℕ). get_or (set counts first now) k 0) here ∙ get_or-set_same counts first now 0 (omega (arith, home.first, home.first_within, counted.counts_size))
+                ∙ ap (λ (k : ℕ). get_or counts k 0 + r.count) (sym here) ∙ omega (arith, was, put, more)
+            | inr other ↦
+                let none = out_of_home size held home.run t r ascending home.there there home.above home.below (λ e. other (sym e ∙ sym home.first)) in
+                get_or-set_other counts first t.from now 0 other ∙ omega (arith, was, put, none)
+          ];
+    }
+
+pub counted_after_less : (held : List Run) (size : ℕ) (firsts counts : List ℕ) (covered : List Run) (grain a b : ℕ) (r : Run) → IsCounted held size firsts counts covered → IsAscending 1 size held → IsAscending a b covered → Contains covered r → Home held size firsts grain r
+    → IsCounted held size firsts (set counts (get_or firsts grain 0) (get_or counts (get_or firsts grain 0) 0 - r.count)) (without_run r.from covered)
+counted_after_less held size firsts counts covered grain a b r counted ascending ascending' listed home =
+    let first = get_or firsts grain 0 in
+    let now = get_or counts first 0 - r.count in
+    record {
+      firsts_size = counted.firsts_size;
+      counts_size = length-set counts first now ∙ counted.counts_size;
+      firsts_are = counted.firsts_are;
+      counts_are = λ t there.
+          let was = counted.counts_are t there in
+          let less = total_taken (512 * t.from) (512 * end_of t) a b r covered ascending' listed in
+          elim (cases_eq t.from first) [
+            | inl here ↦
+                let fewer = in_home size held home.run t r ascending home.there there home.above home.below (sym home.first ∙ sym here) in
+                ap (λ (k : ℕ). get_or (set counts first now) k 0) here ∙ get_or-set_same counts first now 0 (omega (arith, home.first, home.first_within, counted.counts_size))
+                ∙ ap (λ (k : ℕ). get_or counts k 0 - r.count) (sym here) ∙ omega (arith, was, less, fewer)
+            | inr other ↦
+                let none = out_of_home size held home.run t r ascending home.there there home.above home.below (λ e. other (sym e ∙ sym home.first)) in
+                get_or-set_other counts first t.from now 0 other ∙ omega (arith, was, less, none)
+          ];
+    }
+
+-- what is taken out was counted
+pub counted_before : (held : List Run) (size : ℕ) (firsts counts : List ℕ) (covered : List Run) (grain a b : ℕ) (r : Run) → IsCounted held size firsts counts covered → IsAscending 1 size held → IsAscending a b covered → Contains covered r → Home held size firsts grain r
+    → r.count ≤ get_or counts (get_or firsts grain 0) 0
+counted_before held size firsts counts covered grain a b r counted ascending ascending' listed home =
+    let was = counted.counts_are home.run home.there in
+    let less = total_taken (512 * home.run.from) (512 * end_of home.run) a b r covered ascending' listed in
+    let fewer = in_home size held home.run home.run r ascending home.there home.there home.above home.below refl in
+    let here = ap (λ (k : ℕ). get_or counts k 0) home.first in
+    omega (arith, was, less, fewer, here)
+
+-- no more words are counted than a segment has
+pub count_fits : (arena : ArenaState) (table : List Entry) (ex : ExtentLists) (grains : Run) → IsHeld arena table ex → Contains arena.held grains → covered_in grains ex.covered ≤ 512 * grains.count
+count_fits arena table ex grains held listed =
+    let low = 512 * grains.from in
+    let high = 512 * end_of grains in
+    let whole = whole_in arena table ex grains held listed ex.covered (λ t there. there) in
+    let ascending = within_ascending 0 ex.size low high low ex.covered held.covered_ascending whole (omega arith) (omega arith) (inr refl) in
+    let sum = total-le low high (runs_within low high ex.covered) ascending in
+    omega (arith, sum)
+
+-- there is room to count what is put, where the segments are held after it
+pub room_to_count : (arena : ArenaState) (table : List Entry) (ex : ExtentLists) (firsts counts : List ℕ) (grain : ℕ) (r : Run) (blocks reservations : List Run) → IsCounted arena.held (arena.grains + 1) firsts counts ex.covered
+    → IsHeld arena table (record ex { covered = with_run r ex.covered; blocks = blocks; reservations = reservations }) → Home arena.held (arena.grains + 1) firsts grain r
+    → get_or counts (get_or firsts grain 0) 0 + r.count < 2 ^ 32
+room_to_count arena table ex firsts counts grain r blocks reservations counted held home =
+    let ex' : ExtentLists = record ex { covered = with_run r ex.covered; blocks = blocks; reservations = reservations } in
+    let was = counted.counts_are home.run home.there in
+    let put = total_put (512 * home.run.from) (512 * end_of home.run) r ex.covered in
+    let more = in_home (arena.grains + 1) arena.held home.run home.run r held.ascending home.there home.there home.above home.below refl in
+    let here = ap (λ (k : ℕ). get_or counts k 0) home.first in
+    let fits = count_fits arena table ex' home.run held home.there in
+    let bounds = contained_bounds 1 (arena.grains + 1) arena.held home.run held.ascending home.there in
+    omega (arith, was, put, more, here, fits, bounds.2, held.few)
+
+-- before any segment is taken
+pub new_is_counted : (size : ℕ) → IsCounted [] size (replicate size 0) (replicate size 0) []
+new_is_counted size = record {
+  firsts_size = length-replicate size 0;
+  counts_size = length-replicate size 0;
+  firsts_are = λ grain within. get_or-replicate size grain 0 0 within;
+  counts_are = λ t (k, within, is). absurd (omega arith);
+}
+
+-- the table of first grains after so many of them are written
+pub record Noted (firsts firsts' : List ℕ) (r : Run) (first : ℕ) : Type 0 where
+  pub size : length firsts' ≡ length firsts
+  pub inside : (g : ℕ) → r.from ≤ g → g < end_of r → get_or firsts' g 0 ≡ first
+  pub outside : (g : ℕ) → (g < r.from) ⊎ (end_of r ≤ g) → get_or firsts' g 0 ≡ get_or firsts g 0
+
+pub counted_after_taking : (arena : ArenaState) (table : List Entry) (ex : ExtentLists) (firsts firsts' counts : List ℕ) (need grain : ℕ) → IsHeld arena table ex → IsCounted arena.held (arena.grains + 1) firsts counts ex.covered → 0 < need
+    → lowest_fitting need (gaps 1 (arena.grains + 1) arena.held) ≡ Some grain → Noted firsts firsts' (record { from = grain; count = need }) grain
+    → IsCounted (with_run (record { from = grain; count = need }) arena.held) (arena.grains + 1) firsts' (set counts grain 0) ex.covered
+counted_after_taking arena table ex firsts firsts' counts need grain held counted some lowest noted =
+    let r : Run = record { from = grain; count = need } in
+    let gap = in_lowest_gap 1 (arena.grains + 1) arena.held need grain some held.ascending lowest in
+    let outside = λ (g : ℕ) (within : g < arena.grains + 1) (out : (g < grain) ⊎ (grain + need ≤ g)) (other : has_word r g ≡ false).
+    let here : get_or firsts' g 0 ≡ first_over (with_run r arena.held) g =
+    noted.outside g out ∙ counted.firsts_are g within ∙ ap or_zero (sym (run_over_put_other r arena.held g other))
+    in here
+    in
+    let none : total (runs_within (512 * grain) (512 * (grain + need)) ex.covered) ≡ 0 =
+    none_within (512 * grain) (512 * (grain + need)) ex.covered (λ t there.
+    let lies = held.inside t there in
+    elim (apart_from_put 1 (arena.grains + 1) arena.held r lies.grains gap.ascending lies.there) [
+      | inl behind ↦ inr (omega (arith, behind, lies.after))
+      | inr ahead ↦ inl (omega (arith, ahead, lies.before, held.some t there))
+    ])
+    in
+    let P : Run → Type 0 = λ t. get_or (set counts grain 0) t.from 0 ≡ covered_in t ex.covered in
+    record {
+      firsts_size = noted.size ∙ counted.firsts_size;
+      counts_size = length-set counts grain 0 ∙ counted.counts_size;
+      firsts_are = λ g within. elim (cases_lt g grain) [
+        | inl before ↦ outside g within (inl before) (has_word-below r g before)
+        | inr from ↦ elim (cases_lt g (grain + need)) [
+          | inl below ↦
+              noted.inside g from below
+              ∙ sym (ap or_zero (run_over_in 1 (arena.grains + 1) (with_run r arena.held) r g gap.ascending (contains_put r arena.held) from below))
+          | inr past ↦ outside g within (inr past) (has_word-above r g past)
+        ]
+      ];
+      counts_are = λ t there. elim (contains_put_cases r t arena.held there) [
+        | inl same ↦ subst P same (get_or-set_same counts grain 0 0 (omega (arith, gap.below, some, counted.counts_size)) ∙ sym none)
+        | inr later ↦
+            let bounds = contained_bounds 1 (arena.grains + 1) arena.held t held.ascending later in
+            let other : t.from ≢ grain = λ e.
+            elim (apart_from_put 1 (arena.grains + 1) arena.held r t gap.ascending later) [
+              | inl after ↦ omega (arith, after, some, e)
+              | inr before ↦ omega (arith, before, bounds.1, e)
+            ]
+            in
+            get_or-set_other counts grain t.from 0 0 other ∙ counted.counts_are t later
+      ];
+    }
+
+pub counted_after_giving : (held : List Run) (size : ℕ) (firsts firsts' counts : List ℕ) (covered : List Run) (r : Run) → IsCounted held size firsts counts covered → IsAscending 1 size held → Contains held r → Noted firsts firsts' r 0
+    → IsCounted (without_run r.from held) size firsts' counts covered
+counted_after_giving held size firsts firsts' counts covered r counted ascending listed noted =
+    let outside = λ (g : ℕ) (within : g < size) (out : (g < r.from) ⊎ (end_of r ≤ g)) (other : has_word r g ≡ false).
+    let here : get_or firsts' g 0 ≡ first_over (without_run r.from held) g =
+    noted.outside g out ∙ counted.firsts_are g within ∙ ap or_zero (sym (run_over_taken_other 1 size held r g ascending listed other))
+    in here
+    in
+    record {
+      firsts_size = noted.size ∙ counted.firsts_size;
+      counts_size = counted.counts_size;
+      firsts_are = λ g within. elim (cases_lt g r.from) [
+        | inl before ↦ outside g within (inl before) (has_word-below r g before)
+        | inr from ↦ elim (cases_lt g (end_of r)) [
+          | inl below ↦ noted.inside g from below ∙ sym (ap or_zero (run_over_taken_has 1 size held r g ascending listed (has_word-true r g from below)))
+          | inr past ↦ outside g within (inr past) (has_word-above r g past)
+        ]
+      ];
+      counts_are = λ t there. counted.counts_are t (contains_without r.from t held there);
+    }
+
+-- where nothing was taken
+pub refused_held : (p : Placement) (why : Refusal) (held : List Run) → Err why ≡ answer_of p → held_after p held ≡ held
+refused_held (Place word) why held is = let left : Result Addr Refusal = Err why in let never : left ≡ Ok (record { 0 = 8 * word }) = is in cc
+refused_held (NewSegment grain grains) why held is = let left : Result Addr Refusal = Err why in let never : left ≡ Ok (record { 0 = 4096 * grain }) = is in cc
+refused_held (OverLimit committed need limit) why held is = refl
+refused_held (NoFreeRun need length) why held is = refl
+
+-- the words counted for the segment that begins at a grain
+pub count_at : (arena : ArenaState) (table : List Entry) (ex : ExtentLists) (firsts counts : List ℕ) (grain : ℕ) (e : Entry) → IsHeld arena table ex → IsCounted arena.held (arena.grains + 1) firsts counts ex.covered → get_or table grain Free ≡ e
+    → IsCountAt grain e (get_or counts grain 0) ex
+count_at arena table ex firsts counts grain Free held counted is = tt
+count_at arena table ex firsts counts grain (First n p g k) held counted is =
+    let mine : Run = record { from = grain; count = n } in
+    let P : List Run → Type 0 = λ rs. Contains rs mine in
+    let listed = subst P (sym held.held) (entry_is_held table grain n p g k is) in
+    let end : 512 * (grain + n) ≡ 512 * grain + 512 * n = omega arith in
+    counted.counts_are mine listed ∙ ap (λ (high : ℕ). total (runs_within (512 * grain) high ex.covered)) end
+
+-- ---- the segment over an address
+
+over_from : (at grain : ℕ) (entries : List Entry) → segment_over (segments_from grain entries) at ≡ option_map address_of_grain (run_over (map grains_of_segment (segments_from grain entries)) (at / 4096))
+unfolding segments_from
+over_from at grain [] = refl
+over_from at grain (Free ∷ entries) = over_from at (suc grain) entries
+over_from at grain (First n p g k ∷ entries) =
+    let s : Segment = record { base = address_of_grain grain; grains = n; pool = p; generation = g; rank = k } in
+    let r : Run = grains_of_segment s in
+    let here : Bool = leb s.base at && ltb at (end_of_segment s) in
+    let same : here ≡ has_word r (at / 4096) =
+    elim (cases_lt at s.base) [
+      | inl below ↦ and_left (leb s.base at) (ltb at (end_of_segment s)) (lt-leb s.base at below) ∙ sym (has_word-below r (at / 4096) (omega arith))
+      | inr from ↦ elim (cases_lt at (end_of_segment s)) [
+        | inl under ↦
+            and_from (leb s.base at) (ltb at (end_of_segment s)) (le-leb s.base at from) (lt-ltb at (end_of_segment s) under)
+            ∙ sym (has_word-true r (at / 4096) (omega arith) (omega arith))
+        | inr past ↦ and_right (leb s.base at) (ltb at (end_of_segment s)) (le-ltb at (end_of_segment s) past) ∙ sym (has_word-above r (at / 4096) (omega arith))
+      ]
+    ]
+    in
+    let rest = segment_over (segments_from (suc grain) entries) at in
+    let rest' = run_over (map grains_of_segment (segments_from (suc grain) entries)) (at / 4096) in
+    let base : address_of_grain r.from ≡ s.base = omega arith in
+    elim (cases_Bool (has_word r (at / 4096))) [
+      | inl has ↦
+          cond-true here (Some s.base) rest (same ∙ has) ∙ ap (λ (b : ℕ). Some b) (sym base)
+          ∙ sym (ap (λ (o : Option ℕ). option_map address_of_grain o) (cond-true (has_word r (at / 4096)) (Some r.from) rest' has))
+      | inr other ↦
+          cond-false here (Some s.base) rest (same ∙ other) ∙ over_from at (suc grain) entries
+          ∙ sym (ap (λ (o : Option ℕ). option_map address_of_grain o) (cond-false (has_word r (at / 4096)) (Some r.from) rest' other))
+    ]
+
+pub segment_over_is : (arena : ArenaState) (table : List Entry) (ex : ExtentLists) (at : ℕ) (o : Option ℕ) → IsHeld arena table ex → run_over arena.held (at / 4096) ≡ o → segment_over (segments_in table) at ≡ option_map address_of_grain o
+unfolding segments_in
+segment_over_is arena table ex at o held is =
+    over_from at 0 table ∙ ap (λ (rs : List Run). option_map address_of_grain (run_over rs (at / 4096))) (sym held.held) ∙ ap (λ (x : Option ℕ). option_map address_of_grain x) is
+
+pub no_run_past : (size : ℕ) (held : List Run) (grain : ℕ) → IsAscending 1 size held → size ≤ grain → run_over held grain ≡ None
+no_run_past size held grain ascending past = run_over_none held grain (λ r there. has_word-above r grain (omega (arith, (contained_bounds 1 size held r ascending there).2, past)))
+
+pub run_from_first : (size : ℕ) (held : List Run) (grain first : ℕ) → IsAscending 1 size held → first ≡ first_over held grain → ((first ≡ 0 → run_over held grain ≡ None) × (first ≢ 0 → run_over held grain ≡ Some first))
+run_from_first size held grain first ascending is = go (run_over held grain) refl is
+  where
+    go : (o : Option ℕ) → run_over held grain ≡ o → first ≡ or_zero o → ((first ≡ 0 → run_over held grain ≡ None) × (first ≢ 0 → run_over held grain ≡ Some first))
+    go None over same = ((λ e. over), (λ other. absurd (other same)))
+    go (Some from) over same =
+        let run = run_over-contains held grain from over in
+        let bounds = contained_bounds 1 size held (record { from = from; count = run.0 }) ascending run.1 in
+        ((λ e. absurd (omega (arith, bounds.0, same, e))), (λ other. over ∙ ap (λ (n : ℕ). Some n) (sym same)))
