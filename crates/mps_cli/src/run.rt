@@ -6,7 +6,7 @@ ghost use Rattle.mps_first_heap.specs.Unsupported.{IsInRange};
 ghost use Rattle.mps_cli.specs.Ending.{HasCause, CountsGrow, IsQuiet};
 ghost use Rattle.mps_cli.specs.Buffer.{left_of};
 ghost use Rattle.mps_cli.specs.Script.{Command, StepsRan, RanTo, RanLines, IsBadHere, is_good, is_whole, commands_of_call};
-ghost use Rattle.mps_cli.specs.declared.ending.Ending.TheVariants.{NoMeaning};
+ghost use Rattle.mps_cli.specs.declared.ending.Ending.TheVariants.{NoMeaning, WriteFailed};
 
 use crate::ending::Ending;
 use crate::lines::Lines;
@@ -124,6 +124,7 @@ fn run_call<D: Desk>(
         (D.outside desk.old) (D.outside desk.new)) }
     ensures few { pools.new ≤ pools.old + 1 }
     ensures whole { IfSome result (λ ending. is_whole ending ≡ false) }
+    ensures records_first { IfSome result (λ ending. ending ≢ WriteFailed → (D.outside desk.new).printed ≡ (D.outside desk.old).printed) }
     ensures meaning { IfSome result (λ ending. ending ≢ NoMeaning) }
     ensures cause { IfSome result (λ ending. HasCause ending (D.outside desk.old) (D.outside desk.new)) }
     ensures counts { CountsGrow (D.outside desk.old) (D.outside desk.new) }
