@@ -18,7 +18,7 @@ use Rattle.mps_script.specs.Line.{lines_of, call_of_line, longest_line, is_line_
 use Rattle.mps_cli.specs.Write.{appended}
 use Rattle.mps_cli.specs.Ending.{CountsGrow, HasCause, IsQuiet, Reports, report_of, status_of}
 use Rattle.mps_cli.specs.Buffer.{ComesNextOf, length_of_line}
-use Rattle.mps_cli.specs.Script.{Command, StepsRan, AreUnsupportedWhereDue, RanLines, RanTo, NoFaultRose, is_whole, is_whole_status, IsBadHere, EndsAt, answers_of, text_of_answer, commands_of, command_of_step, commands_of_call, commands_from, is_good}
+use Rattle.mps_cli.specs.Script.{Command, StepsRan, AreUnsupportedWhereDue, RanLines, RanTo, Answered, NoFaultRose, is_whole, is_whole_status, IsBadHere, EndsAt, answers_of, text_of_answer, commands_of, command_of_step, commands_of_call, commands_from, is_good}
 use Rattle.mps_cli.specs.declared.ending.Ending.{Ending}
 use Rattle.mps_cli.specs.declared.ending.Ending.TheVariants as ending
 use Rattle.mps_cli.specs.declared.next.Next.{Next}
@@ -234,6 +234,38 @@ ends_bad_line kept n pools old o1 o2 o3 script (Some rest) left2 line ends f rea
   logged = bad.logged ∙ (reads.logged ∙ f.logged);
   ends_at = subst (λ e. EndsAt e n (drop n (lines_of script))) (sym bad.is_end)
       (subst (EndsAt (ending.BadLine (n + 1)) n) (sym f.read.behind) (refl, first_is_bad rest line comes.0 comes.1 bad.bad));
+}
+
+-- ---- what was printed in any case
+
+-- where nothing more was printed
+pub answered_so_far : (kept : Kept) (n pools : ℕ) (old now new : Outside) (script : List ℕ) (left : Option (List ℕ))
+    → SoFar kept n pools old now (Some script) left → new.printed ≡ now.printed → Answered script old new
+answered_so_far kept n pools old now new script None f same = absurd f.read
+answered_so_far kept n pools old now new script (Some rest) f same = record {
+  history = f.history;
+  lines = n;
+  run = record { grammatical = f.read.grammatical; commands = f.read.commands; legal = f.legal; unsupported = f.unsupported; replayed = f.replayed };
+  printed = same ∙ f.printed;
+}
+
+-- before the first line
+pub answered_nothing : (script : List ℕ) (old new : Outside) → new.printed ≡ old.printed → Answered script old new
+answered_nothing script old new same = record {
+  history = [];
+  lines = 0;
+  run = record { grammatical = refl; commands = refl; legal = tt; unsupported = tt; replayed = refl };
+  printed = same ∙ appended_empty old.printed;
+}
+
+-- the same where nothing was printed before or after
+pub answered_between : (script : List ℕ) (old start end new : Outside) → start.printed ≡ old.printed → Answered script start end
+    → new.printed ≡ end.printed → Answered script old new
+answered_between script old start end new before a behind = record {
+  history = a.history;
+  lines = a.lines;
+  run = a.run;
+  printed = behind ∙ (a.printed ∙ ap (λ told. appended told (answers_of a.history)) before);
 }
 
 -- ---- counts

@@ -132,6 +132,14 @@ pub record IsBadHere (bytes : List ℕ) (line : ℕ) (ends : Ending) (old new : 
   pub printed : new.printed ≡ old.printed
   pub logged : new.logged ≡ old.logged
 
+-- what was printed is what stood printed before, then the answer line of each step of a history of the first lines, and
+-- nothing else
+pub record Answered (script : List ℕ) (old new : Outside) : Type 0 where
+  pub history : History
+  pub lines : ℕ
+  pub run : HasRun script lines history
+  pub printed : new.printed ≡ appended old.printed (answers_of history)
+
 -- the lines of a script were run to their end, or to the line at which the run ended
 pub record RanLines (ends : Ending) (script : List ℕ) (old new : Outside) : Type 0 where
   pub history : History

@@ -3,8 +3,8 @@ ghost use Rattle.std.specs.Prelude.{◌≡◌, ◌≢◌, ◌↔◌, ℕ, List, 
 ghost use Rattle.mps_base.specs.Desk.{HasRisen, standard_input};
 ghost use Rattle.mps_cli.specs.Command.{has_meaning};
 ghost use Rattle.mps_cli.specs.Ending.{CountsGrow, HasCause, IsQuiet, IsReported};
-ghost use Rattle.mps_cli.specs.declared.ending.Ending.TheVariants.{NoMeaning};
-ghost use Rattle.mps_cli.specs.Script.{RanTo, RanWith, NoFaultRose, is_whole, is_whole_status};
+ghost use Rattle.mps_cli.specs.declared.ending.Ending.TheVariants.{NoMeaning, WriteFailed};
+ghost use Rattle.mps_cli.specs.Script.{Answered, RanTo, RanWith, NoFaultRose, is_whole, is_whole_status};
 
 use crate::command::{Command, command_of};
 use crate::ending::{Ending, report, status_of};
@@ -34,6 +34,11 @@ pub fn mps<D: Desk>(alloc: Global, words: &[String], desk: &mut D) -> u8
     // history, and replaying them gives the live blocks of the world after it.
     ensures ran { is_whole_status result ≡ true → (script : List ℕ) → (D.outside desk.old).text standard_input ≡ Some script
         → RanWith result script (D.outside desk.old) (D.outside desk.new) }
+
+    // Where printing didn't fail, what was printed is in any case the answer line of each step of a history of the first
+    // lines, and nothing else.
+    ensures answered { result ≢ 4 → (script : List ℕ) → (D.outside desk.old).text standard_input ≡ Some script
+        → Answered script (D.outside desk.old) (D.outside desk.new) }
 {
     let ending = run_words(alloc, words, desk);
     report(desk, ending);
@@ -47,6 +52,8 @@ fn run_words<D: Desk>(alloc: Global, words: &[String], desk: &mut D) -> Ending
     ensures quiet { IsQuiet (D.outside desk.old) (D.outside desk.new) }
     ensures ran { is_whole result ≡ true → (script : List ℕ) → (D.outside desk.old).text standard_input ≡ Some script
         → RanTo result script (D.outside desk.old) (D.outside desk.new) }
+    ensures answered { result ≢ WriteFailed → (script : List ℕ) → (D.outside desk.old).text standard_input ≡ Some script
+        → Answered script (D.outside desk.old) (D.outside desk.new) }
 {
     match command_of(words) {
         Some(Command::Run) => run(alloc, desk),

@@ -5,7 +5,7 @@ ghost use Rattle.mps_script.specs.Line.{call_of_line};
 ghost use Rattle.mps_first_heap.specs.Unsupported.{IsInRange};
 ghost use Rattle.mps_cli.specs.Ending.{HasCause, CountsGrow, IsQuiet};
 ghost use Rattle.mps_cli.specs.Buffer.{left_of};
-ghost use Rattle.mps_cli.specs.Script.{Command, StepsRan, RanTo, RanLines, IsBadHere, is_good, is_whole, commands_of_call};
+ghost use Rattle.mps_cli.specs.Script.{Command, StepsRan, RanTo, RanLines, Answered, IsBadHere, is_good, is_whole, commands_of_call};
 ghost use Rattle.mps_cli.specs.declared.ending.Ending.TheVariants.{NoMeaning, WriteFailed};
 
 use crate::ending::Ending;
@@ -34,6 +34,8 @@ pub fn run<D: Desk>(alloc: Global, desk: &mut D) -> Ending
     ensures quiet { IsQuiet (D.outside desk.old) (D.outside desk.new) }
     ensures ran { is_whole result ≡ true → (script : List ℕ) → (D.outside desk.old).text standard_input ≡ Some script
         → RanTo result script (D.outside desk.old) (D.outside desk.new) }
+    ensures answered { result ≢ WriteFailed → (script : List ℕ) → (D.outside desk.old).text standard_input ≡ Some script
+        → Answered script (D.outside desk.old) (D.outside desk.new) }
 {
     let Ok(mut lines) = Lines::new(alloc) else {
         return Ending::OutOfMemory;
@@ -57,6 +59,8 @@ fn run_lines<D: Desk>(alloc: Global, desk: &mut D, lines: &mut Lines) -> Ending
     ensures quiet { IsQuiet (D.outside desk.old) (D.outside desk.new) }
     ensures ran { is_whole result ≡ true → (script : List ℕ) → left_of lines.old (D.outside desk.old).input ≡ Some script
         → RanLines result script (D.outside desk.old) (D.outside desk.new) }
+    ensures answered { result ≢ WriteFailed → (script : List ℕ) → left_of lines.old (D.outside desk.old).input ≡ Some script
+        → Answered script (D.outside desk.old) (D.outside desk.new) }
 {
     let mut heap = FirstHeap::new(alloc);
     let mut pools: u64 = 0;
@@ -97,6 +101,7 @@ fn run_line<D: Desk>(
     ensures good { IfNone result (is_good bytes.now ≡ true) }
     ensures few { pools.new ≤ pools.old + 1 }
     ensures whole { IfSome result (λ ending. is_whole ending ≡ true → IsBadHere bytes.now line ending (D.outside desk.old) (D.outside desk.new)) }
+    ensures records_first { IfSome result (λ ending. ending ≢ WriteFailed → (D.outside desk.new).printed ≡ (D.outside desk.old).printed) }
     ensures meaning { IfSome result (λ ending. ending ≢ NoMeaning) }
     ensures cause { IfSome result (λ ending. HasCause ending (D.outside desk.old) (D.outside desk.new)) }
     ensures counts { CountsGrow (D.outside desk.old) (D.outside desk.new) }
