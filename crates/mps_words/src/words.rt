@@ -61,6 +61,7 @@ fn run_of(words: &[String]) -> Option<Command<'_>>
     }
 }
 
+// A run, where the log and the script may be named so.
 fn running<'a>(log: &'a str, script: &'a str) -> Option<Command<'a>>
     ensures { option_map meaning_of result ≡ running log.now script.now }
 {
@@ -115,6 +116,7 @@ fn convert_by_both<'a>(
     }
 }
 
+// A conversion, where the log may be named so.
 fn converting(log: &str, kinds: Kinds) -> Option<Command<'_>>
     ensures { option_map meaning_of result ≡ converting log.now (Some (bits_of kinds)) }
 {
@@ -136,6 +138,7 @@ fn read_of(words: &[String]) -> Option<Command<'_>>
     }
 }
 
+// A reading, where the text may be named so.
 fn reading(text: &str) -> Option<Command<'_>>
     ensures { option_map meaning_of result ≡ reading text.now }
 {
@@ -157,6 +160,7 @@ fn blocks_of(words: &[String]) -> Option<Command<'_>>
     }
 }
 
+// A list of blocks, where the log may be named so.
 fn listing(log: &str) -> Option<Command<'_>>
     ensures { option_map meaning_of result ≡ listing log.now }
 {
@@ -177,6 +181,7 @@ fn generate_of(words: &[String]) -> Option<Command<'_>>
     }
 }
 
+// A generated script, where it has few enough steps.
 fn generating<'a>(seed: u64, count: u64) -> Option<Command<'a>>
     ensures { option_map meaning_of result ≡ generating (Some seed) (Some count) }
 {
@@ -241,6 +246,7 @@ fn with_kind(kinds: Kinds, name: &str) -> Option<Kinds>
     Some(kinds)
 }
 
+// The kind of a name.
 fn kind_of(name: &str) -> Option<Kinds>
     ensures { option_map bits_of result ≡ kind_named name.now }
 {
