@@ -1,26 +1,140 @@
 // The whole program over a desk in memory.
 use crate::mps::mps;
-use mps_base::MemDesk;
+use mps_base::{DeskCall, MemDesk};
+use std::alloc::{AllocError, Global};
+use std::process::Abort;
 use std::test::Fail;
 
-/// A script that commits one block and prints its number.
-const SCRIPT: &[u8] =
+/// The first script: it commits one block and prints its number.
+const FIRST: &[u8] =
     b"arena 8 8\ntable t 4\npool p amc front\nap x p exact\nreserve x f:3:1\ninit x 2 7\ncommit x t.0\nnum t.0 2\n";
 
-/// It runs in pieces of 7 bytes, and its log has 136 bytes.
-#[test]
-fn a_block_is_committed_and_its_number_read(rt: HostRuntime) -> Result<(), Fail> {
-    let alloc = rt.alloc();
-    let mut desk = MemDesk::new(alloc);
-    desk.add_file("-", SCRIPT)?;
-    desk.pieces(7);
+const FIRST_ANSWERS: &[u8] = b"ok\nok\nok\nok\nok\nok\nok\n7\n";
+
+/// Its log: the header, then ArenaCreate, PoolCreate, SegAlloc and Commit.
+const FIRST_LOG: &[u8] = b"MPSLOG\x01\x00\
+    \x01\x00\x02\x00\x01\x00\x00\x00\x08\x00\x00\x00\x00\x00\x00\x00\x08\x00\x00\x00\x00\x00\x00\x00\
+    \x10\x00\x03\x00\x03\x00\x00\x00\x00\x00\x00\x00\x00\x00\x00\x00\x01\x00\x00\x00\x00\x00\x00\x00\x01\x00\x00\x00\x00\x00\x00\x00\
+    \x30\x00\x04\x00\x05\x00\x00\x00\x00\x10\x00\x00\x00\x00\x00\x00\x01\x00\x00\x00\x00\x00\x00\x00\x00\x00\x00\x00\x00\x00\x00\x00\x00\x00\x00\x00\x00\x00\x00\x00\
+    \x50\x00\x03\x00\x07\x00\x00\x00\x00\x10\x00\x00\x00\x00\x00\x00\x03\x00\x00\x00\x00\x00\x00\x00\x00\x00\x00\x00\x00\x00\x00\x00";
+
+/// What a run answers.
+#[derive(Drop)]
+struct Answers<'a> {
+    status: u8,
+    printed: &'a [u8],
+    reported: &'a [u8],
+}
+
+/// Runs the program over a desk with the words `run`, and compares what it answers.
+fn compare(
+    rt: &impl Abort,
+    alloc: Global,
+    desk: &mut MemDesk,
+    wanted: &Answers<'_>,
+) -> Result<(), AllocError> {
     let mut words = Vec::new(alloc);
     words.push(String::from_str(alloc, "run")?)?;
-    assert_eq!(rt; mps(alloc, &words, &mut desk), 0);
-    assert_eq!(rt;
-        desk.printed(),
-        b"ok\nok\nok\nok\nok\nok\nok\n7\n".as_slice()
-    );
-    assert_eq!(rt; desk.file("mpsio.log").map_or(0, |log| log.len()), 136);
+    assert_eq!(rt; mps(alloc, &words, desk), wanted.status);
+    assert_eq!(rt; desk.printed(), wanted.printed);
+    assert_eq!(rt; desk.reported(), wanted.reported);
+    Ok(())
+}
+
+/// Whole and in pieces of 1 and of 7 bytes, the first script has its answers, and its log byte for byte.
+#[test]
+fn the_first_script_and_its_log(rt: HostRuntime) -> Result<(), Fail> {
+    let wanted = Answers {
+        status: 0,
+        printed: FIRST_ANSWERS,
+        reported: b"",
+    };
+    for most in [usize::MAX, 1, 7] {
+        let mut desk = MemDesk::new(rt.alloc());
+        desk.add_file("-", FIRST)?;
+        desk.pieces(most);
+        compare(&rt, rt.alloc(), &mut desk, &wanted)?;
+        assert_eq!(rt; desk.file("mpsio.log"), Some(FIRST_LOG));
+    }
+    Ok(())
+}
+
+/// Scripts with their answers: none, comments, an arena that is full, and bytes that are no white space.
+#[test]
+fn scripts_and_their_answers(rt: HostRuntime) -> Result<(), Fail> {
+    for (script, printed) in [
+        (b"".as_slice(), b"".as_slice()),
+        (b"\n   \n # arena\n#\x00\xff\r\n", b""),
+        (
+            b"arena 1 1\ntable t 1\npool p amc front\nap x p exact\nnum t.0 1\nreserve x f:512:0\ncommit x t.0\nreserve x f:2:0\nget t.0 t.0 1",
+            b"ok\nok\nok\nok\nrefused 4\nok\nok\nrefused 10 1 1 1\nunsupported\n",
+        ),
+        (
+            b"table t 4\narena 0 8\narena 8 8\r\narena\t8 8\narena 8\x00 8\n\xc3\xa9\n arena  8   9 \narena 8 8\n",
+            b"unsupported\nunsupported\nunsupported\nunsupported\nunsupported\nunsupported\nok\nunsupported\n",
+        ),
+    ] {
+        let mut desk = MemDesk::new(rt.alloc());
+        desk.add_file("-", script)?;
+        let wanted = Answers {
+            status: 0,
+            printed,
+            reported: b"",
+        };
+        compare(&rt, rt.alloc(), &mut desk, &wanted)?;
+    }
+    Ok(())
+}
+
+/// The first script over a desk at which one call fails: the run ends there, and all before it is printed.
+#[test]
+fn each_call_of_the_desk_may_fail(rt: HostRuntime) -> Result<(), Fail> {
+    for (call, number, status, printed, reported) in [
+        (
+            DeskCall::Open,
+            1,
+            3,
+            b"".as_slice(),
+            b"mps: read failed\n".as_slice(),
+        ),
+        (DeskCall::Create, 1, 5, b"", b"mps: log failed\n"),
+        (DeskCall::Log, 1, 5, b"", b"mps: log failed\n"),
+        (DeskCall::Log, 3, 5, b"ok\nok\n", b"mps: log failed\n"),
+        (DeskCall::Read, 2, 3, FIRST_ANSWERS, b"mps: read failed\n"),
+        (DeskCall::Out, 3, 4, b"ok\nok\n", b"mps: write failed\n"),
+        (DeskCall::Err, 1, 0, FIRST_ANSWERS, b""),
+    ] {
+        let mut desk = MemDesk::new(rt.alloc());
+        desk.add_file("-", FIRST)?;
+        desk.fail(call, number)?;
+        let wanted = Answers {
+            status,
+            printed,
+            reported,
+        };
+        compare(&rt, rt.alloc(), &mut desk, &wanted)?;
+    }
+    Ok(())
+}
+
+/// A line of 4096 bytes is read, and one of 4097 is bad.
+#[test]
+fn a_line_of_4096_bytes_is_the_longest(rt: HostRuntime) -> Result<(), Fail> {
+    for (length, status, printed, reported) in [
+        (4096, 0, b"ok\nunsupported\nok\n".as_slice(), b"".as_slice()),
+        (4097, 6, b"ok\n", b"mps: script line 2: bad line\n"),
+    ] {
+        let mut script = Vec::from_slice(rt.alloc(), b"arena 8 8\n")?;
+        script.resize(10 + length, b'x')?;
+        script.extend_from_slice(b"\ntable t 1\n")?;
+        let mut desk = MemDesk::new(rt.alloc());
+        desk.add_file("-", &script)?;
+        let wanted = Answers {
+            status,
+            printed,
+            reported,
+        };
+        compare(&rt, rt.alloc(), &mut desk, &wanted)?;
+    }
     Ok(())
 }
