@@ -5,3 +5,4 @@ pub mod Behind
 pub mod Converting
 pub mod Opening
 pub mod Wholly
+pub mod OneReading

@@ -47,7 +47,7 @@ converts T version kinds bytes left out a b c d after ending is same line all pr
 converts_ending : (version : Version) (kinds : ℕ) (bytes left out : List ℕ) (a b c d : Outside) (after : Option (List ℕ)) (ending : Result (Unit {0}) Stop)
     → bytes ≡ header_bytes (number_of_version version) ++ left → b.printed ≡ a.printed → out ≡ first_line version
     → AllGive version kinds left (put_out b out) after ending → (IsToFlush ending → d.printed ≡ after) → HasConverted kinds bytes ending a d
-converts_ending version kinds bytes left out a b c d after (Ok tt) is same line all printed = converts (Unit {0}) version kinds bytes left out a b c d after (Ok tt) is same line all (printed tt)
+converts_ending version kinds bytes left out a b c d after (Ok value) is same line all printed = converts (Unit {0}) version kinds bytes left out a b c d after (Ok value) is same line all (printed tt)
 converts_ending version kinds bytes left out a b c d after (Err (stop.BadRecord at fault)) is same line all printed =
     converts (Unit {0}) version kinds bytes left out a b c d after (Err (stop.BadRecord at fault)) is same line all (printed tt)
 converts_ending version kinds bytes left out a b c d after (Err stop.TooLong) is same line all printed = converts (Unit {0}) version kinds bytes left out a b c d after (Err stop.TooLong) is same line all (printed tt)
@@ -93,7 +93,7 @@ printed_later T kinds bytes ending a b c h e = record {
 }
 
 converted_later : (kinds : ℕ) (bytes : List ℕ) (ending : Result (Unit {0}) Stop) (a b c : Outside) → HasConverted kinds bytes ending a b → c.printed ≡ b.printed → HasConverted kinds bytes ending a c
-converted_later kinds bytes (Ok tt) a b c h e = printed_later (Unit {0}) kinds bytes (Ok tt) a b c h e
+converted_later kinds bytes (Ok value) a b c h e = printed_later (Unit {0}) kinds bytes (Ok value) a b c h e
 converted_later kinds bytes (Err (stop.BadRecord at fault)) a b c h e = printed_later (Unit {0}) kinds bytes (Err (stop.BadRecord at fault)) a b c h e
 converted_later kinds bytes (Err stop.TooLong) a b c h e = printed_later (Unit {0}) kinds bytes (Err stop.TooLong) a b c h e
 converted_later kinds bytes (Err stop.BadHeader) a b c h e = (h.0, e ∙ h.1)
@@ -105,7 +105,7 @@ converted_later kinds bytes (Err (stop.BadLine line)) a b c h e = absurd h
 
 pub converted_with : (kinds status : ℕ) (bytes : List ℕ) (ending : Result (Unit {0}) Stop) (a b c : Outside) → HasConverted kinds bytes ending a b → OnOk ending (status ≡ 0) → OnOk ending (c ≡ b)
     → IfErr ending (λ why. status ≡ status_of why) → IfErr ending (λ why. Reports b c (report_of why)) → ConvertedWith kinds bytes status a c
-converted_with kinds status bytes (Ok tt) a b c h zero same is reports =
-    record { ending = Ok tt; status_is = zero; converted = converted_later kinds bytes (Ok tt) a b c h (ap (λ (o : Outside). o.printed) same) }
+converted_with kinds status bytes (Ok value) a b c h zero same is reports =
+    record { ending = Ok value; status_is = zero; converted = converted_later kinds bytes (Ok value) a b c h (ap (λ (o : Outside). o.printed) same) }
 converted_with kinds status bytes (Err why) a b c h zero same is reports =
     record { ending = Err why; status_is = is; converted = converted_later kinds bytes (Err why) a b c h reports.others.printed }

@@ -65,6 +65,20 @@ pub record ConvertedWith (kinds : ℕ) (bytes : List ℕ) (status : ℕ) (old ne
   pub status_is : status ≡ status_of_ending ending
   pub converted : HasConverted kinds bytes ending old new
 
+-- the bytes are the header of a version, these records and a rest at which the reading ends so
+pub record EndsWith (version : Version) (records : List Record) (ending : Result (Unit {0}) Stop) (bytes : List ℕ) : Type 0 where
+  pub rest : List ℕ
+  pub each : All (IsRecord version) records
+  pub few : length records < 4294967296
+  pub spelled : bytes ≡ log_bytes version records ++ rest
+  pub ends_at : EndsAt version ending (length records) (length (log_bytes version records)) rest
+
+-- where the bytes end with such an ending behind such records, then with its status, and with the text of these records
+abbrev pub IsOnly : (kinds : ℕ) → (bytes : List ℕ) → (status : ℕ) → (old new : Outside) → Type 0
+IsOnly kinds bytes status old new =
+    (version : Version) (records : List Record) (ending : Result (Unit {0}) Stop) → EndsWith version records ending bytes
+    → (status ≡ status_of_ending ending) × (new.printed ≡ option_map (λ before. before ++ portable version kinds records) old.printed)
+
 -- the status tells that no call of the desk failed that matters, and that memory wasn't wanting
 abbrev pub is_whole_status : ℕ → Bool
 is_whole_status status = (status == 0) || ((status == 6) || (status == 7))

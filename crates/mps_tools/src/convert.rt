@@ -6,7 +6,7 @@ ghost use Rattle.std.specs.List.{flat_map};
 ghost use Rattle.mps_event.specs.Event.{event_of};
 ghost use Rattle.mps_tools.specs.Portable.{record_line, field_text, is_wanted, line_of_kinds};
 ghost use Rattle.mps_tools.specs.Input.{IsAtEnd};
-ghost use Rattle.mps_tools.specs.Converted.{ConvertedWith, HasConverted, is_whole_status};
+ghost use Rattle.mps_tools.specs.Converted.{ConvertedWith, HasConverted, IsOnly, is_whole_status};
 ghost use Rattle.mps_tools.specs.Converting.{left_of, put_out, PendingGives, NextGives, AllGive};
 ghost use Rattle.mps_tools.specs.KindSet.{bits_of};
 ghost use Rattle.mps_output.specs.Streams.{Runs};
@@ -29,6 +29,9 @@ pub fn cnv<D: Desk>(alloc: Global, log: &str, kinds: Kinds, desk: &mut D) -> u8
     // Where the opened file is told, and the status is none of a fault or for want of memory: exactly this was printed.
     ensures converted { is_whole_status result ≡ true → (bytes : List ℕ) → (D.outside desk.old).text log.now ≡ Some bytes
         → ConvertedWith (bits_of kinds) bytes result (D.outside desk.old) (D.outside desk.new) }
+    // And nothing else: a whole log gives 0 and all of its text, one with a bad record gives 6 and the text before it.
+    ensures only { is_whole_status result ≡ true → (bytes : List ℕ) → (D.outside desk.old).text log.now ≡ Some bytes
+        → IsOnly (bits_of kinds) bytes result (D.outside desk.old) (D.outside desk.new) }
 {
     let ending = convert(alloc, log, kinds, desk);
     finish(ending, desk)
