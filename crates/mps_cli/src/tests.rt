@@ -59,19 +59,22 @@ fn the_first_script_and_its_log(rt: HostRuntime) -> Result<(), Fail> {
     Ok(())
 }
 
-/// Scripts with their answers: none, comments, an arena that is full, and bytes that are no white space.
+/// Scripts with their answers and the lengths of their logs: none, comments, an arena that is full, and bytes that are no
+/// white space.
 #[test]
 fn scripts_and_their_answers(rt: HostRuntime) -> Result<(), Fail> {
-    for (script, printed) in [
-        (b"".as_slice(), b"".as_slice()),
-        (b"\n   \n # arena\n#\x00\xff\r\n", b""),
+    for (script, printed, logged) in [
+        (b"".as_slice(), b"".as_slice(), 8),
+        (b"\n   \n # arena\n#\x00\xff\r\n", b"", 8),
         (
             b"arena 1 1\ntable t 1\npool p amc front\nap x p exact\nnum t.0 1\nreserve x f:512:0\ncommit x t.0\nreserve x f:2:0\nget t.0 t.0 1",
             b"ok\nok\nok\nok\nrefused 4\nok\nok\nrefused 10 1 1 1\nunsupported\n",
+            136,
         ),
         (
             b"table t 4\narena 0 8\narena 8 8\r\narena\t8 8\narena 8\x00 8\n\xc3\xa9\n arena  8   9 \narena 8 8\n",
             b"unsupported\nunsupported\nunsupported\nunsupported\nunsupported\nunsupported\nok\nunsupported\n",
+            32,
         ),
     ] {
         let mut desk = MemDesk::new(rt.alloc());
@@ -82,6 +85,8 @@ fn scripts_and_their_answers(rt: HostRuntime) -> Result<(), Fail> {
             reported: b"",
         };
         compare(&rt, rt.alloc(), &mut desk, &wanted)?;
+        let log = desk.file("mpsio.log").map_or(0, |log| log.len());
+        assert_eq!(rt; log, logged);
     }
     Ok(())
 }
