@@ -4,7 +4,7 @@ use Rattle.std.specs.Prelude.{OnOk, IfErr}
 use Rattle.std.specs.List.{flat_map}
 use Rattle.std.specs.Option.{option_map}
 use Rattle.std.proofs.lemmas.List.{length-append}
-use Rattle.mps_base.specs.Desk.{Outside}
+use Rattle.mps_base.specs.Desk.{Outside, HasRisen}
 use Rattle.mps_base.specs.Record.{Record, header_bytes, records_bytes}
 use Rattle.mps_event.specs.declared.version.Version.{Version}
 use Rattle.mps_event.specs.Event.{number_of_version}
@@ -103,9 +103,23 @@ converted_later kinds bytes (Err stop.OutOfMemory) a b c h e = tt
 converted_later kinds bytes (Err (stop.BadReplay at)) a b c h e = absurd h
 converted_later kinds bytes (Err (stop.BadLine line)) a b c h e = absurd h
 
-pub converted_with : (kinds status : ℕ) (bytes : List ℕ) (ending : Result (Unit {0}) Stop) (a b c : Outside) → HasConverted kinds bytes ending a b → OnOk ending (status ≡ 0) → OnOk ending (c ≡ b)
+has_reported : (text : List ℕ) (a b c : Outside) → b.reported ≡ a.reported → b.err_faults ≡ a.err_faults
+    → HasRisen b.err_faults c.err_faults ⊎ (c.reported ≡ option_map (λ before. before ++ text) b.reported) → HasRisen a.err_faults c.err_faults ⊎ (c.reported ≡ option_map (λ before. before ++ text) a.reported)
+has_reported text a b c quiet faults (inl h) = inl (subst (λ (n : ℕ). HasRisen n c.err_faults) faults h)
+has_reported text a b c quiet faults (inr h) = inr (h ∙ ap (λ (o : Option (List ℕ)). option_map (λ before. before ++ text) o) quiet)
+
+pub converted_with : (kinds status : ℕ) (bytes : List ℕ) (ending : Result (Unit {0}) Stop) (a b c : Outside) → b.reported ≡ a.reported → b.err_faults ≡ a.err_faults
+    → HasConverted kinds bytes ending a b → OnOk ending (status ≡ 0) → OnOk ending (c ≡ b)
     → IfErr ending (λ why. status ≡ status_of why) → IfErr ending (λ why. Reports b c (report_of why)) → ConvertedWith kinds bytes status a c
-converted_with kinds status bytes (Ok value) a b c h zero same is reports =
-    record { ending = Ok value; status_is = zero; converted = converted_later kinds bytes (Ok value) a b c h (ap (λ (o : Outside). o.printed) same) }
-converted_with kinds status bytes (Err why) a b c h zero same is reports =
-    record { ending = Err why; status_is = is; converted = converted_later kinds bytes (Err why) a b c h reports.others.printed }
+converted_with kinds status bytes (Ok value) a b c quiet faults h zero same is reports = record {
+  ending = Ok value;
+  status_is = zero;
+  converted = converted_later kinds bytes (Ok value) a b c h (ap (λ (o : Outside). o.printed) same);
+  reported = ap (λ (o : Outside). o.reported) same ∙ quiet;
+}
+converted_with kinds status bytes (Err why) a b c quiet faults h zero same is reports = record {
+  ending = Err why;
+  status_is = is;
+  converted = converted_later kinds bytes (Err why) a b c h reports.others.printed;
+  reported = has_reported (report_of why) a b c quiet faults reports.reported;
+}

@@ -1,7 +1,7 @@
 -- What is printed of a log in portable text, and where the printing ends.
-use Rattle.std.specs.Prelude.{◌≡◌, ◌≢◌, ℕ, ◌<◌, ◌==◌, ◌||◌, Bool, true, false, Result, Ok, Err, List, [], ◌++◌, length, All, refl}
+use Rattle.std.specs.Prelude.{◌≡◌, ◌≢◌, ℕ, ◌<◌, ◌⊎◌, ◌==◌, ◌||◌, Bool, true, false, Result, Ok, Err, List, [], ◌++◌, length, All, refl}
 use Rattle.std.specs.Option.{option_map}
-use Rattle.mps_base.specs.Desk.{Outside}
+use Rattle.mps_base.specs.Desk.{Outside, HasRisen}
 use Rattle.mps_base.specs.Record.{Record, header_bytes}
 use Rattle.mps_event.specs.declared.version.Version.{Version}
 use Rattle.mps_event.specs.Event.{number_of_version}
@@ -9,7 +9,7 @@ use Rattle.mps_event.specs.Grammar.{IsRecord, log_bytes}
 use Rattle.mps_event.specs.Reading.{first_of}
 use Rattle.mps_output.specs.declared.stop.Stop.{Stop}
 use Rattle.mps_output.specs.declared.stop.Stop.TheVariants as stop
-use Rattle.mps_output.specs.Reports.{status_of}
+use Rattle.mps_output.specs.Reports.{status_of, report_of}
 use Rattle.mps_tools.specs.Portable.{portable}
 
 -- the bytes begin with the header of no version
@@ -59,11 +59,18 @@ abbrev pub status_of_ending : {T : Type 0} → Result T Stop → ℕ
 status_of_ending (Ok value) = 0
 status_of_ending (Err why) = status_of why
 
+-- what was reported of an ending, behind what stood there: nothing of one without a stop, and else its line, if no fault came
+abbrev pub HasReported : {T : Type 0} → Result T Stop → (old new : Outside) → Type 0
+HasReported (Ok value) old new = new.reported ≡ old.reported
+HasReported (Err why) old new =
+    HasRisen old.err_faults new.err_faults ⊎ (new.reported ≡ option_map (λ before. before ++ report_of why) old.reported)
+
 -- the status of a conversion, by how it ended
 pub record ConvertedWith (kinds : ℕ) (bytes : List ℕ) (status : ℕ) (old new : Outside) : Type 0 where
   pub ending : Result (Unit {0}) Stop
   pub status_is : status ≡ status_of_ending ending
   pub converted : HasConverted kinds bytes ending old new
+  pub reported : HasReported ending old new
 
 -- the bytes are the header of a version, these records and a rest at which the reading ends so
 pub record EndsWith (version : Version) (records : List Record) (ending : Result (Unit {0}) Stop) (bytes : List ℕ) : Type 0 where

@@ -40,6 +40,8 @@ pub fn cnv<D: Desk>(alloc: Global, log: &str, kinds: Kinds, desk: &mut D) -> u8
 fn convert<D: Desk>(alloc: Global, log: &str, kinds: Kinds, desk: &mut D) -> Result<(), Stop>
     ensures cause { IsCaused (D.outside desk.old) (D.outside desk.new) result }
     ensures runs { Runs (D.outside desk.old) (D.outside desk.new) }
+    ensures reported { (D.outside desk.new).reported ≡ (D.outside desk.old).reported }
+    ensures err_faults { (D.outside desk.new).err_faults ≡ (D.outside desk.old).err_faults }
     ensures converted { (bytes : List ℕ) → (D.outside desk.old).text log.now ≡ Some bytes
         → HasConverted (bits_of kinds) bytes result (D.outside desk.old) (D.outside desk.new) }
 {
@@ -66,6 +68,8 @@ fn convert_records<D: Desk>(
 ) -> Result<(), Stop>
     requires { IsAtEnd (D.outside desk.old) input.old }
     ensures works { Works (D.outside desk.old) (D.outside desk.new) input.old input.new result }
+    ensures reported { (D.outside desk.new).reported ≡ (D.outside desk.old).reported }
+    ensures err_faults { (D.outside desk.new).err_faults ≡ (D.outside desk.old).err_faults }
     ensures all { (bytes : List ℕ) → left_of (D.outside desk.old) input.old ≡ Some bytes
         → AllGive version (bits_of kinds) bytes (put_out (D.outside desk.old) output.old) (put_out (D.outside desk.new) output.new) result }
 {
@@ -94,6 +98,8 @@ fn convert_next<D: Desk>(
     ensures gives { NextGives version (bits_of kinds) offset (left_of (D.outside desk.old) input.old) (left_of (D.outside desk.new) input.new)
         (put_out (D.outside desk.old) output.old) (put_out (D.outside desk.new) output.new) result }
     ensures at_end { IsAtEnd (D.outside desk.new) input.new }
+    ensures reported { (D.outside desk.new).reported ≡ (D.outside desk.old).reported }
+    ensures err_faults { (D.outside desk.new).err_faults ≡ (D.outside desk.old).err_faults }
 {
     input.fill(MOST_OF_A_RECORD, desk);
     make_room(output, desk)?;

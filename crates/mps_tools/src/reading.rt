@@ -20,6 +20,8 @@ pub(crate) const MOST_OF_A_RECORD: usize = 40;
 pub(crate) fn open_log<D: Desk>(log: &str, input: &mut Input, desk: &mut D) -> Result<Version, Stop>
     requires { input.old ≡ record { pending = []; ended = false; failed = false } }
     ensures opened { (bytes : List ℕ) → (D.outside desk.old).text log.now ≡ Some bytes → OpensWith bytes (left_of (D.outside desk.new) input.new) result }
+    ensures reported { (D.outside desk.new).reported ≡ (D.outside desk.old).reported }
+    ensures err_faults { (D.outside desk.new).err_faults ≡ (D.outside desk.old).err_faults }
     ensures at_end { OnOk result (IsAtEnd (D.outside desk.new) input.new) }
     ensures printed { (D.outside desk.new).printed ≡ (D.outside desk.old).printed }
     ensures cause { IsCaused (D.outside desk.old) (D.outside desk.new) result }
@@ -65,6 +67,8 @@ pub(crate) fn make_room<D: Desk>(output: &mut Output, desk: &mut D) -> Result<()
     ensures room { OnOk result (length output.new + 512 ≤ 65536) }
     ensures kept { OnOk result (Kept (D.outside desk.old) (D.outside desk.new) output.old output.new) }
     ensures input { (D.outside desk.new).input ≡ (D.outside desk.old).input }
+    ensures reported { (D.outside desk.new).reported ≡ (D.outside desk.old).reported }
+    ensures err_faults { (D.outside desk.new).err_faults ≡ (D.outside desk.old).err_faults }
     ensures cause { OnErr result (result ≡ Err Stop.WriteFailed) }
     ensures fault { OnErr result (HasRisen (D.outside desk.old).out_faults (D.outside desk.new).out_faults) }
     ensures runs { Runs (D.outside desk.old) (D.outside desk.new) }
@@ -80,6 +84,8 @@ pub(crate) fn after_the_last<D: Desk>(input: &mut Input, desk: &mut D) -> Result
     ensures works { Works (D.outside desk.old) (D.outside desk.new) input.old input.new result }
     ensures gives { IsAtEnd (D.outside desk.old) input.old → LastGives (left_of (D.outside desk.old) input.old) result }
     ensures printed { (D.outside desk.new).printed ≡ (D.outside desk.old).printed }
+    ensures reported { (D.outside desk.new).reported ≡ (D.outside desk.old).reported }
+    ensures err_faults { (D.outside desk.new).err_faults ≡ (D.outside desk.old).err_faults }
 {
     input.fill(1, desk);
     end_of(input)
@@ -104,6 +110,8 @@ pub(crate) fn flush_after<D: Desk>(
     output: &mut Output,
     desk: &mut D,
 ) -> Result<(), Stop>
+    ensures reported { (D.outside desk.new).reported ≡ (D.outside desk.old).reported }
+    ensures err_faults { (D.outside desk.new).err_faults ≡ (D.outside desk.old).err_faults }
     ensures printed { IsToFlush result → (D.outside desk.new).printed ≡ put_out (D.outside desk.old) output.old }
     ensures first { (result ≡ ending) ⊎ ((result ≡ Err Stop.WriteFailed) × HasRisen (D.outside desk.old).out_faults (D.outside desk.new).out_faults) }
     ensures runs { Runs (D.outside desk.old) (D.outside desk.new) }

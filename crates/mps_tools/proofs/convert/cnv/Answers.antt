@@ -6,10 +6,10 @@ use Rattle.mps_tools.proofs.convert.cnv.Goals as goal
 pub returns-clause-converted : goal.returns-clause-converted
 returns-clause-converted g c whole bytes told =
     converted_with (bits_of c.args.kinds) c.finish.result bytes c.convert-ending.result (g.D.Desk.outside c.args.desk.now) (g.D.Desk.outside c.convert-ending.new.desk) (g.D.Desk.outside c.finish.new.desk)
-    (c.convert-ending.ensures.converted bytes told) c.finish.ensures.done c.finish.ensures.quiet c.finish.ensures.status c.finish.ensures.reported
+    c.convert-ending.ensures.reported c.convert-ending.ensures.err_faults (c.convert-ending.ensures.converted bytes told) c.finish.ensures.done c.finish.ensures.quiet c.finish.ensures.status c.finish.ensures.reported
 
 pub returns-clause-only : goal.returns-clause-only
 returns-clause-only g c whole bytes told =
     only (bits_of c.args.kinds) bytes c.finish.result (g.D.Desk.outside c.args.desk.now) (g.D.Desk.outside c.finish.new.desk) whole
     (converted_with (bits_of c.args.kinds) c.finish.result bytes c.convert-ending.result (g.D.Desk.outside c.args.desk.now) (g.D.Desk.outside c.convert-ending.new.desk) (g.D.Desk.outside c.finish.new.desk)
-    (c.convert-ending.ensures.converted bytes told) c.finish.ensures.done c.finish.ensures.quiet c.finish.ensures.status c.finish.ensures.reported)
+    c.convert-ending.ensures.reported c.convert-ending.ensures.err_faults (c.convert-ending.ensures.converted bytes told) c.finish.ensures.done c.finish.ensures.quiet c.finish.ensures.status c.finish.ensures.reported)

@@ -1,4 +1,4 @@
-use Rattle.std.proofs.Common.{Ok, arith}
+use Rattle.std.proofs.Common.{◌∙◌, Ok, arith}
 use Rattle.mps_tools.specs.Causes.{Works}
 use Rattle.mps_tools.specs.KindSet.{bits_of}
 use Rattle.mps_tools.specs.Converting.{left_of, put_out}
@@ -14,6 +14,8 @@ loop-preserved g c =
     record {
       works = works-then _ _ _ _ _ _ (Ok tt) (Ok tt) works (record { runs = step.runs; fault = step.fault; cause = tt });
       offset = let size = rw c.in-Some.is at c.in_ok-convert_next.ensures.size in omega (arith, size, c.loop.invariant.offset);
+      reported = c.in_ok-convert_next.ensures.reported ∙ c.loop.invariant.reported;
+      err_faults = c.in_ok-convert_next.ensures.err_faults ∙ c.loop.invariant.err_faults;
       at_end = c.in_ok-convert_next.ensures.at_end;
       so_far = one_more c.args.version (bits_of c.args.kinds) c.loop.counter c.loop.offset c.in-Some.size
           (left_of (g.D.Desk.outside c.args.desk.now) c.args.input.now) (left_of (g.D.Desk.outside c.loop.desk) c.loop.input) (left_of (g.D.Desk.outside c.convert_next.new.desk) c.convert_next.new.input)
