@@ -13,10 +13,11 @@ use Rattle.mps_seg.specs.declared.entry.Entry.{Entry}
 use Rattle.mps_seg.specs.declared.entry.Entry.TheVariants.{Free, First}
 use Rattle.mps_seg.specs.Extents.{ExtentLists, has_word, run_over, runs_within, is_covered}
 use Rattle.mps_seg.specs.Segment.{Segment, LiesIn, end_of_segment, grains_of_segment, segment_over}
+use Rattle.mps_seg.specs.Segs.{at_byte}
 use Rattle.mps_seg.specs.Table.{segments_from, segments_in, IsCountAt, first_over, or_zero, covered_in, IsCounted, IsHeld}
 use Rattle.mps_seg.proofs.Apart.{has_word-true, has_word-below, has_word-above, contains_put, apart_from_put, apart_each, uncovered_taken, covers_contained}
 use Rattle.mps_seg.proofs.Query.{run_over_is, run_over_none, run_over-contains, within_ascending}
-use Rattle.mps_seg.proofs.Held.{entry_is_held, contains_put_cases, contains_without, same_count, whole_in}
+use Rattle.mps_seg.proofs.Held.{segment_at, entry_is_held, contains_put_cases, contains_without, same_count, whole_in}
 
 -- no gap fits where fewer words are free than are asked for
 pub no_room : (low high words : ℕ) (rs : List Run) → 0 < words → IsAscending low high rs → high < low + total rs + words → lowest_fitting words (gaps low high rs) ≡ None
@@ -412,3 +413,54 @@ run_from_first size held grain first ascending is = go (run_over held grain) ref
         let run = run_over-contains held grain from over in
         let bounds = contained_bounds 1 size held (record { from = from; count = run.0 }) ascending run.1 in
         ((λ e. absurd (omega (arith, bounds.0, same, e))), (λ other. over ∙ ap (λ (n : ℕ). Some n) (sym same)))
+
+-- a segment that was found by an address
+pub segment_found : (ss : List Segment) (n : ℕ) (base : Addr) → Some base ≡ option_map at_byte (segment_over ss n) → (s : Segment) × Contains ss s × (s.base ≡ base.0)
+segment_found [] n base is = let never : Some base ≡ None = is in cc
+segment_found (s ∷ ss) n base is =
+    let here : Bool = leb s.base n && ltb n (end_of_segment s) in
+    elim (cases_Bool here) [
+      | inl has ↦
+          let both : Some base ≡ Some (at_byte s.base) = is ∙ ap (λ (o : Option ℕ). option_map at_byte o) (cond-true here (Some s.base) (segment_over ss n) has) in
+          let same : base ≡ at_byte s.base = cc in
+          (s, (0, omega arith, refl), sym (ap (λ (a : Addr). a.0) same))
+      | inr other ↦
+          let later = segment_found ss n base (is ∙ ap (λ (o : Option ℕ). option_map at_byte o) (cond-false here (Some s.base) (segment_over ss n) other)) in
+          (later.0, (suc later.1.0, omega (arith, later.1.1), later.1.2), later.2)
+    ]
+
+-- where nothing is counted, no run is
+none_counted : (low high : ℕ) (rs : List Run) → IsAscending low high rs → total rs ≡ 0 → rs ≡ []
+none_counted low high [] ascending none = refl
+none_counted low high (r ∷ rs) ascending none = absurd (omega (arith, total-cons r rs, none, ascending.1))
+
+-- the words counted for the segment at an address
+pub record Counted (arena : ArenaState) (table : List Entry) (ex : ExtentLists) (counts : List ℕ) (base : ℕ) (s : Segment) : Type 0 where
+  pub within : base / 4096 < length counts
+  pub count : get_or counts (base / 4096) 0 ≡ total (runs_within (s.base / 8) (end_of_segment s / 8) ex.covered)
+  pub empty : get_or counts (base / 4096) 0 ≡ 0 → runs_within (s.base / 8) (end_of_segment s / 8) ex.covered ≡ []
+
+pub counted_at : (arena : ArenaState) (table : List Entry) (ex : ExtentLists) (firsts counts : List ℕ) (base : ℕ) (s : Segment) → IsHeld arena table ex → IsCounted arena.held (arena.grains + 1) firsts counts ex.covered
+    → Contains (segments_in table) s → s.base ≡ base → Counted arena table ex counts base s
+counted_at arena table ex firsts counts base s held counted there begins =
+    let grain = base / 4096 in
+    let at = segment_at table base s there begins in
+    let mine : Run = record { from = grain; count = s.grains } in
+    let P : List Run → Type 0 = λ rs. Contains rs mine in
+    let listed = subst P (sym held.held) (entry_is_held table grain s.grains s.pool s.generation s.rank at.is) in
+    let low : 512 * grain ≡ s.base / 8 = omega (arith, at.aligned, begins) in
+    let high : 512 * (grain + s.grains) ≡ end_of_segment s / 8 = omega (arith, at.aligned, begins) in
+    let count =
+    counted.counts_are mine listed ∙ ap (λ (a : ℕ). total (runs_within a (512 * (grain + s.grains)) ex.covered)) low
+    ∙ ap (λ (b : ℕ). total (runs_within (s.base / 8) b ex.covered)) high
+    in
+    let whole = whole_in arena table ex mine held listed ex.covered (λ t x. x) in
+    let ascending = within_ascending 0 ex.size (512 * grain) (512 * (grain + s.grains)) (512 * grain) ex.covered held.covered_ascending whole (omega arith) (omega arith) (inr refl) in
+    record {
+      within = omega (arith, at.within, held.size, counted.counts_size);
+      count = count;
+      empty = λ none.
+          ap (λ (a : ℕ). runs_within a (end_of_segment s / 8) ex.covered) (sym low)
+          ∙ ap (λ (b : ℕ). runs_within (512 * grain) b ex.covered) (sym high)
+          ∙ none_counted (512 * grain) (512 * (grain + s.grains)) (runs_within (512 * grain) (512 * (grain + s.grains)) ex.covered) ascending (sym (counted.counts_are mine listed) ∙ none);
+    }

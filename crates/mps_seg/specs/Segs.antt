@@ -1,5 +1,5 @@
 -- What a client sees of the segments, and the answers of their calls.
-use Rattle.std.specs.Prelude.{ℕ, ◌+◌, ◌*◌, ◌≡◌, List, [], map, replicate, filter}
+use Rattle.std.specs.Prelude.{ℕ, ◌+◌, ◌*◌, ◌≡◌, ◌≢◌, List, [], map, replicate, filter}
 use Rattle.std.specs.List.{flat_map}
 use Rattle.mps_base.specs.Run.{Run, IsAscending, with_run, gaps}
 use Rattle.mps_base.specs.Address.{word_of, grains_needed, address_of_grain, address_of_word}
@@ -85,6 +85,10 @@ at_word word = record { 0 = address_of_word word }
 pub record IsEmptyAt (state : SegsState) (base : ℕ) (s : Segment) : Type 0 where
   pub begins : s.base ≡ base
   pub empty : runs_within (word_of s.base) (word_of (end_of_segment s)) state.covered ≡ []
+
+-- a segment that has a block or a reservation
+abbrev pub IsUsed : SegsState → Segment → Type 0
+IsUsed state s = runs_within (word_of s.base) (word_of (end_of_segment s)) state.covered ≢ []
 
 -- a run of words in a segment of which nothing is covered yet
 pub record CanCover (state : SegsState) (r : Run) : Type 0 where

@@ -1,7 +1,7 @@
 // The segments: an arena, a table by grain, and the extents of their words.
 #![tactic(auto)]
 
-ghost use Rattle.std.specs.Prelude.{◌≡◌, ℕ, ◌+◌, ◌*◌, ◌/◌, ◌%◌, ◌^◌, ◌<◌, ◌≤◌, IfOk, IfErr, IfSome, OnOk, MatchResult, Contains, option_map, length, slice_range};
+ghost use Rattle.std.specs.Prelude.{◌≡◌, ℕ, true, false, ◌+◌, ◌*◌, ◌/◌, ◌%◌, ◌^◌, ◌<◌, ◌≤◌, IfOk, IfErr, IfSome, OnOk, MatchResult, Contains, option_map, length, slice_range};
 ghost use Rattle.mps_base.specs.Run.{IsAscending, with_run, without_run, gaps, lowest_fitting, total};
 ghost use Rattle.mps_base.specs.Address.{word_of};
 ghost use Rattle.mps_base.specs.Trail.{with_move};
@@ -9,7 +9,7 @@ ghost use Rattle.mps_arena.specs.Arena.{answer_of};
 ghost use Rattle.mps_seg.specs.Extents.{run_over, first_run, runs_within, AreWhole};
 ghost use Rattle.mps_seg.specs.Segment.{Segment, end_of_segment, same_rank, segment_over, without_segment};
 ghost use Rattle.mps_seg.specs.Table.{IsWholeAt, IsCountAt, gaps_at};
-ghost use Rattle.mps_seg.specs.Segs.{SegsState, new_segments, placement_for, segments_after, moves_after, gaps_of, held_grains, at_word, at_byte, IsEmptyAt, CanCover};
+ghost use Rattle.mps_seg.specs.Segs.{SegsState, new_segments, placement_for, segments_after, moves_after, gaps_of, held_grains, at_word, at_byte, IsEmptyAt, IsUsed, CanCover};
 ghost use Rattle.std.specs.Borrow.{sem};
 ghost use Rattle.mps_seg.specs.Lending.{LendsWords};
 
@@ -112,6 +112,15 @@ impl Segs {
         self.table[grain] = Entry::Free;
         note_first(&mut self.firsts, grain, grains as usize, 0);
         trail.push(Move::Unseg { base });
+    }
+
+    /// Whether the segment at `base` has no block and no reservation, so that it may be given back.
+    pub fn is_empty(&self, base: Addr) -> bool
+        requires { (s : Segment) × Contains self.now.segments s × (s.base ≡ base.0) }
+        ensures empty { (s : Segment) → Contains self.now.segments s → s.base ≡ base.0 → result ≡ true → IsEmptyAt self.now base.0 s }
+        ensures used { (s : Segment) → Contains self.now.segments s → s.base ≡ base.0 → result ≡ false → IsUsed self.now s }
+    {
+        self.counts[(base.0 / 4096) as usize] == 0
     }
 
     /// Covers `words` words from `at` on, which no block and no reservation covers, by a reservation.

@@ -28,6 +28,20 @@ fn free_over(segs: &mut Segs, n: u64) -> Option<Addr> {
     Some(at)
 }
 
+/// Gives back the segment over an address, where there is one that is empty, and says whether it did.
+fn give_over(segs: &mut Segs, trail: &mut Trail, at: Addr) -> bool
+    requires { 0 < trail.old.spare }
+{
+    let Some(base) = segs.segment_of(at) else {
+        return false;
+    };
+    if !segs.is_empty(base) {
+        return false;
+    }
+    segs.give(trail, base);
+    true
+}
+
 #[test]
 fn places_blocks_at_the_lowest_gap(rt: HostRuntime) -> Result<(), AllocError> {
     let mut segs = Segs::new(rt.alloc(), 4, 3)?;
@@ -107,7 +121,7 @@ fn agrees_with_a_plain_table(rt: HostRuntime) -> Result<(), AllocError> {
     let mut owners = vec![in rt.alloc(); 0u64; 2560]?;
     let mut sizes = vec![in rt.alloc(); 0usize; 2560]?;
     let mut seed = 1u64;
-    let mut held = 0usize;
+    let mut held = vec![in rt.alloc(); false; 5]?;
     for _ in 0..2000 {
         seed = seed
             .wrapping_mul(6364136223846793005)
@@ -117,14 +131,18 @@ fn agrees_with_a_plain_table(rt: HostRuntime) -> Result<(), AllocError> {
         if seed >> 63 == 0 {
             let mut trail = Trail::new(rt.alloc(), 1)?;
             let mut want = None;
-            for grain in 1..=held {
-                if want.is_none() && grain < 5 {
+            for grain in 1..5 {
+                if want.is_none() && held.get(grain).copied() == Some(true) {
                     want = plain_gap(&owners, 512 * grain, 512 * grain + 512, words as usize);
                 }
             }
-            if want.is_none() && held < 4 {
-                held += 1;
-                want = Some(512 * held);
+            for grain in 1..5 {
+                if want.is_none() && held.get(grain).copied() == Some(false) {
+                    want = Some(512 * grain);
+                    if grain < held.len() {
+                        held[grain] = true;
+                    }
+                }
             }
             let got = fill(&mut segs, &mut trail, 7, words as u32)
                 .ok()
@@ -143,6 +161,14 @@ fn agrees_with_a_plain_table(rt: HostRuntime) -> Result<(), AllocError> {
             if owner != 0 {
                 let words = sizes.get(owner as usize).copied().unwrap_or(0);
                 own(&mut owners, owner as usize, words, 0);
+            }
+            let mut trail = Trail::new(rt.alloc(), 1)?;
+            let grain = word / 512;
+            let empty = plain_gap(&owners, 512 * grain, 512 * grain + 512, 512).is_some();
+            let given = empty && held.get(grain).copied() == Some(true);
+            assert!(rt; give_over(&mut segs, &mut trail, Addr(8 * word as u64)) == given);
+            if given && grain < held.len() {
+                held[grain] = false;
             }
         }
     }
