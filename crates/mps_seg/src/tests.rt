@@ -42,6 +42,43 @@ fn give_over(segs: &mut Segs, trail: &mut Trail, at: Addr) -> bool
     true
 }
 
+/// The lowest block of the segment over an address that begins at that address or above.
+fn walk_over(segs: &Segs, at: Addr) -> Option<Addr> {
+    let base = segs.segment_of(at)?;
+    segs.walk(base, at)
+}
+
+/// Reserves `words` words in a new segment, ends the reservation, and makes a block of them.
+fn reserve_and_commit(segs: &mut Segs, trail: &mut Trail, words: u32) -> Result<Addr, Refusal>
+    requires some { 0 < words }
+    requires few { words ≤ 65536 }
+    requires room { 0 < trail.old.spare }
+{
+    let at = segs.take(trail, 3, words, 0, Rank::Weak)?;
+    segs.cover(at, words);
+    segs.uncover(at, words);
+    segs.commit_block(at, words);
+    Ok(at)
+}
+
+#[test]
+fn a_reservation_becomes_a_block(rt: HostRuntime) -> Result<(), AllocError> {
+    let mut segs = Segs::new(rt.alloc(), 4, 4)?;
+    let mut trail = Trail::new(rt.alloc(), 1)?;
+    assert!(rt; reserve_and_commit(&mut segs, &mut trail, 600) == Ok(Addr(0x1000)));
+    assert!(rt; walk_over(&segs, Addr(0x1000)) == Some(Addr(0x1000)));
+    assert!(rt; walk_over(&segs, Addr(0x1008)) == None);
+    assert!(rt; segs.segment_of(Addr(0x2fff)) == Some(Addr(0x1000)));
+    assert!(rt; segs.segment_of(Addr(0x3000)) == None);
+    let mut trail = Trail::new(rt.alloc(), 1)?;
+    assert!(rt; !give_over(&mut segs, &mut trail, Addr(0x2000)));
+    assert!(rt; free_over(&mut segs, 0x1ff8) == Some(Addr(0x1000)));
+    let mut trail = Trail::new(rt.alloc(), 1)?;
+    assert!(rt; give_over(&mut segs, &mut trail, Addr(0x2000)));
+    assert_eq!(rt; segs.committed(), 0);
+    Ok(())
+}
+
 #[test]
 fn places_blocks_at_the_lowest_gap(rt: HostRuntime) -> Result<(), AllocError> {
     let mut segs = Segs::new(rt.alloc(), 4, 3)?;
