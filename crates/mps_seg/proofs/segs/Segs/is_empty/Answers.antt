@@ -1,11 +1,10 @@
-use Rattle.std.proofs.Common.{ℕ, ◌/◌, ◌≡◌, Bool, true, eqb, List, [], get_or, Contains, sym, ap, ◌∙◌, subst, arith}
+use Rattle.std.proofs.Common.{◌/◌, ◌≡◌, eqb, List, [], get_or, Contains, sym, ap, ◌∙◌, subst, arith}
 use Rattle.std.proofs.lemmas.Bool.{both_ways, eq-eqb, eqb-true}
 use Rattle.std.proofs.lemmas.List.{get_or_read}
 use Rattle.mps_base.specs.Run.{Run, total}
 use Rattle.mps_seg.specs.Extents.{runs_within}
 use Rattle.mps_seg.specs.Segment.{end_of_segment}
-use Rattle.mps_seg.specs.Segs.{SegsState, IsEmptyAt, IsUsed}
-use Rattle.mps_seg.specs.Table.{segs_state}
+use Rattle.mps_seg.specs.Segs.{SegsState, IsEmptyAt}
 use Rattle.mps_seg.proofs.Counts.{counted_at}
 use Rattle.mps_seg.proofs.segs.Segs.is_empty.Goals as goal
 
