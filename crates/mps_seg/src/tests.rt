@@ -80,6 +80,15 @@ fn a_reservation_becomes_a_block(rt: HostRuntime) -> Result<(), AllocError> {
 }
 
 #[test]
+fn lends_the_asked_words(rt: HostRuntime) -> Result<(), AllocError> {
+    let mut segs = Segs::new(rt.alloc(), 2, 2)?;
+    segs.lend_mut(Addr(0x1008), 2).fill(7);
+    let words = segs.lend(Addr(0x1000), 4);
+    assert_eq!(rt; words, [0, 7, 7, 0].as_slice());
+    Ok(())
+}
+
+#[test]
 fn places_blocks_at_the_lowest_gap(rt: HostRuntime) -> Result<(), AllocError> {
     let mut segs = Segs::new(rt.alloc(), 4, 3)?;
     let mut trail = Trail::new(rt.alloc(), 1)?;
