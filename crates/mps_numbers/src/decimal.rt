@@ -34,7 +34,7 @@ fn number_of_digits(text: &[u8]) -> Option<u64>
 }
 
 /// Whether the text isn't empty, and has no zero in front but in `0`.
-fn is_plain(text: &[u8]) -> bool
+pub(crate) fn is_plain(text: &[u8]) -> bool
     ensures { IsTrue result ↔ IsPlain text.now }
 {
     match text {

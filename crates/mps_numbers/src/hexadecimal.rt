@@ -1,9 +1,11 @@
 // Hexadecimal numbers in texts: lower case, without leading zeros.
 
-ghost use Rattle.std.specs.Prelude.{◌≡◌, ◌<◌, ◌≤◌, ◌+◌, ◌++◌, ◌^◌, false, length, take, drop, IfSome};
+ghost use Rattle.std.specs.Prelude.{◌≡◌, ◌<◌, ◌≤◌, ◌+◌, ◌*◌, ◌++◌, ◌^◌, ℕ, false, length, take, drop, IfSome, IfNone};
 ghost use Rattle.std.specs.Fmt.{digit_glyph};
+ghost use Rattle.mps_numbers.specs.Decimal.{IsPlain};
 ghost use Rattle.mps_numbers.specs.Hexadecimal.{hexadecimal};
 
+use crate::decimal::is_plain;
 use crate::put::put_text;
 
 // The digit of a number below 16.
@@ -48,7 +50,8 @@ pub fn put_hexadecimal(number: u64, out: &mut [u8], at: usize) -> usize
 
 // What a digit stands for; None where it is none.
 fn digit_of(byte: u8) -> Option<u64>
-    ensures { IfSome result (λ digit. digit < 16) }
+    ensures found { IfSome result (λ digit. (digit < 16) × (byte ≡ digit_glyph false digit)) }
+    ensures none { IfNone result ((digit : ℕ) → digit < 16 → byte ≡ digit_glyph false digit → ⊥) }
 {
     match byte {
         b'0'..=b'9' => Some(u64::from(byte - b'0')),
@@ -57,22 +60,38 @@ fn digit_of(byte: u8) -> Option<u64>
     }
 }
 
+// The number with one digit more; None where the byte is no digit, or the number is 2^64 or more.
+fn with_digit(number: u64, byte: u8) -> Option<u64>
+    ensures found { IfSome result (λ n. (digit : ℕ) × (digit < 16) × (byte ≡ digit_glyph false digit) × (n ≡ number * 16 + digit) × (n < 2 ^ 64)) }
+    ensures none { IfNone result ((digit : ℕ) → digit < 16 → byte ≡ digit_glyph false digit → 2 ^ 64 ≤ number * 16 + digit) }
+{
+    number.checked_mul(16)?.checked_add(digit_of(byte)?)
+}
+
 // The number that digits write: None where one is no digit, or the number is 2^64 or more.
-fn number_of_digits(text: &[u8]) -> Option<u64> {
+fn number_of_digits(text: &[u8]) -> Option<u64>
+    ensures found { IfSome result (λ n. IsPlain text.now → text.now ≡ hexadecimal n) }
+    ensures exact { (n : ℕ) → n < 2 ^ 64 → text.now ≡ hexadecimal n → result ≡ Some n }
+{
     let mut number: u64 = 0;
     for byte in text {
-        let digit = digit_of(*byte)?;
-        number = number.checked_mul(16)?.checked_add(digit)?;
+        match with_digit(number, *byte) {
+            Some(more) => number = more,
+            None => return None,
+        }
     }
     Some(number)
 }
 
 /// The number that the text writes in lower case without leading zeros; None where it is in another form, or has more
 /// than 16 digits.
-pub fn hexadecimal_number(text: &[u8]) -> Option<u64> {
-    match text {
-        [] => None,
-        [b'0', _, ..] => None,
-        _ => number_of_digits(text),
+pub fn hexadecimal_number(text: &[u8]) -> Option<u64>
+    ensures found { IfSome result (λ n. text.now ≡ hexadecimal n) }
+    ensures exact { (n : ℕ) → n < 2 ^ 64 → text.now ≡ hexadecimal n → result ≡ Some n }
+{
+    if is_plain(text) {
+        number_of_digits(text)
+    } else {
+        None
     }
 }

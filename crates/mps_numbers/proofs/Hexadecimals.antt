@@ -1,0 +1,181 @@
+-- Hexadecimal texts and the numbers that they write.
+use Rattle.std.proofs.Common.{◌≡◌, ℕ, zero, suc, ◌+◌, ◌*◌, ◌/◌, ◌%◌, ◌^◌, ◌<◌, ◌≤◌, Bool, true, false, cond, eqb, List, [], ◌∷◌, ◌++◌, length, take, get_or, Some, refl, sym, ap, subst, ◌∙◌, inl, inr, arith}
+use Rattle.std.specs.Prelude.{All}
+use Rattle.std.specs.Char.{digit_value}
+use Rattle.std.specs.Str.Parse.{digits_value}
+use Rattle.std.specs.Fmt.{digit_glyph, digits_onto, digits}
+use Rattle.std.proofs.Math.Nat.{pow-suc}
+use Rattle.std.proofs.lemmas.Bool.{cases_eq, cases_lt, eq-eqb, ne_eqb}
+use Rattle.std.proofs.lemmas.List.{take_more, get_or_append_left}
+use Rattle.std.proofs.lemmas.List.Elements.{All-nil, All-cons, All-get_or}
+use Rattle.std.proofs.lemmas.Fmt.{digits_is_IsNumeral, hex_one_digit}
+use Rattle.std.proofs.lemmas.Int.Digits.{digits_value_more}
+use Rattle.std.proofs.lemmas.Str.Parse.{digits_value-take-le}
+use Rattle.mps_numbers.specs.Decimal.{IsPlain}
+use Rattle.mps_numbers.specs.Hexadecimal.{hexadecimal}
+
+-- a digit 0 to 9 or a to f
+abbrev pub IsDigit : ℕ → Type 0
+IsDigit byte = (digit : ℕ) × (digit < 16) × (byte ≡ digit_glyph false digit)
+
+fits_hexadecimal : (n : ℕ) → n < 2 ^ 64 → n < 16 ^ 64
+fits_hexadecimal n fits = omega arith
+
+-- ---- one digit
+
+pub one_digit : (digit : ℕ) → digit < 16 → hexadecimal digit ≡ digit_glyph false digit ∷ []
+one_digit digit small = hex_one_digit false digit small
+
+pub value_of_digit : (digit : ℕ) → digit < 16 → digit_value (digit_glyph false digit) ≡ digit
+value_of_digit digit small =
+    let read : digits_value 16 (hexadecimal digit) ≡ digit = (digits_is_IsNumeral 16 false (omega arith) (omega arith) digit (omega arith)).1 in
+    let same : digits_value 16 (digit_glyph false digit ∷ []) ≡ digit = ap (digits_value 16) (sym (one_digit digit small)) ∙ read in
+    omega (arith, same)
+
+-- ---- the last digit
+
+either : (last : Bool) (x y z w : List ℕ) → x ≡ z → y ≡ w → cond last x y ≡ cond last z w
+either true x y z w e f = e
+either false x y z w e f = f
+
+behind_either : (last : Bool) (x y : List ℕ) (digit : ℕ) → cond last (x ++ digit ∷ []) (y ++ digit ∷ []) ≡ cond last x y ++ digit ∷ []
+behind_either true x y digit = refl
+behind_either false x y digit = refl
+
+onto_behind : (fuel n digit : ℕ) (front : List ℕ) → digits_onto fuel 16 false n (front ++ digit ∷ []) ≡ digits_onto fuel 16 false n front ++ digit ∷ []
+onto_behind zero n digit front = refl
+onto_behind (suc fuel) n digit front =
+    let next = digit_glyph false (n % 16) ∷ front in
+    either (eqb (n / 16) 0) (next ++ digit ∷ []) (digits_onto fuel 16 false (n / 16) (next ++ digit ∷ [])) (next ++ digit ∷ []) (digits_onto fuel 16 false (n / 16) next ++ digit ∷ [])
+    refl (onto_behind fuel (n / 16) digit next)
+    ∙ behind_either (eqb (n / 16) 0) next (digits_onto fuel 16 false (n / 16) next) digit
+
+-- there are digits enough
+none_or_more : (n : ℕ) (x y z : List ℕ) → (16 ≤ n → y ≡ z) → cond (eqb (n / 16) 0) x y ≡ cond (eqb (n / 16) 0) x z
+none_or_more n x y z h =
+    elim (cases_eq (n / 16) 0) [
+      | inl none ↦ ap (λ (last : Bool). cond last x y) (eq-eqb _ 0 none) ∙ sym (ap (λ (last : Bool). cond last x z) (eq-eqb _ 0 none))
+      | inr more ↦ ap (λ (w : List ℕ). cond (eqb (n / 16) 0) x w) (h (omega (arith, more)))
+    ]
+
+onto_enough : (fuel n : ℕ) (front : List ℕ) → n < 16 ^ fuel → 0 < fuel → digits_onto (suc fuel) 16 false n front ≡ digits_onto fuel 16 false n front
+onto_enough zero n front fits some = absurd (omega arith)
+onto_enough (suc zero) n front fits some =
+    let next = digit_glyph false (n % 16) ∷ front in
+    none_or_more n next (digits_onto 1 16 false (n / 16) next) next (λ large. absurd (omega arith))
+onto_enough (suc (suc fuel)) n front fits some =
+    let next = digit_glyph false (n % 16) ∷ front in
+    none_or_more n next (digits_onto (suc (suc fuel)) 16 false (n / 16) next) (digits_onto (suc fuel) 16 false (n / 16) next)
+    (λ large. onto_enough (suc fuel) (n / 16) next (omega (arith, fits, pow-suc 16 (suc fuel))) (omega arith))
+
+-- a number of two digits or more is written by that of all but the last, and the last
+pub last_digit : (n : ℕ) → 16 ≤ n → n < 2 ^ 64 → hexadecimal n ≡ hexadecimal (n / 16) ++ digit_glyph false (n % 16) ∷ []
+unfolding digits
+last_digit n large fits =
+    onto_rest (eqb (n / 16) 0) (ne_eqb _ 0 (λ e. omega (arith, e)))
+    ∙ onto_behind 63 (n / 16) (digit_glyph false (n % 16)) []
+    ∙ ap (λ (front : List ℕ). front ++ digit_glyph false (n % 16) ∷ []) (sym (onto_enough 63 (n / 16) [] (omega arith) (omega arith)))
+  where
+    onto_rest : (last : Bool) → last ≡ false → cond last (digit_glyph false (n % 16) ∷ []) (digits_onto 63 16 false (n / 16) (digit_glyph false (n % 16) ∷ []))
+        ≡ digits_onto 63 16 false (n / 16) (digit_glyph false (n % 16) ∷ [])
+    onto_rest true e = absurd cc
+    onto_rest false e = refl
+
+-- ---- all digits are digits
+
+either_digits : (last : Bool) (x y : List ℕ) → All IsDigit x → All IsDigit y → All IsDigit (cond last x y)
+either_digits true x y h k = h
+either_digits false x y h k = k
+
+onto_digits : (fuel n : ℕ) (front : List ℕ) → All IsDigit front → All IsDigit (digits_onto fuel 16 false n front)
+onto_digits zero n front h = h
+onto_digits (suc fuel) n front h =
+    let next : All IsDigit (digit_glyph false (n % 16) ∷ front) = All-cons IsDigit (digit_glyph false (n % 16)) front (n % 16, omega arith, refl) h in
+    either_digits (eqb (n / 16) 0) (digit_glyph false (n % 16) ∷ front) (digits_onto fuel 16 false (n / 16) (digit_glyph false (n % 16) ∷ front)) next
+    (onto_digits fuel (n / 16) (digit_glyph false (n % 16) ∷ front) next)
+
+pub all_digits : (n : ℕ) → All IsDigit (hexadecimal n)
+unfolding digits
+all_digits n = onto_digits 64 n [] (All-nil IsDigit)
+
+pub value_of_hexadecimal : (n : ℕ) → n < 2 ^ 64 → digits_value 16 (hexadecimal n) ≡ n
+value_of_hexadecimal n fits = (digits_is_IsNumeral 16 false (omega arith) (omega arith) n (fits_hexadecimal n fits)).1
+
+-- ---- one digit more
+
+pub written_more : (text : List ℕ) (i number digit : ℕ) → IsPlain text → i < length text → digits_value 16 (take i text) ≡ number → (0 < i → take i text ≡ hexadecimal number)
+    → digit < 16 → get_or text i 0 ≡ digit_glyph false digit → number * 16 + digit < 2 ^ 64 → take (i + 1) text ≡ hexadecimal (number * 16 + digit)
+written_more text zero number digit plain within value written small is fits =
+    let none : number ≡ 0 = omega (arith, value) in
+    let same : number * 16 + digit ≡ digit = omega (arith, none) in
+    take_more text 0 0 within ∙ ap (λ (byte : ℕ). byte ∷ []) is ∙ sym (one_digit digit small) ∙ ap hexadecimal (sym same)
+written_more text (suc i) number digit plain within value written small is fits =
+    let before : take (suc i) text ≡ hexadecimal number = written (omega arith) in
+    let some : 0 < number = elim (cases_eq number 0) [
+      | inl none ↦ absurd (omega (arith, plain.1 (first_of_zero text i number before none), within))
+      | inr more ↦ omega (arith, more)
+    ] in
+    let front : (number * 16 + digit) / 16 ≡ number = omega arith in
+    let last : (number * 16 + digit) % 16 ≡ digit = omega arith in
+    take_more text (suc i) 0 within
+    ∙ ap (λ (front : List ℕ). front ++ get_or text (suc i) 0 ∷ []) before
+    ∙ ap (λ (byte : ℕ). hexadecimal number ++ byte ∷ []) is
+    ∙ ap (λ (k : ℕ). hexadecimal k ++ digit_glyph false digit ∷ []) (sym front)
+    ∙ ap (λ (k : ℕ). hexadecimal ((number * 16 + digit) / 16) ++ digit_glyph false k ∷ []) (sym last)
+    ∙ sym (last_digit (number * 16 + digit) (omega arith) fits)
+  where
+    first_of_zero : (text : List ℕ) (i number : ℕ) → take (suc i) text ≡ hexadecimal number → number ≡ 0 → get_or text 0 0 ≡ 48
+    first_of_zero [] i number e none = absurd (let e' : [] ≡ 48 ∷ [] = e ∙ ap hexadecimal none ∙ one_digit 0 (omega arith) in let l : 0 ≡ 1 = ap (λ (x : List ℕ). length x) e' in omega (arith, l))
+    first_of_zero (byte ∷ bytes) i number e none =
+        let e' : byte ∷ take i bytes ≡ 48 ∷ [] = e ∙ ap hexadecimal none ∙ one_digit 0 (omega arith) in
+        ap (λ (x : List ℕ). get_or x 0 0) e'
+
+pub value_more : (text : List ℕ) (i number digit : ℕ) → i < length text → digits_value 16 (take i text) ≡ number → digit < 16 → get_or text i 0 ≡ digit_glyph false digit
+    → digits_value 16 (take (i + 1) text) ≡ number * 16 + digit
+value_more text i number digit within value small is =
+    omega (arith, digits_value_more 16 text i within, ap digit_value is, value_of_digit digit small, value)
+
+-- ---- nothing is left out
+
+pub no_number : (text : List ℕ) (i number n : ℕ) → i < length text → digits_value 16 (take i text) ≡ number
+    → ((digit : ℕ) → digit < 16 → get_or text i 0 ≡ digit_glyph false digit → 2 ^ 64 ≤ number * 16 + digit) → n < 2 ^ 64 → text ≡ hexadecimal n → ⊥
+no_number text i number n within value none fits e =
+    let digit : IsDigit (get_or text i 0) = All-get_or IsDigit text i 0 within (subst (λ (t : List ℕ). All IsDigit t) (sym e) (all_digits n)) in
+    let front = value_more text i number digit.0 within value digit.1 digit.2 in
+    let whole : digits_value 16 text ≡ n = ap (digits_value 16) e ∙ value_of_hexadecimal n fits in
+    omega (arith, none digit.0 digit.1 digit.2, front, digits_value-take-le 16 text (i + 1) (omega arith), whole)
+
+pub only_number : (text : List ℕ) (number n : ℕ) → digits_value 16 text ≡ number → n < 2 ^ 64 → text ≡ hexadecimal n → Some number ≡ Some n
+only_number text number n value fits e = ap Some (sym value ∙ ap (digits_value 16) e ∙ value_of_hexadecimal n fits)
+
+-- ---- no zero in front
+
+some_digits : (n : ℕ) → n < 2 ^ 64 → 0 < length (hexadecimal n)
+some_digits n fits = (digits_is_IsNumeral 16 false (omega arith) (omega arith) n (fits_hexadecimal n fits)).0.0
+
+no_zero_digit : (digit : ℕ) → 0 < digit → digit < 16 → digit_glyph false digit ≡ 48 → ⊥
+no_zero_digit digit some small e =
+    let none : digit_value 48 ≡ 0 = refl in
+    omega (arith, value_of_digit digit small, ap digit_value e, none)
+
+no_zero_in_front : (fuel n : ℕ) → n < 16 ^ fuel → 0 < n → n < 2 ^ 64 → get_or (hexadecimal n) 0 0 ≡ 48 → ⊥
+no_zero_in_front zero n few some fits e = omega arith
+no_zero_in_front (suc fuel) n few some fits e =
+    elim (cases_lt n 16) [
+      | inl small ↦ no_zero_digit n some small (sym (ap (λ (x : List ℕ). get_or x 0 0) (one_digit n small)) ∙ e)
+      | inr large ↦ no_zero_in_front fuel (n / 16) (omega (arith, few, pow-suc 16 fuel)) (omega arith) (omega arith)
+          (sym (get_or_append_left (hexadecimal (n / 16)) (digit_glyph false (n % 16) ∷ []) 0 0 (some_digits (n / 16) (omega arith)))
+          ∙ sym (ap (λ (x : List ℕ). get_or x 0 0) (last_digit n large fits)) ∙ e)
+    ]
+
+hexadecimal_plain : (n : ℕ) → n < 2 ^ 64 → IsPlain (hexadecimal n)
+hexadecimal_plain n fits = (
+  some_digits n fits,
+  λ e. elim (cases_eq n 0) [
+    | inl none ↦ ap (λ (k : ℕ). length (hexadecimal k)) none ∙ ap (λ (x : List ℕ). length x) (one_digit 0 (omega arith))
+    | inr more ↦ absurd (no_zero_in_front 16 n (omega arith) (omega (arith, more)) fits e)
+  ],
+)
+
+pub hexadecimal_is_plain : (text : List ℕ) (n : ℕ) → n < 2 ^ 64 → text ≡ hexadecimal n → IsPlain text
+hexadecimal_is_plain text n fits e = subst (λ (t : List ℕ). IsPlain t) (sym e) (hexadecimal_plain n fits)
