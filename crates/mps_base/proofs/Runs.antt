@@ -1,5 +1,5 @@
 -- Ascending runs: a run put at its place, the lowest gap, the longest one, and how many numbers the runs have.
-use Rattle.std.proofs.Common.{ℕ, zero, suc, ◌⊎◌, length, Contains, ◌+◌, ◌-◌, ◌<◌, ◌≤◌, ◌≡◌, max, Bool, true, false, cond, ltb, leb, eqb, Option, Some, None, List, [], ◌∷◌, ◌++◌, refl, sym, ap, ◌∙◌, subst, inl, inr, arith}
+use Rattle.std.proofs.Common.{ℕ, zero, suc, ◌⊎◌, Contains, ◌+◌, ◌-◌, ◌<◌, ◌≤◌, ◌≡◌, max, ltb, leb, eqb, Some, None, List, [], ◌∷◌, ◌++◌, refl, sym, ap, ◌∙◌, subst, inl, inr, arith}
 use Rattle.std.proofs.lemmas.Bool.{cases_lt, cases_eq, cond-true, cond-false, lt-ltb, le-ltb, le-leb, lt-leb, eq-eqb, ne_eqb}
 use Rattle.std.proofs.lemmas.List.Sums.{sum_by-cons}
 use Rattle.mps_base.specs.Run.{Run, end_of, IsAscending, total, between, gaps, lowest_fitting, longest, with_run, without_run}

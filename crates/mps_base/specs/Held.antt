@@ -1,10 +1,22 @@
 -- Bytes that wait to be written.
-use Rattle.std.specs.Prelude.{ℕ, ◌≡◌, Bool, Option, Some, None, List, [], ◌∷◌, ◌++◌, refl}
+use Rattle.std.specs.Prelude.{ℕ, ◌≡◌, ◌+◌, ◌≤◌, Bool, false, Option, Some, None, List, [], ◌∷◌, ◌++◌, length, refl}
 
 pub record Waiting : Type 0 where
   pub bytes : List ℕ
   -- a write of such bytes failed
   pub failed : Bool
+  -- how many bytes the memory holds that was taken for them
+  pub room : ℕ
+
+-- the most bytes that wait
+abbrev pub most_held : ℕ
+most_held = 65536
+
+-- so many bytes more need no memory and aren't too many, and no write failed
+pub record HasRoom (before : Waiting) (count : ℕ) : Type 0 where
+  pub going : before.failed ≡ false
+  pub memory : length before.bytes + count ≤ before.room
+  pub most : length before.bytes + count ≤ most_held
 
 -- What a writer has, and the bytes that wait behind it, are those of before and then the piece. Of a writer that
 -- doesn't tell what it has nothing is said.

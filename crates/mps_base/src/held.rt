@@ -1,7 +1,7 @@
 // Bytes that wait to be written.
 ghost use Rattle.std.specs.Prelude.{◌≡◌, ◌<◌, ◌≤◌, [], ◌++◌, true, false, length, take, IsTrue, IfNone, IfSome, OnSome};
 ghost use Rattle.std.specs.Io.KnownBytes.{Appends};
-ghost use Rattle.mps_base.specs.Held.{IsCarriedOn};
+ghost use Rattle.mps_base.specs.Held.{IsCarriedOn, HasRoom, most_held};
 
 use std::alloc::Global;
 use std::io::Write;
@@ -18,16 +18,20 @@ pub struct Held {
 }
 
 impl Model for Held {
+    ghost use Rattle.std.specs.Prelude.{◌≤◌, vec_len, vec_capacity};
     ghost use Rattle.mps_base.specs.Held.{Waiting};
 
     ghost Value = { Waiting };
 
-    ghost view = { λ h. record { bytes = h.bytes.items; failed = h.failed } };
+    ghost view = { λ h. record { bytes = h.bytes.items; failed = h.failed; room = vec_capacity h.bytes } };
+
+    ghost invariant = { λ h. vec_len h.bytes ≤ 65536 };
 }
 
 impl Held {
     pub fn new(alloc: Global) -> Held
-        ensures { result ≡ record { bytes = []; failed = false } }
+        ensures nothing_waits { result.bytes ≡ [] }
+        ensures going { result.failed ≡ false }
     {
         Held {
             bytes: Vec::new(alloc),
@@ -42,14 +46,21 @@ impl Held {
         self.failed
     }
 
-    /// Takes the piece, where there is room for it beside the bytes that wait.
+    /// Takes the piece, where there is room for it beside the bytes that wait: in memory that is there already it always
+    /// fits, up to the most bytes that wait; more memory may be wanting.
     pub fn hold(&mut self, piece: &[u8]) -> bool
-        ensures held { IsTrue result → self.new ≡ record self.old { bytes = self.old.bytes ++ piece.now } }
+        ensures held { IsTrue result → self.new.bytes ≡ self.old.bytes ++ piece.now }
         ensures going { IsTrue result → self.old.failed ≡ false }
-        ensures left { result ≡ false → self.new ≡ self.old }
+        ensures bounded { IsTrue result → length self.new.bytes ≤ most_held }
+        ensures fits { HasRoom self.old (length piece.now) → result ≡ true }
+        ensures left { result ≡ false → self.new.bytes ≡ self.old.bytes }
+        ensures failed { self.new.failed ≡ self.old.failed }
     {
-        let room = MOST_HELD.saturating_sub(self.bytes.len());
-        !self.failed && piece.len() <= room && self.bytes.extend_from_slice(piece).is_ok()
+        let left = MOST_HELD.saturating_sub(self.bytes.len());
+        if self.failed || piece.len() > left {
+            return false;
+        }
+        self.bytes.extend_from_slice(piece).is_ok()
     }
 
     /// Takes some of the piece, and writes the bytes that wait where that needs room. None where a write failed.
@@ -94,7 +105,8 @@ impl Held {
 
     /// Lets go the bytes that wait.
     pub fn let_go(&mut self)
-        ensures { self.new ≡ record self.old { bytes = [] } }
+        ensures nothing_waits { self.new.bytes ≡ [] }
+        ensures failed { self.new.failed ≡ self.old.failed }
     {
         self.bytes.clear();
     }
