@@ -1,70 +1,27 @@
 -- The conversion of a log, one record after the other.
-use Rattle.std.proofs.Common.{◌≡◌, ℕ, ◌+◌, ◌<◌, ◌≤◌, Bool, true, false, List, [], ◌∷◌, ◌++◌, length, drop, Option, Some, None, Result, Ok, Err, refl, sym, ap, subst, ◌∙◌, append_assoc, arith}
+use Rattle.std.proofs.Common.{◌≡◌, ℕ, ◌+◌, ◌<◌, ◌≤◌, true, false, List, [], ◌∷◌, ◌++◌, length, drop, Option, Some, None, Result, Ok, Err, refl, sym, ap, subst, ◌∙◌, arith}
 use Rattle.std.specs.Prelude.{IfSome, unwrap_or}
 use Rattle.std.specs.List.{All, flat_map}
 use Rattle.std.specs.Option.{option_map}
-use Rattle.std.proofs.lemmas.List.{append-nil, length-append}
-use Rattle.std.proofs.lemmas.List.Elements.{All-append, All-cons, All-nil}
-use Rattle.std.proofs.lemmas.Grind.{flat_map-append}
+use Rattle.std.proofs.lemmas.List.{length-append}
 use Rattle.mps_base.specs.Desk.{Outside}
 use Rattle.mps_base.specs.Record.{Record, record_bytes, records_bytes}
 use Rattle.mps_event.specs.declared.version.Version.{Version}
-use Rattle.mps_event.specs.declared.fault.LogFault.{LogFault}
 use Rattle.mps_event.specs.Grammar.{IsRecord}
 use Rattle.mps_event.specs.Reading.{first_of}
 use Rattle.mps_output.specs.declared.stop.Stop.{Stop}
 use Rattle.mps_output.specs.declared.stop.Stop.TheVariants as stop
 use Rattle.mps_output.specs.Streams.{Kept}
-use Rattle.mps_tools.specs.Input.{Buffered, ReadsMore, IsAtEnd}
+use Rattle.mps_reading.specs.Input.{Buffered, ReadsMore, IsAtEnd}
+use Rattle.mps_reading.specs.Left.{left_of, LastGives}
+use Rattle.mps_reading.specs.PutOut.{put_out, PutsOut}
+use Rattle.mps_reading.proofs.Left.{left_same, split_pending, nothing_left, fault_left, nothing_in_front, one_in_front, left_behind_told}
+use Rattle.mps_reading.proofs.PutOut.{put_same, put_more, nothing_put, one_put}
+use Rattle.mps_reading.proofs.Records.{none_yet, all_and_one, flat_one}
 use Rattle.mps_tools.specs.Portable.{line_of_kinds}
-use Rattle.mps_tools.specs.Converting.{left_of, put_out, PutsOut, PendingGives, NextGives, AllGive, LastGives}
-use Rattle.mps_tools.proofs.Behind.{fault_stays, none_short}
-
--- ---- what is left and what was put out, of told and untold texts
-
-more_pending : (p q read : List ℕ) (i j : Option (List ℕ)) → q ≡ p ++ read → i ≡ option_map (λ left. read ++ left) j
-    → option_map (λ left. q ++ left) j ≡ option_map (λ left. p ++ left) i
-more_pending p q read i None e f = rw f refl
-more_pending p q read i (Some left) e f = rw (e, f) (ap Some (append_assoc p read left))
-
--- reading leaves what is left
-pub left_same : (a b : Outside) (x y : Buffered) → ReadsMore a b x y → left_of b y ≡ left_of a x
-left_same a b x y r = more_pending x.pending y.pending r.read a.input b.input r.pending r.input
-
-puts_kept : (text gathered_before gathered : List ℕ) (p q : Option (List ℕ)) → q ≡ option_map (λ before. before ++ text) p → gathered_before ≡ text ++ gathered
-    → option_map (λ printed. printed ++ gathered) q ≡ option_map (λ printed. printed ++ gathered_before) p
-puts_kept text gathered_before gathered None q e f = rw e refl
-puts_kept text gathered_before gathered (Some before) q e f = rw (e, f) (ap Some (append_assoc before text gathered))
-
--- so does printing what was put out
-pub put_same : (a b : Outside) (x y : List ℕ) → Kept a b x y → put_out b y ≡ put_out a x
-put_same a b x y k = puts_kept k.text x y a.printed b.printed k.printed.printed k.same
-
-put_more : (gathered text : List ℕ) (p : Option (List ℕ)) → option_map (λ printed. printed ++ (gathered ++ text)) p
-    ≡ option_map (λ all. all ++ text) (option_map (λ printed. printed ++ gathered) p)
-put_more gathered text None = refl
-put_more gathered text (Some before) = ap Some (sym (append_assoc before gathered text))
+use Rattle.mps_tools.specs.Converting.{PendingGives, NextGives, AllGive}
 
 -- ---- one record
-
-pub split_pending : (front pending behind : List ℕ) (input : Option (List ℕ)) → pending ≡ front ++ behind
-    → option_map (λ rest. pending ++ rest) input ≡ option_map (λ rest. front ++ rest) (option_map (λ rest. behind ++ rest) input)
-split_pending front pending behind None e = refl
-split_pending front pending behind (Some rest) e = rw e (ap Some (append_assoc front behind rest))
-
-nothing_left : (version : Version) (ended : Bool) (pending : List ℕ) (input : Option (List ℕ)) → first_of version ended pending ≡ Ok None → (ended ≡ false → 40 ≤ length pending)
-    → (ended ≡ true → IfSome input (λ left. left ≡ [])) → IfSome (option_map (λ rest. pending ++ rest) input) (λ bytes. bytes ≡ [])
-nothing_left version ended pending None e enough end = tt
-nothing_left version ended pending (Some rest) e enough end =
-    let g = none_short version ended pending e enough in
-    let a : rest ≡ [] = end g.0 in
-    let b : pending ≡ [] = g.1 in
-    rw (a, b) refl
-
-fault_left : (version : Version) (ended : Bool) (pending : List ℕ) (input : Option (List ℕ)) (fault : LogFault) → first_of version ended pending ≡ Err fault
-    → (ended ≡ true → IfSome input (λ left. left ≡ [])) → IfSome (option_map (λ rest. pending ++ rest) input) (λ bytes. first_of version true bytes ≡ Err fault)
-fault_left version ended pending None fault e end = tt
-fault_left version ended pending (Some rest) fault e end = fault_stays version ended pending rest fault end e
 
 -- the next record, from what is pending: the pieces before it were read and printed
 pub next_gives : (version : Version) (kinds offset : ℕ) (a b c : Outside) (x y : Buffered) (p q r : List ℕ) (size : Option ℕ)
@@ -128,17 +85,6 @@ pub record SoFar (version : Version) (kinds count offset : ℕ) (left left_behin
   pub front : left ≡ option_map (λ rest. records_bytes records ++ rest) left_behind
   pub put : PutsOut before after (flat_map (line_of_kinds version kinds) records)
 
-pub nothing_in_front : (left : Option (List ℕ)) → left ≡ option_map (λ rest. [] ++ rest) left
-nothing_in_front None = refl
-nothing_in_front (Some left) = refl
-
-nothing_put : (told : Option (List ℕ)) → told ≡ option_map (λ all. all ++ []) told
-nothing_put None = refl
-nothing_put (Some text) = ap Some (sym (append-nil text))
-
-none_yet : (version : Version) → All (IsRecord version) []
-none_yet version = All-nil (IsRecord version)
-
 pub at_start : (version : Version) (kinds : ℕ) (left before : Option (List ℕ)) → SoFar version kinds 0 8 left left before before
 at_start version kinds left before = record {
   records = [];
@@ -148,20 +94,6 @@ at_start version kinds left before = record {
   front = nothing_in_front left;
   put = nothing_put before;
 }
-
-one_in_front : (x y : List ℕ) (a b c : Option (List ℕ)) → a ≡ option_map (λ rest. x ++ rest) b → b ≡ option_map (λ rest. y ++ rest) c → a ≡ option_map (λ rest. (x ++ y) ++ rest) c
-one_in_front x y a b None e f = rw (e, f) refl
-one_in_front x y a b (Some rest) e f = rw (e, f) (ap Some (sym (append_assoc x y rest)))
-
-one_put : (x y : List ℕ) (a b c : Option (List ℕ)) → b ≡ option_map (λ all. all ++ x) a → c ≡ option_map (λ all. all ++ y) b → c ≡ option_map (λ all. all ++ (x ++ y)) a
-one_put x y None b c e f = rw (f, e) refl
-one_put x y (Some all) b c e f = rw (f, e) (ap Some (append_assoc all x y))
-
-all_and_one : (version : Version) (rs : List Record) (r : Record) → All (IsRecord version) rs → IsRecord version r → All (IsRecord version) (rs ++ r ∷ [])
-all_and_one version rs r h k = All-append (IsRecord version) rs (r ∷ []) h (All-cons (IsRecord version) r [] k (All-nil (IsRecord version)))
-
-flat_one : (f : Record → List ℕ) (rs : List Record) (r : Record) → flat_map f (rs ++ r ∷ []) ≡ flat_map f rs ++ f r
-flat_one f rs r = flat_map-append f rs (r ∷ []) ∙ ap (λ (x : List ℕ). flat_map f rs ++ x) (append-nil (f r))
 
 pub one_more : (version : Version) (kinds count offset size : ℕ) (left left_behind left_then before after put : Option (List ℕ))
     → SoFar version kinds count offset left left_behind before after → NextGives version kinds offset left_behind left_then after put (Ok (Some size))
@@ -178,12 +110,6 @@ one_more version kinds count offset size left left_behind left_then before after
       put = subst (λ (x : List ℕ). put ≡ option_map (λ all. all ++ x) before) (sym (flat_one (line_of_kinds version kinds) s.records n.read))
           (one_put (flat_map (line_of_kinds version kinds) s.records) (line_of_kinds version kinds n.read) before after put s.put n.put);
     }
-
--- what is left behind them, where all that was left is told
-left_behind_told : (x bytes : List ℕ) (left left_behind : Option (List ℕ)) → left ≡ option_map (λ rest. x ++ rest) left_behind → left ≡ Some bytes
-    → (rest : List ℕ) × (left_behind ≡ Some rest) × (bytes ≡ x ++ rest)
-left_behind_told x bytes left None e f = absurd (let g : None ≡ Some bytes = sym e ∙ f in cc)
-left_behind_told x bytes left (Some rest) e f = (rest, refl, (let g : Some bytes ≡ Some (x ++ rest) = sym f ∙ e in cc))
 
 pub all_read : (version : Version) (kinds count offset : ℕ) (left left_behind left_then before after put : Option (List ℕ)) (bytes : List ℕ) → count < 4294967295
     → SoFar version kinds count offset left left_behind before after → NextGives version kinds offset left_behind left_then after put (Ok None)

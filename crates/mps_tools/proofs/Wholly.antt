@@ -1,31 +1,30 @@
 -- A conversion from the header to its end.
-use Rattle.std.proofs.Common.{◌≡◌, ℕ, ◌+◌, ◌⊎◌, List, ◌++◌, length, Option, Some, None, Result, Ok, Err, refl, sym, ap, subst, ◌∙◌, append_assoc, arith, inl, inr}
+use Rattle.std.proofs.Common.{◌≡◌, ℕ, ◌⊎◌, List, ◌++◌, length, Option, Some, None, Result, Ok, Err, refl, sym, ap, subst, ◌∙◌, append_assoc, inl, inr}
 use Rattle.std.specs.Prelude.{OnOk, IfErr}
 use Rattle.std.specs.List.{flat_map}
 use Rattle.std.specs.Option.{option_map}
-use Rattle.std.proofs.lemmas.List.{length-append}
-use Rattle.mps_base.specs.Desk.{Outside, HasRisen}
-use Rattle.mps_base.specs.Record.{Record, header_bytes, records_bytes}
+use Rattle.mps_base.specs.Desk.{Outside}
+use Rattle.mps_base.specs.Record.{header_bytes, records_bytes}
 use Rattle.mps_event.specs.declared.version.Version.{Version}
 use Rattle.mps_event.specs.Event.{number_of_version}
-use Rattle.mps_event.specs.Grammar.{log_bytes}
 use Rattle.mps_output.specs.declared.stop.Stop.{Stop}
 use Rattle.mps_output.specs.declared.stop.Stop.TheVariants as stop
 use Rattle.mps_output.specs.Reports.{status_of, report_of}
 use Rattle.mps_output.specs.Streams.{Reports}
-use Rattle.mps_tools.specs.Input.{Buffered}
-use Rattle.mps_tools.specs.Portable.{first_line, line_of_kinds}
-use Rattle.mps_tools.specs.Converted.{EndsAt, Converts, HasConverted, ConvertedWith}
-use Rattle.mps_tools.specs.Converting.{left_of, put_out, ConvertsAll, AllGive, IsToFlush}
+use Rattle.mps_reading.specs.Input.{Buffered}
+use Rattle.mps_reading.specs.Left.{left_of}
+use Rattle.mps_reading.specs.PutOut.{put_out, IsToFlush}
+use Rattle.mps_reading.specs.Opening.{first_line}
+use Rattle.mps_reading.specs.Ending.{EndsAt}
+use Rattle.mps_reading.proofs.Opening.{size_with_header, header_told}
+use Rattle.mps_reading.proofs.Reported.{has_reported}
+use Rattle.mps_tools.specs.Portable.{line_of_kinds}
+use Rattle.mps_tools.specs.Converted.{Converts, HasConverted, ConvertedWith}
+use Rattle.mps_tools.specs.Converting.{ConvertsAll, AllGive}
 
 printed_all : (line text : List ℕ) (o : Option (List ℕ)) → option_map (λ all. all ++ text) (option_map (λ printed. printed ++ line) o) ≡ option_map (λ before. before ++ (line ++ text)) o
 printed_all line text None = refl
 printed_all line text (Some before) = ap Some (append_assoc before line text)
-
-size_with_header : (version : Version) (records : List Record) → 8 + length (records_bytes records) ≡ length (log_bytes version records)
-size_with_header version records =
-    let size : length (header_bytes (number_of_version version)) ≡ 8 = refl in
-    omega (arith, size, length-append (header_bytes (number_of_version version)) (records_bytes records))
 
 converts : (T : Type 0) (version : Version) (kinds : ℕ) (bytes left out : List ℕ) (a b c d : Outside) (after : Option (List ℕ)) (ending : Result T Stop)
     → bytes ≡ header_bytes (number_of_version version) ++ left → b.printed ≡ a.printed → out ≡ first_line version
@@ -57,10 +56,6 @@ converts_ending version kinds bytes left out a b c d after (Err stop.BadHeader) 
 converts_ending version kinds bytes left out a b c d after (Err (stop.BadReplay at)) is same line all printed = absurd all
 converts_ending version kinds bytes left out a b c d after (Err (stop.BadLine number)) is same line all printed = absurd all
 converts_ending version kinds bytes left out a b c d after (Err stop.OutOfMemory) is same line all printed = absurd all
-
-header_told : (header bytes : List ℕ) (left : Option (List ℕ)) → Some bytes ≡ option_map (λ rest. header ++ rest) left → (rest : List ℕ) × (left ≡ Some rest) × (bytes ≡ header ++ rest)
-header_told header bytes None e = absurd cc
-header_told header bytes (Some rest) e = (rest, refl, cc)
 
 flushed : (R : Type 0) (kinds : ℕ) (bytes : List ℕ) (a d : Outside) (ending result : Result (Unit {0}) Stop) (after : Option (List ℕ))
     → (result ≡ ending) ⊎ ((result ≡ Err stop.WriteFailed) × R) → (IsToFlush result → d.printed ≡ after)
@@ -102,11 +97,6 @@ converted_later kinds bytes (Err stop.WriteFailed) a b c h e = tt
 converted_later kinds bytes (Err stop.OutOfMemory) a b c h e = tt
 converted_later kinds bytes (Err (stop.BadReplay at)) a b c h e = absurd h
 converted_later kinds bytes (Err (stop.BadLine line)) a b c h e = absurd h
-
-has_reported : (text : List ℕ) (a b c : Outside) → b.reported ≡ a.reported → b.err_faults ≡ a.err_faults
-    → HasRisen b.err_faults c.err_faults ⊎ (c.reported ≡ option_map (λ before. before ++ text) b.reported) → HasRisen a.err_faults c.err_faults ⊎ (c.reported ≡ option_map (λ before. before ++ text) a.reported)
-has_reported text a b c quiet faults (inl h) = inl (subst (λ (n : ℕ). HasRisen n c.err_faults) faults h)
-has_reported text a b c quiet faults (inr h) = inr (h ∙ ap (λ (o : Option (List ℕ)). option_map (λ before. before ++ text) o) quiet)
 
 pub converted_with : (kinds status : ℕ) (bytes : List ℕ) (ending : Result (Unit {0}) Stop) (a b c : Outside) → b.reported ≡ a.reported → b.err_faults ≡ a.err_faults
     → HasConverted kinds bytes ending a b → OnOk ending (status ≡ 0) → OnOk ending (c ≡ b)

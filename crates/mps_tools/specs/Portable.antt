@@ -4,16 +4,11 @@ use Rattle.std.specs.Fmt.{digits}
 use Rattle.std.specs.List.{flat_map}
 use Rattle.mps_base.specs.Record.{Record}
 use Rattle.mps_event.specs.declared.version.Version.{Version}
-use Rattle.mps_event.specs.declared.version.Version.TheVariants.{One, Two}
 use Rattle.mps_event.specs.declared.event.Event.{Event}
 use Rattle.mps_event.specs.Event.{event_of}
 use Rattle.mps_numbers.specs.Hexadecimal.{hexadecimal}
+use Rattle.mps_reading.specs.Opening.{first_line}
 use Rattle.mps_tools.specs.Kinds.{is_among}
-
--- the first line
-abbrev pub first_line : Version → List ℕ
-first_line One = codes "mpslog 1\n"
-first_line Two = codes "mpslog 2\n"
 
 -- a field, behind a space
 abbrev pub field_text : ℕ → List ℕ

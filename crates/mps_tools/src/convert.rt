@@ -1,24 +1,26 @@
 // `cnv`: the portable text of a log.
 
 ghost use Rattle.std.specs.Prelude.{◌≡◌, ◌≤◌, ◌<◌, ◌+◌, ◌*◌, ◌++◌, ℕ, List, Some, true, length, IfOk, IfSome};
-ghost use Rattle.mps_tools.specs.Causes.{IsCaused, IsTold, Works, Answers};
+ghost use Rattle.mps_reading.specs.Causes.{IsCaused, IsTold, Works, Answers};
 ghost use Rattle.std.specs.List.{flat_map};
 ghost use Rattle.mps_event.specs.Event.{event_of};
 ghost use Rattle.mps_tools.specs.Portable.{record_line, field_text, is_wanted, line_of_kinds};
-ghost use Rattle.mps_tools.specs.Input.{IsAtEnd};
-ghost use Rattle.mps_tools.specs.Converted.{ConvertedWith, HasConverted, IsOnly, is_whole_status};
-ghost use Rattle.mps_tools.specs.Converting.{left_of, put_out, PendingGives, NextGives, AllGive};
+ghost use Rattle.mps_reading.specs.Input.{IsAtEnd};
+ghost use Rattle.mps_reading.specs.Left.{left_of};
+ghost use Rattle.mps_reading.specs.PutOut.{put_out};
+ghost use Rattle.mps_reading.specs.Ending.{is_whole_status};
+ghost use Rattle.mps_tools.specs.Converted.{ConvertedWith, HasConverted, IsOnly};
+ghost use Rattle.mps_tools.specs.Converting.{PendingGives, NextGives, AllGive};
 ghost use Rattle.mps_tools.specs.KindSet.{bits_of};
 ghost use Rattle.mps_output.specs.Streams.{Runs};
 
-use crate::input::Input;
 use crate::kinds::Kinds;
-use crate::reading::{
-    MOST_OF_A_RECORD, after_the_last, flush_after, make_room, open_log, put_first_line,
-};
 use mps_base::Desk;
 use mps_event::{Event, RecordRef, Version, first};
 use mps_output::{Output, Stop, finish};
+use mps_reading::{
+    Input, MOST_OF_A_RECORD, after_the_last, flush_after, make_room, open_log, put_first_line,
+};
 use std::alloc::Global;
 
 /// Prints the portable text of the log of this name, of the records of these kinds, and answers the status of the

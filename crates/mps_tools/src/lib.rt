@@ -1,19 +1,13 @@
-//! The tools that read a log: portable text, readable text, and the live blocks of a log. Each reads its input in pieces
-//! through one buffer and prints through another.
+//! The tools of a log: its portable text, the readable text of that, the blocks that are live at its end, and scripts that
+//! are generated. Each reads its input in pieces through one buffer and prints through another. The portable text is made
+//! here; the others are passed on from their crates.
 #![tactic(auto)]
 
 mod convert;
-mod input;
 mod kinds;
-mod labels;
-mod live_blocks;
-mod readable;
-mod reading;
-mod record_line;
-mod replaying;
-mod textual;
 
 pub use convert::cnv;
 pub use kinds::Kinds;
-pub use live_blocks::blocks;
-pub use textual::txt;
+pub use mps_generator::{GenLines, generate};
+pub use mps_live_blocks::blocks;
+pub use mps_readable::txt;

@@ -1,7 +1,7 @@
 use Rattle.std.proofs.Common.{◌++◌, ◌∙◌, ap, List, ℕ}
-use Rattle.mps_tools.specs.Portable.{first_line}
+use Rattle.mps_reading.specs.Opening.{first_line}
 use Rattle.mps_tools.specs.KindSet.{bits_of}
-use Rattle.mps_tools.specs.Converting.{put_out}
+use Rattle.mps_reading.specs.PutOut.{put_out}
 use Rattle.mps_tools.proofs.Wholly.{converts_log}
 use Rattle.mps_tools.proofs.convert.convert.Goals as goal
 

@@ -1,9 +1,11 @@
 use Rattle.std.proofs.Common.{◌≡◌, drop, ap, sym, subst, ◌∙◌, ℕ, Ok}
 use Rattle.std.specs.Prelude.{unwrap_or}
 use Rattle.std.proofs.lemmas.Result.{err_from_is_err_and}
-use Rattle.mps_tools.specs.Input.{Buffered}
+use Rattle.mps_reading.specs.Input.{Buffered}
 use Rattle.mps_tools.specs.KindSet.{bits_of}
-use Rattle.mps_tools.specs.Converting.{left_of, put_out, NextGives}
+use Rattle.mps_reading.specs.Left.{left_of}
+use Rattle.mps_reading.specs.PutOut.{put_out}
+use Rattle.mps_tools.specs.Converting.{NextGives}
 use Rattle.mps_tools.proofs.Converting.{next_gives, next_stops}
 use Rattle.mps_tools.proofs.convert.convert_next.Goals as goal
 

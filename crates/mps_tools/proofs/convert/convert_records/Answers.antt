@@ -1,8 +1,9 @@
 use Rattle.std.proofs.Common.{◌∙◌, Ok, arith}
-use Rattle.mps_tools.specs.Causes.{Works}
+use Rattle.mps_reading.specs.Causes.{Works}
 use Rattle.mps_tools.specs.KindSet.{bits_of}
-use Rattle.mps_tools.specs.Converting.{left_of, put_out}
-use Rattle.mps_tools.proofs.Causes.{works-then}
+use Rattle.mps_reading.specs.Left.{left_of}
+use Rattle.mps_reading.specs.PutOut.{put_out}
+use Rattle.mps_reading.proofs.Causes.{works-then}
 use Rattle.mps_tools.proofs.Converting.{one_more}
 use Rattle.mps_tools.proofs.convert.convert_records.Goals as goal
 

@@ -1,8 +1,9 @@
 use Rattle.std.proofs.Common.{◌≡◌, ◌≤◌, ◌+◌, ◌*◌, Ok}
-use Rattle.mps_tools.specs.Causes.{Works}
-use Rattle.mps_tools.specs.Input.{IsAtEnd}
+use Rattle.mps_reading.specs.Causes.{Works}
+use Rattle.mps_reading.specs.Input.{IsAtEnd}
 use Rattle.mps_tools.specs.KindSet.{bits_of}
-use Rattle.mps_tools.specs.Converting.{left_of, put_out}
+use Rattle.mps_reading.specs.Left.{left_of}
+use Rattle.mps_reading.specs.PutOut.{put_out}
 use Rattle.mps_tools.proofs.Converting.{SoFar}
 use Rattle.mps_tools.proofs.convert.convert_records.Given as goal
 

@@ -1,0 +1,9 @@
+//! The readable text of a portable text: each line of numbers becomes a line of words.
+#![tactic(auto)]
+
+mod labels;
+mod readable;
+mod record_line;
+mod textual;
+
+pub use textual::txt;

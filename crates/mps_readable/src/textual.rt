@@ -1,0 +1,172 @@
+// `txt`: the readable text of a portable text.
+
+ghost use Rattle.std.specs.Prelude.{◌≡◌, ◌≤◌, ◌+◌, true, false, length, IfOk, IfSome};
+ghost use Rattle.mps_base.specs.Desk.{HasRisen};
+ghost use Rattle.mps_reading.specs.Causes.{IsCaused, IsTold, Works, Answers};
+ghost use Rattle.mps_output.specs.Streams.{Runs};
+
+use crate::labels::{LabelFault, Labels};
+use crate::readable::{label_before, put_readable};
+use crate::record_line::record_of_line;
+use mps_base::Desk;
+use mps_event::Version;
+use mps_output::{Output, Stop, finish};
+use mps_reading::{Input, after_the_last, flush_after, make_room, put_first_line};
+use std::alloc::Global;
+
+// The most bytes of a line, without its line feed.
+const LONGEST_LINE: usize = 4096;
+
+/// Prints the readable text of the portable text of this name, line by line, and answers the status of the program: 0,
+/// or with a report 3 where a read failed, 4 where a write failed, 6 at the first line that is wrong, 7 where line 2^32
+/// begins, 8 for want of memory.
+pub fn txt<D: Desk>(alloc: Global, text: &str, desk: &mut D) -> u8
+    ensures { Answers (D.outside desk.old) (D.outside desk.new) result }
+{
+    let ending = read_text(alloc, text, desk);
+    finish(ending, desk)
+}
+
+fn read_text<D: Desk>(alloc: Global, text: &str, desk: &mut D) -> Result<(), Stop>
+    ensures cause { IsCaused (D.outside desk.old) (D.outside desk.new) result }
+    ensures runs { Runs (D.outside desk.old) (D.outside desk.new) }
+{
+    let mut input = match Input::new(alloc) {
+        Ok(input) => input,
+        Err(_) => return Err(Stop::OutOfMemory),
+    };
+    let mut output = match Output::new(alloc) {
+        Ok(output) => output,
+        Err(_) => return Err(Stop::OutOfMemory),
+    };
+    let mut labels = Labels::new(alloc);
+    let version = open_text(text, &mut input, desk)?;
+    put_first_line(version, &mut output);
+    let ending = read_lines(version, &mut labels, &mut input, &mut output, desk);
+    flush_after(ending, &mut output, desk)
+}
+
+// Opens a text and takes its first line.
+fn open_text<D: Desk>(text: &str, input: &mut Input, desk: &mut D) -> Result<Version, Stop>
+    requires { input.old.failed ≡ false }
+    ensures cause { IsCaused (D.outside desk.old) (D.outside desk.new) result }
+    ensures fault { input.new.failed ≡ true → HasRisen (D.outside desk.old).in_faults (D.outside desk.new).in_faults }
+    ensures runs { Runs (D.outside desk.old) (D.outside desk.new) }
+{
+    if desk.open(text).is_err() {
+        return Err(Stop::ReadFailed);
+    }
+    input.fill(LONGEST_LINE + 1, desk);
+    take_first_line(input)
+}
+
+fn take_first_line(input: &mut Input) -> Result<Version, Stop>
+    ensures told { IsTold input.old result }
+    ensures failed { input.new.failed ≡ input.old.failed }
+{
+    let (version, size) = first_line(input)?;
+    input.take(size);
+    Ok(version)
+}
+
+// The version that the first line says, and how many bytes it takes.
+fn first_line(input: &Input) -> Result<(Version, usize), Stop>
+    ensures told { IsTold input.now result }
+    ensures size { IfOk result (λ found. found.1 ≤ length input.now.pending) }
+{
+    match next_line(input, 1)? {
+        Some((b"mpslog 1", size)) => Ok((Version::One, size)),
+        Some((b"mpslog 2", size)) => Ok((Version::Two, size)),
+        _ => Err(Stop::BadLine(1)),
+    }
+}
+
+// The line at the front without its line feed, and how many bytes it takes; None at the end of the text.
+fn next_line(input: &Input, number: u64) -> Result<Option<(&[u8], usize)>, Stop>
+    ensures told { IsTold input.now result }
+    ensures size { IfOk result (λ o. IfSome o (λ found. found.1 ≤ length input.now.pending)) }
+{
+    let bytes = input.pending();
+    match bytes.iter().position(|byte| *byte == b'\n') {
+        Some(end) if end <= LONGEST_LINE => Ok(Some((&bytes[..end], end + 1))),
+        Some(_) => Err(Stop::BadLine(number)),
+        None if bytes.len() > LONGEST_LINE => Err(Stop::BadLine(number)),
+        None if input.has_failed() => Err(Stop::ReadFailed),
+        None if bytes.is_empty() => Ok(None),
+        None => Ok(Some((bytes, bytes.len()))),
+    }
+}
+
+fn read_lines<D: Desk>(
+    version: Version,
+    labels: &mut Labels,
+    input: &mut Input,
+    output: &mut Output,
+    desk: &mut D,
+) -> Result<(), Stop>
+    ensures { Works (D.outside desk.old) (D.outside desk.new) input.old input.new result }
+{
+    for behind in 0..u32::MAX - 1 {
+        if !read_next(u64::from(behind) + 2, version, labels, input, output, desk)? {
+            return Ok(());
+        }
+    }
+    after_the_last(input, desk)
+}
+
+// The next line; false at the end.
+fn read_next<D: Desk>(
+    number: u64,
+    version: Version,
+    labels: &mut Labels,
+    input: &mut Input,
+    output: &mut Output,
+    desk: &mut D,
+) -> Result<bool, Stop>
+    ensures { Works (D.outside desk.old) (D.outside desk.new) input.old input.new result }
+{
+    input.fill(LONGEST_LINE + 1, desk);
+    make_room(output, desk)?;
+    let size = read_line(number, version, labels, input, output)?;
+    input.take(size.unwrap_or(0));
+    Ok(size.is_some())
+}
+
+fn read_line(
+    number: u64,
+    version: Version,
+    labels: &mut Labels,
+    input: &Input,
+    output: &mut Output,
+) -> Result<Option<usize>, Stop>
+    requires { length output.old + 512 ≤ 65536 }
+    ensures told { IsTold input.now result }
+    ensures size { IfOk result (λ o. IfSome o (λ size. size ≤ length input.now.pending)) }
+{
+    match next_line(input, number)? {
+        None => Ok(None),
+        Some((line, size)) => match put_line(line, version, labels, output) {
+            Ok(()) => Ok(Some(size)),
+            Err(LabelFault::BadLine) => Err(Stop::BadLine(number)),
+            Err(LabelFault::OutOfMemory) => Err(Stop::OutOfMemory),
+        },
+    }
+}
+
+fn put_line(
+    line: &[u8],
+    version: Version,
+    labels: &mut Labels,
+    output: &mut Output,
+) -> Result<(), LabelFault>
+    requires { length output.old + 512 ≤ 65536 }
+{
+    let entry = match record_of_line(line, version) {
+        Some(entry) => entry,
+        None => return Err(LabelFault::BadLine),
+    };
+    let before = label_before(&entry, labels);
+    labels.apply(&entry)?;
+    put_readable(&entry, before, labels, output);
+    Ok(())
+}

@@ -1,0 +1,10 @@
+pub mod Pending
+pub mod Causes
+pub mod Fronts
+pub mod Behind
+pub mod Left
+pub mod PutOut
+pub mod Records
+pub mod Opening
+pub mod Reported
+pub mod TwoReadings

@@ -1,0 +1,6 @@
+pub mod Input
+pub mod Causes
+pub mod Left
+pub mod PutOut
+pub mod Opening
+pub mod Ending

@@ -1,0 +1,26 @@
+-- What was put out: printed, or gathered to be printed.
+use Rattle.std.specs.Prelude.{◌≡◌, ℕ, Option, Result, Ok, Err, List, ◌++◌}
+use Rattle.std.specs.Option.{option_map}
+use Rattle.mps_base.specs.Desk.{Outside}
+use Rattle.mps_output.specs.declared.stop.Stop.{Stop}
+use Rattle.mps_output.specs.declared.stop.Stop.TheVariants as stop
+
+-- what was put out: what stands printed, and then what was gathered
+abbrev pub put_out : Outside → List ℕ → Option (List ℕ)
+put_out o gathered = option_map (λ printed. printed ++ gathered) o.printed
+
+-- a text more was put out
+abbrev pub PutsOut : (before after : Option (List ℕ)) → (text : List ℕ) → Type 0
+PutsOut before after text = after ≡ option_map (λ all. all ++ text) before
+
+-- an ending at which all that was put out is to be printed
+abbrev pub IsToFlush : {T : Type 0} → Result T Stop → Type 0
+IsToFlush (Ok value) = Unit {0}
+IsToFlush (Err (stop.BadRecord at fault)) = Unit {0}
+IsToFlush (Err stop.TooLong) = Unit {0}
+IsToFlush (Err stop.ReadFailed) = ⊥
+IsToFlush (Err stop.WriteFailed) = ⊥
+IsToFlush (Err stop.BadHeader) = ⊥
+IsToFlush (Err (stop.BadReplay at)) = ⊥
+IsToFlush (Err (stop.BadLine line)) = ⊥
+IsToFlush (Err stop.OutOfMemory) = ⊥

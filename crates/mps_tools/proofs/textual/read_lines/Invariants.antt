@@ -1,6 +1,0 @@
-use Rattle.std.proofs.Common.{Ok}
-use Rattle.mps_tools.specs.Causes.{Works}
-use Rattle.mps_tools.proofs.textual.read_lines.Given as goal
-
-abbrev pub invariant-loop-behind : goal.invariant-loop-behind
-invariant-loop-behind g l = Works {T = Unit {0}} (g.D.Desk.outside l.initial.desk) (g.D.Desk.outside l.desk) l.initial.input l.input (Ok tt)
