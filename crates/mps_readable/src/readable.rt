@@ -1,6 +1,10 @@
-// The readable text of a entry.
+// The line of readable text of a record.
 
-ghost use Rattle.std.specs.Prelude.{◌≤◌, ◌+◌, length};
+ghost use Rattle.std.specs.Prelude.{◌≡◌, ◌≤◌, ◌<◌, ◌+◌, ◌++◌, ◌==◌, IfSome, codes, decimal, length, position, slice_index};
+ghost use Rattle.std.specs.Option.{option_map};
+ghost use Rattle.mps_event.specs.Name.{name_in};
+ghost use Rattle.mps_readable.specs.Labels.{Naming, label_at};
+ghost use Rattle.mps_readable.specs.Readable.{name_of_event, columns_of, columns_text, event_text, hexadecimal_text, label_text};
 
 use crate::labels::{Labels, name_of};
 use crate::record_line::RecordLine;
@@ -10,7 +14,8 @@ use mps_output::Output;
 // A field whose number is shown in decimal. The name stands between a space and an equals sign.
 fn put_decimal(name: &[u8], number: u64, output: &mut Output)
     requires { length output.old + length name.now + 20 ≤ 65536 }
-    ensures { length output.new ≤ length output.old + length name.now + 20 }
+    ensures text { output.new ≡ output.old ++ (name.now ++ decimal number) }
+    ensures short { length output.new ≤ length output.old + length name.now + 20 }
 {
     output.text(name);
     output.decimal(number);
@@ -19,7 +24,8 @@ fn put_decimal(name: &[u8], number: u64, output: &mut Output)
 // A field whose number is shown in hexadecimal.
 fn put_hexadecimal(name: &[u8], number: u64, output: &mut Output)
     requires { length output.old + length name.now + 18 ≤ 65536 }
-    ensures { length output.new ≤ length output.old + length name.now + 18 }
+    ensures text { output.new ≡ output.old ++ (name.now ++ hexadecimal_text number) }
+    ensures short { length output.new ≤ length output.old + length name.now + 18 }
 {
     output.text(name);
     output.text(b"0x");
@@ -29,12 +35,22 @@ fn put_hexadecimal(name: &[u8], number: u64, output: &mut Output)
 // A field that is the address of a block, with its label.
 fn put_address(name: &[u8], address: u64, label: Option<[u8; 16]>, output: &mut Output)
     requires { length output.old + length name.now + 36 ≤ 65536 }
-    ensures { length output.new ≤ length output.old + length name.now + 36 }
+    ensures text { output.new ≡ output.old ++ (name.now ++ (hexadecimal_text address ++ label_text (option_map name_in label))) }
+    ensures short { length output.new ≤ length output.old + length name.now + 36 }
 {
     put_hexadecimal(name, address, output);
-    if let Some(label) = label {
+    put_label_text(label, output);
+}
+
+// A label in brackets.
+fn put_label_text(label: Option<[u8; 16]>, output: &mut Output)
+    requires { length output.old + 18 ≤ 65536 }
+    ensures text { output.new ≡ output.old ++ label_text (option_map name_in label) }
+    ensures short { length output.new ≤ length output.old + 18 }
+{
+    if let Some(name) = label {
         output.text(b"[");
-        put_name(&label, output);
+        put_name(&name, output);
         output.text(b"]");
     }
 }
@@ -42,149 +58,188 @@ fn put_address(name: &[u8], address: u64, label: Option<[u8; 16]>, output: &mut 
 // A name without the zeros behind it.
 fn put_name(name: &[u8; 16], output: &mut Output)
     requires { length output.old + 16 ≤ 65536 }
-    ensures { length output.new ≤ length output.old + 16 }
+    ensures text { output.new ≡ output.old ++ name_in name.now }
+    ensures short { length output.new ≤ length output.old + 16 }
 {
-    let end = match name.iter().position(|byte| *byte == 0) {
-        Some(end) => end,
-        None => 16,
-    };
+    let end = first_zero(name).unwrap_or(16);
     output.text(&name[..end]);
 }
 
+// Where the zeros behind a name begin.
+fn first_zero(name: &[u8]) -> Option<usize>
+    ensures value { result ≡ position (λ byte. byte == 0) name.now }
+    ensures bound { IfSome result (λ place. place < length name.now) }
+{
+    name.iter().position(|byte| *byte == 0)
+}
+
 // The label that the first field of a record has before its effect.
-pub(crate) fn label_before(entry: &RecordLine, labels: &Labels) -> Option<[u8; 16]> {
+pub(crate) fn label_before(entry: &RecordLine, labels: &Labels) -> Option<[u8; 16]>
+    ensures { option_map name_in result ≡ label_at labels.now (slice_index entry.now.fields 0) }
+{
     labels.name_at(entry.fields[0])
 }
 
-// The line of a record, whose first field had this label before its effect; the labels are those after it.
-pub(crate) fn put_readable(
-    entry: &RecordLine,
-    before: Option<[u8; 16]>,
-    labels: &Labels,
-    output: &mut Output,
-)
-    requires { length output.old + 512 ≤ 65536 }
-{
-    output.decimal(u64::from(entry.line));
-    match entry.event {
-        Event::Move => {
-            output.text(b" Move");
-            put_address(b" from=", entry.fields[0], before, output);
-            let after = labels.name_at(entry.fields[1]);
-            put_address(b" to=", entry.fields[1], after, output);
-        }
-        Event::Intern => put_intern(&entry.fields, output),
-        Event::Label => {
-            let after = labels.name_at(entry.fields[0]);
-            put_label(&entry.fields, after, output);
-        }
-        Event::Splat | Event::Commit | Event::Alloc | Event::Stay | Event::Post | Event::Free =>
-            put_object(entry.event, &entry.fields, before, output),
-        _ => put_other(entry.event, &entry.fields, output),
-    }
-    output.text(b"\n");
-}
-
-fn put_intern(fields: &[u64; 4], output: &mut Output)
-    requires { length output.old + 60 ≤ 65536 }
-    ensures { length output.new ≤ length output.old + 60 }
-{
-    output.text(b" Intern");
-    put_decimal(b" id=", fields[0], output);
-    output.text(b" name=");
-    put_name(&name_of(fields[1], fields[2]), output);
-}
-
-fn put_label(fields: &[u64; 4], label: Option<[u8; 16]>, output: &mut Output)
-    requires { length output.old + 80 ≤ 65536 }
-    ensures { length output.new ≤ length output.old + 80 }
-{
-    output.text(b" Label");
-    put_address(b" at=", fields[0], label, output);
-    put_decimal(b" id=", fields[1], output);
-}
-
-// A record of a block, but a move.
-fn put_object(event: Event, fields: &[u64; 4], label: Option<[u8; 16]>, output: &mut Output)
-    requires { length output.old + 130 ≤ 65536 }
-    ensures { length output.new ≤ length output.old + 130 }
+// The name of an event.
+fn name_of_event(event: Event) -> &'static [u8]
+    ensures { result.now ≡ name_of_event event }
 {
     match event {
-        Event::Splat => {
-            output.text(b" Splat");
-            put_address(b" holder=", fields[0], label, output);
-            put_decimal(b" cell=", fields[1], output);
-        }
-        Event::Commit => {
-            output.text(b" Commit");
-            put_extent(fields, label, output);
-        }
-        Event::Alloc => {
-            output.text(b" Alloc");
-            put_extent(fields, label, output);
-        }
-        Event::Stay => {
-            output.text(b" Stay");
-            put_address(b" at=", fields[0], label, output);
-        }
-        Event::Post => {
-            output.text(b" Post");
-            put_address(b" at=", fields[0], label, output);
-        }
-        _ => {
-            output.text(b" Free");
-            put_address(b" at=", fields[0], label, output);
-        }
+        Event::ArenaCreate => b"ArenaCreate",
+        Event::LimitSet => b"LimitSet",
+        Event::PoolCreate => b"PoolCreate",
+        Event::Flip => b"Flip",
+        Event::End => b"End",
+        Event::SegAlloc => b"SegAlloc",
+        Event::SegFree => b"SegFree",
+        Event::Splat => b"Splat",
+        Event::Commit => b"Commit",
+        Event::Alloc => b"Alloc",
+        Event::Move => b"Move",
+        Event::Stay => b"Stay",
+        Event::Post => b"Post",
+        Event::Free => b"Free",
+        Event::Intern => b"Intern",
+        Event::Label => b"Label",
     }
+}
+
+fn put_arena(fields: &[u64; 4], output: &mut Output)
+    requires { length output.old + 128 ≤ 65536 }
+    ensures text { (before after : Naming) → output.new ≡ output.old ++ columns_text before after fields.now 0 (columns_of Event.ArenaCreate) }
+    ensures short { length output.new ≤ length output.old + 128 }
+{
+    put_decimal(b" grains=", fields[0], output);
+    put_decimal(b" limit=", fields[1], output);
+}
+
+fn put_pool(fields: &[u64; 4], output: &mut Output)
+    requires { length output.old + 128 ≤ 65536 }
+    ensures text { (before after : Naming) → output.new ≡ output.old ++ columns_text before after fields.now 0 (columns_of Event.PoolCreate) }
+    ensures short { length output.new ≤ length output.old + 128 }
+{
+    put_decimal(b" pool=", fields[0], output);
+    put_decimal(b" kind=", fields[1], output);
+    put_decimal(b" param=", fields[2], output);
+}
+
+fn put_flip(fields: &[u64; 4], output: &mut Output)
+    requires { length output.old + 128 ≤ 65536 }
+    ensures text { (before after : Naming) → output.new ≡ output.old ++ columns_text before after fields.now 0 (columns_of Event.Flip) }
+    ensures short { length output.new ≤ length output.old + 128 }
+{
+    put_hexadecimal(b" zones=", fields[0], output);
+    put_decimal(b" chain=", fields[1], output);
+    put_decimal(b" generation=", fields[2], output);
+}
+
+fn put_seg(fields: &[u64; 4], output: &mut Output)
+    requires { length output.old + 128 ≤ 65536 }
+    ensures text { (before after : Naming) → output.new ≡ output.old ++ columns_text before after fields.now 0 (columns_of Event.SegAlloc) }
+    ensures short { length output.new ≤ length output.old + 128 }
+{
+    put_hexadecimal(b" base=", fields[0], output);
+    put_decimal(b" grains=", fields[1], output);
+    put_decimal(b" pool=", fields[2], output);
+    put_decimal(b" generation=", fields[3], output);
+}
+
+fn put_splat(fields: &[u64; 4], label: Option<[u8; 16]>, output: &mut Output)
+    requires { length output.old + 128 ≤ 65536 }
+    ensures text { (before after : Naming) → label_at before (slice_index fields.now 0) ≡ option_map name_in label
+        → output.new ≡ output.old ++ columns_text before after fields.now 0 (columns_of Event.Splat) }
+    ensures short { length output.new ≤ length output.old + 128 }
+{
+    put_address(b" holder=", fields[0], label, output);
+    put_decimal(b" cell=", fields[1], output);
 }
 
 fn put_extent(fields: &[u64; 4], label: Option<[u8; 16]>, output: &mut Output)
-    requires { length output.old + 100 ≤ 65536 }
-    ensures { length output.new ≤ length output.old + 100 }
+    requires { length output.old + 128 ≤ 65536 }
+    ensures text { (before after : Naming) → label_at before (slice_index fields.now 0) ≡ option_map name_in label
+        → output.new ≡ output.old ++ columns_text before after fields.now 0 (columns_of Event.Commit) }
+    ensures short { length output.new ≤ length output.old + 128 }
 {
     put_address(b" at=", fields[0], label, output);
     put_decimal(b" words=", fields[1], output);
     put_decimal(b" pool=", fields[2], output);
 }
 
-// A record that is about no block.
-fn put_other(event: Event, fields: &[u64; 4], output: &mut Output)
-    requires { length output.old + 150 ≤ 65536 }
-    ensures { length output.new ≤ length output.old + 150 }
+fn put_move(fields: &[u64; 4], label: Option<[u8; 16]>, labels: &Labels, output: &mut Output)
+    requires { length output.old + 128 ≤ 65536 }
+    ensures text { (before : Naming) → label_at before (slice_index fields.now 0) ≡ option_map name_in label
+        → output.new ≡ output.old ++ columns_text before labels.now fields.now 0 (columns_of Event.Move) }
+    ensures short { length output.new ≤ length output.old + 128 }
+{
+    put_address(b" from=", fields[0], label, output);
+    let new = labels.name_at(fields[1]);
+    put_address(b" to=", fields[1], new, output);
+}
+
+fn put_intern(fields: &[u64; 4], output: &mut Output)
+    requires { length output.old + 128 ≤ 65536 }
+    ensures text { (before after : Naming) → output.new ≡ output.old ++ columns_text before after fields.now 0 (columns_of Event.Intern) }
+    ensures short { length output.new ≤ length output.old + 128 }
+{
+    put_decimal(b" id=", fields[0], output);
+    output.text(b" name=");
+    put_name(&name_of(fields[1], fields[2]), output);
+}
+
+fn put_label(fields: &[u64; 4], labels: &Labels, output: &mut Output)
+    requires { length output.old + 128 ≤ 65536 }
+    ensures text { (before : Naming) → output.new ≡ output.old ++ columns_text before labels.now fields.now 0 (columns_of Event.Label) }
+    ensures short { length output.new ≤ length output.old + 128 }
+{
+    let new = labels.name_at(fields[0]);
+    put_address(b" at=", fields[0], new, output);
+    put_decimal(b" id=", fields[1], output);
+}
+
+// The fields of a record, whose first field had this label before its effect; the labels are those after it.
+fn put_fields(
+    event: Event,
+    fields: &[u64; 4],
+    label: Option<[u8; 16]>,
+    labels: &Labels,
+    output: &mut Output,
+)
+    requires { length output.old + 128 ≤ 65536 }
+    ensures text { (before : Naming) → label_at before (slice_index fields.now 0) ≡ option_map name_in label
+        → output.new ≡ output.old ++ columns_text before labels.now fields.now 0 (columns_of event) }
+    ensures short { length output.new ≤ length output.old + 128 }
 {
     match event {
-        Event::ArenaCreate => {
-            output.text(b" ArenaCreate");
-            put_decimal(b" grains=", fields[0], output);
-            put_decimal(b" limit=", fields[1], output);
-        }
-        Event::LimitSet => {
-            output.text(b" LimitSet");
-            put_decimal(b" limit=", fields[0], output);
-        }
-        Event::PoolCreate => {
-            output.text(b" PoolCreate");
-            put_decimal(b" pool=", fields[0], output);
-            put_decimal(b" kind=", fields[1], output);
-            put_decimal(b" param=", fields[2], output);
-        }
-        Event::Flip => {
-            output.text(b" Flip");
-            put_hexadecimal(b" zones=", fields[0], output);
-            put_decimal(b" chain=", fields[1], output);
-            put_decimal(b" generation=", fields[2], output);
-        }
-        Event::SegAlloc => {
-            output.text(b" SegAlloc");
-            put_hexadecimal(b" base=", fields[0], output);
-            put_decimal(b" grains=", fields[1], output);
-            put_decimal(b" pool=", fields[2], output);
-            put_decimal(b" generation=", fields[3], output);
-        }
-        Event::SegFree => {
-            output.text(b" SegFree");
-            put_hexadecimal(b" base=", fields[0], output);
-        }
-        _ => output.text(b" End"),
+        Event::ArenaCreate => put_arena(fields, output),
+        Event::LimitSet => put_decimal(b" limit=", fields[0], output),
+        Event::PoolCreate => put_pool(fields, output),
+        Event::Flip => put_flip(fields, output),
+        Event::End => {}
+        Event::SegAlloc => put_seg(fields, output),
+        Event::SegFree => put_hexadecimal(b" base=", fields[0], output),
+        Event::Splat => put_splat(fields, label, output),
+        Event::Commit | Event::Alloc => put_extent(fields, label, output),
+        Event::Move => put_move(fields, label, labels, output),
+        Event::Stay | Event::Post | Event::Free => put_address(b" at=", fields[0], label, output),
+        Event::Intern => put_intern(fields, output),
+        Event::Label => put_label(fields, labels, output),
     }
+}
+
+// The line of a record, whose first field had this label before its effect; the labels are those after it.
+pub(crate) fn put_readable(
+    entry: &RecordLine,
+    label: Option<[u8; 16]>,
+    labels: &Labels,
+    output: &mut Output,
+)
+    requires { length output.old + 512 ≤ 65536 }
+    ensures { (before : Naming) → label_at before (slice_index entry.now.fields 0) ≡ option_map name_in label
+        → output.new ≡ output.old ++ (decimal entry.now.line ++ event_text before labels.now entry.now.event entry.now.fields ++ codes "\n") }
+{
+    output.decimal(u64::from(entry.line));
+    output.text(b" ");
+    output.text(name_of_event(entry.event));
+    put_fields(entry.event, &entry.fields, label, labels, output);
+    output.text(b"\n");
 }

@@ -3,7 +3,8 @@
 
 ghost use Rattle.std.specs.Prelude.{◌≤◌, ◌<◌};
 
-use mps_event::{Event, Version};
+use crate::labels::name_of;
+use mps_event::{Event, Version, is_padded_name};
 use mps_numbers::{decimal_number, hexadecimal_number};
 
 // A record that a line of a text spells. The fields behind those of the event are 0.
@@ -30,11 +31,23 @@ pub(crate) fn record_of_line(text: &[u8], version: Version) -> Option<RecordLine
     let code = u16::try_from(decimal_number(code)?).ok()?;
     let event = Event::of_code(code, version)?;
     let fields = fields_of(rest, event.field_count())?;
-    Some(RecordLine {
-        line,
-        event,
-        fields,
-    })
+    if interns_a_name(event, &fields) {
+        Some(RecordLine {
+            line,
+            event,
+            fields,
+        })
+    } else {
+        None
+    }
+}
+
+// Whether what a record interns, if anything, is a name.
+fn interns_a_name(event: Event, fields: &[u64; 4]) -> bool {
+    match event {
+        Event::Intern => is_padded_name(&name_of(fields[1], fields[2])),
+        _ => true,
+    }
 }
 
 // So many fields, and no more.
