@@ -36,7 +36,7 @@ find_passes p (y ∷ ys) x e = passes_by_case p y ys x (p y) refl e (λ f. find_
 pub code-is : (version : Version) (code : ℕ) (event : Event) → event_of version code ≡ Some event → code_of event ≡ code
 code-is version code event e = eqb-true _ _ (find_passes (λ x. eqb (code_of x) code) (events_of version) event e)
 
-code-lt : (event : Event) → code_of event < 65536
+pub code-lt : (event : Event) → code_of event < 65536
 code-lt ArenaCreate = lit< tt
 code-lt LimitSet = lit< tt
 code-lt PoolCreate = lit< tt
