@@ -4,3 +4,4 @@ pub mod Left
 pub mod PutOut
 pub mod Opening
 pub mod Ending
+pub mod RecordLine

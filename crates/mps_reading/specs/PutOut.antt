@@ -22,5 +22,5 @@ IsToFlush (Err stop.ReadFailed) = ⊥
 IsToFlush (Err stop.WriteFailed) = ⊥
 IsToFlush (Err stop.BadHeader) = ⊥
 IsToFlush (Err (stop.BadReplay at)) = ⊥
-IsToFlush (Err (stop.BadLine line)) = ⊥
+IsToFlush (Err (stop.BadLine line)) = Unit {0}
 IsToFlush (Err stop.OutOfMemory) = ⊥

@@ -117,6 +117,8 @@ pub fn flush_after<D: Desk>(
     ensures reported { (D.outside desk.new).reported ≡ (D.outside desk.old).reported }
     ensures err_faults { (D.outside desk.new).err_faults ≡ (D.outside desk.old).err_faults }
     ensures printed { IsToFlush result → (D.outside desk.new).printed ≡ put_out (D.outside desk.old) output.old }
+    ensures front { result ≡ Err Stop.ReadFailed → ((D.outside desk.new).printed ≡ put_out (D.outside desk.old) output.old)
+        ⊎ HasRisen (D.outside desk.old).out_faults (D.outside desk.new).out_faults }
     ensures first { (result ≡ ending) ⊎ ((result ≡ Err Stop.WriteFailed) × HasRisen (D.outside desk.old).out_faults (D.outside desk.new).out_faults) }
     ensures runs { Runs (D.outside desk.old) (D.outside desk.new) }
 {

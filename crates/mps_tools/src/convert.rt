@@ -4,7 +4,8 @@ ghost use Rattle.std.specs.Prelude.{◌≡◌, ◌≤◌, ◌<◌, ◌+◌, ◌*
 ghost use Rattle.mps_reading.specs.Causes.{IsCaused, IsTold, Works, Answers};
 ghost use Rattle.std.specs.List.{flat_map};
 ghost use Rattle.mps_event.specs.Event.{event_of};
-ghost use Rattle.mps_tools.specs.Portable.{record_line, field_text, is_wanted, line_of_kinds};
+ghost use Rattle.mps_tools.specs.Portable.{is_wanted, line_of_kinds};
+ghost use Rattle.mps_reading.specs.RecordLine.{record_line, field_text};
 ghost use Rattle.mps_reading.specs.Input.{IsAtEnd};
 ghost use Rattle.mps_reading.specs.Left.{left_of};
 ghost use Rattle.mps_reading.specs.PutOut.{put_out};

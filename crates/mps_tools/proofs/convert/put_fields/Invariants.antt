@@ -1,6 +1,6 @@
 use Rattle.std.proofs.Common.{◌≡◌, ◌≤◌, ◌+◌, ◌*◌, ◌++◌, length, take}
 use Rattle.std.specs.List.{flat_map}
-use Rattle.mps_tools.specs.Portable.{field_text}
+use Rattle.mps_reading.specs.RecordLine.{field_text}
 use Rattle.mps_tools.proofs.convert.put_fields.Given as goal
 
 abbrev pub invariant-loop-i : goal.invariant-loop-i
