@@ -1,5 +1,5 @@
 -- A text of digits, a colon and more: where its first colon is, and what stands on either side.
-use Rattle.std.proofs.Common.{◌≡◌, ℕ, ◌+◌, ◌^◌, ◌<◌, ◌≤◌, true, false, List, ◌∷◌, ◌++◌, length, take, drop, get_or, decimal, refl, ap, ◌∙◌, sym, Option, Some, None, IfSome, suc, ◌-◌, add-one, arith}
+use Rattle.std.proofs.Common.{◌≡◌, ℕ, ◌+◌, ◌^◌, ◌<◌, ◌≤◌, true, false, List, ◌∷◌, ◌++◌, length, take, drop, get_or, decimal, ap, ◌∙◌, sym, Option, Some, None, IfSome, suc, ◌-◌, add-one, arith}
 use Rattle.std.proofs.Math.ListN.{get_or-append}
 use Rattle.std.proofs.Math.Seq.{split_at, take-append_seam, drop-append-add, get_or-append_seam}
 use Rattle.std.proofs.lemmas.List.{length-append, take_rest}
@@ -9,9 +9,12 @@ use Rattle.std.specs.List.{position_or_len}
 use Rattle.std.specs.Str.Parse.{AllDigits}
 use Rattle.std.proofs.lemmas.Bool.Decides.{nat_tests}
 use Rattle.std.proofs.lemmas.List.Sums.{position_or_len_is}
-use Rattle.std.proofs.lemmas.Str.Parse.{digit_at}
-use Rattle.mps_format.specs.Decimal.{is_colon}
-use Rattle.mps_format.proofs.Decimals.{digits_of_decimal}
+use Rattle.std.proofs.lemmas.Str.Parse.{digit_at, numerals_by_value, tells_digits}
+use Rattle.std.proofs.lemmas.Fmt.{digits_decimal}
+use Rattle.mps_format.specs.HeadText.{is_colon}
+
+digits_of_decimal : (n : ℕ) → n < 2 ^ 64 → AllDigits 10 (decimal n)
+digits_of_decimal n fits = digits_decimal (numerals_by_value (AllDigits 10) tells_digits) n fits
 
 no_digit : (byte : ℕ) → 48 ≤ byte → byte ≤ 57 → is_colon byte ≡ false
 no_digit byte low high = grind (arith, nat_tests)
@@ -42,7 +45,7 @@ pub record IsCutAt (text : List ℕ) (a b colon : ℕ) : Type 0 where
   pub behind : drop (colon + 1) text ≡ decimal b
 
 pub has_colon : (text : List ℕ) (a b : ℕ) → a < 2 ^ 64 → text ≡ decimal a ++ 58 ∷ decimal b → position is_colon text ≡ Some (length (decimal a))
-has_colon text a b fits e = ap (position is_colon) e ∙ position_of_seam (decimal a) (decimal b) (digits_of_decimal (decimal a) a fits refl)
+has_colon text a b fits e = ap (position is_colon) e ∙ position_of_seam (decimal a) (decimal b) (digits_of_decimal a fits)
 
 pub cut_at_colon : (text : List ℕ) (a b colon : ℕ) → a < 2 ^ 64 → text ≡ decimal a ++ 58 ∷ decimal b → position is_colon text ≡ Some colon → IsCutAt text a b colon
 cut_at_colon text a b colon fits e p =

@@ -1,5 +1,4 @@
 pub mod Buffers
 pub mod Colons
-pub mod Decimals
 pub mod Heads
 pub mod Masks

@@ -1,5 +1,5 @@
 -- Heads as texts: `f:SIZE:REFERENCES`, `m:SIZE:MASK` and `l:SIZE`, with decimal numbers, and the words that they stand for.
-use Rattle.std.specs.Prelude.{◌≡◌, ℕ, ◌%◌, ◌^◌, ◌<◌, ◌==◌, nat_lt, nat_le, ◌&&◌, if◌then◌else◌, List, ◌∷◌, ◌++◌, codes, decimal, Option, Some, None, refl}
+use Rattle.std.specs.Prelude.{◌≡◌, ℕ, Bool, ◌%◌, ◌^◌, ◌<◌, ◌==◌, nat_lt, nat_le, ◌&&◌, if◌then◌else◌, List, ◌∷◌, ◌++◌, codes, decimal, Option, Some, None, refl}
 use Rattle.std.proofs.Common.{lit<, lit≤}
 use Rattle.std.proofs.lemmas.Fmt.{decimal_digit, decimal_step}
 use Rattle.mps_format.specs.declared.head.Head.{Head}
@@ -8,6 +8,9 @@ use Rattle.mps_format.specs.Fields.{tag_field, size_field, extra_field, head_wor
 use Rattle.mps_format.specs.Front.{is_front}
 use Rattle.mps_format.specs.Mapped.{is_mapped}
 use Rattle.mps_format.specs.Leaf.{is_leaf}
+
+abbrev pub is_colon : ℕ → Bool
+is_colon byte = byte == 58
 
 -- the text `LETTER:NUMBER`
 abbrev pub labelled : ℕ → ℕ → List ℕ

@@ -1,7 +1,6 @@
 pub mod Any
 pub mod AnyFormat
 pub mod Blocks
-pub mod Decimal
 pub mod Fields
 pub mod Front
 pub mod HeadText

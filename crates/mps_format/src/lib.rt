@@ -3,7 +3,6 @@
 #![tactic(auto)]
 
 mod any;
-mod decimal;
 mod format;
 mod front;
 mod head;

@@ -1,8 +1,8 @@
 // The numbers in a head text, behind its letter and a colon.
 ghost use Rattle.std.specs.Prelude.{◌≡◌, List, ℕ, ◌^◌, ◌<◌, ◌∷◌, ◌++◌, decimal, position, IfSome, IsSome};
-ghost use Rattle.mps_format.specs.Decimal.{is_colon};
+ghost use Rattle.mps_format.specs.HeadText.{is_colon};
 
-use crate::decimal::decimal_number;
+use mps_numbers::decimal_number;
 
 /// The place of the first colon.
 fn first_colon(text: &[u8]) -> Option<usize>

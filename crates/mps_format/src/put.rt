@@ -2,7 +2,7 @@
 ghost use Rattle.std.specs.Prelude.{◌≡◌, ◌+◌, ◌≤◌, ◌∷◌, ◌++◌, take, drop, length, decimal};
 ghost use Rattle.mps_format.specs.HeadText.{labelled, labelled_pair};
 
-use crate::decimal::put_decimal;
+use mps_numbers::put_decimal;
 
 /// Writes `LETTER:NUMBER`, and returns its length.
 pub fn put_single(letter: u8, number: u64, out: &mut [u8]) -> usize

@@ -1,22 +1,23 @@
 -- Hexadecimal texts and the numbers that they write.
-use Rattle.std.proofs.Common.{◌≡◌, ℕ, zero, suc, ◌+◌, ◌*◌, ◌/◌, ◌%◌, ◌^◌, ◌<◌, ◌≤◌, Bool, true, false, cond, eqb, List, [], ◌∷◌, ◌++◌, length, take, get_or, Some, refl, sym, ap, subst, ◌∙◌, inl, inr, arith}
-use Rattle.std.specs.Prelude.{All}
+use Rattle.std.proofs.Common.{◌≡◌, ℕ, zero, suc, ◌+◌, ◌*◌, ◌/◌, ◌%◌, ◌^◌, ◌<◌, ◌≤◌, Bool, true, false, cond, eqb, List, [], ◌∷◌, ◌++◌, length, take, get_or, take_all, Option, Some, None, nat_lt, add-one, refl, sym, ap, subst, ◌∙◌, inl, inr, arith}
+use Rattle.std.specs.Prelude.{IfSome}
 use Rattle.std.specs.Char.{digit_value}
-use Rattle.std.specs.Str.Parse.{digits_value}
+use Rattle.std.specs.Str.Parse.{digits_value, digits_value_after}
 use Rattle.std.specs.Fmt.{digit_glyph, digits_onto, digits}
 use Rattle.std.proofs.Math.Nat.{pow-suc}
 use Rattle.std.proofs.lemmas.Bool.{cases_eq, cases_lt, eq-eqb, ne_eqb}
 use Rattle.std.proofs.lemmas.List.{take_more, get_or_append_left}
-use Rattle.std.proofs.lemmas.List.Elements.{All-nil, All-cons, All-get_or}
+use Rattle.std.proofs.lemmas.Grind.{common_steps}
 use Rattle.std.proofs.lemmas.Fmt.{digits_is_IsNumeral, hex_one_digit}
 use Rattle.std.proofs.lemmas.Int.Digits.{digits_value_more}
 use Rattle.std.proofs.lemmas.Str.Parse.{digits_value-take-le}
-use Rattle.mps_numbers.specs.Decimal.{IsPlain}
 use Rattle.mps_numbers.specs.Hexadecimal.{hexadecimal}
+use Rattle.mps_numbers.specs.Reading.{digit_of, value_behind, are_digits, is_canonical, number_in}
+use Rattle.mps_numbers.proofs.Decimals.{both, plain_from, canonical_from, below_to, parts_of}
 
--- a digit 0 to 9 or a to f
-abbrev pub IsDigit : ℕ → Type 0
-IsDigit byte = (digit : ℕ) × (digit < 16) × (byte ≡ digit_glyph false digit)
+-- there are digits, and no zero in front but in `0`
+abbrev IsPlain : List ℕ → Type 0
+IsPlain text = (0 < length text) × (get_or text 0 0 ≡ 48 → length text ≡ 1)
 
 fits_hexadecimal : (n : ℕ) → n < 2 ^ 64 → n < 16 ^ 64
 fits_hexadecimal n fits = omega arith
@@ -83,20 +84,45 @@ last_digit n large fits =
 
 -- ---- all digits are digits
 
-either_digits : (last : Bool) (x y : List ℕ) → All IsDigit x → All IsDigit y → All IsDigit (cond last x y)
+is_digit : (digit : ℕ) → digit < 16 → nat_lt (digit_of (digit_glyph false digit)) 16 ≡ true
+is_digit digit small = grind (arith, common_steps)
+
+pub glyph_of_digit : (byte : ℕ) → nat_lt (digit_of byte) 16 ≡ true → (digit_of byte < 16) × (byte ≡ digit_glyph false (digit_of byte))
+glyph_of_digit byte e = grind (arith, common_steps)
+
+either_digits : (last : Bool) (x y : List ℕ) → are_digits 16 x ≡ true → are_digits 16 y ≡ true → are_digits 16 (cond last x y) ≡ true
 either_digits true x y h k = h
 either_digits false x y h k = k
 
-onto_digits : (fuel n : ℕ) (front : List ℕ) → All IsDigit front → All IsDigit (digits_onto fuel 16 false n front)
+onto_digits : (fuel n : ℕ) (front : List ℕ) → are_digits 16 front ≡ true → are_digits 16 (digits_onto fuel 16 false n front) ≡ true
 onto_digits zero n front h = h
 onto_digits (suc fuel) n front h =
-    let next : All IsDigit (digit_glyph false (n % 16) ∷ front) = All-cons IsDigit (digit_glyph false (n % 16)) front (n % 16, omega arith, refl) h in
+    let next : are_digits 16 (digit_glyph false (n % 16) ∷ front) ≡ true = rw (is_digit (n % 16) (omega arith), h) refl in
     either_digits (eqb (n / 16) 0) (digit_glyph false (n % 16) ∷ front) (digits_onto fuel 16 false (n / 16) (digit_glyph false (n % 16) ∷ front)) next
     (onto_digits fuel (n / 16) (digit_glyph false (n % 16) ∷ front) next)
 
-pub all_digits : (n : ℕ) → All IsDigit (hexadecimal n)
+all_digits : (n : ℕ) → are_digits 16 (hexadecimal n) ≡ true
 unfolding digits
-all_digits n = onto_digits 64 n [] (All-nil IsDigit)
+all_digits n = onto_digits 64 n [] refl
+
+digit_there : (text : List ℕ) (i : ℕ) → are_digits 16 text ≡ true → i < length text → nat_lt (digit_of (get_or text i 0)) 16 ≡ true
+digit_there [] i e within = absurd (omega arith)
+digit_there (byte ∷ bytes) zero e within = (both (nat_lt (digit_of byte) 16) (are_digits 16 bytes) e).0
+digit_there (byte ∷ bytes) (suc i) e within = digit_there bytes i (both (nat_lt (digit_of byte) 16) (are_digits 16 bytes) e).1 (omega arith)
+
+-- ---- the number that the digits write
+
+same_digit : (byte : ℕ) → nat_lt (digit_of byte) 16 ≡ true → digit_value byte ≡ digit_of byte
+same_digit byte e = let g = glyph_of_digit byte e in ap digit_value g.1 ∙ value_of_digit (digit_of byte) g.0
+
+same_value_behind : (n : ℕ) (text : List ℕ) → are_digits 16 text ≡ true → digits_value_after 16 n text ≡ value_behind 16 n text
+same_value_behind n [] e = refl
+same_value_behind n (byte ∷ bytes) e =
+    let k = both (nat_lt (digit_of byte) 16) (are_digits 16 bytes) e in
+    ap (λ (d : ℕ). digits_value_after 16 (n * 16 + d) bytes) (same_digit byte k.0) ∙ same_value_behind (n * 16 + digit_of byte) bytes k.1
+
+same_value : (text : List ℕ) → are_digits 16 text ≡ true → digits_value 16 text ≡ value_behind 16 0 text
+same_value text e = same_value_behind 0 text e
 
 pub value_of_hexadecimal : (n : ℕ) → n < 2 ^ 64 → digits_value 16 (hexadecimal n) ≡ n
 value_of_hexadecimal n fits = (digits_is_IsNumeral 16 false (omega arith) (omega arith) n (fits_hexadecimal n fits)).1
@@ -135,19 +161,6 @@ pub value_more : (text : List ℕ) (i number digit : ℕ) → i < length text �
 value_more text i number digit within value small is =
     omega (arith, digits_value_more 16 text i within, ap digit_value is, value_of_digit digit small, value)
 
--- ---- nothing is left out
-
-pub no_number : (text : List ℕ) (i number n : ℕ) → i < length text → digits_value 16 (take i text) ≡ number
-    → ((digit : ℕ) → digit < 16 → get_or text i 0 ≡ digit_glyph false digit → 2 ^ 64 ≤ number * 16 + digit) → n < 2 ^ 64 → text ≡ hexadecimal n → ⊥
-no_number text i number n within value none fits e =
-    let digit : IsDigit (get_or text i 0) = All-get_or IsDigit text i 0 within (subst (λ (t : List ℕ). All IsDigit t) (sym e) (all_digits n)) in
-    let front = value_more text i number digit.0 within value digit.1 digit.2 in
-    let whole : digits_value 16 text ≡ n = ap (digits_value 16) e ∙ value_of_hexadecimal n fits in
-    omega (arith, none digit.0 digit.1 digit.2, front, digits_value-take-le 16 text (i + 1) (omega arith), whole)
-
-pub only_number : (text : List ℕ) (number n : ℕ) → digits_value 16 text ≡ number → n < 2 ^ 64 → text ≡ hexadecimal n → Some number ≡ Some n
-only_number text number n value fits e = ap Some (sym value ∙ ap (digits_value 16) e ∙ value_of_hexadecimal n fits)
-
 -- ---- no zero in front
 
 some_digits : (n : ℕ) → n < 2 ^ 64 → 0 < length (hexadecimal n)
@@ -177,5 +190,41 @@ hexadecimal_plain n fits = (
   ],
 )
 
-pub hexadecimal_is_plain : (text : List ℕ) (n : ℕ) → n < 2 ^ 64 → text ≡ hexadecimal n → IsPlain text
-hexadecimal_is_plain text n fits e = subst (λ (t : List ℕ). IsPlain t) (sym e) (hexadecimal_plain n fits)
+-- ---- what a reader answers
+
+written_to : (text : List ℕ) (i : ℕ) → IsPlain text → are_digits 16 text ≡ true → digits_value 16 text < 2 ^ 64 → i ≤ length text → 0 < i → take i text ≡ hexadecimal (digits_value 16 (take i text))
+written_to text zero plain are fits within some = absurd (omega arith)
+written_to text (suc i) plain are fits within some =
+    let there : i < length text = omega arith in
+    let g = glyph_of_digit (get_or text i 0) (digit_there text i are there) in
+    let more = value_more text i (digits_value 16 (take i text)) (digit_of (get_or text i 0)) there refl g.0 g.1 in
+    let bound = digits_value-take-le 16 text (i + 1) (omega arith) in
+    let next : take (i + 1) text ≡ hexadecimal (digits_value 16 (take (i + 1) text)) =
+    written_more text i (digits_value 16 (take i text)) (digit_of (get_or text i 0)) plain there refl (λ up. written_to text i plain are fits (omega arith) up) g.0 g.1
+    (omega (arith, more, bound, fits)) ∙ ap hexadecimal (sym more) in
+    subst (λ (k : ℕ). take k text ≡ hexadecimal (digits_value 16 (take k text))) (add-one i) next
+
+-- the number that a text writes is written by just this text
+read_is_written : (text : List ℕ) (n : ℕ) → number_in 16 text ≡ Some n → text ≡ hexadecimal n
+read_is_written text n e =
+    let k = parts_of (is_canonical text) (are_digits 16 text) (value_behind 16 0 text) n e in
+    let plain = plain_from text k.0 in
+    let value : digits_value 16 text ≡ n = same_value text k.1 ∙ k.2 in
+    let all : take (length text) text ≡ text = take_all (length text) text (omega arith) in
+    sym all ∙ written_to text (length text) plain k.1 (omega (arith, value, k.3, k.2)) (omega arith) plain.0 ∙ ap (λ (t : List ℕ). hexadecimal (digits_value 16 t)) all ∙ ap hexadecimal value
+
+-- what is written for a number is read as this number
+written_is_read : (n : ℕ) → n < 2 ^ 64 → number_in 16 (hexadecimal n) ≡ Some n
+written_is_read n fits =
+    let plain = hexadecimal_plain n fits in
+    let canonical = canonical_from (hexadecimal n) plain.0 plain.1 in
+    let digits = all_digits n in
+    let value : value_behind 16 0 (hexadecimal n) ≡ n = sym (same_value (hexadecimal n) digits) ∙ value_of_hexadecimal n fits in
+    rw (canonical, digits, value) (below_to n fits)
+
+pub found_as_written : (text : List ℕ) (r : Option ℕ) → r ≡ number_in 16 text → IfSome r (λ n. text ≡ hexadecimal n)
+found_as_written text (Some n) e = read_is_written text n (sym e)
+found_as_written text None e = tt
+
+pub written_is_found : (text : List ℕ) (r : Option ℕ) (n : ℕ) → r ≡ number_in 16 text → n < 2 ^ 64 → text ≡ hexadecimal n → r ≡ Some n
+written_is_found text r n e fits written = e ∙ ap (number_in 16) written ∙ written_is_read n fits

@@ -1,2 +1,2 @@
-pub mod Decimal
 pub mod Hexadecimal
+pub mod Reading

@@ -1,12 +1,12 @@
 // Hexadecimal numbers in texts: lower case, without leading zeros.
 
-ghost use Rattle.std.specs.Prelude.{◌≡◌, ◌<◌, ◌≤◌, ◌+◌, ◌*◌, ◌++◌, ◌^◌, ℕ, false, length, take, drop, IfSome, IfNone};
+ghost use Rattle.std.specs.Prelude.{◌≡◌, ◌<◌, ◌≤◌, ◌+◌, ◌++◌, ◌^◌, ℕ, false, length, take, drop, IfSome};
 ghost use Rattle.std.specs.Fmt.{digit_glyph};
-ghost use Rattle.mps_numbers.specs.Decimal.{IsPlain};
 ghost use Rattle.mps_numbers.specs.Hexadecimal.{hexadecimal};
+ghost use Rattle.mps_numbers.specs.Reading.{number_in};
 
-use crate::decimal::is_plain;
 use crate::put::put_text;
+use crate::reading::number;
 
 // The digit of a number below 16.
 fn glyph(digit: u64) -> u8
@@ -36,62 +36,25 @@ fn digits_at_end(number: u64, room: &mut [u8; 16]) -> usize
     at
 }
 
-/// Writes a number at `at`, and answers the place behind it.
+/// Writes a number at `at`, and answers the place behind it. What stands before and behind stays.
 pub fn put_hexadecimal(number: u64, out: &mut [u8], at: usize) -> usize
     requires { at + 16 ≤ length out.old }
     ensures end { result ≡ at + length (hexadecimal number) }
     ensures short { result ≤ at + 16 }
     ensures text { take result out.new ≡ take at out.old ++ hexadecimal number }
+    ensures rest { drop result out.new ≡ drop result out.old }
 {
     let mut room = [0u8; 16];
     let from = digits_at_end(number, &mut room);
     put_text(&room[from..], out, at)
 }
 
-// What a digit stands for; None where it is none.
-fn digit_of(byte: u8) -> Option<u64>
-    ensures found { IfSome result (λ digit. (digit < 16) × (byte ≡ digit_glyph false digit)) }
-    ensures none { IfNone result ((digit : ℕ) → digit < 16 → byte ≡ digit_glyph false digit → ⊥) }
-{
-    match byte {
-        b'0'..=b'9' => Some(u64::from(byte - b'0')),
-        b'a'..=b'f' => Some(u64::from(byte - b'a') + 10),
-        _ => None,
-    }
-}
-
-// The number with one digit more; None where the byte is no digit, or the number is 2^64 or more.
-fn with_digit(number: u64, byte: u8) -> Option<u64>
-    ensures found { IfSome result (λ n. (digit : ℕ) × (digit < 16) × (byte ≡ digit_glyph false digit) × (n ≡ number * 16 + digit) × (n < 2 ^ 64)) }
-    ensures none { IfNone result ((digit : ℕ) → digit < 16 → byte ≡ digit_glyph false digit → 2 ^ 64 ≤ number * 16 + digit) }
-{
-    number.checked_mul(16)?.checked_add(digit_of(byte)?)
-}
-
-// The number that digits write: None where one is no digit, or the number is 2^64 or more.
-fn number_of_digits(text: &[u8]) -> Option<u64>
-    ensures found { IfSome result (λ n. IsPlain text.now → text.now ≡ hexadecimal n) }
-    ensures exact { (n : ℕ) → n < 2 ^ 64 → text.now ≡ hexadecimal n → result ≡ Some n }
-{
-    let mut number: u64 = 0;
-    for byte in text {
-        match with_digit(number, *byte) {
-            Some(more) => number = more,
-            None => return None,
-        }
-    }
-    Some(number)
-}
-
 /// The number that the text writes in lower case without leading zeros; None where it is in another form, or has more
-/// than 16 digits.
+/// than 16 digits. It is read from just the text that is written for it.
 pub fn hexadecimal_number(text: &[u8]) -> Option<u64>
+    ensures number { result ≡ number_in 16 text.now }
     ensures found { IfSome result (λ n. text.now ≡ hexadecimal n) }
     ensures exact { (n : ℕ) → n < 2 ^ 64 → text.now ≡ hexadecimal n → result ≡ Some n }
 {
-    if is_plain(text) {
-        number_of_digits(text)
-    } else {
-        None
-    }
+    number(16, text)
 }

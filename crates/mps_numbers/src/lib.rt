@@ -4,6 +4,7 @@
 mod decimal;
 mod hexadecimal;
 mod put;
+mod reading;
 
 pub use decimal::{decimal_number, put_decimal};
 pub use hexadecimal::{hexadecimal_number, put_hexadecimal};

@@ -2,15 +2,14 @@
 use Rattle.std.proofs.Common.{◌≡◌, ℕ, ◌+◌, ◌^◌, ◌<◌, ◌==◌, nat_lt, Bool, true, false, cond, if◌then◌else◌, Option, Some, None, option_and_then, IfSome, List, [], ◌∷◌, ◌++◌, length, take, drop, decimal, refl, ap, ◌∙◌, sym, subst, ◌⊎◌, inl, inr, arith}
 use Rattle.std.specs.List.{position_or_len}
 use Rattle.std.proofs.lemmas.Grind.{common_steps}
-use Rattle.mps_format.specs.Decimal.{is_colon}
 use Rattle.mps_format.specs.declared.head.Head.{Head}
 use Rattle.mps_format.specs.declared.head.Head.TheVariants.{Front, Mapped, Leaf}
-use Rattle.mps_format.specs.HeadText.{text_of, IsInWords}
+use Rattle.mps_format.specs.HeadText.{is_colon, text_of, IsInWords}
 use Rattle.mps_format.proofs.Colons.{has_colon, cut_at_colon, joined_at_colon}
 use Rattle.mps_script.specs.Word.{cut_at}
 use Rattle.mps_script.specs.Number.{decimal_number}
 use Rattle.mps_script.specs.Head.{two_numbers, head_behind, head_in}
-use Rattle.mps_script.proofs.Decimals.{read_is_written, written_is_read}
+use Rattle.mps_numbers.proofs.Decimals.{read_is_written, written_is_read}
 
 some_of : {A B : Type 0} (f : A → Option B) (o : Option A) (r : B) → option_and_then f o ≡ Some r → (x : A) × (o ≡ Some x) × (f x ≡ Some r)
 some_of f (Some x) r e = (x, refl, e)

@@ -1,4 +1,2 @@
 pub mod FirstWord
-pub mod Digits
-pub mod Decimals
 pub mod Heads

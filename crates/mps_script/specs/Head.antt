@@ -1,15 +1,11 @@
 -- Head texts. `f:SIZE:REFS`, `m:SIZE:MASK` and `l:SIZE` stand for the head word of their format where the numbers keep its
 -- rules, and for 0, which is no head, where they don't.
-use Rattle.std.specs.Prelude.{ℕ, ◌≡◌, ◌==◌, Bool, if◌then◌else◌, codes, Option, Some, None, option_and_then, List, [], ◌∷◌, refl}
+use Rattle.std.specs.Prelude.{ℕ, ◌≡◌, ◌==◌, if◌then◌else◌, codes, Option, Some, None, option_and_then, List, [], ◌∷◌, refl}
 use Rattle.mps_format.specs.declared.head.Head.{Head}
 use Rattle.mps_format.specs.declared.head.Head.TheVariants.{Front, Mapped, Leaf}
-use Rattle.mps_format.specs.HeadText.{word_of}
+use Rattle.mps_format.specs.HeadText.{is_colon, word_of}
 use Rattle.mps_script.specs.Word.{cut_at}
 use Rattle.mps_script.specs.Number.{decimal_number}
-
--- the byte is a colon
-abbrev pub is_colon : ℕ → Bool
-is_colon b = b == 58
 
 -- two decimal numbers with a colon between them
 abbrev pub two_numbers : List ℕ → Option (ℕ × ℕ)

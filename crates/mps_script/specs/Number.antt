@@ -1,39 +1,7 @@
 -- Numbers as words. A decimal number has no leading zero and is below 2^64. A hexadecimal one stands behind `0x`, in
 -- lower case, and so has at most 16 digits.
-use Rattle.std.specs.Prelude.{ℕ, ◌≡◌, ◌+◌, ◌-◌, ◌*◌, ◌^◌, ◌==◌, nat_lt, nat_le, Bool, true, false, ◌&&◌, not, if◌then◌else◌, codes, Option, Some, None, option_and_then, List, [], ◌∷◌, refl}
-use Rattle.std.specs.List.{list_all}
-
--- what a digit stands for, up to 15 for `f`; 16 for a byte that is no digit
-abbrev pub digit_of : ℕ → ℕ
-digit_of b = if nat_lt b 48 then 16 else (if nat_lt b 58 then b - 48 else (if nat_lt b 97 then 16 else (if nat_lt b 103 then b - 87 else 16)))
-
--- the number that digits write behind those of n
-abbrev pub value_behind : ℕ → ℕ → List ℕ → ℕ
-value_behind base n [] = n
-value_behind base n (b ∷ bs) = value_behind base (n * base + digit_of b) bs
-
--- the number that digits write
-abbrev pub digits_value : ℕ → List ℕ → ℕ
-digits_value base digits = value_behind base 0 digits
-
--- each byte is a digit of the base
-abbrev pub are_digits : ℕ → List ℕ → Bool
-are_digits base bytes = list_all (λ b. nat_lt (digit_of b) base) bytes
-
--- one byte or more, and no leading zero but in `0`
-abbrev pub is_canonical : List ℕ → Bool
-is_canonical [] = false
-is_canonical (b ∷ []) = true
-is_canonical (b ∷ _ ∷ _) = not (b == 48)
-
--- the number, where it is below 2^64
-abbrev pub below_word : ℕ → Option ℕ
-below_word n = if nat_lt n (2 ^ 64) then Some n else None
-
--- the number that the digits write, where they are in the right form and it is below 2^64
-abbrev pub number_in : ℕ → List ℕ → Option ℕ
-number_in base digits =
-    if is_canonical digits then (if are_digits base digits then below_word (digits_value base digits) else None) else None
+use Rattle.std.specs.Prelude.{ℕ, ◌≡◌, ◌==◌, nat_le, ◌&&◌, if◌then◌else◌, codes, Option, Some, None, option_and_then, List, [], ◌∷◌, refl}
+use Rattle.mps_numbers.specs.Reading.{number_in}
 
 -- a decimal number
 abbrev pub decimal_number : List ℕ → Option ℕ

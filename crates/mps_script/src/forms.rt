@@ -5,10 +5,11 @@ ghost use Rattle.mps_script.specs.Form.{arena_call, table_call, pool_call, point
 
 use crate::head::head;
 use crate::names::{name, slot};
-use crate::number::{any_number, decimal, within};
+use crate::number::{any_number, within};
 use crate::words::{three, two};
 use mps_base::{Kind, Rank};
 use mps_model::Call;
+use mps_numbers::decimal_number;
 
 /// `arena GRAINS LIMIT`.
 fn arena(arguments: &[u8]) -> Option<Call>
@@ -81,7 +82,7 @@ fn init(arguments: &[u8]) -> Option<Call>
 {
     let (first, second, third) = three(arguments)?;
     let point = name(first)?;
-    let cell = decimal(second)?;
+    let cell = decimal_number(second)?;
     let value = any_number(third)?;
     Some(Call::InitNumber { point, cell, value })
 }
@@ -102,7 +103,7 @@ fn number(arguments: &[u8]) -> Option<Call>
 {
     let (first, second) = two(arguments)?;
     let slot = slot(first)?;
-    let cell = decimal(second)?;
+    let cell = decimal_number(second)?;
     Some(Call::Number { slot, cell })
 }
 

@@ -3,9 +3,9 @@ ghost use Rattle.std.specs.Prelude.{◌≡◌, Some, None};
 ghost use Rattle.std.specs.List.{list_all};
 ghost use Rattle.mps_script.specs.Name.{is_letter, is_name_byte, is_name, name_of, slot_of};
 
-use crate::number::decimal;
 use crate::words::cut;
 use mps_base::{Name, Slot};
+use mps_numbers::decimal_number;
 
 fn letter(byte: u8) -> bool
     ensures { result ≡ is_letter byte }
@@ -55,6 +55,6 @@ pub fn slot(word: &[u8]) -> Option<Slot>
 {
     let (front, behind) = cut(b'.', word)?;
     let name = name(front)?;
-    let index = decimal(behind)?;
+    let index = decimal_number(behind)?;
     Some(Slot { name, index })
 }

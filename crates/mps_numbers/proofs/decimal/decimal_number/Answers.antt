@@ -1,15 +1,9 @@
--- A plain text of digits is what is written for the number that it writes.
-use Rattle.mps_numbers.proofs.Decimals.{found_decimal, exact_decimal, decimal_is_plain}
+-- A decimal number is read from just the text that is written for it.
+use Rattle.mps_numbers.proofs.Decimals.{found_as_written, written_is_found}
 use Rattle.mps_numbers.proofs.decimal.decimal_number.Goals as goal
 
-pub returns-then-is_plain-clause-found : goal.returns-then-is_plain-clause-found
-returns-then-is_plain-clause-found c =
-    found_decimal c.args.text.now c.number_of_digits.result (c.is_plain.ensures.0 c.if-is_plain.true) c.number_of_digits.ensures.found
+pub returns-clause-found : goal.returns-clause-found
+returns-clause-found c = found_as_written c.args.text.now c.number.result c.number.ensures
 
-pub returns-then-is_plain-clause-exact : goal.returns-then-is_plain-clause-exact
-returns-then-is_plain-clause-exact c = λ n fits e. exact_decimal c.args.text.now c.number_of_digits.result n fits e c.number_of_digits.ensures.found c.number_of_digits.ensures.none
-
-pub returns-else-is_plain-clause-exact : goal.returns-else-is_plain-clause-exact
-returns-else-is_plain-clause-exact c = λ n fits e.
-    let plain = c.is_plain.ensures.1 (decimal_is_plain c.args.text.now n fits e) in
-    absurd cc
+pub returns-clause-exact : goal.returns-clause-exact
+returns-clause-exact c = λ n fits e. written_is_found c.args.text.now c.number.result n c.number.ensures fits e

@@ -1,7 +1,7 @@
 use Rattle.std.proofs.Common.{◌≡◌, ◌≤◌, ◌+◌, ◌*◌, ◌^◌, ◌∙◌, ap, get_or, drop, arith}
-use Rattle.mps_script.specs.Number.{digit_of, value_behind}
-use Rattle.mps_script.proofs.Digits.{overflows, value_step, all_read, at_least}
-use Rattle.mps_script.proofs.number.value.Goals as goal
+use Rattle.mps_numbers.specs.Reading.{digit_of, value_behind}
+use Rattle.mps_numbers.proofs.Values.{overflows, value_step, all_read, at_least}
+use Rattle.mps_numbers.proofs.reading.value.Goals as goal
 
 pub returns-in_err-checked_mul : goal.returns-in_err-checked_mul
 returns-in_err-checked_mul c =

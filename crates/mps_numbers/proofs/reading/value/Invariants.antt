@@ -1,6 +1,6 @@
 use Rattle.std.proofs.Common.{◌≡◌, ◌<◌, ◌^◌, drop}
-use Rattle.mps_script.specs.Number.{value_behind, digits_value}
-use Rattle.mps_script.proofs.number.value.Given as goal
+use Rattle.mps_numbers.specs.Reading.{value_behind, digits_value}
+use Rattle.mps_numbers.proofs.reading.value.Given as goal
 
 abbrev pub invariant-loop-b : goal.invariant-loop-b
 invariant-loop-b l = record {

@@ -2,7 +2,7 @@
 use Rattle.std.proofs.Common.{◌≡◌, ℕ, ◌+◌, ◌*◌, ◌^◌, ◌<◌, ◌≤◌, Some, None, List, [], ◌∷◌, length, drop, get_or, refl, ◌∙◌, ap, add-one, drop-cons, arith}
 use Rattle.std.proofs.Math.Nat.{le-mul_of_pos_right}
 use Rattle.std.proofs.lemmas.Grind.{common_steps}
-use Rattle.mps_script.specs.Number.{value_behind, digits_value, digit_of, below_word}
+use Rattle.mps_numbers.specs.Reading.{value_behind, digits_value, digit_of, below_word}
 
 -- the number so far is no larger than the whole
 value_grows : (base n : ℕ) (bs : List ℕ) → 1 ≤ base → n ≤ value_behind base n bs

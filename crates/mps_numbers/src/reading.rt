@@ -1,0 +1,59 @@
+// The number that digits of a base write.
+ghost use Rattle.std.specs.Prelude.{◌≡◌, ◌≤◌};
+ghost use Rattle.mps_numbers.specs.Reading.{digit_of, digits_value, are_digits, below_word, is_canonical, number_in};
+
+/// What a digit stands for, up to 15 for `f`; 16 for a byte that is no digit.
+fn digit(byte: u8) -> u64
+    ensures value { result ≡ digit_of byte }
+    ensures small { result ≤ 16 }
+{
+    match byte {
+        b'0'..=b'9' => u64::from(byte - b'0'),
+        b'a'..=b'f' => u64::from(byte - b'a') + 10,
+        _ => 16,
+    }
+}
+
+/// One byte or more, and no leading zero but in `0`.
+fn is_plain(digits: &[u8]) -> bool
+    ensures { result ≡ is_canonical digits.now }
+{
+    match digits {
+        [] => false,
+        [_] => true,
+        [first, _, ..] => *first != b'0',
+    }
+}
+
+/// Each byte is a digit of the base.
+fn all_digits(base: u64, bytes: &[u8]) -> bool
+    ensures { result ≡ are_digits base bytes.now }
+{
+    bytes.iter().all(|b| digit(*b) < base)
+}
+
+/// The number that digits write; None where it is 2^64 or more.
+fn value(base: u64, digits: &[u8]) -> Option<u64>
+    requires { 1 ≤ base }
+    ensures { result ≡ below_word (digits_value base digits.now) }
+{
+    let mut n: u64 = 0;
+    for b in digits {
+        n = n.checked_mul(base)?.checked_add(digit(*b))?;
+    }
+    Some(n)
+}
+
+/// The number that digits of a base write, where they are in the right form.
+pub fn number(base: u64, digits: &[u8]) -> Option<u64>
+    requires { 1 ≤ base }
+    ensures { result ≡ number_in base digits.now }
+{
+    if !is_plain(digits) {
+        return None;
+    }
+    if !all_digits(base, digits) {
+        return None;
+    }
+    value(base, digits)
+}
