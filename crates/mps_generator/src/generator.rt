@@ -1,11 +1,12 @@
 // `gen`: prints a generated script.
 
-ghost use Rattle.std.specs.Prelude.{◌≡◌, ◌≤◌, ◌⊎◌, [], length, OnOk, OnErr};
+ghost use Rattle.std.specs.Prelude.{◌≡◌, ◌≤◌, ◌⊎◌, ◌++◌, [], length, OnOk, OnErr};
 ghost use Rattle.std.specs.List.{flat_map};
-ghost use Rattle.mps_base.specs.Desk.{HasRisen};
-ghost use Rattle.mps_generator.specs.Ending.{IsGenerated};
+ghost use Rattle.mps_generator.specs.Ending.{IsGenerated, FailsWithin};
 ghost use Rattle.mps_generator.specs.Script.{script};
-ghost use Rattle.mps_output.specs.Streams.{Prints, Gathers};
+ghost use Rattle.mps_output.specs.Reports.{report_of};
+ghost use Rattle.mps_output.specs.Streams.{Prints, PrintsPart, Gathers, Reports};
+ghost use Rattle.mps_output.specs.declared.stop.Stop.TheVariants.{OutOfMemory};
 
 use crate::lines::GenLines;
 use mps_base::{Desk, Failed};
@@ -13,12 +14,13 @@ use mps_output::{Output, Stop, finish};
 use std::alloc::Global;
 
 /// Prints the generated script of a seed, of so many steps, and answers the status of the program: 0, or with a report 4
-/// where a write failed, 8 for want of memory.
+/// where a write failed, 8 for want of memory. It prints and reports, and does nothing else.
 pub fn generate<D: Desk>(alloc: Global, seed: u64, count: u64, desk: &mut D) -> u8
     requires { count ≤ 1000000 }
     ensures whole { result ≡ 0 → Prints (D.outside desk.old) (D.outside desk.new) (script seed count) }
     ensures known { (result ≡ 0) ⊎ (result ≡ 4) ⊎ (result ≡ 8) }
-    ensures write_fault { result ≡ 4 → HasRisen (D.outside desk.old).out_faults (D.outside desk.new).out_faults }
+    ensures failed { result ≡ 4 → FailsWithin (D.outside desk.old) (D.outside desk.new) (script seed count) }
+    ensures no_memory { result ≡ 8 → Reports (D.outside desk.old) (D.outside desk.new) (report_of OutOfMemory) }
 {
     let ending = print_script(alloc, seed, count, desk);
     finish(ending, desk)
@@ -46,7 +48,7 @@ fn print_all_lines<D: Desk>(
 ) -> Result<(), Failed>
     requires { output.old ≡ [] }
     ensures printed { OnOk result (Prints (D.outside desk.old) (D.outside desk.new) (flat_map (λ line. line) lines.old)) }
-    ensures cause { OnErr result (HasRisen (D.outside desk.old).out_faults (D.outside desk.new).out_faults) }
+    ensures failed { OnErr result (PrintsPart (D.outside desk.old) (D.outside desk.new) (flat_map (λ line. line) lines.old)) }
 {
     gather_lines(lines, output, desk)?;
     output.flush(desk)
@@ -58,7 +60,7 @@ fn gather_lines<D: Desk>(
     desk: &mut D,
 ) -> Result<(), Failed>
     ensures gathered { OnOk result (Gathers (D.outside desk.old) (D.outside desk.new) output.old output.new (flat_map (λ line. line) lines.old)) }
-    ensures cause { OnErr result (HasRisen (D.outside desk.old).out_faults (D.outside desk.new).out_faults) }
+    ensures failed { OnErr result (PrintsPart (D.outside desk.old) (D.outside desk.new) (output.old ++ flat_map (λ line. line) lines.old)) }
 {
     let mut line = [0u8; 64];
     while let Some(length) = lines.next_line(&mut line) {
@@ -70,7 +72,7 @@ fn gather_lines<D: Desk>(
 fn gather_line<D: Desk>(text: &[u8], output: &mut Output, desk: &mut D) -> Result<(), Failed>
     requires { length text.now ≤ 64 }
     ensures gathered { OnOk result (Gathers (D.outside desk.old) (D.outside desk.new) output.old output.new text.now) }
-    ensures cause { OnErr result (HasRisen (D.outside desk.old).out_faults (D.outside desk.new).out_faults) }
+    ensures failed { OnErr result (PrintsPart (D.outside desk.old) (D.outside desk.new) output.old) }
 {
     output.make_room(desk)?;
     output.text(text);
