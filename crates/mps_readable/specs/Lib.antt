@@ -1,2 +1,5 @@
 pub mod Labels
 pub mod Readable
+pub mod Cuts
+pub mod Line
+pub mod NextLine

@@ -1,6 +1,7 @@
 //! The readable text of a portable text: each line of numbers becomes a line of words.
 #![tactic(auto)]
 
+mod cuts;
 mod labels;
 mod readable;
 mod record_line;

@@ -1,10 +1,15 @@
 // `txt`: the readable text of a portable text.
 
-ghost use Rattle.std.specs.Prelude.{◌≡◌, ◌≤◌, ◌+◌, true, false, length, IfOk, IfSome};
+ghost use Rattle.std.specs.Prelude.{◌≡◌, ◌≤◌, ◌+◌, true, false, None, [], length, IfOk, IfErr, IfSome, IfNone, OnOk, OnErr};
+ghost use Rattle.mps_base.specs.Record.{Record};
 ghost use Rattle.mps_base.specs.Desk.{HasRisen};
 ghost use Rattle.mps_reading.specs.Causes.{IsCaused, IsTold, Works, Answers};
 ghost use Rattle.mps_output.specs.Streams.{Runs};
+ghost use Rattle.mps_readable.specs.Labels.{after_record};
+ghost use Rattle.mps_readable.specs.Line.{Spells};
+ghost use Rattle.mps_readable.specs.NextLine.{IsFront, HasNoLine, PutsLine};
 
+use crate::cuts::place_of;
 use crate::labels::{LabelFault, Labels};
 use crate::readable::{label_before, put_readable};
 use crate::record_line::record_of_line;
@@ -85,9 +90,12 @@ fn first_line(input: &Input) -> Result<(Version, usize), Stop>
 fn next_line(input: &Input, number: u64) -> Result<Option<(&[u8], usize)>, Stop>
     ensures told { IsTold input.now result }
     ensures size { IfOk result (λ o. IfSome o (λ found. found.1 ≤ length input.now.pending)) }
+    ensures line { IfOk result (λ o. IfSome o (λ found. IsFront input.now found.0.now found.1)) }
+    ensures end { IfOk result (λ o. IfNone o ((input.now.pending ≡ []) × (input.now.failed ≡ false))) }
+    ensures none { IfErr result (λ why. HasNoLine input.now number why) }
 {
     let bytes = input.pending();
-    match bytes.iter().position(|byte| *byte == b'\n') {
+    match place_of(b'\n', bytes) {
         Some(end) if end <= LONGEST_LINE => Ok(Some((&bytes[..end], end + 1))),
         Some(_) => Err(Stop::BadLine(number)),
         None if bytes.len() > LONGEST_LINE => Err(Stop::BadLine(number)),
@@ -153,6 +161,7 @@ fn read_line(
     }
 }
 
+// Takes the record of a line and puts out its readable line.
 fn put_line(
     line: &[u8],
     version: Version,
@@ -160,6 +169,9 @@ fn put_line(
     output: &mut Output,
 ) -> Result<(), LabelFault>
     requires { length output.old + 512 ≤ 65536 }
+    ensures put { OnOk result (PutsLine version line.now labels.old labels.new output.old output.new) }
+    ensures bad { result ≡ Err LabelFault.BadLine → (r : Record) → Spells version line.now r → after_record version labels.old r ≡ None }
+    ensures nothing { OnErr result (output.new ≡ output.old) }
 {
     let entry = match record_of_line(line, version) {
         Some(entry) => entry,
