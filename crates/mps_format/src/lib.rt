@@ -20,4 +20,6 @@ pub use leaf::Leaf;
 pub use mapped::Mapped;
 
 #[cfg(test)]
+mod method_tests;
+#[cfg(test)]
 mod tests;
