@@ -8,3 +8,6 @@ mod record_line;
 mod textual;
 
 pub use textual::txt;
+
+#[cfg(test)]
+mod tests;
