@@ -6,3 +6,10 @@ mod Words
 mod Lines
 mod Spelling
 mod PutLines
+mod Closed
+mod Fronts
+pub mod NextLine
+pub mod AllLines
+pub mod FirstLines
+pub mod WholeText
+pub mod OnlyReading

@@ -1,13 +1,20 @@
 // `txt`: the readable text of a portable text.
 
-ghost use Rattle.std.specs.Prelude.{◌≡◌, ◌≤◌, ◌+◌, true, false, None, [], length, IfOk, IfErr, IfSome, IfNone, OnOk, OnErr};
+ghost use Rattle.std.specs.Prelude.{◌≡◌, ◌≢◌, ◌≤◌, ◌+◌, ℕ, List, Some, true, false, None, [], length, IfOk, IfErr, IfSome, IfNone, OnOk, OnErr};
 ghost use Rattle.mps_base.specs.Record.{Record};
 ghost use Rattle.mps_base.specs.Desk.{HasRisen};
+ghost use Rattle.mps_event.specs.declared.version.Version.{Version};
 ghost use Rattle.mps_reading.specs.Causes.{IsCaused, IsTold, Works, Answers};
+ghost use Rattle.mps_reading.specs.Ending.{is_whole_status};
+ghost use Rattle.mps_reading.specs.Input.{IsAtEnd};
+ghost use Rattle.mps_reading.specs.Left.{left_of};
+ghost use Rattle.mps_reading.specs.PutOut.{put_out};
 ghost use Rattle.mps_output.specs.Streams.{Runs};
-ghost use Rattle.mps_readable.specs.Labels.{after_record};
+ghost use Rattle.mps_readable.specs.Labels.{no_names, after_record};
 ghost use Rattle.mps_readable.specs.Line.{Spells};
 ghost use Rattle.mps_readable.specs.NextLine.{IsFront, HasNoLine, PutsLine};
+ghost use Rattle.mps_readable.specs.Text.{HasRead, ReadWith, IsOnlyReading};
+ghost use Rattle.mps_readable.specs.TextSteps.{PendingLine, NextLine, AllLines, first_text, FindsFirst, TakesFirst, TextOpens};
 
 use crate::cuts::place_of;
 use crate::labels::{LabelFault, Labels};
@@ -26,7 +33,14 @@ const LONGEST_LINE: usize = 4096;
 /// or with a report 3 where a read failed, 4 where a write failed, 6 at the first line that is wrong, 7 where line 2^32
 /// begins, 8 for want of memory.
 pub fn txt<D: Desk>(alloc: Global, text: &str, desk: &mut D) -> u8
-    ensures { Answers (D.outside desk.old) (D.outside desk.new) result }
+    ensures answers { Answers (D.outside desk.old) (D.outside desk.new) result }
+    // Where the opened file is told: this was read, printed and reported, and where a read failed, what had come before.
+    ensures readable { (bytes : List ℕ) → (D.outside desk.old).text text.now ≡ Some bytes
+        → ReadWith bytes result (D.outside desk.old) (D.outside desk.new) }
+    // And nothing else, where the status is none of a fault or for want of memory: a whole text gives 0 and all of its
+    // readable text, one with a wrong line gives 6, its number and the text before it.
+    ensures only { is_whole_status result ≡ true → (bytes : List ℕ) → (D.outside desk.old).text text.now ≡ Some bytes
+        → IsOnlyReading bytes result (D.outside desk.old) (D.outside desk.new) }
 {
     let ending = read_text(alloc, text, desk);
     finish(ending, desk)
@@ -35,6 +49,10 @@ pub fn txt<D: Desk>(alloc: Global, text: &str, desk: &mut D) -> u8
 fn read_text<D: Desk>(alloc: Global, text: &str, desk: &mut D) -> Result<(), Stop>
     ensures cause { IsCaused (D.outside desk.old) (D.outside desk.new) result }
     ensures runs { Runs (D.outside desk.old) (D.outside desk.new) }
+    ensures reported { (D.outside desk.new).reported ≡ (D.outside desk.old).reported }
+    ensures err_faults { (D.outside desk.new).err_faults ≡ (D.outside desk.old).err_faults }
+    ensures read { (bytes : List ℕ) → (D.outside desk.old).text text.now ≡ Some bytes
+        → HasRead bytes result (D.outside desk.old) (D.outside desk.new) }
 {
     let mut input = match Input::new(alloc) {
         Ok(input) => input,
@@ -53,20 +71,26 @@ fn read_text<D: Desk>(alloc: Global, text: &str, desk: &mut D) -> Result<(), Sto
 
 // Opens a text and takes its first line.
 fn open_text<D: Desk>(text: &str, input: &mut Input, desk: &mut D) -> Result<Version, Stop>
-    requires { input.old.failed ≡ false }
+    requires { input.old ≡ record { pending = []; ended = false; failed = false } }
+    ensures opened { (bytes : List ℕ) → (D.outside desk.old).text text.now ≡ Some bytes → TextOpens bytes (left_of (D.outside desk.new) input.new) result }
+    ensures reported { (D.outside desk.new).reported ≡ (D.outside desk.old).reported }
+    ensures err_faults { (D.outside desk.new).err_faults ≡ (D.outside desk.old).err_faults }
+    ensures at_end { OnOk result (IsAtEnd (D.outside desk.new) input.new) }
+    ensures printed { (D.outside desk.new).printed ≡ (D.outside desk.old).printed }
     ensures cause { IsCaused (D.outside desk.old) (D.outside desk.new) result }
     ensures fault { input.new.failed ≡ true → HasRisen (D.outside desk.old).in_faults (D.outside desk.new).in_faults }
     ensures runs { Runs (D.outside desk.old) (D.outside desk.new) }
 {
-    if desk.open(text).is_err() {
+    let Ok(()) = desk.open(text) else {
         return Err(Stop::ReadFailed);
-    }
+    };
     input.fill(LONGEST_LINE + 1, desk);
     take_first_line(input)
 }
 
 fn take_first_line(input: &mut Input) -> Result<Version, Stop>
     ensures told { IsTold input.old result }
+    ensures taken { TakesFirst input.old input.new result }
     ensures failed { input.new.failed ≡ input.old.failed }
 {
     let (version, size) = first_line(input)?;
@@ -78,11 +102,26 @@ fn take_first_line(input: &mut Input) -> Result<Version, Stop>
 fn first_line(input: &Input) -> Result<(Version, usize), Stop>
     ensures told { IsTold input.now result }
     ensures size { IfOk result (λ found. found.1 ≤ length input.now.pending) }
+    ensures found { FindsFirst input.now result }
 {
     match next_line(input, 1)? {
-        Some((b"mpslog 1", size)) => Ok((Version::One, size)),
-        Some((b"mpslog 2", size)) => Ok((Version::Two, size)),
-        _ => Err(Stop::BadLine(1)),
+        None => Err(Stop::BadLine(1)),
+        Some((line, size)) => match version_of(line) {
+            Some(version) => Ok((version, size)),
+            None => Err(Stop::BadLine(1)),
+        },
+    }
+}
+
+// The version whose first line this is.
+fn version_of(line: &[u8]) -> Option<Version>
+    ensures found { IfSome result (λ version. line.now ≡ first_text version) }
+    ensures none { IfNone result ((version : Version) → line.now ≢ first_text version) }
+{
+    match line {
+        b"mpslog 1" => Some(Version::One),
+        b"mpslog 2" => Some(Version::Two),
+        _ => None,
     }
 }
 
@@ -112,7 +151,13 @@ fn read_lines<D: Desk>(
     output: &mut Output,
     desk: &mut D,
 ) -> Result<(), Stop>
-    ensures { Works (D.outside desk.old) (D.outside desk.new) input.old input.new result }
+    requires at_end { IsAtEnd (D.outside desk.old) input.old }
+    requires start { labels.old ≡ no_names }
+    ensures works { Works (D.outside desk.old) (D.outside desk.new) input.old input.new result }
+    ensures reported { (D.outside desk.new).reported ≡ (D.outside desk.old).reported }
+    ensures err_faults { (D.outside desk.new).err_faults ≡ (D.outside desk.old).err_faults }
+    ensures all { (bytes : List ℕ) → left_of (D.outside desk.old) input.old ≡ Some bytes
+        → AllLines version bytes (put_out (D.outside desk.old) output.old) (put_out (D.outside desk.new) output.new) result }
 {
     for behind in 0..u32::MAX - 1 {
         if !read_next(u64::from(behind) + 2, version, labels, input, output, desk)? {
@@ -131,7 +176,13 @@ fn read_next<D: Desk>(
     output: &mut Output,
     desk: &mut D,
 ) -> Result<bool, Stop>
-    ensures { Works (D.outside desk.old) (D.outside desk.new) input.old input.new result }
+    requires { IsAtEnd (D.outside desk.old) input.old }
+    ensures works { Works (D.outside desk.old) (D.outside desk.new) input.old input.new result }
+    ensures gives { NextLine version number labels.old labels.new (left_of (D.outside desk.old) input.old) (left_of (D.outside desk.new) input.new)
+        (put_out (D.outside desk.old) output.old) (put_out (D.outside desk.new) output.new) result }
+    ensures at_end { IsAtEnd (D.outside desk.new) input.new }
+    ensures reported { (D.outside desk.new).reported ≡ (D.outside desk.old).reported }
+    ensures err_faults { (D.outside desk.new).err_faults ≡ (D.outside desk.old).err_faults }
 {
     input.fill(LONGEST_LINE + 1, desk);
     make_room(output, desk)?;
@@ -150,6 +201,7 @@ fn read_line(
     requires { length output.old + 512 ≤ 65536 }
     ensures told { IsTold input.now result }
     ensures size { IfOk result (λ o. IfSome o (λ size. size ≤ length input.now.pending)) }
+    ensures gives { PendingLine version number labels.old labels.new input.now output.old output.new result }
 {
     match next_line(input, number)? {
         None => Ok(None),

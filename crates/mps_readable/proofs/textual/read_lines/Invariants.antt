@@ -1,6 +1,17 @@
-use Rattle.std.proofs.Common.{Ok}
+use Rattle.std.proofs.Common.{◌≡◌, Ok}
 use Rattle.mps_reading.specs.Causes.{Works}
+use Rattle.mps_reading.specs.Input.{IsAtEnd}
+use Rattle.mps_reading.specs.Left.{left_of}
+use Rattle.mps_reading.specs.PutOut.{put_out}
+use Rattle.mps_readable.proofs.AllLines.{LinesSoFar}
 use Rattle.mps_readable.proofs.textual.read_lines.Given as goal
 
 abbrev pub invariant-loop-behind : goal.invariant-loop-behind
-invariant-loop-behind g l = Works {T = Unit {0}} (g.D.Desk.outside l.initial.desk) (g.D.Desk.outside l.desk) l.initial.input l.input (Ok tt)
+invariant-loop-behind g l = record {
+  works : Works {T = Unit {0}} (g.D.Desk.outside l.initial.desk) (g.D.Desk.outside l.desk) l.initial.input l.input (Ok tt);
+  reported : (g.D.Desk.outside l.desk).reported ≡ (g.D.Desk.outside l.initial.desk).reported;
+  err_faults : (g.D.Desk.outside l.desk).err_faults ≡ (g.D.Desk.outside l.initial.desk).err_faults;
+  at_end : IsAtEnd (g.D.Desk.outside l.desk) l.input;
+  so_far : LinesSoFar l.version l.behind l.labels (left_of (g.D.Desk.outside l.initial.desk) l.initial.input) (left_of (g.D.Desk.outside l.desk) l.input)
+      (put_out (g.D.Desk.outside l.initial.desk) l.initial.output) (put_out (g.D.Desk.outside l.desk) l.output);
+}

@@ -1,0 +1,96 @@
+-- The next line of what is left, from what is pending.
+use Rattle.std.proofs.Common.{◌≡◌, ℕ, ◌<◌, ◌≤◌, Bool, true, false, List, [], ◌∷◌, ◌++◌, length, drop, Option, Some, None, Result, Ok, Err, refl, sym, ap, subst, ◌∙◌, arith}
+use Rattle.std.specs.Prelude.{IfSome, unwrap_or, is_some}
+use Rattle.std.specs.Option.{option_map}
+use Rattle.mps_base.specs.Desk.{Outside}
+use Rattle.mps_event.specs.declared.version.Version.{Version}
+use Rattle.mps_output.specs.declared.stop.Stop.{Stop}
+use Rattle.mps_output.specs.declared.stop.Stop.TheVariants as stop
+use Rattle.mps_output.specs.Streams.{Kept}
+use Rattle.mps_reading.specs.Input.{Buffered, ReadsMore, IsAtEnd}
+use Rattle.mps_reading.specs.Left.{left_of}
+use Rattle.mps_reading.specs.PutOut.{put_out}
+use Rattle.mps_reading.specs.RecordLine.{record_line}
+use Rattle.mps_reading.proofs.Left.{left_same}
+use Rattle.mps_reading.proofs.PutOut.{put_same, put_more}
+use Rattle.mps_readable.specs.Line.{record_text}
+use Rattle.mps_readable.specs.Labels.{Naming}
+use Rattle.mps_readable.specs.Readable.{readable_line}
+use Rattle.mps_readable.specs.Text.{closed, IsWrongNext}
+use Rattle.mps_readable.specs.TextSteps.{PendingLine, NextLine}
+use Rattle.mps_readable.proofs.Fronts.{front_closed, line_feed_behind, wrong_front, IsWrongRest}
+
+-- before something was put out
+put_before : (a b c : Outside) (p q : List ℕ) → b.printed ≡ a.printed → Kept b c p q → put_out c q ≡ put_out a p
+put_before a b c p q same kept = put_same b c p q kept ∙ ap (λ (o : Option (List ℕ)). option_map (λ printed. printed ++ p) o) same
+
+pub end_told : (ended : Bool) (input : Option (List ℕ)) (more : List ℕ) → input ≡ Some more → (ended ≡ true → IfSome input (λ left. left ≡ [])) → ended ≡ true → more ≡ []
+end_told ended input more told end h = rw told at (end h)
+
+nothing_pending : (ended failed : Bool) (pending : List ℕ) (input : Option (List ℕ)) → pending ≡ [] → failed ≡ false → (ended ≡ false → failed ≡ false → 4097 ≤ length pending)
+    → (ended ≡ true → IfSome input (λ left. left ≡ [])) → IfSome (option_map (λ rest. pending ++ rest) input) (λ bytes. bytes ≡ [])
+nothing_pending ended failed pending None none whole enough end = tt
+nothing_pending false failed pending (Some more) none whole enough end =
+    absurd (let h : 4097 ≤ length pending = enough refl whole in let g : length pending ≡ 0 = ap (λ (x : List ℕ). length x) none in omega (arith, h, g))
+nothing_pending true failed pending (Some more) none whole enough end = let a : more ≡ [] = end refl in rw (a, none) refl
+
+front_left : (text : List ℕ) (line pending behind : List ℕ) (input : Option (List ℕ)) → ((more : List ℕ) → line ++ more ≡ text ++ 10 ∷ more)
+    → ((more : List ℕ) → input ≡ Some more → closed (pending ++ more) ≡ text ++ 10 ∷ closed (behind ++ more))
+    → option_map closed (option_map (λ rest. pending ++ rest) input) ≡ option_map (λ rest. line ++ closed rest) (option_map (λ rest. behind ++ rest) input)
+front_left text line pending behind None ends h = refl
+front_left text line pending behind (Some more) ends h = ap Some (h more refl ∙ sym (ends (closed (behind ++ more))))
+
+wrong_left : (version : Version) (before : Naming) (pending : List ℕ) (input : Option (List ℕ)) → ((more : List ℕ) → input ≡ Some more → IsWrongRest version before (pending ++ more))
+    → IfSome (option_map (λ rest. pending ++ rest) input) (λ bytes. (0 < length (closed bytes)) × IsWrongNext version before (closed bytes))
+wrong_left version before pending None h = tt
+wrong_left version before pending (Some more) h = let g = h more refl in (g.some, g.wrong)
+
+-- the next line, from what is pending: the pieces before it were read and printed
+pub next_line : (version : Version) (number : ℕ) (s t : Naming) (a b c : Outside) (x y : Buffered) (p q r : List ℕ) (size : Option ℕ)
+    → IsAtEnd a x → ReadsMore a b x y → (y.ended ≡ false → y.failed ≡ false → 4097 ≤ length y.pending) → Kept b c p q → c.input ≡ b.input
+    → PendingLine version number s t y q r (Ok size)
+    → NextLine version number s t (left_of a x) (left_of c (record y { pending = drop (unwrap_or size 0) y.pending })) (put_out a p) (put_out c r) (Ok (is_some size))
+next_line version number s t a b c x y p q r None at_end reads enough kept same gives =
+    let left : left_of b y ≡ left_of a x = left_same a b x y reads in (
+      subst (λ (o : Option (List ℕ)). IfSome o (λ bytes. bytes ≡ [])) left (nothing_pending y.ended y.failed y.pending b.input gives.0 gives.1 enough (reads.end at_end)),
+      ap (put_out c) gives.2 ∙ put_before a b c p q reads.others.printed kept,
+    )
+next_line version number s t a b c x y p q r (Some size) at_end reads enough kept same gives =
+    let left : left_of b y ≡ left_of a x = left_same a b x y reads in
+    let line = readable_line version s t gives.read in
+    record {
+      read = gives.read;
+      grammar = gives.grammar;
+      meaning = gives.meaning;
+      front = ap (λ (o : Option (List ℕ)). option_map closed o) (sym left)
+          ∙ front_left (record_text gives.read) (record_line gives.read) y.pending (drop size y.pending) b.input (line_feed_behind gives.read)
+          (λ more told. front_closed y (record_text gives.read) size more gives.front (end_told y.ended b.input more told (reads.end at_end)) enough)
+          ∙ ap (λ (o : Option (List ℕ)). option_map (λ rest. record_line gives.read ++ closed rest) (option_map (λ rest. drop size y.pending ++ rest) o)) (sym same);
+      put = ap (put_out c) gives.put ∙ put_more q line c.printed ∙ ap (λ (o : Option (List ℕ)). option_map (λ all. all ++ line) o) (put_before a b c p q reads.others.printed kept);
+    }
+
+pub next_stops : (version : Version) (number : ℕ) (s t : Naming) (a b c : Outside) (x y : Buffered) (left_behind : Option (List ℕ)) (p q r : List ℕ) (why : Stop)
+    → IsAtEnd a x → ReadsMore a b x y → (y.ended ≡ false → y.failed ≡ false → 4097 ≤ length y.pending) → Kept b c p q
+    → PendingLine version number s t y q r (Err why)
+    → NextLine version number s t (left_of a x) left_behind (put_out a p) (put_out c r) (Err why)
+next_stops version number s t a b c x y left_behind p q r (stop.BadLine line) at_end reads enough kept gives =
+    let left : left_of b y ≡ left_of a x = left_same a b x y reads in (
+      gives.0,
+      subst (λ (o : Option (List ℕ)). IfSome o (λ bytes. (0 < length (closed bytes)) × IsWrongNext version s (closed bytes))) left
+          (wrong_left version s y.pending b.input (λ more told. wrong_front version s y more gives.1 (end_told y.ended b.input more told (reads.end at_end)) enough)),
+      ap (put_out c) gives.2 ∙ put_before a b c p q reads.others.printed kept,
+    )
+next_stops version number s t a b c x y left_behind p q r stop.ReadFailed at_end reads enough kept gives =
+    ap (put_out c) gives ∙ put_before a b c p q reads.others.printed kept
+next_stops version number s t a b c x y left_behind p q r stop.OutOfMemory at_end reads enough kept gives = tt
+next_stops version number s t a b c x y left_behind p q r stop.WriteFailed at_end reads enough kept gives = absurd gives
+next_stops version number s t a b c x y left_behind p q r stop.BadHeader at_end reads enough kept gives = absurd gives
+next_stops version number s t a b c x y left_behind p q r (stop.BadRecord at fault) at_end reads enough kept gives = absurd gives
+next_stops version number s t a b c x y left_behind p q r (stop.BadReplay at) at_end reads enough kept gives = absurd gives
+next_stops version number s t a b c x y left_behind p q r stop.TooLong at_end reads enough kept gives = absurd gives
+
+pub room_fails : (version : Version) (number : ℕ) (s t : Naming) (left left_behind before after : Option (List ℕ)) (result : Result (Unit {0}) Stop) (why : Stop)
+    → result ≡ Err stop.WriteFailed → result ≡ Err why → NextLine version number s t left left_behind before after (Err why)
+room_fails version number s t left left_behind before after result why e f =
+    let g : why ≡ stop.WriteFailed = cc in
+    rw g tt

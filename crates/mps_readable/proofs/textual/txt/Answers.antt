@@ -1,0 +1,14 @@
+use Rattle.mps_readable.proofs.WholeText.{read_with}
+use Rattle.mps_readable.proofs.OnlyReading.{only_reading}
+use Rattle.mps_readable.proofs.textual.txt.Goals as goal
+
+pub returns-clause-readable : goal.returns-clause-readable
+returns-clause-readable g c bytes told =
+    read_with c.finish.result bytes c.read_text-ending.result (g.D.Desk.outside c.args.desk.now) (g.D.Desk.outside c.read_text-ending.new.desk) (g.D.Desk.outside c.finish.new.desk)
+    c.read_text-ending.ensures.reported c.read_text-ending.ensures.err_faults (c.read_text-ending.ensures.read bytes told) c.finish.ensures.done c.finish.ensures.quiet c.finish.ensures.status c.finish.ensures.reported
+
+pub returns-clause-only : goal.returns-clause-only
+returns-clause-only g c whole bytes told =
+    only_reading bytes c.finish.result (g.D.Desk.outside c.args.desk.now) (g.D.Desk.outside c.finish.new.desk) whole
+    (read_with c.finish.result bytes c.read_text-ending.result (g.D.Desk.outside c.args.desk.now) (g.D.Desk.outside c.read_text-ending.new.desk) (g.D.Desk.outside c.finish.new.desk)
+    c.read_text-ending.ensures.reported c.read_text-ending.ensures.err_faults (c.read_text-ending.ensures.read bytes told) c.finish.ensures.done c.finish.ensures.quiet c.finish.ensures.status c.finish.ensures.reported)

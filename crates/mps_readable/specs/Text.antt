@@ -1,0 +1,155 @@
+-- A portable text, where the reading of its lines ends, and what is printed of it.
+use Rattle.std.specs.Prelude.{◌≡◌, ◌≢◌, ℕ, ◌+◌, ◌<◌, ◌⊎◌, ◌==◌, if◌then◌else◌, codes, Some, None, Result, Ok, Err, List, [], ◌∷◌, ◌++◌, length, All, refl}
+use Rattle.std.specs.Fmt.{digits}
+use Rattle.std.specs.List.{flat_map}
+use Rattle.std.specs.Option.{option_map}
+use Rattle.mps_base.specs.Desk.{Outside, HasRisen}
+use Rattle.mps_base.specs.Record.{Record}
+use Rattle.mps_event.specs.declared.version.Version.{Version}
+use Rattle.mps_event.specs.declared.version.Version.TheVariants.{Two}
+use Rattle.mps_event.specs.Grammar.{IsRecord}
+use Rattle.mps_output.specs.declared.stop.Stop.{Stop}
+use Rattle.mps_output.specs.declared.stop.Stop.TheVariants as stop
+use Rattle.mps_reading.specs.Opening.{first_line}
+use Rattle.mps_reading.specs.Ending.{status_of_ending, HasReported}
+use Rattle.mps_reading.specs.RecordLine.{record_line}
+use Rattle.mps_readable.specs.Labels.{Naming, no_names, after_record, after_records}
+use Rattle.mps_readable.specs.Readable.{readable}
+
+-- the bytes of a text, with the line feed that its last line may lack
+abbrev pub closed : List ℕ → List ℕ
+closed [] = []
+closed (byte ∷ []) = byte ∷ (if byte == 10 then [] else 10 ∷ [])
+closed (byte ∷ next ∷ bytes) = byte ∷ closed (next ∷ bytes)
+
+-- the portable text of records
+abbrev pub portable_text : Version → List Record → List ℕ
+portable_text version records = first_line version ++ flat_map record_line records
+
+-- the readable text of records
+abbrev pub readable_text : Version → List Record → List ℕ
+readable_text version records = first_line version ++ readable version records
+
+-- the bytes begin with the first line of no version
+abbrev pub HasNoFirstLine : List ℕ → Type 0
+HasNoFirstLine bytes = (version : Version) (rest : List ℕ) → closed bytes ≢ first_line version ++ rest
+
+-- the next line is wrong: it is the line of no record of the version that has a meaning behind the records before (lines of
+-- records are short, so a line of more than 4,096 bytes is among the wrong ones)
+abbrev pub IsWrongNext : Version → (before : Naming) → (rest : List ℕ) → Type 0
+IsWrongNext version before rest =
+    (r : Record) (behind : List ℕ) → IsRecord version r → rest ≡ record_line r ++ behind → after_record version before r ≡ None
+
+-- why the reading of lines ends behind the lines of so many records, before this rest: nothing is left, or the next line is
+-- wrong, whose number counts the first line of the text too, or there are as many lines as 32 bits count, and more
+abbrev pub TextEndsAt : {T : Type 0} → Version → (before : Naming) → Result T Stop → (count : ℕ) → (rest : List ℕ) → Type 0
+TextEndsAt version before (Ok value) count rest = rest ≡ []
+TextEndsAt version before (Err (stop.BadLine line)) count rest =
+    (line ≡ count + 2) × (0 < length rest) × IsWrongNext version before rest × (count < 4294967294)
+TextEndsAt version before (Err stop.TooLong) count rest = (count ≡ 4294967294) × (0 < length rest)
+TextEndsAt version before (Err stop.ReadFailed) count rest = ⊥
+TextEndsAt version before (Err stop.WriteFailed) count rest = ⊥
+TextEndsAt version before (Err stop.BadHeader) count rest = ⊥
+TextEndsAt version before (Err (stop.BadRecord at fault)) count rest = ⊥
+TextEndsAt version before (Err (stop.BadReplay at)) count rest = ⊥
+TextEndsAt version before (Err stop.OutOfMemory) count rest = ⊥
+
+-- a text begins with the lines of these records, each of which has a meaning behind those before it; behind them the names
+-- and labels are these
+pub record BeginsWith (version : Version) (records : List Record) (named : Naming) (rest bytes : List ℕ) : Type 0 where
+  pub each : All (IsRecord version) records
+  pub meaning : after_records version no_names records ≡ Some named
+  pub few : length records < 4294967295
+  pub spelled : closed bytes ≡ portable_text version records ++ rest
+
+-- the lines of a text were read up to a rest at which the reading ends, and what was printed behind what stood there is the
+-- readable text of exactly these records
+pub record Reads {T : Type 0} (bytes : List ℕ) (ending : Result T Stop) (old new : Outside) : Type 0 where
+  pub version : Version
+  pub records : List Record
+  pub named : Naming
+  pub rest : List ℕ
+  pub begins : BeginsWith version records named rest bytes
+  pub ends_at : TextEndsAt version named ending (length records) rest
+  pub printed : new.printed ≡ option_map (λ before. before ++ readable_text version records) old.printed
+
+-- the first lines of a text were read, and printed in readable text, if no write failed
+pub record ReadsFront (bytes : List ℕ) (old new : Outside) : Type 0 where
+  pub version : Version
+  pub records : List Record
+  pub named : Naming
+  pub rest : List ℕ
+  pub begins : BeginsWith version records named rest bytes
+  pub printed : (new.printed ≡ option_map (λ before. before ++ readable_text version records) old.printed) ⊎ HasRisen old.out_faults new.out_faults
+
+-- without a first line nothing is printed
+pub record FindsNoFirstLine (bytes : List ℕ) (line : ℕ) (old new : Outside) : Type 0 where
+  pub first : line ≡ 1
+  pub none : HasNoFirstLine bytes
+  pub printed : new.printed ≡ old.printed
+
+-- the same of every ending; where a read failed, the whole lines that had come are printed
+abbrev pub HasRead : {T : Type 0} → (bytes : List ℕ) → Result T Stop → (old new : Outside) → Type 0
+HasRead bytes (Ok value) old new = Reads bytes (Ok value) old new
+HasRead bytes (Err (stop.BadLine line)) old new =
+    FindsNoFirstLine bytes line old new ⊎ Reads {T = Unit {0}} bytes (Err (stop.BadLine line)) old new
+HasRead bytes (Err stop.TooLong) old new = Reads {T = Unit {0}} bytes (Err stop.TooLong) old new
+HasRead bytes (Err stop.ReadFailed) old new = (new.printed ≡ old.printed) ⊎ ReadsFront bytes old new
+HasRead bytes (Err stop.WriteFailed) old new = Unit {0}
+HasRead bytes (Err stop.OutOfMemory) old new = Unit {0}
+HasRead bytes (Err stop.BadHeader) old new = ⊥
+HasRead bytes (Err (stop.BadRecord at fault)) old new = ⊥
+HasRead bytes (Err (stop.BadReplay at)) old new = ⊥
+
+-- the status of a reading, by how it ended
+pub record ReadWith (bytes : List ℕ) (status : ℕ) (old new : Outside) : Type 0 where
+  pub ending : Result (Unit {0}) Stop
+  pub status_is : status ≡ status_of_ending ending
+  pub read : HasRead bytes ending old new
+  pub reported : HasReported ending old new
+
+-- the bytes are the lines of these records and a rest at which the reading ends so
+pub record TextEndsWith (version : Version) (records : List Record) (ending : Result (Unit {0}) Stop) (bytes : List ℕ) : Type 0 where
+  pub named : Naming
+  pub rest : List ℕ
+  pub begins : BeginsWith version records named rest bytes
+  pub ends_at : TextEndsAt version named ending (length records) rest
+
+-- where the bytes end with such an ending behind the lines of such records, then with its status and its report, and with
+-- the readable text of these records
+abbrev pub IsOnlyReading : (bytes : List ℕ) → (status : ℕ) → (old new : Outside) → Type 0
+IsOnlyReading bytes status old new =
+    (version : Version) (records : List Record) (ending : Result (Unit {0}) Stop) → TextEndsWith version records ending bytes
+    → (status ≡ status_of_ending ending) × (new.printed ≡ option_map (λ before. before ++ readable_text version records) old.printed)
+    × HasReported ending old new
+
+pub a_last_line_without_a_line_feed : closed (codes "mpslog 1\n10 33") ≡ codes "mpslog 1\n10 33\n"
+a_last_line_without_a_line_feed = refl
+
+pub a_last_line_with_one : closed (codes "mpslog 1\n10 33\n") ≡ codes "mpslog 1\n10 33\n"
+a_last_line_with_one = refl
+
+pub an_empty_line_is_kept : closed (codes "mpslog 1\n\n") ≡ codes "mpslog 1\n\n"
+an_empty_line_is_kept = refl
+
+pub nothing_has_no_line : closed [] ≡ []
+nothing_has_no_line = refl
+
+-- a block is made and labelled, and moves
+abbrev example : List Record
+example =
+    record { line = 1; code = 1; fields = 8 ∷ 8 ∷ [] } ∷ record { line = 7; code = 80; fields = 0x1000 ∷ 3 ∷ 0 ∷ [] }
+    ∷ record { line = 9; code = 96; fields = 0 ∷ 0x676e6972 ∷ 0 ∷ [] } ∷ record { line = 10; code = 97; fields = 0x1000 ∷ 0 ∷ [] }
+    ∷ record { line = 11; code = 82; fields = 0x1000 ∷ 0x2000 ∷ [] } ∷ record { line = 11; code = 33; fields = [] } ∷ []
+
+pub the_portable_text :
+    portable_text Two example ≡ codes "mpslog 2\n1 1 8 8\n7 80 1000 3 0\n9 96 0 676e6972 0\n10 97 1000 0\n11 82 1000 2000\n11 33\n"
+unfolding digits
+the_portable_text = refl
+
+pub the_readable_text :
+    readable_text Two example
+    ≡ codes "mpslog 2\n1 ArenaCreate grains=8 limit=8\n7 Commit at=0x1000 words=3 pool=0\n9 Intern id=0 name=ring\n"
+    ++ codes "10 Label at=0x1000[ring] id=0\n11 Move from=0x1000[ring] to=0x2000[ring]\n11 End\n"
+unfolding digits
+the_readable_text = refl

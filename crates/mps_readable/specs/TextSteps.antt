@@ -1,0 +1,158 @@
+-- The reading of a text line by line.
+use Rattle.std.specs.Prelude.{◌≡◌, ◌≢◌, ℕ, ◌<◌, ◌⊎◌, true, false, Option, Some, None, IfSome, Bool, Result, Ok, Err, List, [], ◌++◌, length, drop, All, codes}
+use Rattle.std.specs.List.{flat_map}
+use Rattle.std.specs.Option.{option_map}
+use Rattle.mps_base.specs.Record.{Record}
+use Rattle.mps_event.specs.declared.version.Version.{Version}
+use Rattle.mps_event.specs.declared.version.Version.TheVariants.{One, Two}
+use Rattle.mps_event.specs.Grammar.{IsRecord}
+use Rattle.mps_output.specs.declared.stop.Stop.{Stop}
+use Rattle.mps_output.specs.declared.stop.Stop.TheVariants as stop
+use Rattle.mps_reading.specs.Input.{Buffered}
+use Rattle.mps_reading.specs.Opening.{first_line}
+use Rattle.mps_reading.specs.PutOut.{PutsOut}
+use Rattle.mps_reading.specs.RecordLine.{record_line}
+use Rattle.mps_readable.specs.Line.{record_text, Spells}
+use Rattle.mps_readable.specs.NextLine.{IsFront, IsLongFront}
+use Rattle.mps_readable.specs.Labels.{Naming, no_names, after_record, after_records}
+use Rattle.mps_readable.specs.Readable.{readable_line, readable}
+use Rattle.mps_readable.specs.Text.{closed, HasNoFirstLine, IsWrongNext, TextEndsAt}
+
+-- ---- the line of a record
+
+-- a line is the one of no record that has a meaning here
+abbrev pub IsWrong : Version → (before : Naming) → (line : List ℕ) → Type 0
+IsWrong version before line = (r : Record) → Spells version line r → after_record version before r ≡ None
+
+-- the line at the front is wrong
+abbrev pub IsWrongFront : Version → (before : Naming) → Buffered → Type 0
+IsWrongFront version before b = ((line : List ℕ) × (size : ℕ) × IsFront b line size × IsWrong version before line) ⊎ IsLongFront b
+
+-- the line at the front, of a record, was put out in readable text
+pub record ShowsFront (version : Version) (s t : Naming) (size : ℕ) (b : Buffered) (before after : List ℕ) : Type 0 where
+  pub read : Record
+  pub grammar : IsRecord version read
+  pub meaning : after_record version s read ≡ Some t
+  pub front : IsFront b (record_text read) size
+  pub put : after ≡ before ++ readable_line version s t read
+
+-- what the pending line gave
+abbrev pub PendingLine : Version → (number : ℕ) → (s t : Naming) → Buffered → (before after : List ℕ) → Result (Option ℕ) Stop → Type 0
+PendingLine version number s t b before after (Ok (Some size)) = ShowsFront version s t size b before after
+PendingLine version number s t b before after (Ok None) = (b.pending ≡ []) × (b.failed ≡ false) × (after ≡ before)
+PendingLine version number s t b before after (Err (stop.BadLine line)) = (line ≡ number) × IsWrongFront version s b × (after ≡ before)
+PendingLine version number s t b before after (Err stop.ReadFailed) = after ≡ before
+PendingLine version number s t b before after (Err stop.OutOfMemory) = Unit {0}
+PendingLine version number s t b before after (Err stop.WriteFailed) = ⊥
+PendingLine version number s t b before after (Err stop.BadHeader) = ⊥
+PendingLine version number s t b before after (Err (stop.BadRecord at fault)) = ⊥
+PendingLine version number s t b before after (Err (stop.BadReplay at)) = ⊥
+PendingLine version number s t b before after (Err stop.TooLong) = ⊥
+
+-- ---- the next line of what is left
+
+-- the next line, of a record, was put out in readable text
+pub record ShowsNext (version : Version) (s t : Naming) (left left_behind before after : Option (List ℕ)) : Type 0 where
+  pub read : Record
+  pub grammar : IsRecord version read
+  pub meaning : after_record version s read ≡ Some t
+  pub front : option_map closed left ≡ option_map (λ rest. record_line read ++ closed rest) left_behind
+  pub put : PutsOut before after (readable_line version s t read)
+
+-- what the next line gave, of what was left; false at the end
+abbrev pub NextLine : Version → (number : ℕ) → (s t : Naming) → (left left_behind before after : Option (List ℕ)) → Result Bool Stop → Type 0
+NextLine version number s t left left_behind before after (Ok true) = ShowsNext version s t left left_behind before after
+NextLine version number s t left left_behind before after (Ok false) = IfSome left (λ bytes. bytes ≡ []) × (after ≡ before)
+NextLine version number s t left left_behind before after (Err (stop.BadLine line)) =
+    (line ≡ number) × IfSome left (λ bytes. (0 < length (closed bytes)) × IsWrongNext version s (closed bytes)) × (after ≡ before)
+NextLine version number s t left left_behind before after (Err stop.ReadFailed) = after ≡ before
+NextLine version number s t left left_behind before after (Err stop.WriteFailed) = Unit {0}
+NextLine version number s t left left_behind before after (Err stop.OutOfMemory) = Unit {0}
+NextLine version number s t left left_behind before after (Err stop.BadHeader) = ⊥
+NextLine version number s t left left_behind before after (Err (stop.BadRecord at fault)) = ⊥
+NextLine version number s t left left_behind before after (Err (stop.BadReplay at)) = ⊥
+NextLine version number s t left left_behind before after (Err stop.TooLong) = ⊥
+
+-- ---- all lines
+
+-- the lines of some records were read and put out
+pub record ShowsFirst (version : Version) (bytes : List ℕ) (before after : Option (List ℕ)) : Type 0 where
+  pub records : List Record
+  pub named : Naming
+  pub rest : List ℕ
+  pub each : All (IsRecord version) records
+  pub meaning : after_records version no_names records ≡ Some named
+  pub few : length records < 4294967295
+  pub spelled : closed bytes ≡ flat_map record_line records ++ rest
+  pub put : PutsOut before after (readable version records)
+
+-- the lines were read and put out up to a rest at which the reading ends
+pub record ShowsAll {T : Type 0} (version : Version) (bytes : List ℕ) (before after : Option (List ℕ)) (ending : Result T Stop) : Type 0 where
+  pub shown : ShowsFirst version bytes before after
+  pub ends_at : TextEndsAt version shown.named ending (length shown.records) shown.rest
+
+-- the same of every ending
+abbrev pub AllLines : {T : Type 0} → Version → (bytes : List ℕ) → (before after : Option (List ℕ)) → Result T Stop → Type 0
+AllLines version bytes before after (Ok value) = ShowsAll version bytes before after (Ok value)
+AllLines version bytes before after (Err (stop.BadLine line)) = ShowsAll {T = Unit {0}} version bytes before after (Err (stop.BadLine line))
+AllLines version bytes before after (Err stop.TooLong) = ShowsAll {T = Unit {0}} version bytes before after (Err stop.TooLong)
+AllLines version bytes before after (Err stop.ReadFailed) = ShowsFirst version bytes before after
+AllLines version bytes before after (Err stop.WriteFailed) = Unit {0}
+AllLines version bytes before after (Err stop.OutOfMemory) = Unit {0}
+AllLines version bytes before after (Err stop.BadHeader) = ⊥
+AllLines version bytes before after (Err (stop.BadRecord at fault)) = ⊥
+AllLines version bytes before after (Err (stop.BadReplay at)) = ⊥
+
+-- ---- the first line
+
+-- the first line of a version, without its line feed
+abbrev pub first_text : Version → List ℕ
+first_text One = codes "mpslog 1"
+first_text Two = codes "mpslog 2"
+
+-- there is no first line of a version at the front: nothing is left, or another line, or a longer one
+abbrev pub HasOtherFront : Buffered → Type 0
+HasOtherFront b =
+    ((b.pending ≡ []) × (b.failed ≡ false))
+    ⊎ (((line : List ℕ) × (size : ℕ) × IsFront b line size × ((version : Version) → line ≢ first_text version)) ⊎ IsLongFront b)
+
+-- the first line of a version was found at the front, with its line feed of so many bytes, or there is none
+abbrev pub FindsFirst : Buffered → Result (Version × ℕ) Stop → Type 0
+FindsFirst b (Ok found) = IsFront b (first_text found.0) found.1
+FindsFirst b (Err (stop.BadLine line)) = (line ≡ 1) × HasOtherFront b
+FindsFirst b (Err stop.ReadFailed) = Unit {0}
+FindsFirst b (Err stop.WriteFailed) = ⊥
+FindsFirst b (Err stop.BadHeader) = ⊥
+FindsFirst b (Err (stop.BadRecord at fault)) = ⊥
+FindsFirst b (Err (stop.BadReplay at)) = ⊥
+FindsFirst b (Err stop.TooLong) = ⊥
+FindsFirst b (Err stop.OutOfMemory) = ⊥
+
+-- it was taken from what is pending
+pub record TakesThat (version : Version) (before after : Buffered) : Type 0 where
+  pub size : ℕ
+  pub front : IsFront before (first_text version) size
+  pub behind : after ≡ record before { pending = drop size before.pending }
+
+abbrev pub TakesFirst : (before after : Buffered) → Result Version Stop → Type 0
+TakesFirst before after (Ok version) = TakesThat version before after
+TakesFirst before after (Err (stop.BadLine line)) = (line ≡ 1) × HasOtherFront before
+TakesFirst before after (Err stop.ReadFailed) = Unit {0}
+TakesFirst before after (Err stop.WriteFailed) = ⊥
+TakesFirst before after (Err stop.BadHeader) = ⊥
+TakesFirst before after (Err (stop.BadRecord at fault)) = ⊥
+TakesFirst before after (Err (stop.BadReplay at)) = ⊥
+TakesFirst before after (Err stop.TooLong) = ⊥
+TakesFirst before after (Err stop.OutOfMemory) = ⊥
+
+-- a text of these bytes was opened, and this is left behind its first line, or it has none
+abbrev pub TextOpens : (bytes : List ℕ) → (left : Option (List ℕ)) → Result Version Stop → Type 0
+TextOpens bytes left (Ok version) = Some (closed bytes) ≡ option_map (λ rest. first_line version ++ closed rest) left
+TextOpens bytes left (Err (stop.BadLine line)) = (line ≡ 1) × HasNoFirstLine bytes
+TextOpens bytes left (Err stop.ReadFailed) = Unit {0}
+TextOpens bytes left (Err stop.WriteFailed) = ⊥
+TextOpens bytes left (Err stop.BadHeader) = ⊥
+TextOpens bytes left (Err (stop.BadRecord at fault)) = ⊥
+TextOpens bytes left (Err (stop.BadReplay at)) = ⊥
+TextOpens bytes left (Err stop.TooLong) = ⊥
+TextOpens bytes left (Err stop.OutOfMemory) = ⊥
