@@ -1,21 +1,39 @@
 // `blocks`: the blocks that are live at the end of a log.
 
-ghost use Rattle.std.specs.Prelude.{◌≡◌, ◌≤◌, ◌+◌, length, IfOk, IfSome};
+ghost use Rattle.std.specs.Prelude.{◌≡◌, ◌≢◌, ◌≤◌, ◌<◌, ◌+◌, ℕ, List, Some, true, length, IfOk, IfSome, OnOk};
 ghost use Rattle.mps_reading.specs.Causes.{IsCaused, IsTold, Works, Answers};
+ghost use Rattle.mps_reading.specs.Input.{IsAtEnd};
+ghost use Rattle.mps_reading.specs.Left.{left_of};
+ghost use Rattle.mps_reading.specs.Ending.{is_whole_status};
 ghost use Rattle.mps_output.specs.Streams.{Runs};
+ghost use Rattle.mps_live_blocks.specs.Replayed.{at_the_start};
+ghost use Rattle.mps_live_blocks.specs.Listed.{ListedWith, IsOnly, ListsPart, HasListed, IsSilent};
+ghost use Rattle.mps_live_blocks.specs.Replaying.{PendingReplays, NextReplays, AllReplay, HasReplayed};
 
-use crate::replaying::{Extent, Replay, ReplayFault};
+use crate::listing::print_listing;
+use crate::replaying::{Replay, ReplayFault};
 use mps_base::Desk;
-use mps_event::{Version, first};
+use mps_event::{RecordRef, Version, first};
 use mps_output::{Output, Stop, finish};
-use mps_reading::{Input, MOST_OF_A_RECORD, after_the_last, flush_after, make_room, open_log};
+use mps_reading::{Input, MOST_OF_A_RECORD, after_the_last, open_log};
 use std::alloc::Global;
 
 /// Prints the blocks that are live at the end of the log of this name, after all of it was read, in ascending order of
 /// their addresses, and answers the status of the program: 0, or with a report 3 where a read failed, 4 where a write
-/// failed, 6 at the first record that is wrong, 7 where record 2^32 begins, 8 for want of memory.
+/// failed, 6 at the first record that is wrong or cannot be replayed, 7 where record 2^32 begins, 8 for want of memory.
 pub fn blocks<D: Desk>(alloc: Global, log: &str, desk: &mut D) -> u8
-    ensures { Answers (D.outside desk.old) (D.outside desk.new) result }
+    ensures answers { Answers (D.outside desk.old) (D.outside desk.new) result }
+    // Where the opened file is told, and the status is none of a fault or for want of memory: exactly this was printed.
+    ensures listed { is_whole_status result ≡ true → (bytes : List ℕ) → (D.outside desk.old).text log.now ≡ Some bytes
+        → ListedWith bytes result (D.outside desk.old) (D.outside desk.new) }
+    // And nothing else: a whole log gives 0 and its live blocks, one that is damaged 6 at its first bad place.
+    ensures only { is_whole_status result ≡ true → (bytes : List ℕ) → (D.outside desk.old).text log.now ≡ Some bytes
+        → IsOnly bytes result (D.outside desk.old) (D.outside desk.new) }
+    // Nothing is printed before all was read and replayed.
+    ensures silent { result ≢ 0 → result ≢ 4 → (D.outside desk.new).printed ≡ (D.outside desk.old).printed }
+    // Where a write failed, the front of the list was printed.
+    ensures cut { result ≡ 4 → (bytes : List ℕ) → (D.outside desk.old).text log.now ≡ Some bytes
+        → ListsPart bytes (D.outside desk.old) (D.outside desk.new) }
 {
     let ending = list_blocks(alloc, log, desk);
     finish(ending, desk)
@@ -24,20 +42,40 @@ pub fn blocks<D: Desk>(alloc: Global, log: &str, desk: &mut D) -> u8
 fn list_blocks<D: Desk>(alloc: Global, log: &str, desk: &mut D) -> Result<(), Stop>
     ensures cause { IsCaused (D.outside desk.old) (D.outside desk.new) result }
     ensures runs { Runs (D.outside desk.old) (D.outside desk.new) }
+    ensures reported { (D.outside desk.new).reported ≡ (D.outside desk.old).reported }
+    ensures err_faults { (D.outside desk.new).err_faults ≡ (D.outside desk.old).err_faults }
+    ensures silent { IsSilent result → (D.outside desk.new).printed ≡ (D.outside desk.old).printed }
+    ensures listed { (bytes : List ℕ) → (D.outside desk.old).text log.now ≡ Some bytes
+        → HasListed bytes result (D.outside desk.old) (D.outside desk.new) }
+{
+    let mut output = match Output::new(alloc) {
+        Ok(output) => output,
+        Err(_) => return Err(Stop::OutOfMemory),
+    };
+    let replay = replay_log(alloc, log, desk)?;
+    match print_listing(&replay, &mut output, desk) {
+        Ok(()) => Ok(()),
+        Err(_) => Err(Stop::WriteFailed),
+    }
+}
+
+// Replays the log of this name from its header to its end.
+fn replay_log<D: Desk>(alloc: Global, log: &str, desk: &mut D) -> Result<Replay, Stop>
+    ensures cause { IsCaused (D.outside desk.old) (D.outside desk.new) result }
+    ensures runs { Runs (D.outside desk.old) (D.outside desk.new) }
+    ensures printed { (D.outside desk.new).printed ≡ (D.outside desk.old).printed }
+    ensures reported { (D.outside desk.new).reported ≡ (D.outside desk.old).reported }
+    ensures err_faults { (D.outside desk.new).err_faults ≡ (D.outside desk.old).err_faults }
+    ensures replayed { (bytes : List ℕ) → (D.outside desk.old).text log.now ≡ Some bytes → HasReplayed bytes result }
 {
     let mut input = match Input::new(alloc) {
         Ok(input) => input,
         Err(_) => return Err(Stop::OutOfMemory),
     };
-    let mut output = match Output::new(alloc) {
-        Ok(output) => output,
-        Err(_) => return Err(Stop::OutOfMemory),
-    };
     let mut replay = Replay::new(alloc);
     let version = open_log(log, &mut input, desk)?;
     replay_records(version, &mut replay, &mut input, desk)?;
-    let ending = put_blocks(&replay, &mut output, desk);
-    flush_after(ending, &mut output, desk)
+    Ok(replay)
 }
 
 fn replay_records<D: Desk>(
@@ -46,7 +84,14 @@ fn replay_records<D: Desk>(
     input: &mut Input,
     desk: &mut D,
 ) -> Result<(), Stop>
-    ensures { Works (D.outside desk.old) (D.outside desk.new) input.old input.new result }
+    requires at_end { IsAtEnd (D.outside desk.old) input.old }
+    requires start { replay.old ≡ at_the_start }
+    ensures works { Works (D.outside desk.old) (D.outside desk.new) input.old input.new result }
+    ensures printed { (D.outside desk.new).printed ≡ (D.outside desk.old).printed }
+    ensures reported { (D.outside desk.new).reported ≡ (D.outside desk.old).reported }
+    ensures err_faults { (D.outside desk.new).err_faults ≡ (D.outside desk.old).err_faults }
+    ensures all { (bytes : List ℕ) → left_of (D.outside desk.old) input.old ≡ Some bytes
+        → AllReplay version bytes replay.old replay.new result }
 {
     let mut offset: u64 = 8;
     for _ in 0..u32::MAX {
@@ -66,8 +111,16 @@ fn replay_next<D: Desk>(
     offset: u64,
     desk: &mut D,
 ) -> Result<Option<usize>, Stop>
+    requires at_end { IsAtEnd (D.outside desk.old) input.old }
+    requires room { replay.old.interned < 4294967296 }
     ensures works { Works (D.outside desk.old) (D.outside desk.new) input.old input.new result }
     ensures size { IfOk result (λ o. IfSome o (λ size. size ≤ 40)) }
+    ensures replays { NextReplays version offset (left_of (D.outside desk.old) input.old) (left_of (D.outside desk.new) input.new)
+        replay.old replay.new result }
+    ensures at_end { IsAtEnd (D.outside desk.new) input.new }
+    ensures printed { (D.outside desk.new).printed ≡ (D.outside desk.old).printed }
+    ensures reported { (D.outside desk.new).reported ≡ (D.outside desk.old).reported }
+    ensures err_faults { (D.outside desk.new).err_faults ≡ (D.outside desk.old).err_faults }
 {
     input.fill(MOST_OF_A_RECORD, desk);
     let size = replay_record(version, replay, input, offset)?;
@@ -75,14 +128,17 @@ fn replay_next<D: Desk>(
     Ok(size)
 }
 
+// Replays the record at the front, and answers its size; None at the end.
 fn replay_record(
     version: Version,
     replay: &mut Replay,
     input: &Input,
     offset: u64,
 ) -> Result<Option<usize>, Stop>
+    requires { replay.old.interned < 4294967296 }
     ensures told { IsTold input.now result }
     ensures size { IfOk result (λ o. IfSome o (λ size. (size ≤ 40) × (size ≤ length input.now.pending))) }
+    ensures replays { PendingReplays version offset input.now replay.old replay.new result }
 {
     match first(input.pending(), input.has_ended(), version) {
         Err(fault) => Err(Stop::BadRecord(offset, fault)),
@@ -94,27 +150,4 @@ fn replay_record(
             Err(ReplayFault::OutOfMemory) => Err(Stop::OutOfMemory),
         },
     }
-}
-
-fn put_blocks<D: Desk>(replay: &Replay, output: &mut Output, desk: &mut D) -> Result<(), Stop>
-    ensures cause { IsCaused (D.outside desk.old) (D.outside desk.new) result }
-    ensures runs { Runs (D.outside desk.old) (D.outside desk.new) }
-{
-    for (at, extent) in replay.live() {
-        make_room(output, desk)?;
-        put_block(*at, extent, output);
-    }
-    Ok(())
-}
-
-fn put_block(at: u64, extent: &Extent, output: &mut Output)
-    requires { length output.old + 512 ≤ 65536 }
-{
-    output.text(b"0x");
-    output.hexadecimal(at);
-    output.text(b" ");
-    output.decimal(extent.words);
-    output.text(b" ");
-    output.decimal(extent.pool);
-    output.text(b"\n");
 }

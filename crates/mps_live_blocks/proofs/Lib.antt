@@ -1,0 +1,6 @@
+pub mod Kept
+pub mod Stepping
+pub mod Gathered
+pub mod Wholly
+pub mod OneReplay
+pub mod VersionOne

@@ -1,0 +1,103 @@
+-- Replaying a log of either version: which blocks live at a place of it, and how many names were interned by then.
+use Rattle.std.specs.Prelude.{◌≡◌, ℕ, ◌+◌, ◌==◌, ◌&&◌, nat_lt, if◌then◌else◌, Option, Some, None, option_map, option_and_then, List, [], ◌∷◌, slice_index, refl}
+use Rattle.mps_base.specs.Record.{Record, commit_code, move_code, stay_code, post_code, free_code, intern_code, label_code}
+use Rattle.mps_model.specs.Replay.{Store, is_live, store_after}
+
+-- what a log has told at a place of it
+pub record State : Type 0 where
+  pub blocks : Store
+  pub interned : ℕ
+
+-- before the first record
+abbrev pub at_the_start : State
+at_the_start = record { blocks = []; interned = 0 }
+
+-- a name is interned: none where its number isn't the next one
+abbrev pub after_interning : State → (id : ℕ) → Option State
+after_interning s id = if id == s.interned then Some (record s { interned = s.interned + 1 }) else None
+
+-- an address is labelled: none where no block lives there, or no name has the number
+abbrev pub after_labelling : State → (at id : ℕ) → Option State
+after_labelling s at id = if nat_lt id s.interned && is_live s.blocks at then Some s else None
+
+-- the state after a record: none where the record is a bad replay
+abbrev pub replayed_after : State → Record → Option State
+replayed_after s r =
+    if r.code == intern_code then after_interning s (slice_index r.fields 0)
+    else (if r.code == label_code then after_labelling s (slice_index r.fields 0) (slice_index r.fields 1)
+    else option_map (λ blocks. record s { blocks = blocks }) (store_after s.blocks r))
+
+-- the state after records, from some state on: none where a record is a bad replay
+abbrev pub replayed_from : State → List Record → Option State
+replayed_from s [] = Some s
+replayed_from s (r ∷ rs) = option_and_then (λ after. replayed_from after rs) (replayed_after s r)
+
+-- the state after all records of a log: none where a record is a bad replay
+abbrev pub replayed : List Record → Option State
+replayed records = replayed_from at_the_start records
+
+-- Two blocks are committed, the second below the first.
+
+abbrev one : Record
+one = record { line = 7; code = commit_code; fields = 0x2000 ∷ 3 ∷ 0 ∷ [] }
+
+abbrev two : Record
+two = record { line = 8; code = commit_code; fields = 0x1000 ∷ 4 ∷ 1 ∷ [] }
+
+-- a record of an object, or of a user, with these fields
+abbrev told : (code : ℕ) → List ℕ → Record
+told code fields = record { line = 9; code = code; fields = fields }
+
+pub blocks_stand_in_the_order_of_their_addresses :
+    replayed (one ∷ two ∷ [])
+    ≡ Some (record { blocks = record { at = 0x1000; words = 4; pool = 1 } ∷ record { at = 0x2000; words = 3; pool = 0 } ∷ []; interned = 0 })
+blocks_stand_in_the_order_of_their_addresses = refl
+
+pub a_block_moves :
+    replayed (one ∷ told move_code (0x2000 ∷ 0x800 ∷ []) ∷ []) ≡ Some (record { blocks = record { at = 0x800; words = 3; pool = 0 } ∷ []; interned = 0 })
+a_block_moves = refl
+
+pub a_live_block_is_freed : replayed (one ∷ told free_code (0x2000 ∷ []) ∷ []) ≡ Some at_the_start
+a_live_block_is_freed = refl
+
+pub names_are_interned_in_order :
+    replayed (told intern_code (0 ∷ 97 ∷ 0 ∷ []) ∷ told intern_code (1 ∷ 98 ∷ 0 ∷ []) ∷ []) ≡ Some (record { blocks = []; interned = 2 })
+names_are_interned_in_order = refl
+
+pub a_live_block_is_labelled :
+    replayed (one ∷ told intern_code (0 ∷ 97 ∷ 0 ∷ []) ∷ told label_code (0x2000 ∷ 0 ∷ []) ∷ [])
+    ≡ Some (record { blocks = record { at = 0x2000; words = 3; pool = 0 } ∷ []; interned = 1 })
+a_live_block_is_labelled = refl
+
+-- Bad replays.
+
+pub a_live_place_cannot_be_committed : replayed (one ∷ told commit_code (0x2000 ∷ 1 ∷ 0 ∷ []) ∷ []) ≡ None
+a_live_place_cannot_be_committed = refl
+
+pub a_block_cannot_move_onto_another : replayed (one ∷ two ∷ told move_code (0x2000 ∷ 0x1000 ∷ []) ∷ []) ≡ None
+a_block_cannot_move_onto_another = refl
+
+pub a_block_cannot_move_to_itself : replayed (one ∷ told move_code (0x2000 ∷ 0x2000 ∷ []) ∷ []) ≡ None
+a_block_cannot_move_to_itself = refl
+
+pub no_block_moves_from_there : replayed (one ∷ told move_code (0x2008 ∷ 0x3000 ∷ []) ∷ []) ≡ None
+no_block_moves_from_there = refl
+
+pub no_block_stays_there : replayed (one ∷ told stay_code (0x1000 ∷ []) ∷ []) ≡ None
+no_block_stays_there = refl
+
+pub no_block_is_posted_there : replayed (one ∷ told post_code (0x1000 ∷ []) ∷ []) ≡ None
+no_block_is_posted_there = refl
+
+pub no_block_is_freed_there : replayed (one ∷ told free_code (0x1000 ∷ []) ∷ []) ≡ None
+no_block_is_freed_there = refl
+
+pub a_name_is_interned_out_of_order : replayed (told intern_code (1 ∷ 97 ∷ 0 ∷ []) ∷ []) ≡ None
+a_name_is_interned_out_of_order = refl
+
+pub a_label_of_no_name : replayed (one ∷ told label_code (0x2000 ∷ 0 ∷ []) ∷ []) ≡ None
+a_label_of_no_name = refl
+
+pub no_block_is_labelled_there :
+    replayed (one ∷ told intern_code (0 ∷ 97 ∷ 0 ∷ []) ∷ told label_code (0x1000 ∷ 0 ∷ []) ∷ []) ≡ None
+no_block_is_labelled_there = refl
