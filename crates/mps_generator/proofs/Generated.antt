@@ -17,13 +17,11 @@ no_lines_more count step state le =
     let n : count - step ≡ 0 = omega arith in
     ap (λ (k : ℕ). lines_from k step state) n
 
--- the lines of a step by its three numbers
-pub step_is : (step state first second third : ℕ) → first ≡ next_state state → second ≡ next_state first → third ≡ next_state second
-    → lines_of_kind (number_below 8 third) step (number_below 16 first) (number_below 16 second) ≡ step_lines step state
-step_is step state first second third e f g =
-    let f2 : second ≡ next_state (next_state state) = f ∙ ap next_state e in
-    let g2 : third ≡ next_state (next_state (next_state state)) = g ∙ ap next_state f2 in
-    rw (e, f2, g2) refl
+-- the lines of a step by the three numbers that were drawn for it
+step_drawn : (step state slot target kind : ℕ)
+    → slot ≡ number_below 16 (next_state state) → target ≡ number_below 16 (next_state (next_state state)) → kind ≡ number_below 8 (state_after_step state)
+    → step_lines step state ≡ lines_of_kind kind step slot target
+step_drawn step state slot target kind slot-is target-is kind-is = rw (slot-is, target-is, kind-is) refl
 
 -- the kinds that make an object
 pub makes_an_object : (kind step slot target : ℕ) → kind < 4 → lines_of_kind kind step slot target ≡ allocating_lines step slot target
@@ -37,45 +35,31 @@ makes_an_object kind step slot target lt =
 -- ---- what is left, one line on. `old` is what was left before
 
 -- the first line of an object
-pub object_begins : (old : List (List ℕ)) (count step state first second third slot target kind : ℕ) (text : List ℕ) (behind : List (List ℕ))
+pub object_begins : (old : List (List ℕ)) (count step state slot target kind after : ℕ) (text : List ℕ) (behind : List (List ℕ))
     → lines_from (count - step) step state ≡ old → step < count
-    → first ≡ next_state state → second ≡ next_state first → third ≡ next_state second
-    → slot ≡ number_below 16 first → target ≡ number_below 16 second → kind ≡ number_below 8 third → kind < 4
+    → slot ≡ number_below 16 (next_state state) → target ≡ number_below 16 (next_state (next_state state)) → kind ≡ number_below 8 (state_after_step state)
+    → after ≡ state_after_step state → kind < 4
     → allocating_lines step slot target ≡ text ∷ behind
-    → old ≡ text ∷ (behind ++ lines_from (count - (step + 1)) (step + 1) third)
-object_begins old count step state first second third slot target kind text behind was lt e f g slot-is target-is kind-is small line =
-    let f2 : second ≡ next_state (next_state state) = f ∙ ap next_state e in
-    let g2 : third ≡ next_state (next_state (next_state state)) = g ∙ ap next_state f2 in
+    → old ≡ text ∷ (behind ++ lines_from (count - (step + 1)) (step + 1) after)
+object_begins old count step state slot target kind after text behind was lt slot-is target-is kind-is after-is small line =
     let lines : step_lines step state ≡ text ∷ behind =
-    sym (step_is step state first second third e f g)
-    ∙ ap (λ (k : ℕ). lines_of_kind k step (number_below 16 first) (number_below 16 second)) (sym kind-is)
-    ∙ ap (λ (s : ℕ). lines_of_kind kind step s (number_below 16 second)) (sym slot-is)
-    ∙ ap (λ (t : ℕ). lines_of_kind kind step slot t) (sym target-is)
-    ∙ makes_an_object kind step slot target small
-    ∙ line in
+    step_drawn step state slot target kind slot-is target-is kind-is ∙ makes_an_object kind step slot target small ∙ line in
     sym was ∙ lines_more count step state lt
     ∙ ap (λ (x : List (List ℕ)). x ++ lines_from (count - (step + 1)) (step + 1) (state_after_step state)) lines
-    ∙ ap (λ (s : ℕ). text ∷ (behind ++ lines_from (count - (step + 1)) (step + 1) s)) (sym g2)
+    ∙ ap (λ (s : ℕ). text ∷ (behind ++ lines_from (count - (step + 1)) (step + 1) s)) (sym after-is)
 
 -- the one line of another step
-pub step_ends : (old : List (List ℕ)) (count step state first second third slot target kind : ℕ) (text : List ℕ)
+pub step_ends : (old : List (List ℕ)) (count step state slot target kind after : ℕ) (text : List ℕ)
     → lines_from (count - step) step state ≡ old → step < count
-    → first ≡ next_state state → second ≡ next_state first → third ≡ next_state second
-    → slot ≡ number_below 16 first → target ≡ number_below 16 second → kind ≡ number_below 8 third
+    → slot ≡ number_below 16 (next_state state) → target ≡ number_below 16 (next_state (next_state state)) → kind ≡ number_below 8 (state_after_step state)
+    → after ≡ state_after_step state
     → ((n : ℕ) → lines_of_kind kind n slot target ≡ text ∷ [])
-    → old ≡ text ∷ lines_from (count - (step + 1)) (step + 1) third
-step_ends old count step state first second third slot target kind text was lt e f g slot-is target-is kind-is line =
-    let f2 : second ≡ next_state (next_state state) = f ∙ ap next_state e in
-    let g2 : third ≡ next_state (next_state (next_state state)) = g ∙ ap next_state f2 in
-    let lines : step_lines step state ≡ text ∷ [] =
-    sym (step_is step state first second third e f g)
-    ∙ ap (λ (k : ℕ). lines_of_kind k step (number_below 16 first) (number_below 16 second)) (sym kind-is)
-    ∙ ap (λ (s : ℕ). lines_of_kind kind step s (number_below 16 second)) (sym slot-is)
-    ∙ ap (λ (t : ℕ). lines_of_kind kind step slot t) (sym target-is)
-    ∙ line step in
+    → old ≡ text ∷ lines_from (count - (step + 1)) (step + 1) after
+step_ends old count step state slot target kind after text was lt slot-is target-is kind-is after-is line =
+    let lines : step_lines step state ≡ text ∷ [] = step_drawn step state slot target kind slot-is target-is kind-is ∙ line step in
     sym was ∙ lines_more count step state lt
     ∙ ap (λ (x : List (List ℕ)). x ++ lines_from (count - (step + 1)) (step + 1) (state_after_step state)) lines
-    ∙ ap (λ (s : ℕ). text ∷ lines_from (count - (step + 1)) (step + 1) s) (sym g2)
+    ∙ ap (λ (s : ℕ). text ∷ lines_from (count - (step + 1)) (step + 1) s) (sym after-is)
 
 -- the last lines begin
 pub ending_begins : (old : List (List ℕ)) (count step state : ℕ) (text : List ℕ) (behind : List (List ℕ))

@@ -1,7 +1,7 @@
 // The lines of a generated script, one by one.
 
 ghost use Rattle.std.specs.Prelude.{◌≡◌, ◌≤◌, ◌<◌, ◌∷◌, [], take, MatchOption, IfSome};
-ghost use Rattle.mps_generator.specs.Script.{script_lines, next_state, number_below};
+ghost use Rattle.mps_generator.specs.Script.{script_lines, next_state, number_below, state_after_step};
 
 use crate::script_lines::{put_allocating, put_ending, put_making, put_step};
 use std::marker::Model;
@@ -74,13 +74,13 @@ impl GenLines {
                 Some(put_making(4, line))
             }
             Place::Stepping if self.step < self.count => {
-                let first = next(self.state);
-                let second = next(first);
-                let third = next(second);
-                let slot = below(16, first);
-                let target = below(16, second);
-                let kind = below(8, third);
-                self.state = third;
+                let Drawn {
+                    slot,
+                    target,
+                    kind,
+                    state,
+                } = draw(self.state);
+                self.state = state;
                 if kind < 4 {
                     self.place = Place::Allocating {
                         behind: 1,
@@ -121,6 +121,34 @@ impl GenLines {
             }
             Place::Ending(_) => None,
         }
+    }
+}
+
+// The three numbers of a step, and the state behind them.
+#[derive(Clone, Copy)]
+struct Drawn {
+    slot: u64,
+    target: u64,
+    kind: u64,
+    state: u64,
+}
+
+// Draws the three numbers of a step, in their order.
+fn draw(state: u64) -> Drawn
+    ensures slot { result.slot ≡ number_below 16 (next_state state) }
+    ensures target { result.target ≡ number_below 16 (next_state (next_state state)) }
+    ensures kind { result.kind ≡ number_below 8 (state_after_step state) }
+    ensures after { result.state ≡ state_after_step state }
+    ensures known { result.kind < 8 }
+{
+    let first = next(state);
+    let second = next(first);
+    let third = next(second);
+    Drawn {
+        slot: below(16, first),
+        target: below(16, second),
+        kind: below(8, third),
+        state: third,
     }
 }
 

@@ -9,15 +9,15 @@ pub returns-then-kind-lt4-clause-line : goal.returns-then-kind-lt4-clause-line
 returns-then-kind-lt4-clause-line c =
     let i = c.self.inside in
     let was : lines_from (i.count - i.step) i.step i.state ≡ c.args.self.now = ap (λ (p : Place). lines_behind p i.state i.step i.count) (sym c.in-Stepping.is) ∙ c.self.view_is in
-    object_begins c.args.self.now i.count i.step i.state c.next-first.result c.next-second.result c.next-third.result c.below-slot.result c.below-target.result c.below-kind.result _ _ was c.if-self.true c.next-first.ensures c.next-second.ensures c.next-third.ensures c.below-slot.ensures c.below-target.ensures c.below-kind.ensures c.if-kind-lt4.true c.put_allocating.ensures.line
+    object_begins c.args.self.now i.count i.step i.state c.draw-slot.result.slot c.draw-slot.result.target c.draw-slot.result.kind c.draw-slot.result.state _ _ was c.if-self.true c.draw-slot.ensures.slot c.draw-slot.ensures.target c.draw-slot.ensures.kind c.draw-slot.ensures.after c.if-kind-lt4.true c.put_allocating.ensures.line
 
 pub returns-else-kind-lt4-clause-line : goal.returns-else-kind-lt4-clause-line
 returns-else-kind-lt4-clause-line c =
     let i = c.self.inside in
     let text = take c.put_step.result c.put_step.new.line in
     let was : lines_from (i.count - i.step) i.step i.state ≡ c.args.self.now = ap (λ (p : Place). lines_behind p i.state i.step i.count) (sym c.in-Stepping.is) ∙ c.self.view_is in
-    step_ends c.args.self.now i.count i.step i.state c.next-first.result c.next-second.result c.next-third.result c.below-slot.result c.below-target.result c.below-kind.result text was c.if-self.true c.next-first.ensures c.next-second.ensures c.next-third.ensures c.below-slot.ensures c.below-target.ensures c.below-kind.ensures c.put_step.ensures.line
-    ∙ ap (λ (p : Place). text ∷ lines_behind p c.next-third.result (i.step + 1) i.count) (sym c.in-Stepping.is)
+    step_ends c.args.self.now i.count i.step i.state c.draw-slot.result.slot c.draw-slot.result.target c.draw-slot.result.kind c.draw-slot.result.state text was c.if-self.true c.draw-slot.ensures.slot c.draw-slot.ensures.target c.draw-slot.ensures.kind c.draw-slot.ensures.after c.put_step.ensures.line
+    ∙ ap (λ (p : Place). text ∷ lines_behind p c.draw-slot.result.state (i.step + 1) i.count) (sym c.in-Stepping.is)
 
 pub returns-in-Stepping-2-clause-line : goal.returns-in-Stepping-2-clause-line
 returns-in-Stepping-2-clause-line c =
