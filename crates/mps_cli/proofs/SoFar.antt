@@ -15,10 +15,11 @@ use Rattle.mps_model.proofs.Appending.{log_from-append, IsLegalFrom-append, worl
 use Rattle.mps_first_heap.specs.Kept.{Kept}
 use Rattle.mps_first_heap.specs.StandsFor.{StandsFor}
 use Rattle.mps_script.specs.Line.{lines_of, call_of_line, longest_line, is_line_feed}
+use Rattle.mps_reading.specs.Ending.{is_whole_status}
 use Rattle.mps_cli.specs.Write.{appended}
 use Rattle.mps_cli.specs.Ending.{CountsGrow, HasCause, IsQuiet, Reports, report_of, status_of}
 use Rattle.mps_cli.specs.Buffer.{ComesNextOf, length_of_line}
-use Rattle.mps_cli.specs.Script.{Command, StepsRan, AreUnsupportedWhereDue, RanLines, RanTo, Answered, NoFaultRose, is_whole, is_whole_status, IsBadHere, EndsAt, answers_of, text_of_answer, commands_of, command_of_step, commands_of_call, commands_from, is_good}
+use Rattle.mps_cli.specs.Script.{Command, StepsRan, AreUnsupportedWhereDue, RanLines, RanTo, Answered, NoFaultRose, is_whole, IsBadHere, EndsAt, answers_of, text_of_answer, commands_of, command_of_step, commands_of_call, commands_from, is_good}
 use Rattle.mps_cli.specs.declared.ending.Ending.{Ending}
 use Rattle.mps_cli.specs.declared.ending.Ending.TheVariants as ending
 use Rattle.mps_cli.specs.declared.next.Next.{Next}

@@ -1,6 +1,6 @@
 -- The steps that a run makes, one after another.
 use Rattle.std.proofs.Common.{◌≡◌, ℕ, ◌+◌, Bool, [], ◌∷◌, refl, sym, ◌∙◌, ap, arith, append-nil}
-use Rattle.mps_base.specs.Desk.{Outside, OnlyLogs, OnlyPrints}
+use Rattle.mps_base.specs.Desk.{Outside}
 use Rattle.mps_base.specs.Record.{records_bytes}
 use Rattle.mps_model.specs.declared.call.Call.{Call}
 use Rattle.std.specs.Prelude.{◌↔◌, IsTrue}
@@ -26,23 +26,23 @@ said_unsupported : (r : Reply) (b : Bool) → (r ≡ reply.Unsupported) ↔ IsTr
 said_unsupported r b h = (λ e. h.0 (let a : r ≡ reply.Unsupported = cc in a), λ t. ap Said (h.1 t))
 
 -- a command that was answered is one step
-pub one_step : (line pools count : ℕ) (call : Call) (done : Done) (before after : Kept) (old mid new : Outside)
+pub one_step : (line pools count : ℕ) (call : Call) (done : Done) (before after : Kept) (old new : Outside)
     → IsLegalCall before call done → StandsAfter before call done after → IsReplayedCall before call done → IsUnsupportedWhereDue before call done
-    → mid.logged ≡ appended old.logged (records_bytes (records_of_done line pools call done)) → OnlyLogs old mid
-    → new.printed ≡ appended mid.printed (text_of done.reply) → OnlyPrints mid new
+    → new.logged ≡ appended old.logged (records_bytes (records_of_done line pools call done))
+    → new.printed ≡ appended old.printed (text_of done.reply) → new.input ≡ old.input
     → count ≡ pools_made_by call (Said done.reply)
     → StepsRan (record { line = line; call = call } ∷ []) before after pools (pools + count) old new
-one_step line pools count call done before after old mid new is_legal stands replayed unsupported logged logs printed prints made = record {
+one_step line pools count call done before after old new is_legal stands replayed unsupported logged printed input made = record {
   steps = step ∷ [];
   legal = λ w s. (is_legal w line s, tt);
   unsupported = λ w s. (said_unsupported done.reply (is_unsupported_call w call) (unsupported w s), tt);
   stands = λ w s. stands w line s;
   replayed = λ w n s. ap (replay_from (live_blocks w)) (append-nil (records_of_step n step)) ∙ replayed w line s n;
   answers = refl;
-  printed = printed ∙ (ap (λ told. appended told (text_of done.reply)) logs.printed ∙ ap (appended old.printed) (sym (append-nil (text_of done.reply))));
-  logged = prints.logged ∙ (logged ∙ ap (λ rs. appended old.logged (records_bytes rs)) (sym (append-nil (records_of_done line pools call done))));
+  printed = printed ∙ ap (appended old.printed) (sym (append-nil (text_of done.reply)));
+  logged = logged ∙ ap (λ rs. appended old.logged (records_bytes rs)) (sym (append-nil (records_of_done line pools call done)));
   pools = ap (λ n. pools + n) (made ∙ omega arith);
-  input = prints.input ∙ logs.input;
+  input = input;
 }
   where
     step : Step

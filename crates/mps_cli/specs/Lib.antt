@@ -1,4 +1,4 @@
-pub mod Command
+pub mod Asked
 pub mod Ending
 pub mod Write
 pub mod Buffer

@@ -1,5 +1,5 @@
 -- What a run of a script tells: its commands, each with its line, and what was printed and logged for them.
-use Rattle.std.specs.Prelude.{ℕ, ◌≡◌, ◌↔◌, ◌+◌, ◌<◌, ◌==◌, ◌||◌, IsTrue, Bool, true, false, Option, Some, None, Result, Ok, Err, List, [], ◌∷◌, ◌++◌, map, length, take, drop, codes, refl}
+use Rattle.std.specs.Prelude.{ℕ, ◌≡◌, ◌↔◌, ◌+◌, ◌<◌, IsTrue, Bool, true, false, Option, Some, None, Result, Ok, Err, List, [], ◌∷◌, ◌++◌, map, length, take, drop, codes, refl}
 use Rattle.std.specs.List.{flat_map, list_all}
 use Rattle.mps_base.specs.Desk.{Outside, HasRisen}
 use Rattle.mps_base.specs.Record.{records_bytes}
@@ -161,10 +161,6 @@ pub record RanTo (ends : Ending) (script : List ℕ) (old new : Outside) : Type 
 
 pub a_comment_has_no_command : commands_from 1 (codes "# x" ∷ codes "foo" ∷ []) ≡ record { line = 2; call = call.Other } ∷ []
 a_comment_has_no_command = refl
-
--- the status tells that the run was whole
-abbrev pub is_whole_status : ℕ → Bool
-is_whole_status status = (status == 0) || ((status == 6) || (status == 7))
 
 -- the run of a script ended with a status: what was printed and logged is that of a history of its commands, and what was
 -- reported tells where it ended

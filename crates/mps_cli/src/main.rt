@@ -1,8 +1,7 @@
 //! The command line of the memory pool system: `mps run` runs a script over a heap, prints its answers and logs what
-//! happened.
+//! happened; `mps cnv`, `mps txt` and `mps blocks` read logs; `mps gen` prints a generated script.
 #![tactic(auto)]
 
-mod command;
 mod ending;
 mod lines;
 mod log;

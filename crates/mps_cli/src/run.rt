@@ -1,12 +1,17 @@
 // The run of a script.
-ghost use Rattle.std.specs.Prelude.{◌≡◌, ◌≢◌, ◌≤◌, ◌+◌, ◌∷◌, [], ℕ, List, true, false, Some, IfSome, IfNone};
-ghost use Rattle.mps_base.specs.Desk.{standard_input};
+ghost use Rattle.std.specs.Prelude.{◌≡◌, ◌≢◌, ◌≤◌, ◌+◌, ◌∷◌, ◌⊎◌, [], ℕ, List, true, false, Some, IfSome, IfNone, IfErr, OnOk};
+ghost use Rattle.std.specs.Option.{option_map};
+ghost use Rattle.mps_base.specs.Desk.{SameElsewhere, with_file};
+ghost use Rattle.mps_base.specs.Record.{records_bytes};
 ghost use Rattle.mps_script.specs.Line.{call_of_line};
+ghost use Rattle.mps_script.specs.Text.{text_of};
 ghost use Rattle.mps_first_heap.specs.Unsupported.{IsInRange};
 ghost use Rattle.mps_cli.specs.Ending.{HasCause, CountsGrow, IsQuiet};
 ghost use Rattle.mps_cli.specs.Buffer.{left_of};
+ghost use Rattle.mps_cli.specs.Records.{records_of_done};
 ghost use Rattle.mps_cli.specs.Script.{Command, StepsRan, RanTo, RanLines, Answered, IsBadHere, is_good, is_whole, commands_of_call};
-ghost use Rattle.mps_cli.specs.declared.ending.Ending.TheVariants.{NoMeaning, WriteFailed};
+ghost use Rattle.mps_cli.specs.Write.{appended};
+ghost use Rattle.mps_cli.specs.declared.ending.Ending.TheVariants.{NoMeaning, ReadFailed, WriteFailed, LogFailed};
 
 use crate::ending::Ending;
 use crate::lines::Lines;
@@ -15,41 +20,54 @@ use crate::next::Next;
 use crate::pools::pools_made;
 use crate::print::print;
 use mps_base::Desk;
-use mps_first_heap::FirstHeap;
+use mps_first_heap::{Done, FirstHeap};
 use mps_model::Call;
 use mps_script::call_of;
 use std::alloc::Global;
 
-/// The name of standard input.
-const INPUT: &str = "-";
-
-/// The file that the log goes to.
-const LOG: &str = "mpsio.log";
-
-/// Runs the script on standard input.
-pub fn run<D: Desk>(alloc: Global, desk: &mut D) -> Ending
+/// Runs the script of a name, and writes the log of a name.
+pub fn run<D: Desk>(alloc: Global, log: &str, script: &str, desk: &mut D) -> Ending
     ensures meaning { result ≢ NoMeaning }
     ensures cause { HasCause result (D.outside desk.old) (D.outside desk.new) }
     ensures counts { CountsGrow (D.outside desk.old) (D.outside desk.new) }
     ensures quiet { IsQuiet (D.outside desk.old) (D.outside desk.new) }
-    ensures ran { is_whole result ≡ true → (script : List ℕ) → (D.outside desk.old).text standard_input ≡ Some script
-        → RanTo result script (D.outside desk.old) (D.outside desk.new) }
-    ensures answered { result ≢ WriteFailed → (script : List ℕ) → (D.outside desk.old).text standard_input ≡ Some script
-        → Answered script (D.outside desk.old) (D.outside desk.new) }
+    ensures ran { is_whole result ≡ true → (bytes : List ℕ) → (D.outside desk.old).text script.now ≡ Some bytes
+        → RanTo result bytes (D.outside desk.old) (D.outside desk.new) }
+    ensures answered { result ≢ WriteFailed → (bytes : List ℕ) → (D.outside desk.old).text script.now ≡ Some bytes
+        → Answered bytes (D.outside desk.old) (D.outside desk.new) }
 {
     let Ok(mut lines) = Lines::new(alloc) else {
         return Ending::OutOfMemory;
     };
-    let Ok(()) = desk.open(INPUT) else {
-        return Ending::ReadFailed;
-    };
-    let Ok(()) = desk.create(LOG) else {
-        return Ending::LogFailed;
-    };
+    match open_files(desk, log, script) {
+        Ok(()) => {}
+        Err(ending) => return ending,
+    }
     let Ok(()) = log_header(desk) else {
         return Ending::LogFailed;
     };
     run_lines(alloc, desk, &mut lines)
+}
+
+/// Opens the script, and then makes the log; answers how the run ends where one of them fails.
+fn open_files<D: Desk>(desk: &mut D, log: &str, script: &str) -> Result<(), Ending>
+    ensures input { OnOk result ((D.outside desk.new).input ≡ (D.outside desk.old).text script.now) }
+    ensures made { OnOk result ((D.outside desk.new).files ≡ option_map (λ files. with_file files log.now []) (D.outside desk.old).files) }
+    ensures elsewhere { SameElsewhere log.now (D.outside desk.old) (D.outside desk.new) }
+    ensures printed { (D.outside desk.new).printed ≡ (D.outside desk.old).printed }
+    ensures logged { (D.outside desk.new).logged ≡ (D.outside desk.old).logged }
+    ensures failed { IfErr result (λ ending. (ending ≡ ReadFailed) ⊎ (ending ≡ LogFailed)) }
+    ensures cause { IfErr result (λ ending. HasCause ending (D.outside desk.old) (D.outside desk.new)) }
+    ensures counts { CountsGrow (D.outside desk.old) (D.outside desk.new) }
+    ensures quiet { IsQuiet (D.outside desk.old) (D.outside desk.new) }
+{
+    let Ok(()) = desk.open(script) else {
+        return Err(Ending::ReadFailed);
+    };
+    let Ok(()) = desk.create(log) else {
+        return Err(Ending::LogFailed);
+    };
+    Ok(())
 }
 
 fn run_lines<D: Desk>(alloc: Global, desk: &mut D, lines: &mut Lines) -> Ending
@@ -114,7 +132,7 @@ fn run_line<D: Desk>(
     }
 }
 
-/// Runs one command: its records go to the log, and then its answer is printed.
+/// Runs one command.
 fn run_call<D: Desk>(
     alloc: Global,
     desk: &mut D,
@@ -138,12 +156,38 @@ fn run_call<D: Desk>(
     let Ok(done) = heap.call(alloc, call) else {
         return Some(Ending::OutOfMemory);
     };
-    let Ok(()) = log_records(desk, line, *pools, call, &done) else {
-        return Some(Ending::LogFailed);
-    };
-    let Ok(()) = print(desk, &done.reply) else {
-        return Some(Ending::WriteFailed);
-    };
+    match log_then_print(desk, line, *pools, call, &done) {
+        Ok(()) => {}
+        Err(ending) => return Some(ending),
+    }
     *pools += pools_made(call, &done.reply);
     None
+}
+
+/// Writes the records of a command that was done, and then prints its answer; answers how the run ends where one of them
+/// fails.
+fn log_then_print<D: Desk>(
+    desk: &mut D,
+    line: u32,
+    pools: u64,
+    call: &Call,
+    done: &Done,
+) -> Result<(), Ending>
+    ensures logged { OnOk result ((D.outside desk.new).logged
+        ≡ appended (D.outside desk.old).logged (records_bytes (records_of_done line pools call.now done.now))) }
+    ensures printed { OnOk result ((D.outside desk.new).printed ≡ appended (D.outside desk.old).printed (text_of done.now.reply)) }
+    ensures records_first { IfErr result (λ ending. ending ≢ WriteFailed → (D.outside desk.new).printed ≡ (D.outside desk.old).printed) }
+    ensures failed { IfErr result (λ ending. (ending ≡ WriteFailed) ⊎ (ending ≡ LogFailed)) }
+    ensures cause { IfErr result (λ ending. HasCause ending (D.outside desk.old) (D.outside desk.new)) }
+    ensures input { (D.outside desk.new).input ≡ (D.outside desk.old).input }
+    ensures counts { CountsGrow (D.outside desk.old) (D.outside desk.new) }
+    ensures quiet { IsQuiet (D.outside desk.old) (D.outside desk.new) }
+{
+    let Ok(()) = log_records(desk, line, pools, call, done) else {
+        return Err(Ending::LogFailed);
+    };
+    let Ok(()) = print(desk, &done.reply) else {
+        return Err(Ending::WriteFailed);
+    };
+    Ok(())
 }

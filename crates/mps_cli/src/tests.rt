@@ -18,6 +18,13 @@ const FIRST_LOG: &[u8] = b"MPSLOG\x01\x00\
     \x30\x00\x04\x00\x05\x00\x00\x00\x00\x10\x00\x00\x00\x00\x00\x00\x01\x00\x00\x00\x00\x00\x00\x00\x00\x00\x00\x00\x00\x00\x00\x00\x00\x00\x00\x00\x00\x00\x00\x00\
     \x50\x00\x03\x00\x07\x00\x00\x00\x00\x10\x00\x00\x00\x00\x00\x00\x03\x00\x00\x00\x00\x00\x00\x00\x00\x00\x00\x00\x00\x00\x00\x00";
 
+/// What is reported where the words have no meaning.
+const USAGE: &[u8] = b"mps: usage: run, cnv, txt, blocks or gen\n";
+
+/// A generated script without steps.
+const GENERATED: &[u8] =
+    b"arena 1024 1024\nchain c 4 8\npool p amc front c\ntable t 16\nap x p exact\ncollect\nlive\ncommitted\n";
+
 /// What a run answers.
 #[derive(Drop)]
 struct Answers<'a> {
@@ -26,19 +33,28 @@ struct Answers<'a> {
     reported: &'a [u8],
 }
 
-/// Runs the program over a desk with the words `run`, and compares what it answers.
+/// Runs the program over a desk with the words of a line, and compares what it answers.
 fn compare(
     rt: &impl Abort,
     alloc: Global,
     desk: &mut MemDesk,
+    line: &str,
     wanted: &Answers<'_>,
 ) -> Result<(), AllocError> {
-    let mut words = Vec::new(alloc);
-    words.push(String::from_str(alloc, "run")?)?;
-    assert_eq!(rt; mps(alloc, &words, desk), wanted.status);
-    assert_eq!(rt; desk.printed(), wanted.printed);
-    assert_eq!(rt; desk.reported(), wanted.reported);
+    let words = words_of(alloc, line)?;
+    assert_eq!(rt; mps(alloc, &words, desk), wanted.status, "{line}");
+    assert_eq!(rt; desk.printed(), wanted.printed, "{line}");
+    assert_eq!(rt; desk.reported(), wanted.reported, "{line}");
     Ok(())
+}
+
+/// The words of a line.
+fn words_of(alloc: Global, line: &str) -> Result<Vec<String>, AllocError> {
+    let mut words = Vec::new(alloc);
+    for word in line.split(' ') {
+        words.push(String::from_str(alloc, word)?)?;
+    }
+    Ok(words)
 }
 
 /// Whole and in pieces of 1 and of 7 bytes, the first script has its answers, and its log byte for byte.
@@ -53,7 +69,7 @@ fn the_first_script_and_its_log(rt: HostRuntime) -> Result<(), Fail> {
         let mut desk = MemDesk::new(rt.alloc());
         desk.add_file("-", FIRST)?;
         desk.pieces(most);
-        compare(&rt, rt.alloc(), &mut desk, &wanted)?;
+        compare(&rt, rt.alloc(), &mut desk, "run", &wanted)?;
         assert_eq!(rt; desk.file("mpsio.log"), Some(FIRST_LOG));
     }
     Ok(())
@@ -84,7 +100,7 @@ fn scripts_and_their_answers(rt: HostRuntime) -> Result<(), Fail> {
             printed,
             reported: b"",
         };
-        compare(&rt, rt.alloc(), &mut desk, &wanted)?;
+        compare(&rt, rt.alloc(), &mut desk, "run", &wanted)?;
         let log = desk.file("mpsio.log").map_or(0, |log| log.len());
         assert_eq!(rt; log, logged);
     }
@@ -117,7 +133,63 @@ fn each_call_of_the_desk_may_fail(rt: HostRuntime) -> Result<(), Fail> {
             printed,
             reported,
         };
-        compare(&rt, rt.alloc(), &mut desk, &wanted)?;
+        compare(&rt, rt.alloc(), &mut desk, "run", &wanted)?;
+    }
+    Ok(())
+}
+
+/// Lines of words over a desk with a script `s`, the log `l` of the first script and an empty standard input: the status,
+/// what was printed and what was reported.
+#[test]
+fn each_line_of_words_has_its_answers(rt: HostRuntime) -> Result<(), Fail> {
+    for (line, status, printed, reported) in [
+        ("", 2, b"".as_slice(), USAGE),
+        ("run --help", 2, b"", USAGE),
+        ("run -o a -o b", 2, b"", USAGE),
+        ("run -o -", 2, b"", USAGE),
+        ("cnv -k seg,", 2, b"", USAGE),
+        ("gen 1 1000001", 2, b"", USAGE),
+        ("run", 0, b"", b""),
+        ("run -o a s", 0, FIRST_ANSWERS, b""),
+        ("run s", 0, FIRST_ANSWERS, b""),
+        ("run absent", 3, b"", b"mps: read failed\n"),
+        ("cnv", 3, b"", b"mps: read failed\n"),
+        ("cnv -f l -k object", 0, b"mpslog 1\n7 80 1000 3 0\n", b""),
+        ("cnv -f -", 6, b"", b"mps: log offset 0: bad header\n"),
+        ("txt", 6, b"", b"mps: text line 1: bad line\n"),
+        ("blocks -f l", 0, b"0x1000 3 0\n", b""),
+        ("gen 1 0", 0, GENERATED, b""),
+    ] {
+        let mut desk = MemDesk::new(rt.alloc());
+        desk.add_file("s", FIRST)?;
+        desk.add_file("l", FIRST_LOG)?;
+        let wanted = Answers {
+            status,
+            printed,
+            reported,
+        };
+        compare(&rt, rt.alloc(), &mut desk, line, &wanted)?;
+    }
+    Ok(())
+}
+
+/// The log goes to the file that is named, and no other.
+#[test]
+fn the_log_goes_to_its_file(rt: HostRuntime) -> Result<(), Fail> {
+    for (line, log, other) in [
+        ("run -o a s", "a", "mpsio.log"),
+        ("run s", "mpsio.log", "a"),
+    ] {
+        let mut desk = MemDesk::new(rt.alloc());
+        desk.add_file("s", FIRST)?;
+        let wanted = Answers {
+            status: 0,
+            printed: FIRST_ANSWERS,
+            reported: b"",
+        };
+        compare(&rt, rt.alloc(), &mut desk, line, &wanted)?;
+        assert_eq!(rt; desk.file(log), Some(FIRST_LOG));
+        assert!(rt; desk.file(other).is_none());
     }
     Ok(())
 }
@@ -139,7 +211,7 @@ fn a_line_of_4096_bytes_is_the_longest(rt: HostRuntime) -> Result<(), Fail> {
             printed,
             reported,
         };
-        compare(&rt, rt.alloc(), &mut desk, &wanted)?;
+        compare(&rt, rt.alloc(), &mut desk, "run", &wanted)?;
     }
     Ok(())
 }

@@ -1,0 +1,32 @@
+use Rattle.mps_cli.proofs.mps.run_command.Goals as goal
+
+pub returns-in-Convert-clause-asked : goal.returns-in-Convert-clause-asked
+returns-in-Convert-clause-asked g c = rw c.in-Convert.is (record {
+  answers = c.cnv.ensures.answers;
+  converted = c.cnv.ensures.converted;
+  only = c.cnv.ensures.only;
+})
+
+pub returns-in-Generate-clause-asked : goal.returns-in-Generate-clause-asked
+returns-in-Generate-clause-asked g c = rw c.in-Generate.is (record {
+  known = c.generate.ensures.known;
+  whole = c.generate.ensures.whole;
+  failed = c.generate.ensures.failed;
+  no_memory = c.generate.ensures.no_memory;
+})
+
+pub returns-in-Read-clause-asked : goal.returns-in-Read-clause-asked
+returns-in-Read-clause-asked g c = rw c.in-Read.is (record {
+  answers = c.txt.ensures.answers;
+  readable = c.txt.ensures.readable;
+  only = c.txt.ensures.only;
+})
+
+pub returns-in-Blocks-clause-asked : goal.returns-in-Blocks-clause-asked
+returns-in-Blocks-clause-asked g c = rw c.in-Blocks.is (record {
+  answers = c.blocks-in-Blocks.ensures.answers;
+  listed = c.blocks-in-Blocks.ensures.listed;
+  only = c.blocks-in-Blocks.ensures.only;
+  silent = c.blocks-in-Blocks.ensures.silent;
+  cut = c.blocks-in-Blocks.ensures.cut;
+})

@@ -1,0 +1,93 @@
+-- What the program does, by what its words ask for. In the files of the outside a script, a log to read and a text are
+-- found by their names; `-` is standard input.
+use Rattle.std.specs.Prelude.{ℕ, ◌≡◌, ◌≢◌, ◌⊎◌, true, codes, Option, Some, None, List, [], ◌∷◌, refl}
+use Rattle.mps_base.specs.Desk.{Outside, OnlyReports}
+use Rattle.mps_output.specs.declared.stop.Stop.TheVariants as stop
+use Rattle.mps_output.specs.Reports.{report_of}
+use Rattle.mps_output.specs.Streams.{Prints, Reports as ReportsText}
+use Rattle.mps_reading.specs.Causes.{Answers}
+use Rattle.mps_reading.specs.Ending.{is_whole_status}
+use Rattle.mps_live_blocks.specs.Listed.{ListedWith, IsOnly as IsOnlyList, ListsPart}
+use Rattle.mps_readable.specs.Text.{ReadWith, IsOnlyReading}
+use Rattle.mps_tools.specs.Converted.{ConvertedWith, IsOnly}
+use Rattle.mps_generator.specs.Ending.{FailsWithin}
+use Rattle.mps_generator.specs.Script.{script as generated_script}
+use Rattle.mps_words.specs.Meaning.{Meaning, Runs, Converts, Reads, Lists, Generates}
+use Rattle.mps_words.specs.Words.{meaning}
+use Rattle.mps_cli.specs.Ending.{IsReported, Reports}
+use Rattle.mps_cli.specs.Script.{Answered, RanWith}
+use Rattle.mps_cli.specs.declared.ending.Ending.TheVariants.{NoMeaning}
+
+-- only the line of the usage was reported, and nothing else happened
+pub record TellsUsage (old new : Outside) : Type 0 where
+  pub reported : Reports NoMeaning old new
+  pub others : OnlyReports old new
+
+-- `run`
+pub record RunsScript (script : List ℕ) (status : ℕ) (old new : Outside) : Type 0 where
+  -- one line is reported, which tells of the ending that has this status; where the status is 0, none
+  pub reported : IsReported status old new
+  -- A whole run of a script that the desk tells: there is a history of its commands, each with its line, up to the end or
+  -- to the line that is reported. It is legal, and a command is `unsupported` exactly where it isn't built. What
+  -- was printed is the answer line of each step and nothing else; what was logged is the header and the records of that
+  -- history, and replaying them gives the live blocks of the world after it.
+  pub ran : is_whole_status status ≡ true → (bytes : List ℕ) → old.text script ≡ Some bytes → RanWith status bytes old new
+  -- Where printing didn't fail, what was printed is in any case the answer line of each step of a history of the first
+  -- lines, and nothing else.
+  pub answered : status ≢ 4 → (bytes : List ℕ) → old.text script ≡ Some bytes → Answered bytes old new
+
+-- `cnv`
+pub record ConvertsLog (log : List ℕ) (kinds : ℕ) (status : ℕ) (old new : Outside) : Type 0 where
+  pub answers : Answers old new status
+  -- a log that the desk tells: the portable text of its records of these kinds was printed, up to the end or to the fault
+  -- that is reported
+  pub converted : is_whole_status status ≡ true → (bytes : List ℕ) → old.text log ≡ Some bytes → ConvertedWith kinds bytes status old new
+  -- and nothing else
+  pub only : is_whole_status status ≡ true → (bytes : List ℕ) → old.text log ≡ Some bytes → IsOnly kinds bytes status old new
+
+-- `txt`
+pub record ReadsText (text : List ℕ) (status : ℕ) (old new : Outside) : Type 0 where
+  pub answers : Answers old new status
+  -- a text that the desk tells: its readable text was printed, line by line, up to the end or to the line that is reported
+  pub readable : (bytes : List ℕ) → old.text text ≡ Some bytes → ReadWith bytes status old new
+  -- and nothing else
+  pub only : is_whole_status status ≡ true → (bytes : List ℕ) → old.text text ≡ Some bytes → IsOnlyReading bytes status old new
+
+-- `blocks`
+pub record ListsBlocks (log : List ℕ) (status : ℕ) (old new : Outside) : Type 0 where
+  pub answers : Answers old new status
+  -- a log that the desk tells: the blocks that its replay leaves live were printed, or nothing and the fault is reported
+  pub listed : is_whole_status status ≡ true → (bytes : List ℕ) → old.text log ≡ Some bytes → ListedWith bytes status old new
+  -- and nothing else
+  pub only : is_whole_status status ≡ true → (bytes : List ℕ) → old.text log ≡ Some bytes → IsOnlyList bytes status old new
+  -- nothing is printed before all was read and replayed
+  pub silent : status ≢ 0 → status ≢ 4 → new.printed ≡ old.printed
+  -- where a write failed, the front of the list was printed
+  pub cut : status ≡ 4 → (bytes : List ℕ) → old.text log ≡ Some bytes → ListsPart bytes old new
+
+-- `gen`
+pub record GeneratesScript (seed count : ℕ) (status : ℕ) (old new : Outside) : Type 0 where
+  pub known : (status ≡ 0) ⊎ (status ≡ 4) ⊎ (status ≡ 8)
+  -- all of the script was printed, and nothing else happened
+  pub whole : status ≡ 0 → Prints old new (generated_script seed count)
+  -- the front of the script was printed, a write failed, and that was reported
+  pub failed : status ≡ 4 → FailsWithin old new (generated_script seed count)
+  -- only the want of memory was reported
+  pub no_memory : status ≡ 8 → ReportsText old new (report_of stop.OutOfMemory)
+
+-- what is done with a status, by what the words ask for
+abbrev pub DoesAsAsked : Option Meaning → (status : ℕ) → (old new : Outside) → Type 0
+DoesAsAsked None status old new = TellsUsage old new
+DoesAsAsked (Some (Runs log script)) status old new = RunsScript script status old new
+DoesAsAsked (Some (Converts log kinds)) status old new = ConvertsLog log kinds status old new
+DoesAsAsked (Some (Reads text)) status old new = ReadsText text status old new
+DoesAsAsked (Some (Lists log)) status old new = ListsBlocks log status old new
+DoesAsAsked (Some (Generates seed count)) status old new = GeneratesScript seed count status old new
+
+pub help_prints_nothing : (status : ℕ) (old new : Outside) → DoesAsAsked (meaning (codes "run" ∷ codes "--help" ∷ [])) status old new
+    → new.printed ≡ old.printed
+help_prints_nothing status old new does = does.others.printed
+
+pub a_script_by_its_name : (old new : Outside) (bytes : List ℕ) → DoesAsAsked (meaning (codes "run" ∷ codes "-o" ∷ codes "a" ∷ codes "s" ∷ [])) 0 old new
+    → old.text (codes "s") ≡ Some bytes → RanWith 0 bytes old new
+a_script_by_its_name old new bytes does told = does.ran refl bytes told
