@@ -1,9 +1,10 @@
 -- All lines so far, one after the other.
 use Rattle.std.proofs.Common.{◌≡◌, ℕ, ◌+◌, ◌<◌, true, false, List, [], ◌∷◌, ◌++◌, length, Option, Some, None, Result, Ok, Err, refl, sym, ap, subst, ◌∙◌, append_assoc, arith}
-use Rattle.std.specs.Prelude.{IfSome, unwrap_or, option_and_then, All}
+use Rattle.std.specs.Prelude.{◌≢◌, IfSome, unwrap_or, option_and_then, All}
 use Rattle.std.specs.List.{flat_map}
 use Rattle.std.specs.Option.{option_map}
 use Rattle.std.proofs.lemmas.List.{append-nil, length-append}
+use Rattle.std.proofs.lemmas.List.Elements.{All-nil}
 use Rattle.mps_base.specs.Record.{Record}
 use Rattle.mps_event.specs.declared.version.Version.{Version}
 use Rattle.mps_event.specs.Grammar.{IsRecord}
@@ -16,7 +17,7 @@ use Rattle.mps_reading.proofs.PutOut.{nothing_put, one_put}
 use Rattle.mps_reading.proofs.Records.{none_yet, all_and_one, flat_one}
 use Rattle.mps_readable.specs.Labels.{Naming, no_names, after_record, after_records}
 use Rattle.mps_readable.specs.Readable.{readable_line, readable_from, readable}
-use Rattle.mps_readable.specs.Text.{closed, IsWrongNext}
+use Rattle.mps_readable.specs.Text.{closed, IsWrongNext, BreaksOff}
 use Rattle.mps_readable.specs.TextSteps.{NextLine, ShowsFirst, AllLines}
 use Rattle.mps_readable.proofs.Closed.{closed-some}
 
@@ -99,10 +100,10 @@ one_in_front x y a (Some left) (Some rest) e f =
     let g : closed left ≡ y ++ closed rest = (let h : Some (closed left) ≡ Some (y ++ closed rest) = f in cc) in
     e ∙ ap (λ (z : List ℕ). Some (x ++ z)) g ∙ ap Some (sym (append_assoc x y (closed rest)))
 
-pub one_more : (version : Version) (count number : ℕ) (named t : Naming) (left left_behind left_then before after put : Option (List ℕ))
-    → LinesSoFar version count named left left_behind before after → NextLine version number named t left_behind left_then after put (Ok true)
+pub one_more : (version : Version) (count number : ℕ) (named t : Naming) (left left_behind left_then unread before after put : Option (List ℕ))
+    → LinesSoFar version count named left left_behind before after → NextLine version number named t left_behind left_then unread after put (Ok true)
     → LinesSoFar version (count + 1) t left left_then before put
-one_more version count number named t left left_behind left_then before after put s n =
+one_more version count number named t left left_behind left_then unread before after put s n =
     let lines : flat_map record_line (s.records ++ n.read ∷ []) ≡ flat_map record_line s.records ++ record_line n.read = flat_one record_line s.records n.read in
     let shown : readable version (s.records ++ n.read ∷ []) ≡ readable version s.records ++ readable_line version named t n.read =
     readable_one version no_names s.records n.read named t s.meaning n.meaning in
@@ -133,7 +134,7 @@ abbrev shown_so_far : (version : Version) (count : ℕ) (named : Naming) (left l
 shown_so_far version count named left left_behind before after bytes rest few s spelled = record {
   records = s.records;
   named = named;
-  rest = closed rest;
+  left = rest;
   each = s.each;
   meaning = s.meaning;
   few = omega (arith, few, s.counted);
@@ -146,7 +147,7 @@ abbrev shown_later : (version : Version) (bytes : List ℕ) (before after later 
 shown_later version bytes before after later h e = record {
   records = h.records;
   named = h.named;
-  rest = h.rest;
+  left = h.left;
   each = h.each;
   meaning = h.meaning;
   few = h.few;
@@ -154,10 +155,10 @@ shown_later version bytes before after later h e = record {
   put = e ∙ h.put;
 }
 
-pub all_read : (version : Version) (count number : ℕ) (named t : Naming) (left left_behind left_then before after put : Option (List ℕ)) (bytes : List ℕ) → count < 4294967294
-    → LinesSoFar version count named left left_behind before after → NextLine version number named t left_behind left_then after put (Ok false)
-    → left ≡ Some bytes → AllLines {T = Unit {0}} version bytes before put (Ok tt)
-all_read version count number named t left left_behind left_then before after put bytes few s n e =
+pub all_read : (version : Version) (count number : ℕ) (named t : Naming) (left left_behind left_then unread before after put : Option (List ℕ)) (bytes : List ℕ) → count < 4294967294
+    → LinesSoFar version count named left left_behind before after → NextLine version number named t left_behind left_then unread after put (Ok false)
+    → left ≡ Some bytes → AllLines {T = Unit {0}} version bytes unread before put (Ok tt)
+all_read version count number named t left left_behind left_then unread before after put bytes few s n e =
     let g = left_told (flat_map record_line s.records) bytes left left_behind s.front e in
     let none : g.0 ≡ [] = subst (λ (o : Option (List ℕ)). IfSome o (λ bytes. bytes ≡ [])) g.1 n.0 in
     record {
@@ -165,10 +166,10 @@ all_read version count number named t left left_behind left_then before after pu
       ends_at = ap closed none;
     }
 
-pub all_stop : (version : Version) (count number : ℕ) (named t : Naming) (left left_behind left_then before after put : Option (List ℕ)) (bytes : List ℕ) (why : Stop) → count < 4294967294 → number ≡ count + 2
-    → LinesSoFar version count named left left_behind before after → NextLine version number named t left_behind left_then after put (Err why)
-    → left ≡ Some bytes → AllLines {T = Unit {0}} version bytes before put (Err why)
-all_stop version count number named t left left_behind left_then before after put bytes (stop.BadLine line) few is s n e =
+pub all_stop : (version : Version) (count number : ℕ) (named t : Naming) (left left_behind left_then unread before after put : Option (List ℕ)) (bytes : List ℕ) (why : Stop) → count < 4294967294 → number ≡ count + 2
+    → LinesSoFar version count named left left_behind before after → NextLine version number named t left_behind left_then unread after put (Err why)
+    → left ≡ Some bytes → AllLines {T = Unit {0}} version bytes unread before put (Err why)
+all_stop version count number named t left left_behind left_then unread before after put bytes (stop.BadLine line) few is s n e =
     let g = left_told (flat_map record_line s.records) bytes left left_behind s.front e in
     let wrong : (0 < length (closed g.0)) × IsWrongNext version named (closed g.0) =
     subst (λ (o : Option (List ℕ)). IfSome o (λ bytes. (0 < length (closed bytes)) × IsWrongNext version named (closed bytes))) g.1 n.1 in
@@ -176,39 +177,47 @@ all_stop version count number named t left left_behind left_then before after pu
       shown = shown_later version bytes before after put (shown_so_far version count named left left_behind before after bytes g.0 (omega (arith, few)) s g.2) n.2;
       ends_at = (omega (arith, n.0, is, s.counted), wrong.0, wrong.1, omega (arith, few, s.counted));
     }
-all_stop version count number named t left left_behind left_then before after put bytes stop.ReadFailed few is s n e =
+all_stop version count number named t left left_behind left_then unread before after put bytes stop.ReadFailed few is s n e =
+    let g = left_told (flat_map record_line s.records) bytes left left_behind s.front e in
+    record {
+      shown = shown_later version bytes before after put (shown_so_far version count named left left_behind before after bytes g.0 (omega (arith, few)) s g.2) n.1;
+      breaks = subst (λ (o : Option (List ℕ)). IfSome o (λ bytes. BreaksOff bytes unread)) g.1 n.0;
+    }
+all_stop version count number named t left left_behind left_then unread before after put bytes stop.WriteFailed few is s n e = tt
+all_stop version count number named t left left_behind left_then unread before after put bytes stop.OutOfMemory few is s n e =
     let g = left_told (flat_map record_line s.records) bytes left left_behind s.front e in
     shown_later version bytes before after put (shown_so_far version count named left left_behind before after bytes g.0 (omega (arith, few)) s g.2) n
-all_stop version count number named t left left_behind left_then before after put bytes stop.WriteFailed few is s n e = tt
-all_stop version count number named t left left_behind left_then before after put bytes stop.OutOfMemory few is s n e = tt
-all_stop version count number named t left left_behind left_then before after put bytes stop.BadHeader few is s n e = absurd n
-all_stop version count number named t left left_behind left_then before after put bytes (stop.BadRecord at fault) few is s n e = absurd n
-all_stop version count number named t left left_behind left_then before after put bytes (stop.BadReplay at) few is s n e = absurd n
-all_stop version count number named t left left_behind left_then before after put bytes stop.TooLong few is s n e = absurd n
+all_stop version count number named t left left_behind left_then unread before after put bytes stop.BadHeader few is s n e = absurd n
+all_stop version count number named t left left_behind left_then unread before after put bytes (stop.BadRecord at fault) few is s n e = absurd n
+all_stop version count number named t left left_behind left_then unread before after put bytes (stop.BadReplay at) few is s n e = absurd n
+all_stop version count number named t left left_behind left_then unread before after put bytes stop.TooLong few is s n e = absurd n
 
-pub all_counted : (version : Version) (count : ℕ) (named : Naming) (left left_behind before after put : Option (List ℕ)) (bytes : List ℕ) (result : Result (Unit {0}) Stop) → count ≡ 4294967294
-    → LinesSoFar version count named left left_behind before after → LastGives left_behind result → put ≡ after
-    → left ≡ Some bytes → AllLines {T = Unit {0}} version bytes before put result
-all_counted version count named left left_behind before after put bytes (Ok value) full s n same e =
+pub all_counted : (version : Version) (count : ℕ) (named : Naming) (left left_behind unread before after put : Option (List ℕ)) (bytes : List ℕ) (result : Result (Unit {0}) Stop) → count ≡ 4294967294
+    → LinesSoFar version count named left left_behind before after → LastGives left_behind result → (result ≡ Err stop.ReadFailed → unread ≡ left_behind) → put ≡ after
+    → left ≡ Some bytes → AllLines {T = Unit {0}} version bytes unread before put result
+all_counted version count named left left_behind unread before after put bytes (Ok value) full s n still same e =
     let g = left_told (flat_map record_line s.records) bytes left left_behind s.front e in
     let none : g.0 ≡ [] = subst (λ (o : Option (List ℕ)). IfSome o (λ bytes. bytes ≡ [])) g.1 n in
     record {
       shown = shown_later version bytes before after put (shown_so_far version count named left left_behind before after bytes g.0 (omega (arith, full)) s g.2) same;
       ends_at = ap closed none;
     }
-all_counted version count named left left_behind before after put bytes (Err stop.TooLong) full s n same e =
+all_counted version count named left left_behind unread before after put bytes (Err stop.TooLong) full s n still same e =
     let g = left_told (flat_map record_line s.records) bytes left left_behind s.front e in
     let some : 0 < length g.0 = subst (λ (o : Option (List ℕ)). IfSome o (λ bytes. 0 < length bytes)) g.1 n in
     record {
       shown = shown_later version bytes before after put (shown_so_far version count named left left_behind before after bytes g.0 (omega (arith, full)) s g.2) same;
       ends_at = (s.counted ∙ full, closed-some g.0 some);
     }
-all_counted version count named left left_behind before after put bytes (Err stop.ReadFailed) full s n same e =
+all_counted version count named left left_behind unread before after put bytes (Err stop.ReadFailed) full s n still same e =
     let g = left_told (flat_map record_line s.records) bytes left left_behind s.front e in
-    shown_later version bytes before after put (shown_so_far version count named left left_behind before after bytes g.0 (omega (arith, full)) s g.2) same
-all_counted version count named left left_behind before after put bytes (Err stop.WriteFailed) full s n same e = absurd n
-all_counted version count named left left_behind before after put bytes (Err stop.BadHeader) full s n same e = absurd n
-all_counted version count named left left_behind before after put bytes (Err (stop.BadRecord at fault)) full s n same e = absurd n
-all_counted version count named left left_behind before after put bytes (Err (stop.BadReplay at)) full s n same e = absurd n
-all_counted version count named left left_behind before after put bytes (Err (stop.BadLine line)) full s n same e = absurd n
-all_counted version count named left left_behind before after put bytes (Err stop.OutOfMemory) full s n same e = absurd n
+    record {
+      shown = shown_later version bytes before after put (shown_so_far version count named left left_behind before after bytes g.0 (omega (arith, full)) s g.2) same;
+      breaks = record { part = []; others = g.0; split = refl; lacks = All-nil (λ byte. byte ≢ 10); short = omega arith; still = still refl ∙ g.1 };
+    }
+all_counted version count named left left_behind unread before after put bytes (Err stop.WriteFailed) full s n still same e = absurd n
+all_counted version count named left left_behind unread before after put bytes (Err stop.BadHeader) full s n still same e = absurd n
+all_counted version count named left left_behind unread before after put bytes (Err (stop.BadRecord at fault)) full s n still same e = absurd n
+all_counted version count named left left_behind unread before after put bytes (Err (stop.BadReplay at)) full s n still same e = absurd n
+all_counted version count named left left_behind unread before after put bytes (Err (stop.BadLine line)) full s n still same e = absurd n
+all_counted version count named left left_behind unread before after put bytes (Err stop.OutOfMemory) full s n still same e = absurd n

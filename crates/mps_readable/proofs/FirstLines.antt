@@ -17,8 +17,9 @@ use Rattle.mps_reading.proofs.Left.{left_same, nothing_in_front}
 use Rattle.mps_reading.proofs.Opening.{untouched}
 use Rattle.mps_readable.specs.Cuts.{Lacks}
 use Rattle.mps_readable.specs.NextLine.{IsFront}
-use Rattle.mps_readable.specs.Text.{closed, HasNoFirstLine}
+use Rattle.mps_readable.specs.Text.{closed, HasNoFirstLine, BreaksOff}
 use Rattle.mps_readable.specs.TextSteps.{first_text, HasOtherFront, TakesFirst, TextOpens}
+use Rattle.mps_readable.proofs.NextLine.{broken_left}
 use Rattle.mps_readable.proofs.Fronts.{front_closed, one_line, too_long, long_closed}
 
 line_of_version : (version : Version) (more : List ℕ) → first_line version ++ more ≡ first_text version ++ 10 ∷ more
@@ -91,18 +92,20 @@ none_left y (Some more) bytes other told end enough =
     let is : y.pending ++ more ≡ bytes = (let e : Some (y.pending ++ more) ≡ Some bytes = told in cc) in
     subst (λ (x : List ℕ). HasNoFirstLine x) is (no_first y more other end enough)
 
-pub text_opens : (a b : Outside) (x y z : Buffered) (bytes : List ℕ) (text : Option (List ℕ)) (result : Result Version Stop) → x ≡ untouched → a.input ≡ text → ReadsMore a b x y
-    → (y.ended ≡ false → y.failed ≡ false → 4097 ≤ length y.pending) → TakesFirst y z result → text ≡ Some bytes → TextOpens bytes (left_of b z) result
-text_opens a b x y z bytes text (Ok version) start given reads enough takes told =
+pub text_opens : (a b : Outside) (x y z : Buffered) (bytes : List ℕ) (text input : Option (List ℕ)) (result : Result Version Stop) → x ≡ untouched → a.input ≡ text → ReadsMore a b x y
+    → (y.ended ≡ false → y.failed ≡ false → 4097 ≤ length y.pending) → TakesFirst y z result → text ≡ Some bytes → TextOpens bytes (left_of b z) input b.input result
+text_opens a b x y z bytes text input (Ok version) start given reads enough takes told =
     let left : left_of b y ≡ Some bytes = left_same a b x y reads ∙ untouched_left a x start ∙ given ∙ told in
     first_left version takes.size y z b.input bytes takes.front (ap (λ (b : Buffered). b.pending) takes.behind) left (reads.end (untouched_end a x start)) enough
-text_opens a b x y z bytes text (Err (stop.BadLine line)) start given reads enough takes told =
+text_opens a b x y z bytes text input (Err (stop.BadLine line)) start given reads enough takes told =
     let left : left_of b y ≡ Some bytes = left_same a b x y reads ∙ untouched_left a x start ∙ given ∙ told in
     (takes.0, none_left y b.input bytes takes.1 left (reads.end (untouched_end a x start)) enough)
-text_opens a b x y z bytes text (Err stop.ReadFailed) start given reads enough takes told = tt
-text_opens a b x y z bytes text (Err stop.WriteFailed) start given reads enough takes told = absurd takes
-text_opens a b x y z bytes text (Err stop.BadHeader) start given reads enough takes told = absurd takes
-text_opens a b x y z bytes text (Err (stop.BadRecord at fault)) start given reads enough takes told = absurd takes
-text_opens a b x y z bytes text (Err (stop.BadReplay at)) start given reads enough takes told = absurd takes
-text_opens a b x y z bytes text (Err stop.TooLong) start given reads enough takes told = absurd takes
-text_opens a b x y z bytes text (Err stop.OutOfMemory) start given reads enough takes told = absurd takes
+text_opens a b x y z bytes text input (Err stop.ReadFailed) start given reads enough takes told =
+    let left : left_of b y ≡ Some bytes = left_same a b x y reads ∙ untouched_left a x start ∙ given ∙ told in
+    inr (subst (λ (o : Option (List ℕ)). IfSome o (λ bytes. BreaksOff bytes b.input)) left (broken_left y.pending b.input b.input takes.0 takes.1 refl))
+text_opens a b x y z bytes text input (Err stop.WriteFailed) start given reads enough takes told = absurd takes
+text_opens a b x y z bytes text input (Err stop.BadHeader) start given reads enough takes told = absurd takes
+text_opens a b x y z bytes text input (Err (stop.BadRecord at fault)) start given reads enough takes told = absurd takes
+text_opens a b x y z bytes text input (Err (stop.BadReplay at)) start given reads enough takes told = absurd takes
+text_opens a b x y z bytes text input (Err stop.TooLong) start given reads enough takes told = absurd takes
+text_opens a b x y z bytes text input (Err stop.OutOfMemory) start given reads enough takes told = absurd takes

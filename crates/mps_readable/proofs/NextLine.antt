@@ -13,10 +13,11 @@ use Rattle.mps_reading.specs.PutOut.{put_out}
 use Rattle.mps_reading.specs.RecordLine.{record_line}
 use Rattle.mps_reading.proofs.Left.{left_same}
 use Rattle.mps_reading.proofs.PutOut.{put_same, put_more}
+use Rattle.mps_readable.specs.Cuts.{Lacks}
 use Rattle.mps_readable.specs.Line.{record_text}
 use Rattle.mps_readable.specs.Labels.{Naming}
 use Rattle.mps_readable.specs.Readable.{readable_line}
-use Rattle.mps_readable.specs.Text.{closed, IsWrongNext}
+use Rattle.mps_readable.specs.Text.{closed, IsWrongNext, BreaksOff}
 use Rattle.mps_readable.specs.TextSteps.{PendingLine, NextLine}
 use Rattle.mps_readable.proofs.Fronts.{front_closed, line_feed_behind, wrong_front, IsWrongRest}
 
@@ -45,11 +46,15 @@ wrong_left : (version : Version) (before : Naming) (pending : List ℕ) (input :
 wrong_left version before pending None h = tt
 wrong_left version before pending (Some more) h = let g = h more refl in (g.some, g.wrong)
 
+pub broken_left : (pending : List ℕ) (input unread : Option (List ℕ)) → Lacks 10 pending → length pending ≤ 4096 → unread ≡ input → IfSome (option_map (λ rest. pending ++ rest) input) (λ bytes. BreaksOff bytes unread)
+broken_left pending None unread lacks short same = tt
+broken_left pending (Some more) unread lacks short same = record { part = pending; others = more; split = refl; lacks = lacks; short = short; still = same }
+
 -- the next line, from what is pending: the pieces before it were read and printed
 pub next_line : (version : Version) (number : ℕ) (s t : Naming) (a b c : Outside) (x y : Buffered) (p q r : List ℕ) (size : Option ℕ)
     → IsAtEnd a x → ReadsMore a b x y → (y.ended ≡ false → y.failed ≡ false → 4097 ≤ length y.pending) → Kept b c p q → c.input ≡ b.input
     → PendingLine version number s t y q r (Ok size)
-    → NextLine version number s t (left_of a x) (left_of c (record y { pending = drop (unwrap_or size 0) y.pending })) (put_out a p) (put_out c r) (Ok (is_some size))
+    → NextLine version number s t (left_of a x) (left_of c (record y { pending = drop (unwrap_or size 0) y.pending })) c.input (put_out a p) (put_out c r) (Ok (is_some size))
 next_line version number s t a b c x y p q r None at_end reads enough kept same gives =
     let left : left_of b y ≡ left_of a x = left_same a b x y reads in (
       subst (λ (o : Option (List ℕ)). IfSome o (λ bytes. bytes ≡ [])) left (nothing_pending y.ended y.failed y.pending b.input gives.0 gives.1 enough (reads.end at_end)),
@@ -70,27 +75,31 @@ next_line version number s t a b c x y p q r (Some size) at_end reads enough kep
     }
 
 pub next_stops : (version : Version) (number : ℕ) (s t : Naming) (a b c : Outside) (x y : Buffered) (left_behind : Option (List ℕ)) (p q r : List ℕ) (why : Stop)
-    → IsAtEnd a x → ReadsMore a b x y → (y.ended ≡ false → y.failed ≡ false → 4097 ≤ length y.pending) → Kept b c p q
+    → IsAtEnd a x → ReadsMore a b x y → (y.ended ≡ false → y.failed ≡ false → 4097 ≤ length y.pending) → Kept b c p q → c.input ≡ b.input
     → PendingLine version number s t y q r (Err why)
-    → NextLine version number s t (left_of a x) left_behind (put_out a p) (put_out c r) (Err why)
-next_stops version number s t a b c x y left_behind p q r (stop.BadLine line) at_end reads enough kept gives =
+    → NextLine version number s t (left_of a x) left_behind c.input (put_out a p) (put_out c r) (Err why)
+next_stops version number s t a b c x y left_behind p q r (stop.BadLine line) at_end reads enough kept same gives =
     let left : left_of b y ≡ left_of a x = left_same a b x y reads in (
       gives.0,
       subst (λ (o : Option (List ℕ)). IfSome o (λ bytes. (0 < length (closed bytes)) × IsWrongNext version s (closed bytes))) left
           (wrong_left version s y.pending b.input (λ more told. wrong_front version s y more gives.1 (end_told y.ended b.input more told (reads.end at_end)) enough)),
       ap (put_out c) gives.2 ∙ put_before a b c p q reads.others.printed kept,
     )
-next_stops version number s t a b c x y left_behind p q r stop.ReadFailed at_end reads enough kept gives =
+next_stops version number s t a b c x y left_behind p q r stop.ReadFailed at_end reads enough kept same gives =
+    let left : left_of b y ≡ left_of a x = left_same a b x y reads in (
+      subst (λ (o : Option (List ℕ)). IfSome o (λ bytes. BreaksOff bytes c.input)) left (broken_left y.pending b.input c.input gives.0 gives.1 same),
+      ap (put_out c) gives.2 ∙ put_before a b c p q reads.others.printed kept,
+    )
+next_stops version number s t a b c x y left_behind p q r stop.OutOfMemory at_end reads enough kept same gives =
     ap (put_out c) gives ∙ put_before a b c p q reads.others.printed kept
-next_stops version number s t a b c x y left_behind p q r stop.OutOfMemory at_end reads enough kept gives = tt
-next_stops version number s t a b c x y left_behind p q r stop.WriteFailed at_end reads enough kept gives = absurd gives
-next_stops version number s t a b c x y left_behind p q r stop.BadHeader at_end reads enough kept gives = absurd gives
-next_stops version number s t a b c x y left_behind p q r (stop.BadRecord at fault) at_end reads enough kept gives = absurd gives
-next_stops version number s t a b c x y left_behind p q r (stop.BadReplay at) at_end reads enough kept gives = absurd gives
-next_stops version number s t a b c x y left_behind p q r stop.TooLong at_end reads enough kept gives = absurd gives
+next_stops version number s t a b c x y left_behind p q r stop.WriteFailed at_end reads enough kept same gives = absurd gives
+next_stops version number s t a b c x y left_behind p q r stop.BadHeader at_end reads enough kept same gives = absurd gives
+next_stops version number s t a b c x y left_behind p q r (stop.BadRecord at fault) at_end reads enough kept same gives = absurd gives
+next_stops version number s t a b c x y left_behind p q r (stop.BadReplay at) at_end reads enough kept same gives = absurd gives
+next_stops version number s t a b c x y left_behind p q r stop.TooLong at_end reads enough kept same gives = absurd gives
 
-pub room_fails : (version : Version) (number : ℕ) (s t : Naming) (left left_behind before after : Option (List ℕ)) (result : Result (Unit {0}) Stop) (why : Stop)
-    → result ≡ Err stop.WriteFailed → result ≡ Err why → NextLine version number s t left left_behind before after (Err why)
-room_fails version number s t left left_behind before after result why e f =
+pub room_fails : (version : Version) (number : ℕ) (s t : Naming) (left left_behind unread before after : Option (List ℕ)) (result : Result (Unit {0}) Stop) (why : Stop)
+    → result ≡ Err stop.WriteFailed → result ≡ Err why → NextLine version number s t left left_behind unread before after (Err why)
+room_fails version number s t left left_behind unread before after result why e f =
     let g : why ≡ stop.WriteFailed = cc in
     rw g tt

@@ -17,20 +17,20 @@ use Rattle.mps_reading.specs.RecordLine.{record_line}
 use Rattle.mps_reading.proofs.Reported.{has_reported}
 use Rattle.mps_output.proofs.Outside.{risen_earlier}
 use Rattle.mps_readable.specs.Readable.{readable}
-use Rattle.mps_readable.specs.Text.{closed, BeginsWith, Reads, ReadsFront, HasRead, ReadWith}
-use Rattle.mps_readable.specs.TextSteps.{ShowsFirst, ShowsAll, AllLines, TextOpens}
+use Rattle.mps_readable.specs.Text.{closed, BeginsWith, Reads, ReadsFront, BreaksOff, FailsBehind, HasRead, ReadWith}
+use Rattle.mps_readable.specs.TextSteps.{ShowsFirst, ShowsAll, ShowsCome, AllLines, TextOpens}
 
 printed_all : (line text : List ℕ) (o : Option (List ℕ)) → option_map (λ all. all ++ text) (option_map (λ printed. printed ++ line) o) ≡ option_map (λ before. before ++ (line ++ text)) o
 printed_all line text None = refl
 printed_all line text (Some before) = ap Some (append_assoc before line text)
 
 begins : (version : Version) (bytes left : List ℕ) (before after : Option (List ℕ)) → closed bytes ≡ first_line version ++ closed left → (h : ShowsFirst version left before after)
-    → BeginsWith version h.records h.named h.rest bytes
+    → BeginsWith version h.records h.named (closed h.left) bytes
 begins version bytes left before after is h = record {
   each = h.each;
   meaning = h.meaning;
   few = h.few;
-  spelled = is ∙ ap (λ (x : List ℕ). first_line version ++ x) h.spelled ∙ sym (append_assoc (first_line version) (flat_map record_line h.records) h.rest);
+  spelled = is ∙ ap (λ (x : List ℕ). first_line version ++ x) h.spelled ∙ sym (append_assoc (first_line version) (flat_map record_line h.records) (closed h.left));
 }
 
 -- what was put out behind the first line
@@ -51,46 +51,50 @@ reads T version bytes left out a b d after ending is same line all printed =
       version = version;
       records = h.records;
       named = h.named;
-      rest = h.rest;
+      rest = closed h.left;
       begins = begins version bytes left (put_out b out) after is h;
       ends_at = all.ends_at;
       printed = printed ∙ put_all version out (readable version h.records) a.printed b.printed after same line h.put;
     }
 
--- where a read failed, all that was put out is printed, or a write failed
-front_printed : (version : Version) (out text : List ℕ) (a b c d : Outside) (after : Option (List ℕ)) → b.printed ≡ a.printed → out ≡ first_line version
-    → after ≡ option_map (λ all. all ++ text) (option_map (λ printed. printed ++ out) b.printed)
-    → (d.printed ≡ after) ⊎ HasRisen a.out_faults d.out_faults
-    → (d.printed ≡ option_map (λ before. before ++ (first_line version ++ text)) a.printed) ⊎ HasRisen a.out_faults d.out_faults
-front_printed version out text a b c d after same line put (inl printed) = inl (printed ∙ put_all version out text a.printed b.printed after same line put)
-front_printed version out text a b c d after same line put (inr risen) = inr risen
-
-reads_front : (version : Version) (bytes left out : List ℕ) (a b c d : Outside) (after : Option (List ℕ)) → closed bytes ≡ first_line version ++ closed left → b.printed ≡ a.printed
-    → out ≡ first_line version → ShowsFirst version left (put_out b out) after → (d.printed ≡ after) ⊎ HasRisen a.out_faults d.out_faults → ReadsFront bytes a d
-reads_front version bytes left out a b c d after is same line h printed = record {
+-- the lines before a stop
+abbrev reads_front : (version : Version) (bytes left out : List ℕ) (a b d : Outside) (after : Option (List ℕ)) → closed bytes ≡ first_line version ++ closed left → b.printed ≡ a.printed
+    → out ≡ first_line version → ShowsFirst version left (put_out b out) after → d.printed ≡ after → ReadsFront bytes a d
+reads_front version bytes left out a b d after is same line h printed = record {
   version = version;
   records = h.records;
   named = h.named;
-  rest = h.rest;
+  left = h.left;
   begins = begins version bytes left (put_out b out) after is h;
-  printed = front_printed version out (readable version h.records) a b c d after same line h.put printed;
+  printed = printed ∙ put_all version out (readable version h.records) a.printed b.printed after same line h.put;
 }
 
+fails_behind : (version : Version) (bytes left out : List ℕ) (a b c d : Outside) (after : Option (List ℕ)) → closed bytes ≡ first_line version ++ closed left → b.printed ≡ a.printed
+    → out ≡ first_line version → d.input ≡ c.input → ShowsCome version left c.input (put_out b out) after → (d.printed ≡ after) ⊎ HasRisen a.out_faults d.out_faults
+    → FailsBehind bytes a d ⊎ HasRisen a.out_faults d.out_faults
+fails_behind version bytes left out a b c d after is same line unread h (inl printed) = inl (record {
+  front = reads_front version bytes left out a b d after is same line h.shown printed;
+  breaks = subst (λ (o : Option (List ℕ)). BreaksOff h.shown.left o) (sym unread) h.breaks;
+})
+fails_behind version bytes left out a b c d after is same line unread h (inr risen) = inr risen
+
 reads_ending : (version : Version) (bytes left out : List ℕ) (a b c d : Outside) (after : Option (List ℕ)) (ending : Result (Unit {0}) Stop)
-    → closed bytes ≡ first_line version ++ closed left → b.printed ≡ a.printed → out ≡ first_line version
-    → AllLines version left (put_out b out) after ending → (IsToFlush ending → d.printed ≡ after)
+    → closed bytes ≡ first_line version ++ closed left → b.printed ≡ a.printed → out ≡ first_line version → d.input ≡ c.input
+    → AllLines version left c.input (put_out b out) after ending → (IsToFlush ending → d.printed ≡ after)
     → (ending ≡ Err stop.ReadFailed → (d.printed ≡ after) ⊎ HasRisen a.out_faults d.out_faults) → HasRead bytes ending a d
-reads_ending version bytes left out a b c d after (Ok value) is same line all printed front = reads (Unit {0}) version bytes left out a b d after (Ok value) is same line all (printed tt)
-reads_ending version bytes left out a b c d after (Err (stop.BadLine number)) is same line all printed front =
+reads_ending version bytes left out a b c d after (Ok value) is same line unread all printed front = reads (Unit {0}) version bytes left out a b d after (Ok value) is same line all (printed tt)
+reads_ending version bytes left out a b c d after (Err (stop.BadLine number)) is same line unread all printed front =
     inr (reads (Unit {0}) version bytes left out a b d after (Err (stop.BadLine number)) is same line all (printed tt))
-reads_ending version bytes left out a b c d after (Err stop.TooLong) is same line all printed front =
+reads_ending version bytes left out a b c d after (Err stop.TooLong) is same line unread all printed front =
     reads (Unit {0}) version bytes left out a b d after (Err stop.TooLong) is same line all (printed tt)
-reads_ending version bytes left out a b c d after (Err stop.ReadFailed) is same line all printed front = inr (reads_front version bytes left out a b c d after is same line all (front refl))
-reads_ending version bytes left out a b c d after (Err stop.WriteFailed) is same line all printed front = tt
-reads_ending version bytes left out a b c d after (Err stop.OutOfMemory) is same line all printed front = tt
-reads_ending version bytes left out a b c d after (Err stop.BadHeader) is same line all printed front = absurd all
-reads_ending version bytes left out a b c d after (Err (stop.BadRecord at fault)) is same line all printed front = absurd all
-reads_ending version bytes left out a b c d after (Err (stop.BadReplay at)) is same line all printed front = absurd all
+reads_ending version bytes left out a b c d after (Err stop.ReadFailed) is same line unread all printed front =
+    inr (fails_behind version bytes left out a b c d after is same line unread all (front refl))
+reads_ending version bytes left out a b c d after (Err stop.OutOfMemory) is same line unread all printed front =
+    inr (reads_front version bytes left out a b d after is same line all (printed tt))
+reads_ending version bytes left out a b c d after (Err stop.WriteFailed) is same line unread all printed front = tt
+reads_ending version bytes left out a b c d after (Err stop.BadHeader) is same line unread all printed front = absurd all
+reads_ending version bytes left out a b c d after (Err (stop.BadRecord at fault)) is same line unread all printed front = absurd all
+reads_ending version bytes left out a b c d after (Err (stop.BadReplay at)) is same line unread all printed front = absurd all
 
 flushed : (R : Type 0) (bytes : List ℕ) (a d : Outside) (ending result : Result (Unit {0}) Stop) (after : Option (List ℕ))
     → (result ≡ ending) ⊎ ((result ≡ Err stop.WriteFailed) × R) → (IsToFlush result → d.printed ≡ after)
@@ -108,13 +112,13 @@ told_left version bytes None e = absurd (let f : Some (closed bytes) ≡ None = 
 told_left version bytes (Some rest) e = (rest, refl, (let f : Some (closed bytes) ≡ Some (first_line version ++ closed rest) = e in cc))
 
 pub reads_text : (R : Type 0) (version : Version) (bytes out : List ℕ) (a b c d : Outside) (x : Buffered) (after : Option (List ℕ)) (ending result : Result (Unit {0}) Stop)
-    → Some (closed bytes) ≡ option_map (λ rest. first_line version ++ closed rest) (left_of b x) → b.printed ≡ a.printed → out ≡ first_line version
-    → ((left : List ℕ) → left_of b x ≡ Some left → AllLines version left (put_out b out) after ending)
+    → Some (closed bytes) ≡ option_map (λ rest. first_line version ++ closed rest) (left_of b x) → b.printed ≡ a.printed → out ≡ first_line version → d.input ≡ c.input
+    → ((left : List ℕ) → left_of b x ≡ Some left → AllLines version left c.input (put_out b out) after ending)
     → (result ≡ ending) ⊎ ((result ≡ Err stop.WriteFailed) × R) → (IsToFlush result → d.printed ≡ after)
     → (result ≡ Err stop.ReadFailed → (d.printed ≡ after) ⊎ HasRisen a.out_faults d.out_faults) → HasRead bytes result a d
-reads_text R version bytes out a b c d x after ending result opened same line all first printed front =
+reads_text R version bytes out a b c d x after ending result opened same line unread all first printed front =
     let g = told_left version bytes (left_of b x) opened in
-    flushed R bytes a d ending result after first printed front (λ p q. reads_ending version bytes g.0 out a b c d after ending g.2 same line (all g.0 g.1) p q)
+    flushed R bytes a d ending result after first printed front (λ p q. reads_ending version bytes g.0 out a b c d after ending g.2 same line unread (all g.0 g.1) p q)
 
 -- ---- the report changes nothing of what was printed
 
@@ -129,33 +133,45 @@ reads_later T bytes ending a b c h e = record {
   printed = e ∙ h.printed;
 }
 
-printed_or_risen : (text : Option (List ℕ)) (a b c : Outside) → c.printed ≡ b.printed → c.out_faults ≡ b.out_faults → (b.printed ≡ text) ⊎ HasRisen a.out_faults b.out_faults
-    → (c.printed ≡ text) ⊎ HasRisen a.out_faults c.out_faults
-printed_or_risen text a b c e f (inl h) = inl (e ∙ h)
-printed_or_risen text a b c e f (inr h) = inr (subst (λ (n : ℕ). HasRisen a.out_faults n) (sym f) h)
-
-front_later : (bytes : List ℕ) (a b c : Outside) → c.printed ≡ b.printed → c.out_faults ≡ b.out_faults → (b.printed ≡ a.printed) ⊎ ReadsFront bytes a b → (c.printed ≡ a.printed) ⊎ ReadsFront bytes a c
-front_later bytes a b c e f (inl h) = inl (e ∙ h)
-front_later bytes a b c e f (inr h) = inr (record {
+abbrev front_later : (bytes : List ℕ) (a b c : Outside) → ReadsFront bytes a b → c.printed ≡ b.printed → ReadsFront bytes a c
+front_later bytes a b c h e = record {
   version = h.version;
   records = h.records;
   named = h.named;
-  rest = h.rest;
+  left = h.left;
   begins = h.begins;
-  printed = printed_or_risen _ a b c e f h.printed;
-})
+  printed = e ∙ h.printed;
+}
 
-read_later : (bytes : List ℕ) (ending : Result (Unit {0}) Stop) (a b c : Outside) → HasRead bytes ending a b → c.printed ≡ b.printed → c.out_faults ≡ b.out_faults → HasRead bytes ending a c
-read_later bytes (Ok value) a b c h e f = reads_later (Unit {0}) bytes (Ok value) a b c h e
-read_later bytes (Err (stop.BadLine line)) a b c (inl h) e f = inl (record { first = h.first; none = h.none; printed = e ∙ h.printed })
-read_later bytes (Err (stop.BadLine line)) a b c (inr h) e f = inr (reads_later (Unit {0}) bytes (Err (stop.BadLine line)) a b c h e)
-read_later bytes (Err stop.TooLong) a b c h e f = reads_later (Unit {0}) bytes (Err stop.TooLong) a b c h e
-read_later bytes (Err stop.ReadFailed) a b c h e f = front_later bytes a b c e f h
-read_later bytes (Err stop.WriteFailed) a b c h e f = tt
-read_later bytes (Err stop.OutOfMemory) a b c h e f = tt
-read_later bytes (Err stop.BadHeader) a b c h e f = absurd h
-read_later bytes (Err (stop.BadRecord at fault)) a b c h e f = absurd h
-read_later bytes (Err (stop.BadReplay at)) a b c h e f = absurd h
+before_later : (bytes : List ℕ) (a b c : Outside) → c.input ≡ b.input → (b.input ≡ a.input) ⊎ BreaksOff bytes b.input → (c.input ≡ a.input) ⊎ BreaksOff bytes c.input
+before_later bytes a b c e (inl h) = inl (e ∙ h)
+before_later bytes a b c e (inr h) = inr (subst (λ (o : Option (List ℕ)). BreaksOff bytes o) (sym e) h)
+
+failed_later : (bytes : List ℕ) (a b c : Outside) → c.printed ≡ b.printed → c.out_faults ≡ b.out_faults → c.input ≡ b.input
+    → HasRead {T = Unit {0}} bytes (Err stop.ReadFailed) a b → HasRead {T = Unit {0}} bytes (Err stop.ReadFailed) a c
+failed_later bytes a b c e f i (inl h) = inl (record { breaks = before_later bytes a b c i h.breaks; printed = e ∙ h.printed })
+failed_later bytes a b c e f i (inr (inl h)) = inr (inl (record {
+  front = front_later bytes a b c h.front e;
+  breaks = subst (λ (o : Option (List ℕ)). BreaksOff h.front.left o) (sym i) h.breaks;
+}))
+failed_later bytes a b c e f i (inr (inr h)) = inr (inr (subst (λ (n : ℕ). HasRisen a.out_faults n) (sym f) h))
+
+memory_later : (bytes : List ℕ) (a b c : Outside) → c.printed ≡ b.printed → (b.printed ≡ a.printed) ⊎ ReadsFront bytes a b → (c.printed ≡ a.printed) ⊎ ReadsFront bytes a c
+memory_later bytes a b c e (inl h) = inl (e ∙ h)
+memory_later bytes a b c e (inr h) = inr (front_later bytes a b c h e)
+
+read_later : (bytes : List ℕ) (ending : Result (Unit {0}) Stop) (a b c : Outside) → HasRead bytes ending a b → c.printed ≡ b.printed → c.out_faults ≡ b.out_faults → c.input ≡ b.input
+    → HasRead bytes ending a c
+read_later bytes (Ok value) a b c h e f i = reads_later (Unit {0}) bytes (Ok value) a b c h e
+read_later bytes (Err (stop.BadLine line)) a b c (inl h) e f i = inl (record { first = h.first; none = h.none; printed = e ∙ h.printed })
+read_later bytes (Err (stop.BadLine line)) a b c (inr h) e f i = inr (reads_later (Unit {0}) bytes (Err (stop.BadLine line)) a b c h e)
+read_later bytes (Err stop.TooLong) a b c h e f i = reads_later (Unit {0}) bytes (Err stop.TooLong) a b c h e
+read_later bytes (Err stop.ReadFailed) a b c h e f i = failed_later bytes a b c e f i h
+read_later bytes (Err stop.OutOfMemory) a b c h e f i = memory_later bytes a b c e h
+read_later bytes (Err stop.WriteFailed) a b c h e f i = tt
+read_later bytes (Err stop.BadHeader) a b c h e f i = absurd h
+read_later bytes (Err (stop.BadRecord at fault)) a b c h e f i = absurd h
+read_later bytes (Err (stop.BadReplay at)) a b c h e f i = absurd h
 
 pub read_with : (status : ℕ) (bytes : List ℕ) (ending : Result (Unit {0}) Stop) (a b c : Outside) → b.reported ≡ a.reported → b.err_faults ≡ a.err_faults
     → HasRead bytes ending a b → OnOk ending (status ≡ 0) → OnOk ending (c ≡ b)
@@ -163,23 +179,24 @@ pub read_with : (status : ℕ) (bytes : List ℕ) (ending : Result (Unit {0}) St
 read_with status bytes (Ok value) a b c quiet faults h zero same is reports = record {
   ending = Ok value;
   status_is = zero;
-  read = read_later bytes (Ok value) a b c h (ap (λ (o : Outside). o.printed) same) (ap (λ (o : Outside). o.out_faults) same);
+  read = read_later bytes (Ok value) a b c h (ap (λ (o : Outside). o.printed) same) (ap (λ (o : Outside). o.out_faults) same) (ap (λ (o : Outside). o.input) same);
   reported = ap (λ (o : Outside). o.reported) same ∙ quiet;
 }
 read_with status bytes (Err why) a b c quiet faults h zero same is reports = record {
   ending = Err why;
   status_is = is;
-  read = read_later bytes (Err why) a b c h reports.others.printed reports.others.out_faults;
+  read = read_later bytes (Err why) a b c h reports.others.printed reports.others.out_faults reports.others.input;
   reported = has_reported (report_of why) a b c quiet faults reports.reported;
 }
 
 -- ---- what may come before
 
-pub opening_stops : (bytes : List ℕ) (left : Option (List ℕ)) (a b : Outside) (why : Stop) → TextOpens bytes left (Err why) → b.printed ≡ a.printed → HasRead {T = Unit {0}} bytes (Err why) a b
+pub opening_stops : (bytes : List ℕ) (left : Option (List ℕ)) (a b : Outside) (why : Stop) → TextOpens bytes left a.input b.input (Err why) → b.printed ≡ a.printed
+    → HasRead {T = Unit {0}} bytes (Err why) a b
 opening_stops bytes left a b (stop.BadLine line) h same = inl (record { first = h.0; none = h.1; printed = same })
-opening_stops bytes left a b stop.ReadFailed h same = inl same
+opening_stops bytes left a b stop.ReadFailed h same = inl (record { breaks = h; printed = same })
 opening_stops bytes left a b stop.WriteFailed h same = tt
-opening_stops bytes left a b stop.OutOfMemory h same = tt
+opening_stops bytes left a b stop.OutOfMemory h same = absurd h
 opening_stops bytes left a b stop.BadHeader h same = absurd h
 opening_stops bytes left a b (stop.BadRecord at fault) h same = absurd h
 opening_stops bytes left a b (stop.BadReplay at) h same = absurd h

@@ -39,7 +39,7 @@ pub record IsLongFront (b : Buffered) : Type 0 where
 -- why there is no line at the front
 abbrev pub HasNoLine : Buffered → (number : ℕ) → Stop → Type 0
 HasNoLine b number (stop.BadLine line) = (line ≡ number) × IsLongFront b
-HasNoLine b number stop.ReadFailed = (b.failed ≡ true) × Lacks 10 b.pending
+HasNoLine b number stop.ReadFailed = (b.failed ≡ true) × Lacks 10 b.pending × (length b.pending ≤ 4096)
 HasNoLine b number stop.WriteFailed = ⊥
 HasNoLine b number stop.BadHeader = ⊥
 HasNoLine b number (stop.BadRecord at fault) = ⊥

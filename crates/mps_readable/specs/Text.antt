@@ -1,5 +1,5 @@
 -- A portable text, where the reading of its lines ends, and what is printed of it.
-use Rattle.std.specs.Prelude.{◌≡◌, ◌≢◌, ℕ, ◌+◌, ◌<◌, ◌⊎◌, ◌==◌, if◌then◌else◌, codes, Some, None, Result, Ok, Err, List, [], ◌∷◌, ◌++◌, length, All, refl}
+use Rattle.std.specs.Prelude.{◌≡◌, ◌≢◌, ℕ, ◌+◌, ◌<◌, ◌≤◌, ◌⊎◌, ◌==◌, if◌then◌else◌, codes, Option, Some, None, Result, Ok, Err, List, [], ◌∷◌, ◌++◌, length, All, refl}
 use Rattle.std.specs.Fmt.{digits}
 use Rattle.std.specs.List.{flat_map}
 use Rattle.std.specs.Option.{option_map}
@@ -13,6 +13,7 @@ use Rattle.mps_output.specs.declared.stop.Stop.TheVariants as stop
 use Rattle.mps_reading.specs.Opening.{first_line}
 use Rattle.mps_reading.specs.Ending.{status_of_ending, HasReported}
 use Rattle.mps_reading.specs.RecordLine.{record_line}
+use Rattle.mps_readable.specs.Cuts.{Lacks}
 use Rattle.mps_readable.specs.Labels.{Naming, no_names, after_record, after_records}
 use Rattle.mps_readable.specs.Readable.{readable}
 
@@ -73,14 +74,33 @@ pub record Reads {T : Type 0} (bytes : List ℕ) (ending : Result T Stop) (old n
   pub ends_at : TextEndsAt version named ending (length records) rest
   pub printed : new.printed ≡ option_map (λ before. before ++ readable_text version records) old.printed
 
--- the first lines of a text were read, and printed in readable text, if no write failed
+-- the first lines of a text were read, and what was printed behind what stood there is their readable text
 pub record ReadsFront (bytes : List ℕ) (old new : Outside) : Type 0 where
   pub version : Version
   pub records : List Record
   pub named : Naming
-  pub rest : List ℕ
-  pub begins : BeginsWith version records named rest bytes
-  pub printed : (new.printed ≡ option_map (λ before. before ++ readable_text version records) old.printed) ⊎ HasRisen old.out_faults new.out_faults
+  pub left : List ℕ
+  pub begins : BeginsWith version records named (closed left) bytes
+  pub printed : new.printed ≡ option_map (λ before. before ++ readable_text version records) old.printed
+
+-- of these bytes a part of a line had come, of at most 4,096 bytes, and what follows it is still unread
+pub record BreaksOff (bytes : List ℕ) (unread : Option (List ℕ)) : Type 0 where
+  pub part : List ℕ
+  pub others : List ℕ
+  pub split : bytes ≡ part ++ others
+  pub lacks : Lacks 10 part
+  pub short : length part ≤ 4096
+  pub still : unread ≡ Some others
+
+-- a read failed before the whole first line had come, and nothing is printed
+pub record FailsBefore (bytes : List ℕ) (old new : Outside) : Type 0 where
+  pub breaks : (new.input ≡ old.input) ⊎ BreaksOff bytes new.input
+  pub printed : new.printed ≡ old.printed
+
+-- a read failed behind the whole lines that had come, and those are printed in readable text
+pub record FailsBehind (bytes : List ℕ) (old new : Outside) : Type 0 where
+  pub front : ReadsFront bytes old new
+  pub breaks : BreaksOff front.left new.input
 
 -- without a first line nothing is printed
 pub record FindsNoFirstLine (bytes : List ℕ) (line : ℕ) (old new : Outside) : Type 0 where
@@ -88,15 +108,17 @@ pub record FindsNoFirstLine (bytes : List ℕ) (line : ℕ) (old new : Outside) 
   pub none : HasNoFirstLine bytes
   pub printed : new.printed ≡ old.printed
 
--- the same of every ending; where a read failed, the whole lines that had come are printed
+-- the same of every ending; where a read failed and no write did, the whole lines that had come are printed; where memory was
+-- wanting, the lines before
 abbrev pub HasRead : {T : Type 0} → (bytes : List ℕ) → Result T Stop → (old new : Outside) → Type 0
 HasRead bytes (Ok value) old new = Reads bytes (Ok value) old new
 HasRead bytes (Err (stop.BadLine line)) old new =
     FindsNoFirstLine bytes line old new ⊎ Reads {T = Unit {0}} bytes (Err (stop.BadLine line)) old new
 HasRead bytes (Err stop.TooLong) old new = Reads {T = Unit {0}} bytes (Err stop.TooLong) old new
-HasRead bytes (Err stop.ReadFailed) old new = (new.printed ≡ old.printed) ⊎ ReadsFront bytes old new
+HasRead bytes (Err stop.ReadFailed) old new =
+    FailsBefore bytes old new ⊎ (FailsBehind bytes old new ⊎ HasRisen old.out_faults new.out_faults)
+HasRead bytes (Err stop.OutOfMemory) old new = (new.printed ≡ old.printed) ⊎ ReadsFront bytes old new
 HasRead bytes (Err stop.WriteFailed) old new = Unit {0}
-HasRead bytes (Err stop.OutOfMemory) old new = Unit {0}
 HasRead bytes (Err stop.BadHeader) old new = ⊥
 HasRead bytes (Err (stop.BadRecord at fault)) old new = ⊥
 HasRead bytes (Err (stop.BadReplay at)) old new = ⊥

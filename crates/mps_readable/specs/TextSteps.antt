@@ -1,5 +1,5 @@
 -- The reading of a text line by line.
-use Rattle.std.specs.Prelude.{◌≡◌, ◌≢◌, ℕ, ◌<◌, ◌⊎◌, true, false, Option, Some, None, IfSome, Bool, Result, Ok, Err, List, [], ◌++◌, length, drop, All, codes}
+use Rattle.std.specs.Prelude.{◌≡◌, ◌≢◌, ℕ, ◌<◌, ◌≤◌, ◌⊎◌, true, false, Option, Some, None, IfSome, Bool, Result, Ok, Err, List, [], ◌++◌, length, drop, All, codes}
 use Rattle.std.specs.List.{flat_map}
 use Rattle.std.specs.Option.{option_map}
 use Rattle.mps_base.specs.Record.{Record}
@@ -13,10 +13,11 @@ use Rattle.mps_reading.specs.Opening.{first_line}
 use Rattle.mps_reading.specs.PutOut.{PutsOut}
 use Rattle.mps_reading.specs.RecordLine.{record_line}
 use Rattle.mps_readable.specs.Line.{record_text, Spells}
+use Rattle.mps_readable.specs.Cuts.{Lacks}
 use Rattle.mps_readable.specs.NextLine.{IsFront, IsLongFront}
 use Rattle.mps_readable.specs.Labels.{Naming, no_names, after_record, after_records}
 use Rattle.mps_readable.specs.Readable.{readable_line, readable}
-use Rattle.mps_readable.specs.Text.{closed, HasNoFirstLine, IsWrongNext, TextEndsAt}
+use Rattle.mps_readable.specs.Text.{closed, HasNoFirstLine, IsWrongNext, TextEndsAt, BreaksOff}
 
 -- ---- the line of a record
 
@@ -41,8 +42,8 @@ abbrev pub PendingLine : Version → (number : ℕ) → (s t : Naming) → Buffe
 PendingLine version number s t b before after (Ok (Some size)) = ShowsFront version s t size b before after
 PendingLine version number s t b before after (Ok None) = (b.pending ≡ []) × (b.failed ≡ false) × (after ≡ before)
 PendingLine version number s t b before after (Err (stop.BadLine line)) = (line ≡ number) × IsWrongFront version s b × (after ≡ before)
-PendingLine version number s t b before after (Err stop.ReadFailed) = after ≡ before
-PendingLine version number s t b before after (Err stop.OutOfMemory) = Unit {0}
+PendingLine version number s t b before after (Err stop.ReadFailed) = Lacks 10 b.pending × (length b.pending ≤ 4096) × (after ≡ before)
+PendingLine version number s t b before after (Err stop.OutOfMemory) = after ≡ before
 PendingLine version number s t b before after (Err stop.WriteFailed) = ⊥
 PendingLine version number s t b before after (Err stop.BadHeader) = ⊥
 PendingLine version number s t b before after (Err (stop.BadRecord at fault)) = ⊥
@@ -59,49 +60,55 @@ pub record ShowsNext (version : Version) (s t : Naming) (left left_behind before
   pub front : option_map closed left ≡ option_map (λ rest. record_line read ++ closed rest) left_behind
   pub put : PutsOut before after (readable_line version s t read)
 
--- what the next line gave, of what was left; false at the end
-abbrev pub NextLine : Version → (number : ℕ) → (s t : Naming) → (left left_behind before after : Option (List ℕ)) → Result Bool Stop → Type 0
-NextLine version number s t left left_behind before after (Ok true) = ShowsNext version s t left left_behind before after
-NextLine version number s t left left_behind before after (Ok false) = IfSome left (λ bytes. bytes ≡ []) × (after ≡ before)
-NextLine version number s t left left_behind before after (Err (stop.BadLine line)) =
+-- what the next line gave, of what was left, where this is unread then; false at the end
+abbrev pub NextLine : Version → (number : ℕ) → (s t : Naming) → (left left_behind unread before after : Option (List ℕ)) → Result Bool Stop → Type 0
+NextLine version number s t left left_behind unread before after (Ok true) = ShowsNext version s t left left_behind before after
+NextLine version number s t left left_behind unread before after (Ok false) = IfSome left (λ bytes. bytes ≡ []) × (after ≡ before)
+NextLine version number s t left left_behind unread before after (Err (stop.BadLine line)) =
     (line ≡ number) × IfSome left (λ bytes. (0 < length (closed bytes)) × IsWrongNext version s (closed bytes)) × (after ≡ before)
-NextLine version number s t left left_behind before after (Err stop.ReadFailed) = after ≡ before
-NextLine version number s t left left_behind before after (Err stop.WriteFailed) = Unit {0}
-NextLine version number s t left left_behind before after (Err stop.OutOfMemory) = Unit {0}
-NextLine version number s t left left_behind before after (Err stop.BadHeader) = ⊥
-NextLine version number s t left left_behind before after (Err (stop.BadRecord at fault)) = ⊥
-NextLine version number s t left left_behind before after (Err (stop.BadReplay at)) = ⊥
-NextLine version number s t left left_behind before after (Err stop.TooLong) = ⊥
+NextLine version number s t left left_behind unread before after (Err stop.ReadFailed) =
+    IfSome left (λ bytes. BreaksOff bytes unread) × (after ≡ before)
+NextLine version number s t left left_behind unread before after (Err stop.WriteFailed) = Unit {0}
+NextLine version number s t left left_behind unread before after (Err stop.OutOfMemory) = after ≡ before
+NextLine version number s t left left_behind unread before after (Err stop.BadHeader) = ⊥
+NextLine version number s t left left_behind unread before after (Err (stop.BadRecord at fault)) = ⊥
+NextLine version number s t left left_behind unread before after (Err (stop.BadReplay at)) = ⊥
+NextLine version number s t left left_behind unread before after (Err stop.TooLong) = ⊥
 
 -- ---- all lines
 
--- the lines of some records were read and put out
+-- the lines of some records were read and put out, and this is left
 pub record ShowsFirst (version : Version) (bytes : List ℕ) (before after : Option (List ℕ)) : Type 0 where
   pub records : List Record
   pub named : Naming
-  pub rest : List ℕ
+  pub left : List ℕ
   pub each : All (IsRecord version) records
   pub meaning : after_records version no_names records ≡ Some named
   pub few : length records < 4294967295
-  pub spelled : closed bytes ≡ flat_map record_line records ++ rest
+  pub spelled : closed bytes ≡ flat_map record_line records ++ closed left
   pub put : PutsOut before after (readable version records)
 
 -- the lines were read and put out up to a rest at which the reading ends
 pub record ShowsAll {T : Type 0} (version : Version) (bytes : List ℕ) (before after : Option (List ℕ)) (ending : Result T Stop) : Type 0 where
   pub shown : ShowsFirst version bytes before after
-  pub ends_at : TextEndsAt version shown.named ending (length shown.records) shown.rest
+  pub ends_at : TextEndsAt version shown.named ending (length shown.records) (closed shown.left)
+
+-- the whole lines that had come were read and put out
+pub record ShowsCome (version : Version) (bytes : List ℕ) (unread before after : Option (List ℕ)) : Type 0 where
+  pub shown : ShowsFirst version bytes before after
+  pub breaks : BreaksOff shown.left unread
 
 -- the same of every ending
-abbrev pub AllLines : {T : Type 0} → Version → (bytes : List ℕ) → (before after : Option (List ℕ)) → Result T Stop → Type 0
-AllLines version bytes before after (Ok value) = ShowsAll version bytes before after (Ok value)
-AllLines version bytes before after (Err (stop.BadLine line)) = ShowsAll {T = Unit {0}} version bytes before after (Err (stop.BadLine line))
-AllLines version bytes before after (Err stop.TooLong) = ShowsAll {T = Unit {0}} version bytes before after (Err stop.TooLong)
-AllLines version bytes before after (Err stop.ReadFailed) = ShowsFirst version bytes before after
-AllLines version bytes before after (Err stop.WriteFailed) = Unit {0}
-AllLines version bytes before after (Err stop.OutOfMemory) = Unit {0}
-AllLines version bytes before after (Err stop.BadHeader) = ⊥
-AllLines version bytes before after (Err (stop.BadRecord at fault)) = ⊥
-AllLines version bytes before after (Err (stop.BadReplay at)) = ⊥
+abbrev pub AllLines : {T : Type 0} → Version → (bytes : List ℕ) → (unread before after : Option (List ℕ)) → Result T Stop → Type 0
+AllLines version bytes unread before after (Ok value) = ShowsAll version bytes before after (Ok value)
+AllLines version bytes unread before after (Err (stop.BadLine line)) = ShowsAll {T = Unit {0}} version bytes before after (Err (stop.BadLine line))
+AllLines version bytes unread before after (Err stop.TooLong) = ShowsAll {T = Unit {0}} version bytes before after (Err stop.TooLong)
+AllLines version bytes unread before after (Err stop.ReadFailed) = ShowsCome version bytes unread before after
+AllLines version bytes unread before after (Err stop.OutOfMemory) = ShowsFirst version bytes before after
+AllLines version bytes unread before after (Err stop.WriteFailed) = Unit {0}
+AllLines version bytes unread before after (Err stop.BadHeader) = ⊥
+AllLines version bytes unread before after (Err (stop.BadRecord at fault)) = ⊥
+AllLines version bytes unread before after (Err (stop.BadReplay at)) = ⊥
 
 -- ---- the first line
 
@@ -120,7 +127,7 @@ HasOtherFront b =
 abbrev pub FindsFirst : Buffered → Result (Version × ℕ) Stop → Type 0
 FindsFirst b (Ok found) = IsFront b (first_text found.0) found.1
 FindsFirst b (Err (stop.BadLine line)) = (line ≡ 1) × HasOtherFront b
-FindsFirst b (Err stop.ReadFailed) = Unit {0}
+FindsFirst b (Err stop.ReadFailed) = Lacks 10 b.pending × (length b.pending ≤ 4096)
 FindsFirst b (Err stop.WriteFailed) = ⊥
 FindsFirst b (Err stop.BadHeader) = ⊥
 FindsFirst b (Err (stop.BadRecord at fault)) = ⊥
@@ -137,7 +144,7 @@ pub record TakesThat (version : Version) (before after : Buffered) : Type 0 wher
 abbrev pub TakesFirst : (before after : Buffered) → Result Version Stop → Type 0
 TakesFirst before after (Ok version) = TakesThat version before after
 TakesFirst before after (Err (stop.BadLine line)) = (line ≡ 1) × HasOtherFront before
-TakesFirst before after (Err stop.ReadFailed) = Unit {0}
+TakesFirst before after (Err stop.ReadFailed) = Lacks 10 before.pending × (length before.pending ≤ 4096) × (after ≡ before)
 TakesFirst before after (Err stop.WriteFailed) = ⊥
 TakesFirst before after (Err stop.BadHeader) = ⊥
 TakesFirst before after (Err (stop.BadRecord at fault)) = ⊥
@@ -145,14 +152,14 @@ TakesFirst before after (Err (stop.BadReplay at)) = ⊥
 TakesFirst before after (Err stop.TooLong) = ⊥
 TakesFirst before after (Err stop.OutOfMemory) = ⊥
 
--- a text of these bytes was opened, and this is left behind its first line, or it has none
-abbrev pub TextOpens : (bytes : List ℕ) → (left : Option (List ℕ)) → Result Version Stop → Type 0
-TextOpens bytes left (Ok version) = Some (closed bytes) ≡ option_map (λ rest. first_line version ++ closed rest) left
-TextOpens bytes left (Err (stop.BadLine line)) = (line ≡ 1) × HasNoFirstLine bytes
-TextOpens bytes left (Err stop.ReadFailed) = Unit {0}
-TextOpens bytes left (Err stop.WriteFailed) = ⊥
-TextOpens bytes left (Err stop.BadHeader) = ⊥
-TextOpens bytes left (Err (stop.BadRecord at fault)) = ⊥
-TextOpens bytes left (Err (stop.BadReplay at)) = ⊥
-TextOpens bytes left (Err stop.TooLong) = ⊥
-TextOpens bytes left (Err stop.OutOfMemory) = ⊥
+-- a text of these bytes was opened in place of an input, and this is left behind its first line, or it has none
+abbrev pub TextOpens : (bytes : List ℕ) → (left input unread : Option (List ℕ)) → Result Version Stop → Type 0
+TextOpens bytes left input unread (Ok version) = Some (closed bytes) ≡ option_map (λ rest. first_line version ++ closed rest) left
+TextOpens bytes left input unread (Err (stop.BadLine line)) = (line ≡ 1) × HasNoFirstLine bytes
+TextOpens bytes left input unread (Err stop.ReadFailed) = (unread ≡ input) ⊎ BreaksOff bytes unread
+TextOpens bytes left input unread (Err stop.WriteFailed) = ⊥
+TextOpens bytes left input unread (Err stop.BadHeader) = ⊥
+TextOpens bytes left input unread (Err (stop.BadRecord at fault)) = ⊥
+TextOpens bytes left input unread (Err (stop.BadReplay at)) = ⊥
+TextOpens bytes left input unread (Err stop.TooLong) = ⊥
+TextOpens bytes left input unread (Err stop.OutOfMemory) = ⊥

@@ -72,7 +72,8 @@ fn read_text<D: Desk>(alloc: Global, text: &str, desk: &mut D) -> Result<(), Sto
 // Opens a text and takes its first line.
 fn open_text<D: Desk>(text: &str, input: &mut Input, desk: &mut D) -> Result<Version, Stop>
     requires { input.old ≡ record { pending = []; ended = false; failed = false } }
-    ensures opened { (bytes : List ℕ) → (D.outside desk.old).text text.now ≡ Some bytes → TextOpens bytes (left_of (D.outside desk.new) input.new) result }
+    ensures opened { (bytes : List ℕ) → (D.outside desk.old).text text.now ≡ Some bytes → TextOpens bytes (left_of (D.outside desk.new) input.new)
+        (D.outside desk.old).input (D.outside desk.new).input result }
     ensures reported { (D.outside desk.new).reported ≡ (D.outside desk.old).reported }
     ensures err_faults { (D.outside desk.new).err_faults ≡ (D.outside desk.old).err_faults }
     ensures at_end { OnOk result (IsAtEnd (D.outside desk.new) input.new) }
@@ -157,7 +158,7 @@ fn read_lines<D: Desk>(
     ensures reported { (D.outside desk.new).reported ≡ (D.outside desk.old).reported }
     ensures err_faults { (D.outside desk.new).err_faults ≡ (D.outside desk.old).err_faults }
     ensures all { (bytes : List ℕ) → left_of (D.outside desk.old) input.old ≡ Some bytes
-        → AllLines version bytes (put_out (D.outside desk.old) output.old) (put_out (D.outside desk.new) output.new) result }
+        → AllLines version bytes (D.outside desk.new).input (put_out (D.outside desk.old) output.old) (put_out (D.outside desk.new) output.new) result }
 {
     for behind in 0..u32::MAX - 1 {
         if !read_next(u64::from(behind) + 2, version, labels, input, output, desk)? {
@@ -179,7 +180,7 @@ fn read_next<D: Desk>(
     requires { IsAtEnd (D.outside desk.old) input.old }
     ensures works { Works (D.outside desk.old) (D.outside desk.new) input.old input.new result }
     ensures gives { NextLine version number labels.old labels.new (left_of (D.outside desk.old) input.old) (left_of (D.outside desk.new) input.new)
-        (put_out (D.outside desk.old) output.old) (put_out (D.outside desk.new) output.new) result }
+        (D.outside desk.new).input (put_out (D.outside desk.old) output.old) (put_out (D.outside desk.new) output.new) result }
     ensures at_end { IsAtEnd (D.outside desk.new) input.new }
     ensures reported { (D.outside desk.new).reported ≡ (D.outside desk.old).reported }
     ensures err_faults { (D.outside desk.new).err_faults ≡ (D.outside desk.old).err_faults }

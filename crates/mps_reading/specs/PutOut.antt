@@ -23,4 +23,4 @@ IsToFlush (Err stop.WriteFailed) = ⊥
 IsToFlush (Err stop.BadHeader) = ⊥
 IsToFlush (Err (stop.BadReplay at)) = ⊥
 IsToFlush (Err (stop.BadLine line)) = Unit {0}
-IsToFlush (Err stop.OutOfMemory) = ⊥
+IsToFlush (Err stop.OutOfMemory) = Unit {0}

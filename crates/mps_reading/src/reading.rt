@@ -86,6 +86,8 @@ pub fn make_room<D: Desk>(output: &mut Output, desk: &mut D) -> Result<(), Stop>
 pub fn after_the_last<D: Desk>(input: &mut Input, desk: &mut D) -> Result<(), Stop>
     ensures works { Works (D.outside desk.old) (D.outside desk.new) input.old input.new result }
     ensures gives { IsAtEnd (D.outside desk.old) input.old → LastGives (left_of (D.outside desk.old) input.old) result }
+    // Where a read fails, nothing more had come.
+    ensures unread { result ≡ Err Stop.ReadFailed → (D.outside desk.new).input ≡ left_of (D.outside desk.old) input.old }
     ensures printed { (D.outside desk.new).printed ≡ (D.outside desk.old).printed }
     ensures reported { (D.outside desk.new).reported ≡ (D.outside desk.old).reported }
     ensures err_faults { (D.outside desk.new).err_faults ≡ (D.outside desk.old).err_faults }
@@ -97,6 +99,7 @@ pub fn after_the_last<D: Desk>(input: &mut Input, desk: &mut D) -> Result<(), St
 fn end_of(input: &Input) -> Result<(), Stop>
     ensures told { IsTold input.now result }
     ensures gives { EndGives input.now result }
+    ensures unread { result ≡ Err Stop.ReadFailed → input.now.pending ≡ [] }
 {
     if !input.pending().is_empty() {
         Err(Stop::TooLong)
@@ -119,6 +122,7 @@ pub fn flush_after<D: Desk>(
     ensures printed { IsToFlush result → (D.outside desk.new).printed ≡ put_out (D.outside desk.old) output.old }
     ensures front { result ≡ Err Stop.ReadFailed → ((D.outside desk.new).printed ≡ put_out (D.outside desk.old) output.old)
         ⊎ HasRisen (D.outside desk.old).out_faults (D.outside desk.new).out_faults }
+    ensures input { (D.outside desk.new).input ≡ (D.outside desk.old).input }
     ensures first { (result ≡ ending) ⊎ ((result ≡ Err Stop.WriteFailed) × HasRisen (D.outside desk.old).out_faults (D.outside desk.new).out_faults) }
     ensures runs { Runs (D.outside desk.old) (D.outside desk.new) }
 {

@@ -14,30 +14,30 @@ returns-in_err-read_next-clause-all g c bytes told =
     let p = err_from_is_err_and c.from_residual.result c.from_residual.ensures.1 in
     rw (p.1, p.2)
     (all_stop c.args.version c.loop-behind.behind (c.from.result + 2) c.loop-behind.labels c.read_next.new.labels
-    (left_of (g.D.Desk.outside c.args.desk.now) c.args.input.now) (left_of (g.D.Desk.outside c.loop-behind.desk) c.loop-behind.input) (left_of (g.D.Desk.outside c.read_next.new.desk) c.read_next.new.input)
+    (left_of (g.D.Desk.outside c.args.desk.now) c.args.input.now) (left_of (g.D.Desk.outside c.loop-behind.desk) c.loop-behind.input) (left_of (g.D.Desk.outside c.read_next.new.desk) c.read_next.new.input) (g.D.Desk.outside c.read_next.new.desk).input
     (put_out (g.D.Desk.outside c.args.desk.now) c.args.output.now) (put_out (g.D.Desk.outside c.loop-behind.desk) c.loop-behind.output) (put_out (g.D.Desk.outside c.read_next.new.desk) c.read_next.new.output)
     bytes _ (omega arith) (omega arith) c.loop-behind.invariant.so_far c.in_err-read_next.ensures.gives told)
 
 pub returns-then-not-branch-clause-all : goal.returns-then-not-branch-clause-all
 returns-then-not-branch-clause-all g c bytes told =
     let next : NextLine c.args.version (c.from.result + 2) c.loop-behind.labels c.read_next.new.labels
-    (left_of (g.D.Desk.outside c.loop-behind.desk) c.loop-behind.input) (left_of (g.D.Desk.outside c.read_next.new.desk) c.read_next.new.input)
+    (left_of (g.D.Desk.outside c.loop-behind.desk) c.loop-behind.input) (left_of (g.D.Desk.outside c.read_next.new.desk) c.read_next.new.input) (g.D.Desk.outside c.read_next.new.desk).input
     (put_out (g.D.Desk.outside c.loop-behind.desk) c.loop-behind.output) (put_out (g.D.Desk.outside c.read_next.new.desk) c.read_next.new.output) (Ok false) =
     subst (λ (b : Bool). NextLine c.args.version (c.from.result + 2) c.loop-behind.labels c.read_next.new.labels
-    (left_of (g.D.Desk.outside c.loop-behind.desk) c.loop-behind.input) (left_of (g.D.Desk.outside c.read_next.new.desk) c.read_next.new.input)
+    (left_of (g.D.Desk.outside c.loop-behind.desk) c.loop-behind.input) (left_of (g.D.Desk.outside c.read_next.new.desk) c.read_next.new.input) (g.D.Desk.outside c.read_next.new.desk).input
     (put_out (g.D.Desk.outside c.loop-behind.desk) c.loop-behind.output) (put_out (g.D.Desk.outside c.read_next.new.desk) c.read_next.new.output) (Ok b))
     c.if-not-branch.true c.in_ok-read_next.ensures.gives in
     all_read c.args.version c.loop-behind.behind (c.from.result + 2) c.loop-behind.labels c.read_next.new.labels
-    (left_of (g.D.Desk.outside c.args.desk.now) c.args.input.now) (left_of (g.D.Desk.outside c.loop-behind.desk) c.loop-behind.input) (left_of (g.D.Desk.outside c.read_next.new.desk) c.read_next.new.input)
+    (left_of (g.D.Desk.outside c.args.desk.now) c.args.input.now) (left_of (g.D.Desk.outside c.loop-behind.desk) c.loop-behind.input) (left_of (g.D.Desk.outside c.read_next.new.desk) c.read_next.new.input) (g.D.Desk.outside c.read_next.new.desk).input
     (put_out (g.D.Desk.outside c.args.desk.now) c.args.output.now) (put_out (g.D.Desk.outside c.loop-behind.desk) c.loop-behind.output) (put_out (g.D.Desk.outside c.read_next.new.desk) c.read_next.new.output)
     bytes (omega arith) c.loop-behind.invariant.so_far next told
 
 pub returns-clause-all : goal.returns-clause-all
 returns-clause-all g c bytes told =
     all_counted c.args.version c.loop-behind.behind c.loop-behind.labels
-    (left_of (g.D.Desk.outside c.args.desk.now) c.args.input.now) (left_of (g.D.Desk.outside c.loop-behind.desk) c.loop-behind.input)
+    (left_of (g.D.Desk.outside c.args.desk.now) c.args.input.now) (left_of (g.D.Desk.outside c.loop-behind.desk) c.loop-behind.input) (g.D.Desk.outside c.after_the_last.new.desk).input
     (put_out (g.D.Desk.outside c.args.desk.now) c.args.output.now) (put_out (g.D.Desk.outside c.loop-behind.desk) c.loop-behind.output) (put_out (g.D.Desk.outside c.after_the_last.new.desk) c.loop-behind.output)
-    bytes c.after_the_last.result (omega arith) c.loop-behind.invariant.so_far (c.after_the_last.ensures.gives c.loop-behind.invariant.at_end)
+    bytes c.after_the_last.result (omega arith) c.loop-behind.invariant.so_far (c.after_the_last.ensures.gives c.loop-behind.invariant.at_end) c.after_the_last.ensures.unread
     (ap (λ (o : Option (List ℕ)). option_map (λ printed. printed ++ c.loop-behind.output) o) c.after_the_last.ensures.printed) told
 
 pub loop-behind-preserved : goal.loop-behind-preserved
@@ -45,10 +45,10 @@ loop-behind-preserved g c =
     let works : Works {T = Unit {0}} (g.D.Desk.outside c.args.desk.now) (g.D.Desk.outside c.loop-behind.desk) c.args.input.now c.loop-behind.input (Ok tt) = c.loop-behind.invariant.works in
     let step = c.in_ok-read_next.ensures.works in
     let next : NextLine c.args.version (c.from.result + 2) c.loop-behind.labels c.read_next.new.labels
-    (left_of (g.D.Desk.outside c.loop-behind.desk) c.loop-behind.input) (left_of (g.D.Desk.outside c.read_next.new.desk) c.read_next.new.input)
+    (left_of (g.D.Desk.outside c.loop-behind.desk) c.loop-behind.input) (left_of (g.D.Desk.outside c.read_next.new.desk) c.read_next.new.input) (g.D.Desk.outside c.read_next.new.desk).input
     (put_out (g.D.Desk.outside c.loop-behind.desk) c.loop-behind.output) (put_out (g.D.Desk.outside c.read_next.new.desk) c.read_next.new.output) (Ok true) =
     subst (λ (b : Bool). NextLine c.args.version (c.from.result + 2) c.loop-behind.labels c.read_next.new.labels
-    (left_of (g.D.Desk.outside c.loop-behind.desk) c.loop-behind.input) (left_of (g.D.Desk.outside c.read_next.new.desk) c.read_next.new.input)
+    (left_of (g.D.Desk.outside c.loop-behind.desk) c.loop-behind.input) (left_of (g.D.Desk.outside c.read_next.new.desk) c.read_next.new.input) (g.D.Desk.outside c.read_next.new.desk).input
     (put_out (g.D.Desk.outside c.loop-behind.desk) c.loop-behind.output) (put_out (g.D.Desk.outside c.read_next.new.desk) c.read_next.new.output) (Ok b))
     c.if-not-branch.false c.in_ok-read_next.ensures.gives in
     record {
@@ -57,7 +57,7 @@ loop-behind-preserved g c =
       err_faults = c.in_ok-read_next.ensures.err_faults ∙ c.loop-behind.invariant.err_faults;
       at_end = c.in_ok-read_next.ensures.at_end;
       so_far = one_more c.args.version c.loop-behind.behind (c.from.result + 2) c.loop-behind.labels c.read_next.new.labels
-          (left_of (g.D.Desk.outside c.args.desk.now) c.args.input.now) (left_of (g.D.Desk.outside c.loop-behind.desk) c.loop-behind.input) (left_of (g.D.Desk.outside c.read_next.new.desk) c.read_next.new.input)
+          (left_of (g.D.Desk.outside c.args.desk.now) c.args.input.now) (left_of (g.D.Desk.outside c.loop-behind.desk) c.loop-behind.input) (left_of (g.D.Desk.outside c.read_next.new.desk) c.read_next.new.input) (g.D.Desk.outside c.read_next.new.desk).input
           (put_out (g.D.Desk.outside c.args.desk.now) c.args.output.now) (put_out (g.D.Desk.outside c.loop-behind.desk) c.loop-behind.output) (put_out (g.D.Desk.outside c.read_next.new.desk) c.read_next.new.output)
           c.loop-behind.invariant.so_far next;
     }

@@ -11,6 +11,6 @@ returns-clause-read g c bytes told =
     reads_text _ c.in_ok-version.version bytes c.put_first_line.new.output
     (g.D.Desk.outside c.args.desk.now) (g.D.Desk.outside c.open_text.new.desk) (g.D.Desk.outside c.read_lines-ending.new.desk) (g.D.Desk.outside c.flush_after.new.desk)
     c.open_text.new.input (put_out (g.D.Desk.outside c.read_lines-ending.new.desk) c.read_lines-ending.new.output) c.read_lines-ending.result c.flush_after.result
-    opened c.open_text.ensures.printed line c.read_lines-ending.ensures.all c.flush_after.ensures.first c.flush_after.ensures.printed
+    opened c.open_text.ensures.printed line c.flush_after.ensures.input c.read_lines-ending.ensures.all c.flush_after.ensures.first c.flush_after.ensures.printed
     (λ e. failed_since (g.D.Desk.outside c.args.desk.now) (g.D.Desk.outside c.read_lines-ending.new.desk) (g.D.Desk.outside c.flush_after.new.desk)
     (omega (arith, c.open_text.ensures.runs.out_counted, c.read_lines-ending.ensures.works.runs.out_counted)) (c.flush_after.ensures.front e))
