@@ -4,3 +4,4 @@ pub mod Gathered
 pub mod Wholly
 pub mod OneReplay
 pub mod VersionOne
+pub mod Ascending

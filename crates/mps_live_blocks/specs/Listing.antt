@@ -1,9 +1,13 @@
 -- What is printed of the live blocks: a line for each, in ascending order of their addresses.
-use Rattle.std.specs.Prelude.{◌≡◌, ℕ, codes, decimal, List, [], ◌∷◌, ◌++◌, refl}
+use Rattle.std.specs.Prelude.{◌≡◌, ℕ, codes, decimal, List, [], ◌∷◌, ◌++◌, map, refl}
 use Rattle.std.specs.Fmt.{digits}
 use Rattle.std.specs.List.{flat_map}
 use Rattle.mps_model.specs.Replay.{Block, Store}
 use Rattle.mps_numbers.specs.Hexadecimal.{hexadecimal}
+
+-- where the blocks begin
+abbrev pub addresses : Store → List ℕ
+addresses blocks = map (λ b. b.at) blocks
 
 -- the line of a block: its address in hexadecimal, its size in words and the number of its pool in decimal
 abbrev pub block_line : Block → List ℕ

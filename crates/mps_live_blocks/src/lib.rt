@@ -8,5 +8,5 @@ mod replaying;
 #[cfg(test)]
 mod tests;
 
-pub use laws::version_one_tells_of_blocks_alone;
+pub use laws::{live_blocks_ascend, version_one_tells_of_blocks_alone};
 pub use live_blocks::blocks;
