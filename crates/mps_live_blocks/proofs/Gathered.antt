@@ -4,8 +4,8 @@ use Rattle.std.specs.Prelude.{OnErr}
 use Rattle.std.proofs.lemmas.List.{append-nil, take-append-drop}
 use Rattle.std.proofs.Math.Seq.{take-append_seam}
 use Rattle.mps_base.specs.Desk.{Outside}
-use Rattle.mps_output.specs.Streams.{Prints, PrintsPart, Gathers}
-use Rattle.mps_output.proofs.Gathering.{gathers-none, gathers-then, gathers_printed}
+use Rattle.mps_output.specs.Streams.{PrintsPart, Gathers}
+use Rattle.mps_output.proofs.Gathering.{gathers-none, gathers-then}
 use Rattle.mps_output.proofs.Outside.{prints-then, prints-as, risen_earlier}
 
 -- the front of a text was gathered, and this is left of it

@@ -17,7 +17,7 @@ use Rattle.mps_reading.specs.Left.{left_of, LastGives}
 use Rattle.mps_reading.proofs.Left.{left_same, split_pending, nothing_left, fault_left, nothing_in_front, one_in_front, left_behind_told}
 use Rattle.mps_reading.proofs.Records.{none_yet, all_and_one, flat_one}
 use Rattle.mps_live_blocks.specs.Replayed.{State, after_interning, after_labelling, replayed_after, replayed_from}
-use Rattle.mps_live_blocks.specs.Ending.{IsBadReplay, StopsAt}
+use Rattle.mps_live_blocks.specs.Ending.{IsBadReplay}
 use Rattle.mps_live_blocks.specs.Replaying.{PendingReplays, NextReplays, AllReplay}
 
 -- ---- one record

@@ -1,12 +1,11 @@
 -- A log of version 1 tells of blocks alone.
-use Rattle.std.proofs.Common.{◌≡◌, ℕ, Bool, true, false, cond, eqb, List, [], ◌∷◌, Option, Some, None, refl, sym, ap, subst, ◌∙◌}
+use Rattle.std.proofs.Common.{◌≡◌, ℕ, Bool, true, false, cond, eqb, List, [], ◌∷◌, Option, Some, None, refl, ap, subst, ◌∙◌}
 use Rattle.std.specs.Prelude.{option_and_then, slice_index}
 use Rattle.std.specs.List.{All, AllByRecursion}
 use Rattle.std.specs.Option.{option_map}
 use Rattle.std.proofs.lemmas.Bool.{eqb-true}
 use Rattle.std.proofs.lemmas.List.Elements.{recursion_from_All}
 use Rattle.mps_base.specs.Record.{Record, intern_code, label_code}
-use Rattle.mps_event.specs.declared.version.Version.{Version}
 use Rattle.mps_event.specs.declared.version.Version.TheVariants.{One}
 use Rattle.mps_event.specs.Grammar.{AreFields, IsRecord}
 use Rattle.mps_model.specs.Replay.{Store, store_after, replay_from, replay}

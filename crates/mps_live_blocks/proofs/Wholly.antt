@@ -1,5 +1,5 @@
 -- A replay from the header to its end, what is listed then, and what the program answers.
-use Rattle.std.proofs.Common.{◌≡◌, ℕ, ◌+◌, true, false, List, [], ◌++◌, length, take, Option, Some, None, Result, Ok, Err, refl, sym, ap, subst, ◌∙◌, append_assoc, arith}
+use Rattle.std.proofs.Common.{◌≡◌, ℕ, true, false, List, [], ◌++◌, length, take, Option, Some, None, Result, Ok, Err, refl, sym, ap, subst, ◌∙◌, append_assoc, arith}
 use Rattle.std.specs.Prelude.{OnOk, IfErr}
 use Rattle.std.specs.Option.{option_map}
 use Rattle.std.proofs.lemmas.List.{append-nil}
@@ -7,18 +7,17 @@ use Rattle.mps_base.specs.Desk.{Outside}
 use Rattle.mps_base.specs.Record.{header_bytes, records_bytes}
 use Rattle.mps_event.specs.declared.version.Version.{Version}
 use Rattle.mps_event.specs.Event.{number_of_version}
-use Rattle.mps_model.specs.Replay.{Store}
 use Rattle.mps_output.specs.declared.stop.Stop.{Stop}
 use Rattle.mps_output.specs.declared.stop.Stop.TheVariants as stop
 use Rattle.mps_output.specs.Reports.{status_of, report_of}
 use Rattle.mps_output.specs.Streams.{Prints, PrintsPart, Reports}
-use Rattle.mps_reading.specs.Ending.{is_whole_status, status_of_ending, HasReported}
+use Rattle.mps_reading.specs.Ending.{is_whole_status}
 use Rattle.mps_reading.proofs.Opening.{size_with_header, header_told}
 use Rattle.mps_reading.proofs.Reported.{has_reported}
 use Rattle.mps_live_blocks.specs.Replayed.{State, at_the_start}
 use Rattle.mps_live_blocks.specs.Listing.{listing}
 use Rattle.mps_live_blocks.specs.Ending.{StopsAt, Replays}
-use Rattle.mps_live_blocks.specs.Listed.{Lists, Says, ListedWith, ListsPart, HasListed}
+use Rattle.mps_live_blocks.specs.Listed.{Says, ListedWith, ListsPart, HasListed}
 use Rattle.mps_live_blocks.specs.Replaying.{ReplaysAll, AllReplay, HasReplayed}
 
 -- ---- from the header on

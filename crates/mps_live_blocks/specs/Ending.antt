@@ -1,5 +1,5 @@
 -- Where the replay of a log ends.
-use Rattle.std.specs.Prelude.{◌≡◌, ℕ, ◌<◌, true, Option, Some, None, Result, Ok, Err, List, [], ◌++◌, length, All}
+use Rattle.std.specs.Prelude.{◌≡◌, ℕ, ◌<◌, true, Some, None, Result, Ok, Err, List, [], ◌++◌, length, All}
 use Rattle.mps_base.specs.Record.{Record, record_bytes}
 use Rattle.mps_event.specs.declared.version.Version.{Version}
 use Rattle.mps_event.specs.Grammar.{IsRecord, log_bytes}

@@ -4,7 +4,7 @@ ghost use Rattle.std.specs.Prelude.{◌≡◌, ◌≢◌, ◌≤◌, ◌<◌, �
 ghost use Rattle.mps_reading.specs.Causes.{IsCaused, IsTold, Works, Answers};
 ghost use Rattle.mps_reading.specs.Input.{IsAtEnd};
 ghost use Rattle.mps_reading.specs.Left.{left_of};
-ghost use Rattle.mps_reading.specs.Ending.{is_whole_status};
+ghost use Rattle.mps_reading.specs.Ending.{is_whole_status, ReportsStatus};
 ghost use Rattle.mps_output.specs.Streams.{Runs};
 ghost use Rattle.mps_live_blocks.specs.Replayed.{at_the_start};
 ghost use Rattle.mps_live_blocks.specs.Listed.{ListedWith, IsOnly, ListsPart, HasListed, IsSilent};
@@ -23,6 +23,8 @@ use std::alloc::Global;
 /// failed, 6 at the first record that is wrong or cannot be replayed, 7 where record 2^32 begins, 8 for want of memory.
 pub fn blocks<D: Desk>(alloc: Global, log: &str, desk: &mut D) -> u8
     ensures answers { Answers (D.outside desk.old) (D.outside desk.new) result }
+    // With any status its ending was reported, and nothing with 0.
+    ensures reported { ReportsStatus result (D.outside desk.old) (D.outside desk.new) }
     // Where the opened file is told, and the status is none of a fault or for want of memory: exactly this was printed.
     ensures listed { is_whole_status result ≡ true → (bytes : List ℕ) → (D.outside desk.old).text log.now ≡ Some bytes
         → ListedWith bytes result (D.outside desk.old) (D.outside desk.new) }

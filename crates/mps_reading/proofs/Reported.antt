@@ -1,9 +1,22 @@
 -- What was reported of an ending.
-use Rattle.std.proofs.Common.{◌≡◌, ℕ, ◌⊎◌, List, ◌++◌, Option, ap, subst, ◌∙◌, inl, inr}
+use Rattle.std.proofs.Common.{◌≡◌, ℕ, ◌⊎◌, List, ◌++◌, Option, Result, Ok, Err, ap, subst, ◌∙◌, inl, inr}
+use Rattle.std.specs.Prelude.{OnOk, IfErr}
 use Rattle.std.specs.Option.{option_map}
 use Rattle.mps_base.specs.Desk.{Outside, HasRisen}
+use Rattle.mps_output.specs.declared.stop.Stop.{Stop}
+use Rattle.mps_output.specs.Reports.{status_of, report_of}
+use Rattle.mps_output.specs.Streams.{Reports}
+use Rattle.mps_reading.specs.Ending.{ReportsStatus}
 
 pub has_reported : (text : List ℕ) (a b c : Outside) → b.reported ≡ a.reported → b.err_faults ≡ a.err_faults
     → HasRisen b.err_faults c.err_faults ⊎ (c.reported ≡ option_map (λ before. before ++ text) b.reported) → HasRisen a.err_faults c.err_faults ⊎ (c.reported ≡ option_map (λ before. before ++ text) a.reported)
 has_reported text a b c quiet faults (inl h) = inl (subst (λ (n : ℕ). HasRisen n c.err_faults) faults h)
 has_reported text a b c quiet faults (inr h) = inr (h ∙ ap (λ (o : Option (List ℕ)). option_map (λ before. before ++ text) o) quiet)
+
+-- what is said of an ending after its report
+pub reports_status : (status : ℕ) (ending : Result (Unit {0}) Stop) (a b c : Outside) → b.reported ≡ a.reported → b.err_faults ≡ a.err_faults
+    → OnOk ending (status ≡ 0) → OnOk ending (c ≡ b) → IfErr ending (λ why. status ≡ status_of why) → IfErr ending (λ why. Reports b c (report_of why)) → ReportsStatus status a c
+reports_status status (Ok value) a b c quiet faults zero same is reports =
+    record { ending = Ok tt; status_is = zero; reported = ap (λ (o : Outside). o.reported) same ∙ quiet }
+reports_status status (Err why) a b c quiet faults zero same is reports =
+    record { ending = Err why; status_is = is; reported = has_reported (report_of why) a b c quiet faults reports.reported }

@@ -33,6 +33,12 @@ HasReported (Ok value) old new = new.reported ≡ old.reported
 HasReported (Err why) old new =
     HasRisen old.err_faults new.err_faults ⊎ (new.reported ≡ option_map (λ before. before ++ report_of why) old.reported)
 
+-- the status is that of some ending, and just this ending was reported
+pub record ReportsStatus (status : ℕ) (old new : Outside) : Type 0 where
+  pub ending : Result (Unit {0}) Stop
+  pub status_is : status ≡ status_of_ending ending
+  pub reported : HasReported ending old new
+
 -- the status tells that no call of the desk failed that matters, and that memory wasn't wanting
 abbrev pub is_whole_status : ℕ → Bool
 is_whole_status status = (status == 0) || ((status == 6) || (status == 7))

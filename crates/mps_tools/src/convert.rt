@@ -9,7 +9,7 @@ ghost use Rattle.mps_reading.specs.RecordLine.{record_line, field_text};
 ghost use Rattle.mps_reading.specs.Input.{IsAtEnd};
 ghost use Rattle.mps_reading.specs.Left.{left_of};
 ghost use Rattle.mps_reading.specs.PutOut.{put_out};
-ghost use Rattle.mps_reading.specs.Ending.{is_whole_status};
+ghost use Rattle.mps_reading.specs.Ending.{is_whole_status, ReportsStatus};
 ghost use Rattle.mps_tools.specs.Converted.{ConvertedWith, HasConverted, IsOnly};
 ghost use Rattle.mps_tools.specs.Converting.{PendingGives, NextGives, AllGive};
 ghost use Rattle.mps_tools.specs.KindSet.{bits_of};
@@ -29,6 +29,8 @@ use std::alloc::Global;
 /// where record 2^32 begins, 8 for want of memory.
 pub fn cnv<D: Desk>(alloc: Global, log: &str, kinds: Kinds, desk: &mut D) -> u8
     ensures answers { Answers (D.outside desk.old) (D.outside desk.new) result }
+    // With any status its ending was reported, and nothing with 0.
+    ensures reported { ReportsStatus result (D.outside desk.old) (D.outside desk.new) }
     // Where the opened file is told, and the status is none of a fault or for want of memory: exactly this was printed.
     ensures converted { is_whole_status result ≡ true → (bytes : List ℕ) → (D.outside desk.old).text log.now ≡ Some bytes
         → ConvertedWith (bits_of kinds) bytes result (D.outside desk.old) (D.outside desk.new) }

@@ -1,3 +1,4 @@
+use Rattle.mps_reading.proofs.Reported.{reports_status}
 use Rattle.mps_live_blocks.proofs.Wholly.{listed_with, cut_part}
 use Rattle.mps_live_blocks.proofs.OneReplay.{only}
 use Rattle.mps_live_blocks.proofs.live_blocks.blocks.Goals as goal
@@ -17,3 +18,8 @@ pub returns-clause-cut : goal.returns-clause-cut
 returns-clause-cut g c four bytes told =
     cut_part bytes c.finish.result c.list_blocks-ending.result (g.D.Desk.outside c.args.desk.now) (g.D.Desk.outside c.list_blocks-ending.new.desk) (g.D.Desk.outside c.finish.new.desk) four
     (c.list_blocks-ending.ensures.listed bytes told) c.finish.ensures.done c.finish.ensures.status c.finish.ensures.reported
+
+pub returns-clause-reported : goal.returns-clause-reported
+returns-clause-reported g c =
+    reports_status c.finish.result c.list_blocks-ending.result (g.D.Desk.outside c.args.desk.now) (g.D.Desk.outside c.list_blocks-ending.new.desk) (g.D.Desk.outside c.finish.new.desk)
+    c.list_blocks-ending.ensures.reported c.list_blocks-ending.ensures.err_faults c.finish.ensures.done c.finish.ensures.quiet c.finish.ensures.status c.finish.ensures.reported

@@ -1,8 +1,7 @@
-use Rattle.std.proofs.Common.{◌∙◌, ap, Ok, arith}
+use Rattle.std.proofs.Common.{◌∙◌, Ok, arith}
 use Rattle.mps_reading.specs.Causes.{Works}
 use Rattle.mps_reading.specs.Left.{left_of}
 use Rattle.mps_reading.proofs.Causes.{works-then}
-use Rattle.mps_live_blocks.specs.Replayed.{State}
 use Rattle.mps_live_blocks.proofs.Stepping.{one_more, interned_more, all_read, all_counted}
 use Rattle.mps_live_blocks.proofs.live_blocks.replay_records.Goals as goal
 

@@ -1,4 +1,5 @@
 use Rattle.mps_tools.specs.KindSet.{bits_of}
+use Rattle.mps_reading.proofs.Reported.{reports_status}
 use Rattle.mps_tools.proofs.Wholly.{converted_with}
 use Rattle.mps_tools.proofs.OneReading.{only}
 use Rattle.mps_tools.proofs.convert.cnv.Goals as goal
@@ -13,3 +14,8 @@ returns-clause-only g c whole bytes told =
     only (bits_of c.args.kinds) bytes c.finish.result (g.D.Desk.outside c.args.desk.now) (g.D.Desk.outside c.finish.new.desk) whole
     (converted_with (bits_of c.args.kinds) c.finish.result bytes c.convert-ending.result (g.D.Desk.outside c.args.desk.now) (g.D.Desk.outside c.convert-ending.new.desk) (g.D.Desk.outside c.finish.new.desk)
     c.convert-ending.ensures.reported c.convert-ending.ensures.err_faults (c.convert-ending.ensures.converted bytes told) c.finish.ensures.done c.finish.ensures.quiet c.finish.ensures.status c.finish.ensures.reported)
+
+pub returns-clause-reported : goal.returns-clause-reported
+returns-clause-reported g c =
+    reports_status c.finish.result c.convert-ending.result (g.D.Desk.outside c.args.desk.now) (g.D.Desk.outside c.convert-ending.new.desk) (g.D.Desk.outside c.finish.new.desk)
+    c.convert-ending.ensures.reported c.convert-ending.ensures.err_faults c.finish.ensures.done c.finish.ensures.quiet c.finish.ensures.status c.finish.ensures.reported
