@@ -1,8 +1,9 @@
 -- The number that digits write, digit by digit.
-use Rattle.std.proofs.Common.{◌≡◌, ℕ, ◌+◌, ◌*◌, ◌^◌, ◌<◌, ◌≤◌, Some, None, List, [], ◌∷◌, length, drop, get_or, refl, ◌∙◌, ap, add-one, drop-cons, arith}
+use Rattle.std.proofs.Common.{◌≡◌, ℕ, ◌+◌, ◌*◌, ◌^◌, ◌<◌, ◌≤◌, Some, None, List, [], ◌∷◌, length, drop, get_or, refl, ◌∙◌, ap, sym, add-one, drop-cons, arith, take, take_all, Bool, true, false, nat_lt, Option, if◌then◌else◌}
 use Rattle.std.proofs.Math.Nat.{le-mul_of_pos_right}
 use Rattle.std.proofs.lemmas.Grind.{common_steps}
-use Rattle.mps_numbers.specs.Reading.{value_behind, digits_value, digit_of, below_word}
+use Rattle.std.proofs.lemmas.List.Folds.{list_all_more, list_all_at}
+use Rattle.mps_numbers.specs.Reading.{value_behind, digits_value, digit_of, are_digits, below_word, value_in}
 
 -- the number so far is no larger than the whole
 value_grows : (base n : ℕ) (bs : List ℕ) → 1 ≤ base → n ≤ value_behind base n bs
@@ -40,3 +41,32 @@ all_read base n i bs h fits e =
 -- what is not below is at least
 pub at_least : (a b : ℕ) → (a < b → ⊥) → b ≤ a
 at_least a b h = omega arith
+
+-- ---- digit by digit
+
+-- digits up to one more
+pub digits_more : (base i : ℕ) (bs : List ℕ) → i < length bs → are_digits base (take i bs) ≡ true → digit_of (get_or bs i 0) < base → are_digits base (take (i + 1) bs) ≡ true
+digits_more base i bs within seen lt =
+    let test : nat_lt (digit_of (get_or bs i 0)) base ≡ true = grind (arith, common_steps) in
+    list_all_more (λ b. nat_lt (digit_of b) base) bs i 0 within ∙ rw (seen, test) refl
+
+-- a byte that is no digit
+pub no_digit : (base i : ℕ) (bs : List ℕ) → i < length bs → base ≤ digit_of (get_or bs i 0) → None ≡ value_in base bs
+no_digit base i bs within le =
+    let test : nat_lt (digit_of (get_or bs i 0)) base ≡ false = grind (arith, common_steps) in
+    let none : are_digits base bs ≡ false = list_all_at (λ b. nat_lt (digit_of b) base) bs i 0 within test in
+    rw none refl
+
+-- a number that is too large, of digits or not
+pub too_large : (base : ℕ) (bs : List ℕ) → None ≡ below_word (digits_value base bs) → None ≡ value_in base bs
+too_large base bs large = either (are_digits base bs) (below_word (digits_value base bs)) large
+  where
+    either : (t : Bool) (x : Option ℕ) → None ≡ x → None ≡ (if t then x else None)
+    either true x e = e
+    either false x e = refl
+
+-- all were digits
+pub all_digits : (base i : ℕ) (bs : List ℕ) (r : Option ℕ) → length bs ≤ i → are_digits base (take i bs) ≡ true → r ≡ below_word (digits_value base bs) → r ≡ value_in base bs
+all_digits base i bs r over seen e =
+    let all : are_digits base bs ≡ true = ap (are_digits base) (sym (take_all i bs over)) ∙ seen in
+    rw all e

@@ -29,10 +29,13 @@ is_canonical (b ∷ _ ∷ _) = not (b == 48)
 abbrev pub below_word : ℕ → Option ℕ
 below_word n = if nat_lt n (2 ^ 64) then Some n else None
 
--- the number that the digits write, where they are in the right form and it is below 2^64
+-- the number that the bytes write, where they are digits of the base and it is below 2^64
+abbrev pub value_in : ℕ → List ℕ → Option ℕ
+value_in base bytes = if are_digits base bytes then below_word (digits_value base bytes) else None
+
+-- so it is where they are in the right form
 abbrev pub number_in : ℕ → List ℕ → Option ℕ
-number_in base digits =
-    if is_canonical digits then (if are_digits base digits then below_word (digits_value base digits) else None) else None
+number_in base bytes = if is_canonical bytes then value_in base bytes else None
 
 pub the_largest : number_in 10 (codes "18446744073709551615") ≡ Some 18446744073709551615
 the_largest = refl

@@ -1,6 +1,6 @@
 // The number that digits of a base write.
 ghost use Rattle.std.specs.Prelude.{◌≡◌, ◌≤◌};
-ghost use Rattle.mps_numbers.specs.Reading.{digit_of, digits_value, are_digits, below_word, is_canonical, number_in};
+ghost use Rattle.mps_numbers.specs.Reading.{digit_of, is_canonical, value_in, number_in};
 
 /// What a digit stands for, up to 15 for `f`; 16 for a byte that is no digit.
 fn digit(byte: u8) -> u64
@@ -25,21 +25,18 @@ fn is_plain(digits: &[u8]) -> bool
     }
 }
 
-/// Each byte is a digit of the base.
-fn all_digits(base: u64, bytes: &[u8]) -> bool
-    ensures { result ≡ are_digits base bytes.now }
-{
-    bytes.iter().all(|b| digit(*b) < base)
-}
-
-/// The number that digits write; None where it is 2^64 or more.
+/// The number that digits of a base write; None where a byte is none, or the number is 2^64 or more.
 fn value(base: u64, digits: &[u8]) -> Option<u64>
     requires { 1 ≤ base }
-    ensures { result ≡ below_word (digits_value base digits.now) }
+    ensures { result ≡ value_in base digits.now }
 {
     let mut n: u64 = 0;
     for b in digits {
-        n = n.checked_mul(base)?.checked_add(digit(*b))?;
+        let next = digit(*b);
+        if next >= base {
+            return None;
+        }
+        n = n.checked_mul(base)?.checked_add(next)?;
     }
     Some(n)
 }
@@ -49,11 +46,9 @@ pub fn number(base: u64, digits: &[u8]) -> Option<u64>
     requires { 1 ≤ base }
     ensures { result ≡ number_in base digits.now }
 {
-    if !is_plain(digits) {
-        return None;
+    if is_plain(digits) {
+        value(base, digits)
+    } else {
+        None
     }
-    if !all_digits(base, digits) {
-        return None;
-    }
-    value(base, digits)
 }
