@@ -41,11 +41,13 @@ impl Output {
         Ok(Output { room, used: 0 })
     }
 
-    /// Makes room for a line, of 512 bytes. `Failed` where a write failed, after some of the bytes were printed.
+    /// Makes room for a line, of 512 bytes. `Failed` where a write failed, after some of the bytes were printed; what was
+    /// gathered then stays.
     pub fn make_room<D: Desk>(&mut self, desk: &mut D) -> Result<(), Failed>
         ensures room { OnOk result (length self.new + 512 ≤ 65536) }
         ensures kept { OnOk result (Kept (D.outside desk.old) (D.outside desk.new) self.old self.new) }
         ensures failed { OnErr result (PrintsPart (D.outside desk.old) (D.outside desk.new) self.old) }
+        ensures stays { OnErr result (self.new ≡ self.old) }
     {
         if ROOM - self.used < ROOM_FOR_A_LINE {
             self.flush(desk)
@@ -54,11 +56,13 @@ impl Output {
         }
     }
 
-    /// Prints all that was gathered. `Failed` where a write failed, after some of the bytes were printed.
+    /// Prints all that was gathered. `Failed` where a write failed, after some of the bytes were printed; what was gathered
+    /// then stays.
     pub fn flush<D: Desk>(&mut self, desk: &mut D) -> Result<(), Failed>
         ensures empty { OnOk result (self.new ≡ []) }
         ensures printed { OnOk result (Prints (D.outside desk.old) (D.outside desk.new) self.old) }
         ensures failed { OnErr result (PrintsPart (D.outside desk.old) (D.outside desk.new) self.old) }
+        ensures stays { OnErr result (self.new ≡ self.old) }
     {
         print_all(&self.room[..self.used], desk)?;
         self.used = 0;
