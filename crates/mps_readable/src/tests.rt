@@ -121,6 +121,24 @@ fn texts_without_a_first_line(rt: HostRuntime) -> Result<(), Fail> {
     Ok(())
 }
 
+/// More bytes stand before a line feed than any line of a record has.
+#[test]
+fn a_text_with_a_long_line(rt: HostRuntime) -> Result<(), Fail> {
+    let wanted = Answers {
+        status: 6,
+        printed: b"mpslog 1\n",
+        reported: b"mps: text line 2: bad line\n",
+    };
+    let mut text = Vec::from_slice(rt.alloc(), b"mpslog 1\n")?;
+    text.resize(5000, b'1')?;
+    for most in [usize::MAX, 100] {
+        let mut desk = MemDesk::new(rt.alloc());
+        desk.pieces(most);
+        compare(&rt, rt.alloc(), &text, &mut desk, &wanted)?;
+    }
+    Ok(())
+}
+
 /// The second read fails, behind 20 bytes: the whole line among them is printed.
 #[test]
 fn a_read_that_fails(rt: HostRuntime) -> Result<(), Fail> {
