@@ -13,3 +13,4 @@ pub mod AllLines
 pub mod FirstLines
 pub mod WholeText
 pub mod OnlyReading
+mod AscendingLabels

@@ -82,6 +82,10 @@ abbrev pub after_records : Version → Naming → List Record → Option Naming
 after_records version s [] = Some s
 after_records version s (r ∷ rs) = option_and_then (λ next. after_records version next rs) (after_record version s r)
 
+-- the names and labels behind some records of a text
+abbrev pub IsReached : Naming → Type 0
+IsReached s = (version : Version) × (records : List Record) × (after_records version no_names records ≡ Some s)
+
 -- `ring` and `queue`, and a label of each
 abbrev example : Naming
 example = record { names = codes "ring" ∷ codes "queue" ∷ []; labels = (0x1000, 0) ∷ (0x3000, 1) ∷ [] }

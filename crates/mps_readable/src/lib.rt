@@ -3,10 +3,12 @@
 
 mod cuts;
 mod labels;
+mod laws;
 mod readable;
 mod record_line;
 mod textual;
 
+pub use laws::labels_are_a_map;
 pub use textual::txt;
 
 #[cfg(test)]

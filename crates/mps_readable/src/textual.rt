@@ -5,7 +5,7 @@ ghost use Rattle.mps_base.specs.Record.{Record};
 ghost use Rattle.mps_base.specs.Desk.{HasRisen};
 ghost use Rattle.mps_event.specs.declared.version.Version.{Version};
 ghost use Rattle.mps_reading.specs.Causes.{IsCaused, IsTold, Works, Answers};
-ghost use Rattle.mps_reading.specs.Ending.{is_whole_status};
+ghost use Rattle.mps_reading.specs.Ending.{is_whole_status, ReportsStatus};
 ghost use Rattle.mps_reading.specs.Input.{IsAtEnd};
 ghost use Rattle.mps_reading.specs.Left.{left_of};
 ghost use Rattle.mps_reading.specs.PutOut.{put_out};
@@ -34,13 +34,16 @@ const LONGEST_LINE: usize = 4096;
 /// begins, 8 for want of memory.
 pub fn txt<D: Desk>(alloc: Global, text: &str, desk: &mut D) -> u8
     ensures answers { Answers (D.outside desk.old) (D.outside desk.new) result }
-    // Where the opened file is told: this was read, printed and reported, and where a read failed, what had come before.
+    // Where the opened file is told: this was read, printed and reported; after a failed read the whole lines that had come
+    // are printed, if no write failed, and for want of memory the lines before.
     ensures readable { (bytes : List ℕ) → (D.outside desk.old).text text.now ≡ Some bytes
         → ReadWith bytes result (D.outside desk.old) (D.outside desk.new) }
     // And nothing else, where the status is none of a fault or for want of memory: a whole text gives 0 and all of its
     // readable text, one with a wrong line gives 6, its number and the text before it.
     ensures only { is_whole_status result ≡ true → (bytes : List ℕ) → (D.outside desk.old).text text.now ≡ Some bytes
         → IsOnlyReading bytes result (D.outside desk.old) (D.outside desk.new) }
+    // With any status its ending was reported, and nothing with 0.
+    ensures reported { ReportsStatus result (D.outside desk.old) (D.outside desk.new) }
 {
     let ending = read_text(alloc, text, desk);
     finish(ending, desk)
