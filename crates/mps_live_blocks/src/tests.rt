@@ -1,4 +1,6 @@
 // Whole and damaged logs over a desk in memory.
+ghost use Rattle.std.specs.Prelude.{◌<◌};
+
 use crate::live_blocks::blocks;
 use mps_base::{DeskCall, MemDesk};
 use std::alloc::{AllocError, Global};
@@ -24,6 +26,26 @@ struct Answers<'a> {
     status: u8,
     printed: &'a [u8],
     reported: &'a [u8],
+}
+
+// The worked log, cut to a size and with one byte changed.
+fn damaged(alloc: Global, size: usize, at: usize, byte: u8) -> Result<Vec<u8>, AllocError> {
+    let mut log = Vec::from_slice(alloc, MOVED)?;
+    if let Some(place) = log.get_mut(at) {
+        *place = byte;
+    }
+    log.truncate(size);
+    Ok(log)
+}
+
+// A desk with a log, which reads and writes at most so many bytes at once.
+fn desk_with(alloc: Global, log: &[u8], most: usize) -> Result<MemDesk, AllocError>
+    requires { 0 < most }
+{
+    let mut desk = MemDesk::new(alloc);
+    desk.add_file("heap.log", log)?;
+    desk.pieces(most);
+    Ok(desk)
 }
 
 fn compare(
@@ -61,13 +83,8 @@ fn whole_and_damaged_logs(rt: HostRuntime) -> Result<(), Fail> {
         (256, 5, b'H', 6, b"", b"mps: log offset 0: bad header\n"),
         (7, 0, b'M', 6, b"", b"mps: log offset 0: bad header\n"),
     ] {
-        let mut log = Vec::from_slice(rt.alloc(), MOVED)?;
-        if let Some(place) = log.get_mut(at) {
-            *place = byte;
-        }
-        log.truncate(size);
-        let mut desk = MemDesk::new(rt.alloc());
-        desk.add_file("heap.log", &log)?;
+        let log = damaged(rt.alloc(), size, at, byte)?;
+        let mut desk = desk_with(rt.alloc(), &log, usize::MAX)?;
         let wanted = Answers {
             status,
             printed,
@@ -87,9 +104,7 @@ fn pieces_make_no_difference(rt: HostRuntime) -> Result<(), Fail> {
         reported: b"",
     };
     for most in [1usize, 7, 255] {
-        let mut desk = MemDesk::new(rt.alloc());
-        desk.add_file("heap.log", MOVED)?;
-        desk.pieces(most);
+        let mut desk = desk_with(rt.alloc(), MOVED, most)?;
         compare(&rt, rt.alloc(), &mut desk, &wanted)?;
     }
     Ok(())
@@ -110,9 +125,7 @@ fn each_call_of_the_desk_may_fail(rt: HostRuntime) -> Result<(), Fail> {
         (DeskCall::Out, 2, 4, b"0x200", b"mps: write failed\n"),
         (DeskCall::Err, 1, 0, b"0x2000 3 0\n", b""),
     ] {
-        let mut desk = MemDesk::new(rt.alloc());
-        desk.add_file("heap.log", MOVED)?;
-        desk.pieces(5);
+        let mut desk = desk_with(rt.alloc(), MOVED, 5)?;
         desk.fail(call, number)?;
         let wanted = Answers {
             status,
