@@ -6,7 +6,7 @@ use Rattle.mps_output.specs.declared.stop.Stop.TheVariants as stop
 use Rattle.mps_output.specs.Reports.{report_of}
 use Rattle.mps_output.specs.Streams.{Prints, Reports as ReportsText}
 use Rattle.mps_reading.specs.Causes.{Answers}
-use Rattle.mps_reading.specs.Ending.{is_whole_status}
+use Rattle.mps_reading.specs.Ending.{ReportsStatus, is_whole_status}
 use Rattle.mps_live_blocks.specs.Listed.{ListedWith, IsOnly as IsOnlyList, ListsPart}
 use Rattle.mps_readable.specs.Text.{ReadWith, IsOnlyReading}
 use Rattle.mps_tools.specs.Converted.{ConvertedWith, IsOnly}
@@ -44,6 +44,8 @@ pub record ConvertsLog (log : List ℕ) (kinds : ℕ) (status : ℕ) (old new : 
   pub converted : is_whole_status status ≡ true → (bytes : List ℕ) → old.text log ≡ Some bytes → ConvertedWith kinds bytes status old new
   -- and nothing else
   pub only : is_whole_status status ≡ true → (bytes : List ℕ) → old.text log ≡ Some bytes → IsOnly kinds bytes status old new
+  -- just the ending that has this status is reported
+  pub reported : ReportsStatus status old new
 
 -- `txt`
 pub record ReadsText (text : List ℕ) (status : ℕ) (old new : Outside) : Type 0 where
@@ -52,6 +54,8 @@ pub record ReadsText (text : List ℕ) (status : ℕ) (old new : Outside) : Type
   pub readable : (bytes : List ℕ) → old.text text ≡ Some bytes → ReadWith bytes status old new
   -- and nothing else
   pub only : is_whole_status status ≡ true → (bytes : List ℕ) → old.text text ≡ Some bytes → IsOnlyReading bytes status old new
+  -- just the ending that has this status is reported
+  pub reported : ReportsStatus status old new
 
 -- `blocks`
 pub record ListsBlocks (log : List ℕ) (status : ℕ) (old new : Outside) : Type 0 where
@@ -64,6 +68,8 @@ pub record ListsBlocks (log : List ℕ) (status : ℕ) (old new : Outside) : Typ
   pub silent : status ≢ 0 → status ≢ 4 → new.printed ≡ old.printed
   -- where a write failed, the front of the list was printed
   pub cut : status ≡ 4 → (bytes : List ℕ) → old.text log ≡ Some bytes → ListsPart bytes old new
+  -- just the ending that has this status is reported
+  pub reported : ReportsStatus status old new
 
 -- `gen`
 pub record GeneratesScript (seed count : ℕ) (status : ℕ) (old new : Outside) : Type 0 where

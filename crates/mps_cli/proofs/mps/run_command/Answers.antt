@@ -5,6 +5,7 @@ returns-in-Convert-clause-asked g c = rw c.in-Convert.is (record {
   answers = c.cnv.ensures.answers;
   converted = c.cnv.ensures.converted;
   only = c.cnv.ensures.only;
+  reported = c.cnv.ensures.reported;
 })
 
 pub returns-in-Generate-clause-asked : goal.returns-in-Generate-clause-asked
@@ -20,6 +21,7 @@ returns-in-Read-clause-asked g c = rw c.in-Read.is (record {
   answers = c.txt.ensures.answers;
   readable = c.txt.ensures.readable;
   only = c.txt.ensures.only;
+  reported = c.txt.ensures.reported;
 })
 
 pub returns-in-Blocks-clause-asked : goal.returns-in-Blocks-clause-asked
@@ -29,4 +31,5 @@ returns-in-Blocks-clause-asked g c = rw c.in-Blocks.is (record {
   only = c.blocks-in-Blocks.ensures.only;
   silent = c.blocks-in-Blocks.ensures.silent;
   cut = c.blocks-in-Blocks.ensures.cut;
+  reported = c.blocks-in-Blocks.ensures.reported;
 })
