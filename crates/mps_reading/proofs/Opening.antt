@@ -1,5 +1,5 @@
 -- The header of a log that was opened.
-use Rattle.std.proofs.Common.{◌≡◌, ℕ, ◌+◌, ◌≤◌, Bool, true, false, List, [], ◌++◌, length, take, drop, Option, Some, None, Result, Ok, Err, refl, sym, ap, ◌∙◌, arith}
+use Rattle.std.proofs.Common.{◌≡◌, ℕ, ◌+◌, ◌<◌, ◌≤◌, Bool, true, false, List, [], ◌++◌, length, take, drop, Option, Some, None, Result, Ok, Err, refl, sym, ap, subst, ◌∙◌, arith}
 use Rattle.std.specs.Prelude.{IfSome}
 use Rattle.std.specs.Option.{option_map}
 use Rattle.std.proofs.lemmas.List.{append-nil, length-append, take-append-drop, take-append-le, take_at}
@@ -12,7 +12,7 @@ use Rattle.mps_output.specs.declared.stop.Stop.{Stop}
 use Rattle.mps_output.specs.declared.stop.Stop.TheVariants as stop
 use Rattle.mps_reading.specs.Input.{Buffered, ReadsMore, IsAtEnd}
 use Rattle.mps_reading.specs.Left.{left_of}
-use Rattle.mps_reading.specs.Opening.{HasNoHeader, TakesHeader, OpensWith}
+use Rattle.mps_reading.specs.Opening.{HasNoHeader, TakesHeader, IsCutHeader, OpensWith}
 use Rattle.mps_reading.proofs.Left.{left_same, split_pending, nothing_in_front}
 
 header_in_front : (header pending more rest : List ℕ) → length header ≡ 8 → 8 ≤ length pending → pending ++ more ≡ header ++ rest → pending ≡ header ++ drop 8 pending
@@ -66,6 +66,19 @@ opens a b x y z bytes text (Err (stop.BadReplay at)) start given reads enough ta
 opens a b x y z bytes text (Err (stop.BadLine line)) start given reads enough takes told = absurd takes
 opens a b x y z bytes text (Err stop.TooLong) start given reads enough takes told = absurd takes
 opens a b x y z bytes text (Err stop.OutOfMemory) start given reads enough takes told = absurd takes
+
+-- ---- a header that had not come whole
+
+cut_of : (pending bytes : List ℕ) (input : Option (List ℕ)) → option_map (λ rest. pending ++ rest) input ≡ Some bytes → length pending < 8 → IsCutHeader bytes input
+cut_of pending bytes None e short = absurd (let f : None ≡ Some bytes = e in cc)
+cut_of pending bytes (Some rest) e short =
+    record { part = pending; others = rest; split = (let f : Some (pending ++ rest) ≡ Some bytes = e in cc); short = short; still = refl }
+
+pub cut_header : (a b : Outside) (x y z : Buffered) (bytes : List ℕ) (text : Option (List ℕ)) (result : Result Version Stop) → x ≡ untouched → a.input ≡ text → ReadsMore a b x y
+    → TakesHeader y z result → text ≡ Some bytes → result ≡ Err stop.ReadFailed → IsCutHeader bytes b.input
+cut_header a b x y z bytes text result start given reads takes told failed =
+    let left : left_of b y ≡ Some bytes = left_same a b x y reads ∙ untouched_left a x start ∙ given ∙ told in
+    cut_of y.pending bytes b.input left (subst (λ (r : Result Version Stop). TakesHeader y z r) failed takes)
 
 -- ---- the header of a log and what follows it
 

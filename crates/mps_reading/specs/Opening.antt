@@ -1,5 +1,5 @@
 -- The header of a log that was opened, and the first line of a text.
-use Rattle.std.specs.Prelude.{◌≡◌, ◌≢◌, ℕ, ◌≤◌, true, codes, Option, Some, Result, Ok, Err, List, ◌++◌, length}
+use Rattle.std.specs.Prelude.{◌≡◌, ◌≢◌, ℕ, ◌<◌, ◌≤◌, true, codes, Option, Some, Result, Ok, Err, List, ◌++◌, length}
 use Rattle.std.specs.Option.{option_map}
 use Rattle.mps_base.specs.Record.{header_bytes}
 use Rattle.mps_event.specs.declared.version.Version.{Version}
@@ -18,13 +18,21 @@ abbrev pub TakesHeader : (before after : Buffered) → Result Version Stop → T
 TakesHeader before after (Ok version) =
     (before.pending ≡ header_bytes (number_of_version version) ++ after.pending) × (after.ended ≡ before.ended)
 TakesHeader before after (Err stop.BadHeader) = HasNoHeader before.pending × ((before.failed ≡ true) → 8 ≤ length before.pending)
-TakesHeader before after (Err stop.ReadFailed) = Unit {0}
+TakesHeader before after (Err stop.ReadFailed) = length before.pending < 8
 TakesHeader before after (Err stop.WriteFailed) = ⊥
 TakesHeader before after (Err (stop.BadRecord at fault)) = ⊥
 TakesHeader before after (Err (stop.BadReplay at)) = ⊥
 TakesHeader before after (Err (stop.BadLine line)) = ⊥
 TakesHeader before after (Err stop.TooLong) = ⊥
 TakesHeader before after (Err stop.OutOfMemory) = ⊥
+
+-- fewer of these bytes had come than a header has, and what follows is still unread
+pub record IsCutHeader (bytes : List ℕ) (unread : Option (List ℕ)) : Type 0 where
+  pub part : List ℕ
+  pub others : List ℕ
+  pub split : bytes ≡ part ++ others
+  pub short : length part < 8
+  pub still : unread ≡ Some others
 
 -- a log of these bytes was opened, and this is left behind its header, or it has none
 abbrev pub OpensWith : (bytes : List ℕ) → (left : Option (List ℕ)) → Result Version Stop → Type 0

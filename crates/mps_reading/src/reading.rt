@@ -7,7 +7,7 @@ ghost use Rattle.mps_output.specs.Streams.{Runs, Kept};
 ghost use Rattle.mps_reading.specs.Input.{IsAtEnd};
 ghost use Rattle.mps_reading.specs.Left.{left_of, LastGives, EndGives};
 ghost use Rattle.mps_reading.specs.PutOut.{put_out, IsToFlush};
-ghost use Rattle.mps_reading.specs.Opening.{first_line, OpensWith, TakesHeader};
+ghost use Rattle.mps_reading.specs.Opening.{first_line, IsCutHeader, OpensWith, TakesHeader};
 
 use crate::input::Input;
 use mps_base::Desk;
@@ -22,6 +22,9 @@ pub const MOST_OF_A_RECORD: usize = 40;
 pub fn open_log<D: Desk>(log: &str, input: &mut Input, desk: &mut D) -> Result<Version, Stop>
     requires { input.old ≡ record { pending = []; ended = false; failed = false } }
     ensures opened { (bytes : List ℕ) → (D.outside desk.old).text log.now ≡ Some bytes → OpensWith bytes (left_of (D.outside desk.new) input.new) result }
+    // Where it could not be opened, or a read failed, the header had not come whole.
+    ensures early { result ≡ Err Stop.ReadFailed → (bytes : List ℕ) → (D.outside desk.old).text log.now ≡ Some bytes
+        → ((D.outside desk.new).input ≡ (D.outside desk.old).input) ⊎ IsCutHeader bytes (D.outside desk.new).input }
     ensures reported { (D.outside desk.new).reported ≡ (D.outside desk.old).reported }
     ensures err_faults { (D.outside desk.new).err_faults ≡ (D.outside desk.old).err_faults }
     ensures at_end { OnOk result (IsAtEnd (D.outside desk.new) input.new) }

@@ -1,3 +1,4 @@
 pub mod Converting
 pub mod Wholly
 pub mod OneReading
+pub mod Broken

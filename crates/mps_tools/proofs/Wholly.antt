@@ -94,7 +94,7 @@ converted_later kinds bytes (Err stop.TooLong) a b c h e = printed_later (Unit {
 converted_later kinds bytes (Err stop.BadHeader) a b c h e = (h.0, e ∙ h.1)
 converted_later kinds bytes (Err stop.ReadFailed) a b c h e = tt
 converted_later kinds bytes (Err stop.WriteFailed) a b c h e = tt
-converted_later kinds bytes (Err stop.OutOfMemory) a b c h e = tt
+converted_later kinds bytes (Err stop.OutOfMemory) a b c h e = e ∙ h
 converted_later kinds bytes (Err (stop.BadReplay at)) a b c h e = absurd h
 converted_later kinds bytes (Err (stop.BadLine line)) a b c h e = absurd h
 

@@ -1,13 +1,14 @@
 -- What is printed of a log in portable text, and where the printing ends.
-use Rattle.std.specs.Prelude.{◌≡◌, ℕ, ◌<◌, Result, Ok, Err, List, ◌++◌, length, All}
+use Rattle.std.specs.Prelude.{◌≡◌, ℕ, ◌<◌, ◌⊎◌, false, Option, Some, None, Result, Ok, Err, List, ◌++◌, length, All}
 use Rattle.std.specs.Option.{option_map}
-use Rattle.mps_base.specs.Desk.{Outside}
+use Rattle.mps_base.specs.Desk.{Outside, HasRisen}
 use Rattle.mps_base.specs.Record.{Record}
 use Rattle.mps_event.specs.declared.version.Version.{Version}
 use Rattle.mps_event.specs.Grammar.{IsRecord, log_bytes}
+use Rattle.mps_event.specs.Reading.{first_of}
 use Rattle.mps_output.specs.declared.stop.Stop.{Stop}
 use Rattle.mps_output.specs.declared.stop.Stop.TheVariants as stop
-use Rattle.mps_reading.specs.Opening.{HasNoHeader}
+use Rattle.mps_reading.specs.Opening.{HasNoHeader, IsCutHeader}
 use Rattle.mps_reading.specs.Ending.{EndsAt, status_of_ending, HasReported}
 use Rattle.mps_tools.specs.Portable.{portable}
 
@@ -23,6 +24,34 @@ pub record Converts {T : Type 0} (kinds : ℕ) (bytes : List ℕ) (ending : Resu
   pub ends_at : EndsAt version ending (length records) (length (log_bytes version records)) rest
   pub printed : new.printed ≡ option_map (λ before. before ++ portable version kinds records) old.printed
 
+-- of these bytes a part of a record had come, if anything, and what follows it is still unread
+pub record IsCutRecord (version : Version) (bytes : List ℕ) (unread : Option (List ℕ)) : Type 0 where
+  pub part : List ℕ
+  pub others : List ℕ
+  pub split : bytes ≡ part ++ others
+  pub none : first_of version false part ≡ Ok None
+  pub still : unread ≡ Some others
+
+-- the log could not be opened, or a read failed before its header had come whole, and nothing is printed
+pub record FailsBefore (bytes : List ℕ) (old new : Outside) : Type 0 where
+  pub cut : (new.input ≡ old.input) ⊎ IsCutHeader bytes new.input
+  pub printed : new.printed ≡ old.printed
+
+-- a read failed behind the whole records that had come, and the portable text of exactly these was printed
+pub record FailsBehind (kinds : ℕ) (bytes : List ℕ) (old new : Outside) : Type 0 where
+  pub version : Version
+  pub records : List Record
+  pub rest : List ℕ
+  pub each : All (IsRecord version) records
+  pub few : length records < 4294967296
+  pub spelled : bytes ≡ log_bytes version records ++ rest
+  pub cut : IsCutRecord version rest new.input
+  pub printed : new.printed ≡ option_map (λ before. before ++ portable version kinds records) old.printed
+
+-- where a read failed: one of these, or a write failed too
+abbrev pub Fails : (kinds : ℕ) → (bytes : List ℕ) → (old new : Outside) → Type 0
+Fails kinds bytes old new = FailsBefore bytes old new ⊎ (FailsBehind kinds bytes old new ⊎ HasRisen old.out_faults new.out_faults)
+
 -- the same of every ending: without a header nothing is printed
 abbrev pub HasConverted : {T : Type 0} → (kinds : ℕ) → (bytes : List ℕ) → Result T Stop → (old new : Outside) → Type 0
 HasConverted kinds bytes (Ok value) old new = Converts kinds bytes (Ok value) old new
@@ -31,7 +60,7 @@ HasConverted kinds bytes (Err stop.TooLong) old new = Converts {T = Unit {0}} ki
 HasConverted kinds bytes (Err stop.BadHeader) old new = HasNoHeader bytes × (new.printed ≡ old.printed)
 HasConverted kinds bytes (Err stop.ReadFailed) old new = Unit {0}
 HasConverted kinds bytes (Err stop.WriteFailed) old new = Unit {0}
-HasConverted kinds bytes (Err stop.OutOfMemory) old new = Unit {0}
+HasConverted kinds bytes (Err stop.OutOfMemory) old new = new.printed ≡ old.printed
 HasConverted kinds bytes (Err (stop.BadReplay at)) old new = ⊥
 HasConverted kinds bytes (Err (stop.BadLine line)) old new = ⊥
 

@@ -12,6 +12,7 @@ use Rattle.mps_reading.specs.Input.{Buffered}
 use Rattle.mps_reading.specs.PutOut.{PutsOut}
 use Rattle.mps_reading.specs.Ending.{EndsAt}
 use Rattle.mps_tools.specs.Portable.{line_of_kinds}
+use Rattle.mps_tools.specs.Converted.{IsCutRecord}
 
 -- a record at the front was converted
 pub record ConvertsOne (version : Version) (kinds size : ℕ) (left left_behind before after : Option (List ℕ)) : Type 0 where
@@ -61,6 +62,16 @@ pub record ConvertsAll {T : Type 0} (version : Version) (kinds : ℕ) (bytes : L
   pub few : length records < 4294967296
   pub spelled : bytes ≡ records_bytes records ++ rest
   pub ends_at : EndsAt version ending (length records) (8 + length (records_bytes records)) rest
+  pub put : PutsOut before after (flat_map (line_of_kinds version kinds) records)
+
+-- the whole records of what was left were converted before a read failed
+pub record ConvertsFront (version : Version) (kinds : ℕ) (bytes : List ℕ) (unread before after : Option (List ℕ)) : Type 0 where
+  pub records : List Record
+  pub rest : List ℕ
+  pub each : All (IsRecord version) records
+  pub few : length records < 4294967296
+  pub spelled : bytes ≡ records_bytes records ++ rest
+  pub cut : IsCutRecord version rest unread
   pub put : PutsOut before after (flat_map (line_of_kinds version kinds) records)
 
 -- the same of every ending

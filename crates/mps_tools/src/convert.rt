@@ -4,14 +4,15 @@ ghost use Rattle.std.specs.Prelude.{◌≡◌, ◌≤◌, ◌<◌, ◌+◌, ◌*
 ghost use Rattle.mps_reading.specs.Causes.{IsCaused, IsTold, Works, Answers};
 ghost use Rattle.std.specs.List.{flat_map};
 ghost use Rattle.mps_event.specs.Event.{event_of};
+ghost use Rattle.mps_event.specs.Reading.{first_of};
 ghost use Rattle.mps_tools.specs.Portable.{is_wanted, line_of_kinds};
 ghost use Rattle.mps_reading.specs.RecordLine.{record_line, field_text};
 ghost use Rattle.mps_reading.specs.Input.{IsAtEnd};
 ghost use Rattle.mps_reading.specs.Left.{left_of};
 ghost use Rattle.mps_reading.specs.PutOut.{put_out};
 ghost use Rattle.mps_reading.specs.Ending.{is_whole_status, ReportsStatus};
-ghost use Rattle.mps_tools.specs.Converted.{ConvertedWith, HasConverted, IsOnly};
-ghost use Rattle.mps_tools.specs.Converting.{PendingGives, NextGives, AllGive};
+ghost use Rattle.mps_tools.specs.Converted.{ConvertedWith, HasConverted, IsCutRecord, Fails, IsOnly};
+ghost use Rattle.mps_tools.specs.Converting.{ConvertsFront, PendingGives, NextGives, AllGive};
 ghost use Rattle.mps_tools.specs.KindSet.{bits_of};
 ghost use Rattle.mps_output.specs.Streams.{Runs};
 
@@ -34,6 +35,12 @@ pub fn cnv<D: Desk>(alloc: Global, log: &str, kinds: Kinds, desk: &mut D) -> u8
     // Where the opened file is told, and the status is none of a fault or for want of memory: exactly this was printed.
     ensures converted { is_whole_status result ≡ true → (bytes : List ℕ) → (D.outside desk.old).text log.now ≡ Some bytes
         → ConvertedWith (bits_of kinds) bytes result (D.outside desk.old) (D.outside desk.new) }
+    // Where the log could not be read: the whole records that had come were printed.
+    ensures broken { result ≡ 3 → (bytes : List ℕ) → (D.outside desk.old).text log.now ≡ Some bytes
+        → Fails (bits_of kinds) bytes (D.outside desk.old) (D.outside desk.new) }
+    // Memory is wanting only before anything is printed.
+    ensures no_memory { result ≡ 8 → (bytes : List ℕ) → (D.outside desk.old).text log.now ≡ Some bytes
+        → (D.outside desk.new).printed ≡ (D.outside desk.old).printed }
     // And nothing else: a whole log gives 0 and all of its text, one with a bad record gives 6 and the text before it.
     ensures only { is_whole_status result ≡ true → (bytes : List ℕ) → (D.outside desk.old).text log.now ≡ Some bytes
         → IsOnly (bits_of kinds) bytes result (D.outside desk.old) (D.outside desk.new) }
@@ -47,6 +54,8 @@ fn convert<D: Desk>(alloc: Global, log: &str, kinds: Kinds, desk: &mut D) -> Res
     ensures runs { Runs (D.outside desk.old) (D.outside desk.new) }
     ensures reported { (D.outside desk.new).reported ≡ (D.outside desk.old).reported }
     ensures err_faults { (D.outside desk.new).err_faults ≡ (D.outside desk.old).err_faults }
+    ensures broken { result ≡ Err Stop.ReadFailed → (bytes : List ℕ) → (D.outside desk.old).text log.now ≡ Some bytes
+        → Fails (bits_of kinds) bytes (D.outside desk.old) (D.outside desk.new) }
     ensures converted { (bytes : List ℕ) → (D.outside desk.old).text log.now ≡ Some bytes
         → HasConverted (bits_of kinds) bytes result (D.outside desk.old) (D.outside desk.new) }
 {
@@ -75,6 +84,8 @@ fn convert_records<D: Desk>(
     ensures works { Works (D.outside desk.old) (D.outside desk.new) input.old input.new result }
     ensures reported { (D.outside desk.new).reported ≡ (D.outside desk.old).reported }
     ensures err_faults { (D.outside desk.new).err_faults ≡ (D.outside desk.old).err_faults }
+    ensures broken { result ≡ Err Stop.ReadFailed → (bytes : List ℕ) → left_of (D.outside desk.old) input.old ≡ Some bytes
+        → ConvertsFront version (bits_of kinds) bytes (D.outside desk.new).input (put_out (D.outside desk.old) output.old) (put_out (D.outside desk.new) output.new) }
     ensures all { (bytes : List ℕ) → left_of (D.outside desk.old) input.old ≡ Some bytes
         → AllGive version (bits_of kinds) bytes (put_out (D.outside desk.old) output.old) (put_out (D.outside desk.new) output.new) result }
 {
@@ -102,6 +113,8 @@ fn convert_next<D: Desk>(
     ensures size { IfOk result (λ o. IfSome o (λ size. size ≤ 40)) }
     ensures gives { NextGives version (bits_of kinds) offset (left_of (D.outside desk.old) input.old) (left_of (D.outside desk.new) input.new)
         (put_out (D.outside desk.old) output.old) (put_out (D.outside desk.new) output.new) result }
+    ensures broken { result ≡ Err Stop.ReadFailed → ((bytes : List ℕ) → left_of (D.outside desk.old) input.old ≡ Some bytes
+        → IsCutRecord version bytes (D.outside desk.new).input) × (put_out (D.outside desk.new) output.new ≡ put_out (D.outside desk.old) output.old) }
     ensures at_end { IsAtEnd (D.outside desk.new) input.new }
     ensures reported { (D.outside desk.new).reported ≡ (D.outside desk.old).reported }
     ensures err_faults { (D.outside desk.new).err_faults ≡ (D.outside desk.old).err_faults }
@@ -124,6 +137,7 @@ fn convert_record(
     requires { length output.old + 512 ≤ 65536 }
     ensures told { IsTold input.now result }
     ensures size { IfOk result (λ o. IfSome o (λ size. (size ≤ 40) × (size ≤ length input.now.pending))) }
+    ensures broken { result ≡ Err Stop.ReadFailed → (first_of version input.now.ended input.now.pending ≡ Ok None) × (output.new ≡ output.old) }
     ensures gives { PendingGives version (bits_of kinds) offset input.now output.old output.new result }
 {
     match first(input.pending(), input.has_ended(), version) {

@@ -6,6 +6,7 @@ use Rattle.mps_tools.specs.KindSet.{bits_of}
 use Rattle.mps_reading.specs.Left.{left_of}
 use Rattle.mps_reading.specs.PutOut.{put_out}
 use Rattle.mps_tools.specs.Converting.{NextGives}
+use Rattle.mps_tools.proofs.Broken.{next_breaks, handed_on}
 use Rattle.mps_tools.proofs.Converting.{next_gives, next_stops}
 use Rattle.mps_tools.proofs.convert.convert_next.Goals as goal
 
@@ -27,3 +28,11 @@ returns-clause-gives g c =
     (next_gives c.args.version (bits_of c.args.kinds) c.args.offset (g.D.Desk.outside c.args.desk.now) (g.D.Desk.outside c.fill.new.desk) (g.D.Desk.outside c.make_room.new.desk)
     c.args.input.now c.fill.new.self c.args.output.now c.make_room.new.output c.convert_record.new.output c.in_ok-size.size
     c.requires c.fill.ensures.read c.fill.ensures.enough c.in_ok-make_room.ensures.kept c.make_room.ensures.input c.in_ok-size.ensures.gives)
+
+pub returns-in_err-size-clause-broken : goal.returns-in_err-size-clause-broken
+returns-in_err-size-clause-broken g c failed =
+    let p = err_from_is_err_and c.from_residual-in_err-size.result c.from_residual-in_err-size.ensures.1 in
+    next_breaks c.args.version (g.D.Desk.outside c.args.desk.now) (g.D.Desk.outside c.fill.new.desk) (g.D.Desk.outside c.make_room.new.desk)
+    c.args.input.now c.fill.new.self c.args.output.now c.make_room.new.output c.convert_record.new.output
+    c.fill.ensures.read c.in_ok-make_room.ensures.kept c.make_room.ensures.input
+    (c.in_err-size.ensures.broken (handed_on _ _ c.from_residual-in_err-size.result p.0 _ _ p.1 p.2 failed))

@@ -1,9 +1,12 @@
-use Rattle.std.proofs.Common.{◌∙◌, Ok, arith}
+use Rattle.std.proofs.Common.{◌∙◌, ◌++◌, ℕ, List, Option, Ok, ap, arith}
+use Rattle.std.specs.Option.{option_map}
+use Rattle.std.proofs.lemmas.Result.{err_from_is_err_and}
 use Rattle.mps_reading.specs.Causes.{Works}
 use Rattle.mps_tools.specs.KindSet.{bits_of}
 use Rattle.mps_reading.specs.Left.{left_of}
 use Rattle.mps_reading.specs.PutOut.{put_out}
 use Rattle.mps_reading.proofs.Causes.{works-then}
+use Rattle.mps_tools.proofs.Broken.{front_breaks, last_breaks, handed_on}
 use Rattle.mps_tools.proofs.Converting.{one_more}
 use Rattle.mps_tools.proofs.convert.convert_records.Goals as goal
 
@@ -23,3 +26,21 @@ loop-preserved g c =
           (put_out (g.D.Desk.outside c.args.desk.now) c.args.output.now) (put_out (g.D.Desk.outside c.loop.desk) c.loop.output) (put_out (g.D.Desk.outside c.convert_next.new.desk) c.convert_next.new.output)
           c.loop.invariant.so_far next;
     }
+
+pub returns-in_err-convert_next-clause-broken : goal.returns-in_err-convert_next-clause-broken
+returns-in_err-convert_next-clause-broken g c failed bytes told =
+    let p = err_from_is_err_and c.from_residual.result c.from_residual.ensures.1 in
+    front_breaks c.args.version (bits_of c.args.kinds) c.loop.counter c.loop.offset
+    (left_of (g.D.Desk.outside c.args.desk.now) c.args.input.now) (left_of (g.D.Desk.outside c.loop.desk) c.loop.input) (g.D.Desk.outside c.convert_next.new.desk).input
+    (put_out (g.D.Desk.outside c.args.desk.now) c.args.output.now) (put_out (g.D.Desk.outside c.loop.desk) c.loop.output) (put_out (g.D.Desk.outside c.convert_next.new.desk) c.convert_next.new.output)
+    bytes (omega (arith, c.loop-test.true)) c.loop.invariant.so_far (c.in_err-convert_next.ensures.broken (handed_on _ _ c.from_residual.result p.0 _ _ p.1 p.2 failed)) told
+
+pub returns-clause-broken : goal.returns-clause-broken
+returns-clause-broken g c failed bytes told =
+    front_breaks c.args.version (bits_of c.args.kinds) c.loop.counter c.loop.offset
+    (left_of (g.D.Desk.outside c.args.desk.now) c.args.input.now) (left_of (g.D.Desk.outside c.loop.desk) c.loop.input) (g.D.Desk.outside c.after_the_last.new.desk).input
+    (put_out (g.D.Desk.outside c.args.desk.now) c.args.output.now) (put_out (g.D.Desk.outside c.loop.desk) c.loop.output) (put_out (g.D.Desk.outside c.after_the_last.new.desk) c.loop.output)
+    bytes (omega (arith, c.loop-test.false, c.loop.auto.counter-end)) c.loop.invariant.so_far
+    (last_breaks c.args.version (left_of (g.D.Desk.outside c.loop.desk) c.loop.input) (g.D.Desk.outside c.after_the_last.new.desk).input
+    (put_out (g.D.Desk.outside c.loop.desk) c.loop.output) (put_out (g.D.Desk.outside c.after_the_last.new.desk) c.loop.output)
+    (c.after_the_last.ensures.unread failed) (ap (λ (o : Option (List ℕ)). option_map (λ printed. printed ++ c.loop.output) o) c.after_the_last.ensures.printed)) told

@@ -1,0 +1,192 @@
+-- A conversion that ends where a read fails.
+use Rattle.std.proofs.Common.{◌≡◌, ℕ, ◌<◌, ◌≤◌, ◌⊎◌, Bool, true, false, List, [], ◌∷◌, ◌++◌, Option, Some, None, Result, Ok, Err, refl, sym, ap, subst, ◌∙◌, append_assoc, arith, inl, inr}
+use Rattle.std.specs.Prelude.{OnOk, IfErr}
+use Rattle.std.specs.List.{flat_map}
+use Rattle.std.specs.Option.{option_map}
+use Rattle.mps_base.specs.Desk.{Outside, HasRisen}
+use Rattle.mps_base.specs.Record.{header_bytes, records_bytes}
+use Rattle.mps_event.specs.declared.version.Version.{Version}
+use Rattle.mps_event.specs.Event.{number_of_version}
+use Rattle.mps_event.specs.Reading.{first_of}
+use Rattle.mps_output.specs.declared.stop.Stop.{Stop}
+use Rattle.mps_output.specs.declared.stop.Stop.TheVariants as stop
+use Rattle.mps_output.specs.Reports.{status_of, report_of}
+use Rattle.mps_output.specs.Streams.{Kept, Reports}
+use Rattle.mps_output.proofs.Outside.{risen_earlier}
+use Rattle.mps_reading.specs.Input.{Buffered, ReadsMore}
+use Rattle.mps_reading.specs.Left.{left_of}
+use Rattle.mps_reading.specs.PutOut.{put_out}
+use Rattle.mps_reading.specs.Opening.{first_line, IsCutHeader}
+use Rattle.mps_reading.proofs.Behind.{none_short}
+use Rattle.mps_reading.proofs.Left.{left_same, left_behind_told}
+use Rattle.mps_reading.proofs.PutOut.{put_same}
+use Rattle.mps_reading.proofs.Opening.{header_told}
+use Rattle.mps_tools.specs.Portable.{line_of_kinds}
+use Rattle.mps_tools.specs.Converted.{IsCutRecord, FailsBefore, FailsBehind, Fails, HasConverted}
+use Rattle.mps_tools.specs.Converting.{ConvertsFront}
+use Rattle.mps_tools.proofs.Converting.{SoFar}
+
+-- ---- a part of a record
+
+none_open : (version : Version) (ended : Bool) (part : List ℕ) → first_of version ended part ≡ Ok None → first_of version false part ≡ Ok None
+none_open version false part e = e
+none_open version true [] e = refl
+none_open version true (byte ∷ bytes) e =
+    let g = none_short version true (byte ∷ bytes) e (λ h. absurd cc) in
+    let f : byte ∷ bytes ≡ [] = g.1 in
+    absurd cc
+
+cut_record : (version : Version) (ended : Bool) (pending bytes : List ℕ) (input : Option (List ℕ)) → option_map (λ rest. pending ++ rest) input ≡ Some bytes
+    → first_of version ended pending ≡ Ok None → IsCutRecord version bytes input
+cut_record version ended pending bytes None told none = absurd (let f : None ≡ Some bytes = told in cc)
+cut_record version ended pending bytes (Some rest) told none = record {
+  part = pending;
+  others = rest;
+  split = (let f : Some (pending ++ rest) ≡ Some bytes = told in cc);
+  none = none_open version ended pending none;
+  still = refl;
+}
+
+-- a stop in place of a value of a type
+abbrev pub stopped : (T : Type 0) → Stop → Result T Stop
+stopped T why = Err why
+
+err_is : (T : Type 0) (x y : Stop) → stopped T x ≡ stopped T y → x ≡ y
+err_is T x y e = cc
+
+abbrev pub NextBreaks : Version → (left unread before after : Option (List ℕ)) → Type 0
+NextBreaks version left unread before after = ((bytes : List ℕ) → left ≡ Some bytes → IsCutRecord version bytes unread) × (after ≡ before)
+
+pub next_breaks : (version : Version) (a b c : Outside) (x y : Buffered) (p q r : List ℕ) → ReadsMore a b x y → Kept b c p q → c.input ≡ b.input
+    → (first_of version y.ended y.pending ≡ Ok None) × (r ≡ q) → NextBreaks version (left_of a x) c.input (put_out a p) (put_out c r)
+next_breaks version a b c x y p q r reads kept same gives = (
+  (λ bytes told. subst (λ (o : Option (List ℕ)). IsCutRecord version bytes o) (sym same) (cut_record version y.ended y.pending bytes b.input (left_same a b x y reads ∙ told) gives.0)),
+  ap (put_out c) gives.1 ∙ put_same b c p q kept ∙ ap (λ (o : Option (List ℕ)). option_map (λ printed. printed ++ p) o) reads.others.printed,
+)
+
+-- a stop that is handed on is the same
+pub handed_on : (T U : Type 0) (r : Result T Stop) (y why other : Stop) → r ≡ stopped T y → y ≡ why → r ≡ stopped T other → stopped U why ≡ stopped U other
+handed_on T U r y why other e f g = ap (stopped U) (sym f ∙ err_is T y other (sym e ∙ g))
+
+-- ---- all records before
+
+pub front_breaks : (version : Version) (kinds count offset : ℕ) (left left_behind unread before after put : Option (List ℕ)) (bytes : List ℕ) → count < 4294967296
+    → SoFar version kinds count offset left left_behind before after → NextBreaks version left_behind unread after put
+    → left ≡ Some bytes → ConvertsFront version kinds bytes unread before put
+front_breaks version kinds count offset left left_behind unread before after put bytes few s n e =
+    let g = left_behind_told (records_bytes s.records) bytes left left_behind s.front e in
+    record {
+      records = s.records;
+      rest = g.0;
+      each = s.each;
+      few = omega (arith, s.counted, few);
+      spelled = g.2;
+      cut = n.0 g.0 g.1;
+      put = n.1 ∙ s.put;
+    }
+
+-- behind the last record that can be counted nothing had come
+pub last_breaks : (version : Version) (left_behind unread after put : Option (List ℕ)) → unread ≡ left_behind → put ≡ after → NextBreaks version left_behind unread after put
+last_breaks version left_behind unread after put same printed = (
+  (λ bytes told. record { part = []; others = bytes; split = refl; none = refl; still = same ∙ told }),
+  printed,
+)
+
+-- ---- a log
+
+printed_front : (line text : List ℕ) (o : Option (List ℕ)) → option_map (λ all. all ++ text) (option_map (λ printed. printed ++ line) o) ≡ option_map (λ before. before ++ (line ++ text)) o
+printed_front line text None = refl
+printed_front line text (Some before) = ap Some (append_assoc before line text)
+
+fails_behind : (version : Version) (kinds : ℕ) (bytes left out : List ℕ) (a b d : Outside) (unread after : Option (List ℕ)) → bytes ≡ header_bytes (number_of_version version) ++ left
+    → b.printed ≡ a.printed → out ≡ first_line version → ConvertsFront version kinds left unread (put_out b out) after → d.input ≡ unread → d.printed ≡ after → FailsBehind kinds bytes a d
+fails_behind version kinds bytes left out a b d unread after is same line front input printed = record {
+  version = version;
+  records = front.records;
+  rest = front.rest;
+  each = front.each;
+  few = front.few;
+  spelled = is ∙ ap (λ (x : List ℕ). header_bytes (number_of_version version) ++ x) front.spelled ∙ sym (append_assoc (header_bytes (number_of_version version)) (records_bytes front.records) front.rest);
+  cut = subst (λ (o : Option (List ℕ)). IsCutRecord version front.rest o) (sym input) front.cut;
+  printed = printed ∙ front.put
+      ∙ ap (λ (x : List ℕ). option_map (λ (t : List ℕ). t ++ flat_map (line_of_kinds version kinds) front.records) (option_map (λ printed. printed ++ x) b.printed)) line
+      ∙ ap (λ (o : Option (List ℕ)). option_map (λ (t : List ℕ). t ++ flat_map (line_of_kinds version kinds) front.records) (option_map (λ printed. printed ++ first_line version) o)) same
+      ∙ printed_front (first_line version) (flat_map (line_of_kinds version kinds) front.records) a.printed;
+}
+
+behind_or_risen : (version : Version) (kinds : ℕ) (bytes left out : List ℕ) (a b c d : Outside) (after : Option (List ℕ)) → bytes ≡ header_bytes (number_of_version version) ++ left
+    → b.printed ≡ a.printed → out ≡ first_line version → ConvertsFront version kinds left c.input (put_out b out) after → d.input ≡ c.input → a.out_faults ≤ c.out_faults
+    → (d.printed ≡ after) ⊎ HasRisen c.out_faults d.out_faults → Fails kinds bytes a d
+behind_or_risen version kinds bytes left out a b c d after is same line front input counted (inl printed) = inr (inl (fails_behind version kinds bytes left out a b d c.input after is same line front input printed))
+behind_or_risen version kinds bytes left out a b c d after is same line front input counted (inr risen) = inr (inr (risen_earlier a.out_faults c.out_faults d.out_faults counted risen))
+
+read_failed : (R : Type 0) (ending result : Result (Unit {0}) Stop) → (result ≡ ending) ⊎ ((result ≡ Err stop.WriteFailed) × R) → result ≡ Err stop.ReadFailed → ending ≡ Err stop.ReadFailed
+read_failed R ending result (inl e) f = sym e ∙ f
+read_failed R ending result (inr e) f = absurd (let g : Err stop.WriteFailed ≡ Err stop.ReadFailed = sym e.0 ∙ f in cc)
+
+pub fails_log : (R : Type 0) (version : Version) (kinds : ℕ) (bytes out : List ℕ) (a b c d : Outside) (x : Buffered) (after : Option (List ℕ)) (ending result : Result (Unit {0}) Stop)
+    → Some bytes ≡ option_map (λ rest. header_bytes (number_of_version version) ++ rest) (left_of b x) → b.printed ≡ a.printed → out ≡ first_line version
+    → (ending ≡ Err stop.ReadFailed → (left : List ℕ) → left_of b x ≡ Some left → ConvertsFront version kinds left c.input (put_out b out) after)
+    → (result ≡ ending) ⊎ ((result ≡ Err stop.WriteFailed) × R) → d.input ≡ c.input → a.out_faults ≤ c.out_faults
+    → (result ≡ Err stop.ReadFailed → (d.printed ≡ after) ⊎ HasRisen c.out_faults d.out_faults) → result ≡ Err stop.ReadFailed → Fails kinds bytes a d
+fails_log R version kinds bytes out a b c d x after ending result opened same line front first input counted printed failed =
+    let g = header_told (header_bytes (number_of_version version)) bytes (left_of b x) opened in
+    behind_or_risen version kinds bytes g.0 out a b c d after g.2 same line (front (read_failed R ending result first failed) g.0 g.1) input counted (printed failed)
+
+-- ---- the status
+
+behind_later : (kinds : ℕ) (bytes : List ℕ) (a b c : Outside) → FailsBehind kinds bytes a b → c.input ≡ b.input → c.printed ≡ b.printed → FailsBehind kinds bytes a c
+behind_later kinds bytes a b c h input printed = record {
+  version = h.version;
+  records = h.records;
+  rest = h.rest;
+  each = h.each;
+  few = h.few;
+  spelled = h.spelled;
+  cut = subst (λ (o : Option (List ℕ)). IsCutRecord h.version h.rest o) (sym input) h.cut;
+  printed = printed ∙ h.printed;
+}
+
+before_later : (bytes : List ℕ) (a b c : Outside) → FailsBefore bytes a b → c.input ≡ b.input → c.printed ≡ b.printed → FailsBefore bytes a c
+before_later bytes a b c h input printed = record {
+  cut = subst (λ (o : Option (List ℕ)). (o ≡ a.input) ⊎ IsCutHeader bytes o) (sym input) h.cut;
+  printed = printed ∙ h.printed;
+}
+
+fails_later : (kinds : ℕ) (bytes : List ℕ) (a b c : Outside) → Fails kinds bytes a b → c.input ≡ b.input → c.printed ≡ b.printed → c.out_faults ≡ b.out_faults → Fails kinds bytes a c
+fails_later kinds bytes a b c (inl h) input printed faults = inl (before_later bytes a b c h input printed)
+fails_later kinds bytes a b c (inr (inl h)) input printed faults = inr (inl (behind_later kinds bytes a b c h input printed))
+fails_later kinds bytes a b c (inr (inr h)) input printed faults = inr (inr (subst (λ (n : ℕ). HasRisen a.out_faults n) (sym faults) h))
+
+three : (why : Stop) → status_of why ≡ 3 → why ≡ stop.ReadFailed
+three stop.ReadFailed e = refl
+three stop.WriteFailed e = absurd (omega (arith, e))
+three stop.BadHeader e = absurd (omega (arith, e))
+three (stop.BadRecord at fault) e = absurd (omega (arith, e))
+three (stop.BadReplay at) e = absurd (omega (arith, e))
+three (stop.BadLine line) e = absurd (omega (arith, e))
+three stop.TooLong e = absurd (omega (arith, e))
+three stop.OutOfMemory e = absurd (omega (arith, e))
+
+pub fails_with : (kinds status : ℕ) (bytes : List ℕ) (ending : Result (Unit {0}) Stop) (a b c : Outside) → status ≡ 3 → (ending ≡ Err stop.ReadFailed → Fails kinds bytes a b)
+    → OnOk ending (status ≡ 0) → IfErr ending (λ why. status ≡ status_of why) → IfErr ending (λ why. Reports b c (report_of why)) → Fails kinds bytes a c
+fails_with kinds status bytes (Ok value) a b c e h zero is reports = absurd (omega (arith, e, zero))
+fails_with kinds status bytes (Err why) a b c e h zero is reports =
+    fails_later kinds bytes a b c (h (ap (λ (w : Stop). Err w) (three why (sym is ∙ e)))) reports.others.input reports.others.printed reports.others.out_faults
+
+eight : (why : Stop) → status_of why ≡ 8 → why ≡ stop.OutOfMemory
+eight stop.OutOfMemory e = refl
+eight stop.ReadFailed e = absurd (omega (arith, e))
+eight stop.WriteFailed e = absurd (omega (arith, e))
+eight stop.BadHeader e = absurd (omega (arith, e))
+eight (stop.BadRecord at fault) e = absurd (omega (arith, e))
+eight (stop.BadReplay at) e = absurd (omega (arith, e))
+eight (stop.BadLine line) e = absurd (omega (arith, e))
+eight stop.TooLong e = absurd (omega (arith, e))
+
+pub nothing_printed : (kinds status : ℕ) (bytes : List ℕ) (ending : Result (Unit {0}) Stop) (a b c : Outside) → status ≡ 8 → HasConverted kinds bytes ending a b
+    → OnOk ending (status ≡ 0) → IfErr ending (λ why. status ≡ status_of why) → IfErr ending (λ why. Reports b c (report_of why)) → c.printed ≡ a.printed
+nothing_printed kinds status bytes (Ok value) a b c e h zero is reports = absurd (omega (arith, e, zero))
+nothing_printed kinds status bytes (Err why) a b c e h zero is reports =
+    let printed : b.printed ≡ a.printed = subst (λ (w : Stop). HasConverted {T = Unit {0}} kinds bytes (Err w) a b) (eight why (sym is ∙ e)) h in
+    reports.others.printed ∙ printed
