@@ -194,6 +194,31 @@ fn the_log_goes_to_its_file(rt: HostRuntime) -> Result<(), Fail> {
     Ok(())
 }
 
+/// The first script where an allocation may fail, which `rt try --test --fail-alloc N` makes happen: the answers so far
+/// stand printed, and the status and the report tell what failed. All answers stand there exactly with status 0.
+#[test]
+fn an_allocation_may_fail(rt: HostRuntime) -> Result<(), Fail> {
+    let words = words_of(rt.alloc(), "run")?;
+    let mut desk = MemDesk::new(rt.alloc());
+    desk.add_file("-", FIRST)?;
+    let status = mps(rt.alloc(), &words, &mut desk);
+    let report = match status {
+        0 => b"".as_slice(),
+        3 => b"mps: read failed\n",
+        4 => b"mps: write failed\n",
+        5 => b"mps: log failed\n",
+        _ => b"mps: out of memory\n",
+    };
+    assert_eq!(rt; desk.reported(), report, "{status}");
+    assert!(rt; FIRST_ANSWERS.starts_with(desk.printed()), "{status}");
+    assert!(rt;
+        (status == 0) == (desk.printed() == FIRST_ANSWERS),
+        "{status}"
+    );
+    assert!(rt; [0, 3, 4, 5, 8].contains(&status), "{status}");
+    Ok(())
+}
+
 /// A line of 4096 bytes is read, and one of 4097 is bad.
 #[test]
 fn a_line_of_4096_bytes_is_the_longest(rt: HostRuntime) -> Result<(), Fail> {
