@@ -5,6 +5,8 @@
 
 mod convert;
 mod kinds;
+#[cfg(test)]
+mod tests;
 
 pub use convert::cnv;
 pub use kinds::Kinds;
