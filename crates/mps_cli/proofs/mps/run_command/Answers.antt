@@ -5,6 +5,8 @@ returns-in-Convert-clause-asked g c = rw c.in-Convert.is (record {
   answers = c.cnv.ensures.answers;
   converted = c.cnv.ensures.converted;
   only = c.cnv.ensures.only;
+  broken = c.cnv.ensures.broken;
+  no_memory = c.cnv.ensures.no_memory;
   reported = c.cnv.ensures.reported;
 })
 
