@@ -1,9 +1,9 @@
 // The header, the room for what is printed, and the end: what the readers of a log and of its text share.
 
-ghost use Rattle.std.specs.Prelude.{◌≡◌, ◌≤◌, ◌+◌, ◌++◌, ◌⊎◌, ℕ, List, [], Some, true, false, length, OnOk, OnErr};
+ghost use Rattle.std.specs.Prelude.{◌≡◌, ◌≢◌, ◌≤◌, ◌+◌, ◌++◌, ◌⊎◌, ℕ, List, [], Some, true, false, length, OnOk, OnErr};
 ghost use Rattle.mps_base.specs.Desk.{HasRisen};
 ghost use Rattle.mps_reading.specs.Causes.{IsCaused, IsTold, Works};
-ghost use Rattle.mps_output.specs.Streams.{Runs, Kept};
+ghost use Rattle.mps_output.specs.Streams.{Runs, Kept, PrintsPart};
 ghost use Rattle.mps_reading.specs.Input.{IsAtEnd};
 ghost use Rattle.mps_reading.specs.Left.{left_of, LastGives, EndGives};
 ghost use Rattle.mps_reading.specs.PutOut.{put_out, IsToFlush};
@@ -71,6 +71,7 @@ pub fn put_first_line(version: Version, output: &mut Output)
 pub fn make_room<D: Desk>(output: &mut Output, desk: &mut D) -> Result<(), Stop>
     ensures room { OnOk result (length output.new + 512 ≤ 65536) }
     ensures kept { OnOk result (Kept (D.outside desk.old) (D.outside desk.new) output.old output.new) }
+    ensures part { OnErr result (PrintsPart (D.outside desk.old) (D.outside desk.new) output.old) }
     ensures input { (D.outside desk.new).input ≡ (D.outside desk.old).input }
     ensures reported { (D.outside desk.new).reported ≡ (D.outside desk.old).reported }
     ensures err_faults { (D.outside desk.new).err_faults ≡ (D.outside desk.old).err_faults }
@@ -125,6 +126,9 @@ pub fn flush_after<D: Desk>(
     ensures printed { IsToFlush result → (D.outside desk.new).printed ≡ put_out (D.outside desk.old) output.old }
     ensures front { result ≡ Err Stop.ReadFailed → ((D.outside desk.new).printed ≡ put_out (D.outside desk.old) output.old)
         ⊎ HasRisen (D.outside desk.old).out_faults (D.outside desk.new).out_faults }
+    // Where a write fails, the front of what was gathered was printed; where one had failed before, nothing more.
+    ensures part { result ≡ Err Stop.WriteFailed → ending ≢ Err Stop.WriteFailed → PrintsPart (D.outside desk.old) (D.outside desk.new) output.old }
+    ensures no_more { ending ≡ Err Stop.WriteFailed → D.outside desk.new ≡ D.outside desk.old }
     ensures input { (D.outside desk.new).input ≡ (D.outside desk.old).input }
     ensures first { (result ≡ ending) ⊎ ((result ≡ Err Stop.WriteFailed) × HasRisen (D.outside desk.old).out_faults (D.outside desk.new).out_faults) }
     ensures runs { Runs (D.outside desk.old) (D.outside desk.new) }

@@ -51,7 +51,7 @@ cut_record version ended pending bytes (Some rest) told none = record {
 abbrev pub stopped : (T : Type 0) → Stop → Result T Stop
 stopped T why = Err why
 
-err_is : (T : Type 0) (x y : Stop) → stopped T x ≡ stopped T y → x ≡ y
+pub err_is : (T : Type 0) (x y : Stop) → stopped T x ≡ stopped T y → x ≡ y
 err_is T x y e = cc
 
 abbrev pub NextBreaks : Version → (left unread before after : Option (List ℕ)) → Type 0

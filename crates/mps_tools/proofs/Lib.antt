@@ -2,3 +2,4 @@ pub mod Converting
 pub mod Wholly
 pub mod OneReading
 pub mod Broken
+pub mod Cut

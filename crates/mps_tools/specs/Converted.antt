@@ -1,5 +1,5 @@
 -- What is printed of a log in portable text, and where the printing ends.
-use Rattle.std.specs.Prelude.{◌≡◌, ℕ, ◌<◌, ◌⊎◌, false, Option, Some, None, Result, Ok, Err, List, ◌++◌, length, All}
+use Rattle.std.specs.Prelude.{◌≡◌, ℕ, ◌<◌, ◌⊎◌, false, Option, Some, None, Result, Ok, Err, List, ◌++◌, length, take, All}
 use Rattle.std.specs.Option.{option_map}
 use Rattle.mps_base.specs.Desk.{Outside, HasRisen}
 use Rattle.mps_base.specs.Record.{Record}
@@ -47,6 +47,17 @@ pub record FailsBehind (kinds : ℕ) (bytes : List ℕ) (old new : Outside) : Ty
   pub spelled : bytes ≡ log_bytes version records ++ rest
   pub cut : IsCutRecord version rest new.input
   pub printed : new.printed ≡ option_map (λ before. before ++ portable version kinds records) old.printed
+
+-- a write failed: the front of the portable text of some records at the front of the log was printed
+pub record IsCutShort (kinds : ℕ) (bytes : List ℕ) (old new : Outside) : Type 0 where
+  pub version : Version
+  pub records : List Record
+  pub rest : List ℕ
+  pub each : All (IsRecord version) records
+  pub few : length records < 4294967296
+  pub spelled : bytes ≡ log_bytes version records ++ rest
+  pub count : ℕ
+  pub printed : new.printed ≡ option_map (λ before. before ++ take count (portable version kinds records)) old.printed
 
 -- where a read failed: one of these, or a write failed too
 abbrev pub Fails : (kinds : ℕ) → (bytes : List ℕ) → (old new : Outside) → Type 0

@@ -1,5 +1,5 @@
 -- The conversion of a log step by step.
-use Rattle.std.specs.Prelude.{◌≡◌, ℕ, ◌+◌, ◌<◌, true, false, Option, Some, None, IfSome, Result, Ok, Err, List, [], ◌++◌, length, drop, All}
+use Rattle.std.specs.Prelude.{◌≡◌, ℕ, ◌+◌, ◌<◌, true, false, Option, Some, None, IfSome, Result, Ok, Err, List, [], ◌++◌, length, take, drop, All}
 use Rattle.std.specs.Option.{option_map}
 use Rattle.mps_base.specs.Record.{Record, record_bytes, records_bytes}
 use Rattle.mps_event.specs.declared.version.Version.{Version}
@@ -73,6 +73,23 @@ pub record ConvertsFront (version : Version) (kinds : ℕ) (bytes : List ℕ) (u
   pub spelled : bytes ≡ records_bytes records ++ rest
   pub cut : IsCutRecord version rest unread
   pub put : PutsOut before after (flat_map (line_of_kinds version kinds) records)
+
+-- more was printed than before
+abbrev pub Grows : (old new : Option (List ℕ)) → Type 0
+Grows old new = (front : List ℕ) × (new ≡ option_map (λ before. before ++ front) old)
+
+-- the front of what was gathered was printed
+abbrev pub PutsPart : (old new : Option (List ℕ)) → (gathered : List ℕ) → Type 0
+PutsPart old new gathered = (count : ℕ) × (new ≡ option_map (λ before. before ++ take count gathered) old)
+
+-- records at the front of what was left were converted, and the front of their lines, behind what was gathered, was printed
+pub record ConvertsPart (version : Version) (kinds : ℕ) (bytes : List ℕ) (gathered : List ℕ) (old new : Option (List ℕ)) : Type 0 where
+  pub records : List Record
+  pub rest : List ℕ
+  pub each : All (IsRecord version) records
+  pub few : length records < 4294967296
+  pub spelled : bytes ≡ records_bytes records ++ rest
+  pub part : PutsPart old new (gathered ++ flat_map (line_of_kinds version kinds) records)
 
 -- the same of every ending
 abbrev pub AllGive : {T : Type 0} → Version → (kinds : ℕ) → (bytes : List ℕ) → (before after : Option (List ℕ)) → Result T Stop → Type 0

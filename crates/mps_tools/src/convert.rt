@@ -11,8 +11,8 @@ ghost use Rattle.mps_reading.specs.Input.{IsAtEnd};
 ghost use Rattle.mps_reading.specs.Left.{left_of};
 ghost use Rattle.mps_reading.specs.PutOut.{put_out};
 ghost use Rattle.mps_reading.specs.Ending.{is_whole_status, ReportsStatus};
-ghost use Rattle.mps_tools.specs.Converted.{ConvertedWith, HasConverted, IsCutRecord, Fails, IsOnly};
-ghost use Rattle.mps_tools.specs.Converting.{ConvertsFront, PendingGives, NextGives, AllGive};
+ghost use Rattle.mps_tools.specs.Converted.{ConvertedWith, HasConverted, IsCutRecord, IsCutShort, Fails, IsOnly};
+ghost use Rattle.mps_tools.specs.Converting.{Grows, PutsPart, ConvertsPart, ConvertsFront, PendingGives, NextGives, AllGive};
 ghost use Rattle.mps_tools.specs.KindSet.{bits_of};
 ghost use Rattle.mps_output.specs.Streams.{Runs};
 
@@ -41,6 +41,9 @@ pub fn cnv<D: Desk>(alloc: Global, log: &str, kinds: Kinds, desk: &mut D) -> u8
     // Memory is wanting only before anything is printed.
     ensures no_memory { result ≡ 8 → (bytes : List ℕ) → (D.outside desk.old).text log.now ≡ Some bytes
         → (D.outside desk.new).printed ≡ (D.outside desk.old).printed }
+    // Where a write failed: a front of the text was printed.
+    ensures cut { result ≡ 4 → (bytes : List ℕ) → (D.outside desk.old).text log.now ≡ Some bytes
+        → IsCutShort (bits_of kinds) bytes (D.outside desk.old) (D.outside desk.new) }
     // And nothing else: a whole log gives 0 and all of its text, one with a bad record gives 6 and the text before it.
     ensures only { is_whole_status result ≡ true → (bytes : List ℕ) → (D.outside desk.old).text log.now ≡ Some bytes
         → IsOnly (bits_of kinds) bytes result (D.outside desk.old) (D.outside desk.new) }
@@ -56,6 +59,8 @@ fn convert<D: Desk>(alloc: Global, log: &str, kinds: Kinds, desk: &mut D) -> Res
     ensures err_faults { (D.outside desk.new).err_faults ≡ (D.outside desk.old).err_faults }
     ensures broken { result ≡ Err Stop.ReadFailed → (bytes : List ℕ) → (D.outside desk.old).text log.now ≡ Some bytes
         → Fails (bits_of kinds) bytes (D.outside desk.old) (D.outside desk.new) }
+    ensures cut { result ≡ Err Stop.WriteFailed → (bytes : List ℕ) → (D.outside desk.old).text log.now ≡ Some bytes
+        → IsCutShort (bits_of kinds) bytes (D.outside desk.old) (D.outside desk.new) }
     ensures converted { (bytes : List ℕ) → (D.outside desk.old).text log.now ≡ Some bytes
         → HasConverted (bits_of kinds) bytes result (D.outside desk.old) (D.outside desk.new) }
 {
@@ -86,6 +91,9 @@ fn convert_records<D: Desk>(
     ensures err_faults { (D.outside desk.new).err_faults ≡ (D.outside desk.old).err_faults }
     ensures broken { result ≡ Err Stop.ReadFailed → (bytes : List ℕ) → left_of (D.outside desk.old) input.old ≡ Some bytes
         → ConvertsFront version (bits_of kinds) bytes (D.outside desk.new).input (put_out (D.outside desk.old) output.old) (put_out (D.outside desk.new) output.new) }
+    ensures grows { Grows (D.outside desk.old).printed (D.outside desk.new).printed }
+    ensures cut { result ≡ Err Stop.WriteFailed → (bytes : List ℕ) → left_of (D.outside desk.old) input.old ≡ Some bytes
+        → ConvertsPart version (bits_of kinds) bytes output.old (D.outside desk.old).printed (D.outside desk.new).printed }
     ensures all { (bytes : List ℕ) → left_of (D.outside desk.old) input.old ≡ Some bytes
         → AllGive version (bits_of kinds) bytes (put_out (D.outside desk.old) output.old) (put_out (D.outside desk.new) output.new) result }
 {
@@ -115,6 +123,8 @@ fn convert_next<D: Desk>(
         (put_out (D.outside desk.old) output.old) (put_out (D.outside desk.new) output.new) result }
     ensures broken { result ≡ Err Stop.ReadFailed → ((bytes : List ℕ) → left_of (D.outside desk.old) input.old ≡ Some bytes
         → IsCutRecord version bytes (D.outside desk.new).input) × (put_out (D.outside desk.new) output.new ≡ put_out (D.outside desk.old) output.old) }
+    ensures grows { Grows (D.outside desk.old).printed (D.outside desk.new).printed }
+    ensures cut { result ≡ Err Stop.WriteFailed → PutsPart (D.outside desk.old).printed (D.outside desk.new).printed output.old }
     ensures at_end { IsAtEnd (D.outside desk.new) input.new }
     ensures reported { (D.outside desk.new).reported ≡ (D.outside desk.old).reported }
     ensures err_faults { (D.outside desk.new).err_faults ≡ (D.outside desk.old).err_faults }

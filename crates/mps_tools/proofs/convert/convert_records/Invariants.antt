@@ -4,6 +4,7 @@ use Rattle.mps_reading.specs.Input.{IsAtEnd}
 use Rattle.mps_tools.specs.KindSet.{bits_of}
 use Rattle.mps_reading.specs.Left.{left_of}
 use Rattle.mps_reading.specs.PutOut.{put_out}
+use Rattle.mps_tools.specs.Converting.{Grows}
 use Rattle.mps_tools.proofs.Converting.{SoFar}
 use Rattle.mps_tools.proofs.convert.convert_records.Given as goal
 
@@ -14,6 +15,7 @@ invariant-loop g l = record {
   reported : (g.D.Desk.outside l.desk).reported ≡ (g.D.Desk.outside l.initial.desk).reported;
   err_faults : (g.D.Desk.outside l.desk).err_faults ≡ (g.D.Desk.outside l.initial.desk).err_faults;
   at_end : IsAtEnd (g.D.Desk.outside l.desk) l.input;
+  grows : Grows (g.D.Desk.outside l.initial.desk).printed (g.D.Desk.outside l.desk).printed;
   so_far : SoFar l.version (bits_of l.kinds) l.counter l.offset (left_of (g.D.Desk.outside l.initial.desk) l.initial.input) (left_of (g.D.Desk.outside l.desk) l.input)
       (put_out (g.D.Desk.outside l.initial.desk) l.initial.output) (put_out (g.D.Desk.outside l.desk) l.output);
 }
