@@ -9,7 +9,7 @@ use Rattle.mps_reading.specs.Causes.{Answers}
 use Rattle.mps_reading.specs.Ending.{ReportsStatus, is_whole_status}
 use Rattle.mps_live_blocks.specs.Listed.{ListedWith, IsOnly as IsOnlyList, ListsPart}
 use Rattle.mps_readable.specs.Text.{ReadWith, IsOnlyReading}
-use Rattle.mps_tools.specs.Converted.{ConvertedWith, Fails, IsOnly}
+use Rattle.mps_tools.specs.Converted.{ConvertedWith, Fails, IsCutShort, IsOnly}
 use Rattle.mps_generator.specs.Ending.{FailsWithin}
 use Rattle.mps_generator.specs.Script.{script as generated_script}
 use Rattle.mps_words.specs.Meaning.{Meaning, Runs, Converts, Reads, Lists, Generates}
@@ -48,6 +48,8 @@ pub record ConvertsLog (log : List ℕ) (kinds : ℕ) (status : ℕ) (old new : 
   pub broken : status ≡ 3 → (bytes : List ℕ) → old.text log ≡ Some bytes → Fails kinds bytes old new
   -- memory is wanting only before anything is printed
   pub no_memory : status ≡ 8 → (bytes : List ℕ) → old.text log ≡ Some bytes → new.printed ≡ old.printed
+  -- where a write failed, a front of the text was printed
+  pub cut : status ≡ 4 → (bytes : List ℕ) → old.text log ≡ Some bytes → IsCutShort kinds bytes old new
   -- just the ending that has this status is reported
   pub reported : ReportsStatus status old new
 

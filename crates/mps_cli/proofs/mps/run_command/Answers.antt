@@ -7,6 +7,7 @@ returns-in-Convert-clause-asked g c = rw c.in-Convert.is (record {
   only = c.cnv.ensures.only;
   broken = c.cnv.ensures.broken;
   no_memory = c.cnv.ensures.no_memory;
+  cut = c.cnv.ensures.cut;
   reported = c.cnv.ensures.reported;
 })
 
