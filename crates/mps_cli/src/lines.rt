@@ -112,7 +112,7 @@ impl Lines {
         self.read_behind(desk)
     }
 
-    /// Moves what waits to the front of the buffer.
+    /// Moves what waits to the front of the buffer. The line that was given last is lost.
     fn move_down(&mut self)
         requires { length self.old.waiting ≤ 4096 }
         ensures waits { self.new.waiting ≡ self.old.waiting }
