@@ -1,8 +1,8 @@
 -- Files by their names and places.
-use Rattle.std.proofs.Common.{◌≡◌, ℕ, zero, suc, ◌<◌, ◌≤◌, ◌≢◌, Some, None, List, [], ◌∷◌, ◌++◌, length, get_or, set, refl, ap, arith}
+use Rattle.std.proofs.Common.{◌≡◌, ℕ, ◌<◌, ◌≤◌, ◌≢◌, Some, None, List, [], ◌∷◌, ◌++◌, length, get_or, set, refl, arith}
 use Rattle.std.proofs.lemmas.Slice.Eq.{bytes_eq-Decides}
-use Rattle.mps_base.specs.Desk.{File, file_named, with_file, text_in}
-use Rattle.mps_base.specs.MemDesk.{place_of, extended_at}
+use Rattle.mps_base.specs.Desk.{File, file_named, with_file, with_more, text_in}
+use Rattle.mps_base.specs.MemDesk.{place_of}
 
 pub file_named-at_place : (fs : List File) (name : List ℕ) (d : File) → place_of fs name < length fs → file_named fs name ≡ Some (get_or fs (place_of fs name) d).bytes
 file_named-at_place [] name d short = absurd (omega (arith, short))
@@ -20,18 +20,17 @@ pub with_file-new : (fs : List File) (name bytes : List ℕ) → length fs ≤ p
 with_file-new [] name bytes long = refl
 with_file-new (f ∷ fs) name bytes long = grind (arith, with_file-new fs name bytes)
 
-pub extended_at-is : (fs : List File) (place : ℕ) (bytes : List ℕ) (d : File) → place < length fs → extended_at fs place bytes ≡ set fs place (record (get_or fs place d) { bytes = (get_or fs place d).bytes ++ bytes })
-extended_at-is [] place bytes d short = absurd (omega (arith, short))
-extended_at-is (f ∷ fs) zero bytes d short = refl
-extended_at-is (f ∷ fs) (suc place) bytes d short = ap (λ (rest : List File). f ∷ rest) (extended_at-is fs place bytes d (omega (arith, short)))
+pub with_more-at_place : (fs : List File) (name bytes : List ℕ) (d : File) → place_of fs name < length fs → with_more fs name bytes ≡ set fs (place_of fs name) (record (get_or fs (place_of fs name) d) { bytes = (get_or fs (place_of fs name) d).bytes ++ bytes })
+with_more-at_place [] name bytes d short = absurd (omega (arith, short))
+with_more-at_place (f ∷ fs) name bytes d short = grind (arith, with_more-at_place fs name bytes d)
+
+pub with_more-absent : (fs : List File) (name bytes : List ℕ) → length fs ≤ place_of fs name → with_more fs name bytes ≡ fs
+with_more-absent [] name bytes long = refl
+with_more-absent (f ∷ fs) name bytes long = grind (arith, with_more-absent fs name bytes)
 
 pub place_of-le : (fs : List File) (name : List ℕ) → place_of fs name ≤ length fs
 place_of-le [] name = omega arith
 place_of-le (f ∷ fs) name = grind (arith, place_of-le fs name)
-
-pub length-with_file-le : (fs : List File) (name bytes : List ℕ) → length fs ≤ length (with_file fs name bytes)
-length-with_file-le [] name bytes = omega arith
-length-with_file-le (f ∷ fs) name bytes = grind (arith, length-with_file-le fs name bytes)
 
 -- a file of another name is as it was
 pub file_named-with_file_other : (fs : List File) (name other bytes : List ℕ) → other ≢ name → file_named (with_file fs name bytes) other ≡ file_named fs other
@@ -43,4 +42,4 @@ pub text_stays : (fs : List File) (name other bytes : List ℕ) → other ≢ na
 text_stays fs name other bytes differ = let same = file_named-with_file_other fs name other bytes differ in cc
 
 -- what a place says
-pub ruleset at_places = (file_named-at_place, file_named-absent, with_file-at_place, with_file-new, extended_at-is, place_of-le, length-with_file-le)
+pub ruleset at_places = (file_named-at_place, file_named-absent, with_file-at_place, with_file-new, with_more-at_place, with_more-absent, place_of-le)

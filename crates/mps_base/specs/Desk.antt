@@ -9,10 +9,15 @@ pub record File : Type 0 where
   pub name : List ℕ
   pub bytes : List ℕ
 
+-- the files; standard input is the file `-`
+pub record Files : Type 0 where
+  pub all : List File
+  -- the name of the one that the log goes to, where one was made for it
+  pub log : Option (List ℕ)
+
 -- All that a desk tells. A desk may tell some of it and not the rest: what it doesn't tell is None.
 pub record Outside : Type 0 where
-  -- the files; standard input is the file `-`
-  pub files : Option (List File)
+  pub files : Option Files
   -- what an accepted open of a name gives as the input
   pub text : List ℕ → Option (List ℕ)
   -- the input that is left to read
@@ -41,6 +46,25 @@ abbrev pub with_file : List File → List ℕ → List ℕ → List File
 with_file [] name bytes = record { name = name; bytes = bytes } ∷ []
 with_file (f ∷ fs) name bytes =
     if bytes_eq f.name name then record { name = f.name; bytes = bytes } ∷ fs else f ∷ with_file fs name bytes
+
+-- the files with these bytes behind those of the file of this name
+abbrev pub with_more : List File → List ℕ → List ℕ → List File
+with_more [] name bytes = []
+with_more (f ∷ fs) name bytes =
+    if bytes_eq f.name name then record { name = f.name; bytes = f.bytes ++ bytes } ∷ fs else f ∷ with_more fs name bytes
+
+-- the files after a file of this name was made for the log: it is empty
+abbrev pub made_for_log : List ℕ → Files → Files
+made_for_log name files = record { all = with_file files.all name []; log = Some name }
+
+-- the files with these bytes behind those of the file that the log goes to: in none of them before one was made for it
+abbrev pub with_logged : List File → Option (List ℕ) → List ℕ → List File
+with_logged files None bytes = files
+with_logged files (Some name) bytes = with_more files name bytes
+
+-- the files after the log took these bytes
+abbrev pub after_log : List ℕ → Files → Files
+after_log bytes files = record { all = with_logged files.all files.log bytes; log = files.log }
 
 -- what opening a name gives over these files: without a file `-` standard input is empty
 abbrev pub text_in : List File → List ℕ → Option (List ℕ)
@@ -125,6 +149,15 @@ a_file_takes_the_place = refl
 
 pub the_others_stay : file_named (with_file two_files (97 ∷ []) []) (98 ∷ []) ≡ Some (2 ∷ [])
 the_others_stay = refl
+
+pub the_log_goes_behind_its_file :
+    after_log (3 ∷ []) (record { all = two_files; log = Some (98 ∷ []) })
+    ≡ record { all = record { name = 97 ∷ []; bytes = 1 ∷ [] } ∷ record { name = 98 ∷ []; bytes = 2 ∷ 3 ∷ [] } ∷ []; log = Some (98 ∷ []) }
+the_log_goes_behind_its_file = refl
+
+pub without_a_file_the_log_goes_nowhere :
+    after_log (3 ∷ []) (record { all = two_files; log = None }) ≡ record { all = two_files; log = None }
+without_a_file_the_log_goes_nowhere = refl
 
 pub standard_input_may_be_missing : text_in two_files standard_input ≡ Some []
 standard_input_may_be_missing = refl

@@ -1,7 +1,7 @@
 -- A desk in memory: its files, what was read and written, and which of its calls are to fail.
-use Rattle.std.specs.Prelude.{ℕ, zero, suc, ◌≡◌, ◌+◌, ◌-◌, ◌^◌, nat_lt, Option, Some, None, List, [], ◌∷◌, ◌++◌, Contains, if◌then◌else◌, refl}
+use Rattle.std.specs.Prelude.{ℕ, ◌≡◌, ◌+◌, ◌-◌, ◌^◌, nat_lt, Some, None, List, [], ◌∷◌, ◌++◌, Contains, if◌then◌else◌, refl}
 use Rattle.std.specs.Str.{bytes_eq}
-use Rattle.mps_base.specs.Desk.{Outside, File, text_in, last_count}
+use Rattle.mps_base.specs.Desk.{Outside, File, Files, text_in, last_count}
 use Rattle.mps_base.specs.declared.mem_desk.DeskCall.{DeskCall}
 use Rattle.mps_base.specs.declared.mem_desk.DeskCall.TheVariants.{Open, Read, Create, Log, Out, Err}
 
@@ -11,9 +11,7 @@ pub record Calls : Type 0 where
   pub failing : List ℕ
 
 pub record DeskInMemory : Type 0 where
-  pub files : List File
-  -- the place among the files of the one that the log goes to
-  pub log_file : Option ℕ
+  pub files : Files
   -- the input that is left to read
   pub input : List ℕ
   pub logged : List ℕ
@@ -35,8 +33,7 @@ pub record DeskInMemory : Type 0 where
 -- a desk with no files, at which no call was made and none is to fail
 abbrev pub new_desk : DeskInMemory
 new_desk = record {
-  files = [];
-  log_file = None;
+  files = record { all = []; log = None };
   input = [];
   logged = [];
   printed = [];
@@ -72,7 +69,7 @@ IsNextListed calls = Contains calls.failing (next_count calls.made)
 abbrev pub outside_of : DeskInMemory → Outside
 outside_of d = record {
   files = Some d.files;
-  text = text_in d.files;
+  text = text_in d.files.all;
   input = Some d.input;
   logged = Some d.logged;
   printed = Some d.printed;
@@ -87,17 +84,6 @@ outside_of d = record {
 abbrev pub place_of : List File → List ℕ → ℕ
 place_of [] name = 0
 place_of (f ∷ fs) name = if bytes_eq f.name name then 0 else place_of fs name + 1
-
--- the files with these bytes behind those of the one at this place
-abbrev pub extended_at : List File → ℕ → List ℕ → List File
-extended_at [] place bytes = []
-extended_at (f ∷ fs) zero bytes = record f { bytes = f.bytes ++ bytes } ∷ fs
-extended_at (f ∷ fs) (suc place) bytes = f ∷ extended_at fs place bytes
-
--- the files after a log takes these bytes, into no file before one was made for it
-abbrev pub files_logged : List File → Option ℕ → List ℕ → List File
-files_logged files None bytes = files
-files_logged files (Some place) bytes = extended_at files place bytes
 
 abbrev pub one_more_failing : Calls → ℕ → Calls
 one_more_failing calls number = record calls { failing = calls.failing ++ number ∷ [] }
@@ -120,11 +106,3 @@ a_place_counts_from_0 = refl
 
 pub a_new_file_comes_last : place_of two_files (99 ∷ []) ≡ 2
 a_new_file_comes_last = refl
-
-pub the_log_goes_behind :
-    extended_at two_files 1 (3 ∷ [])
-    ≡ record { name = 97 ∷ []; bytes = 1 ∷ [] } ∷ record { name = 98 ∷ []; bytes = 2 ∷ 3 ∷ [] } ∷ []
-the_log_goes_behind = refl
-
-pub without_a_file_the_log_goes_nowhere : files_logged two_files None (3 ∷ []) ≡ two_files
-without_a_file_the_log_goes_nowhere = refl

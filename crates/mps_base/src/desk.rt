@@ -1,7 +1,7 @@
 // The outside world as the program sees it: one input, one log, what is printed and what is reported.
 ghost use Rattle.std.specs.Prelude.{◌≡◌, ◌<◌, ◌≤◌, ◌++◌, ◌↔◌, [], ℕ, List, length, take, IfOk, IfSome, IsSome, OnOk, OnErr};
 ghost use Rattle.std.specs.Option.{option_map};
-ghost use Rattle.mps_base.specs.Desk.{Outside, HasRisen, OnlyReads, OnlyLogs, OnlyPrints, OnlyReports, SameFiles, SameElsewhere, with_file, text_in, added};
+ghost use Rattle.mps_base.specs.Desk.{Outside, HasRisen, OnlyReads, OnlyLogs, OnlyPrints, OnlyReports, SameFiles, SameElsewhere, made_for_log, after_log, text_in, added};
 
 use thiserror::Error;
 
@@ -44,7 +44,7 @@ pub trait Desk {
     /// it came from a file of this name.
     fn create(&mut self, name: &str) -> Result<(), Failed>
         ensures made { OnOk result ((outside self.new).files
-            ≡ option_map (λ files. with_file files name.now []) (outside self.old).files) }
+            ≡ option_map (made_for_log name.now) (outside self.old).files) }
         ensures elsewhere { SameElsewhere name.now (outside self.old) (outside self.new) }
         ensures logged { (outside self.new).logged ≡ (outside self.old).logged }
         ensures failed { OnErr result (SameFiles (outside self.old) (outside self.new)) }
@@ -52,12 +52,14 @@ pub trait Desk {
         ensures cause { OnErr result (HasRisen (outside self.old).log_faults (outside self.new).log_faults) }
         ensures others { OnlyLogs (outside self.old) (outside self.new) };
 
-    /// Writes to the log: answers how many bytes at the front of the piece it took, at least one where there is one.
+    /// Writes to the log: answers how many bytes at the front of the piece it took, at least one where there is one. They
+    /// go behind what the log's file holds, and no other file changes.
     fn log(&mut self, bytes: &[u8]) -> Result<usize, Failed>
         ensures within { IfOk result (λ n. n ≤ length bytes.now) }
         ensures some { IfOk result (λ n. 0 < length bytes.now → 0 < n) }
         ensures logged { IfOk result (λ n. (outside self.new).logged ≡ added (outside self.old).logged bytes.now n) }
-        ensures told { IsSome (outside self.new).files ↔ IsSome (outside self.old).files }
+        ensures filed { IfOk result (λ n. (outside self.new).files
+            ≡ option_map (after_log (take n bytes.now)) (outside self.old).files) }
         ensures failed { OnErr result ((outside self.new).logged ≡ (outside self.old).logged) }
         ensures files { OnErr result (SameFiles (outside self.old) (outside self.new)) }
         ensures counted { (outside self.old).log_faults ≤ (outside self.new).log_faults }
@@ -86,5 +88,5 @@ pub trait Desk {
 
     /// Where the files are told, so is what opening a name gives.
     ghost text_of_files: { (desk : Self) (name : List ℕ)
-        → IfSome (outside desk).files (λ files. (outside desk).text name ≡ text_in files name) };
+        → IfSome (outside desk).files (λ files. (outside desk).text name ≡ text_in files.all name) };
 }

@@ -4,7 +4,7 @@ ghost use Rattle.std.specs.Option.{option_copied};
 ghost use Rattle.mps_base.specs.Desk.{text_in};
 
 use crate::calls::CallList;
-use crate::stored_file::{StoredFile, add_to_log, find_bytes, put_file};
+use crate::stored_file::{StoredFile, add_to_log, find_bytes, make_file, put_file};
 use crate::{Desk, Failed};
 use std::alloc::{AllocError, Global};
 use std::marker::Model;
@@ -26,7 +26,7 @@ pub enum DeskCall {
 pub struct MemDesk {
     alloc: Global,
     files: Vec<StoredFile>,
-    log_file: Option<usize>,
+    log_file: Option<String>,
     input: Vec<u8>,
     position: usize,
     logged: Vec<u8>,
@@ -46,15 +46,14 @@ pub struct MemDesk {
 }
 
 impl Model for MemDesk {
-    ghost use Rattle.std.specs.Prelude.{◌<◌, ◌≤◌, length, drop};
-    ghost use Rattle.std.specs.Option.{ForSome};
+    ghost use Rattle.std.specs.Prelude.{◌<◌, ◌≤◌, length, drop, string_bytes};
+    ghost use Rattle.std.specs.Option.{option_map};
     ghost use Rattle.mps_base.specs.MemDesk.{DeskInMemory};
 
     ghost Value = { DeskInMemory };
 
     ghost view = { λ d. record {
-      files = d.files.items;
-      log_file = d.log_file;
+      files = record { all = d.files.items; log = option_map string_bytes d.log_file };
       input = drop d.position d.input.items;
       logged = d.logged.items;
       printed = d.printed.items;
@@ -72,8 +71,7 @@ impl Model for MemDesk {
       err_faults = d.err_faults;
     } };
 
-    ghost invariant = { λ d. (d.position ≤ length d.input.items) × (0 < d.most)
-        × ForSome d.log_file (λ place. place < length d.files.items) };
+    ghost invariant = { λ d. (d.position ≤ length d.input.items) × (0 < d.most) };
 }
 
 impl MemDesk {
@@ -110,7 +108,7 @@ impl MemDesk {
     /// Puts a file onto the desk, in place of one of this name. The file `-` is standard input.
     pub fn add_file(&mut self, name: &str, bytes: &[u8]) -> Result<(), AllocError>
         ensures ok { OnOk result (self.new
-            ≡ record self.old { files = with_file self.old.files name.now bytes.now }) }
+            ≡ record self.old { files = record self.old.files { all = with_file self.old.files.all name.now bytes.now } }) }
         ensures err { OnErr result (self.new ≡ self.old) }
     {
         put_file(self.alloc, &mut self.files, name, bytes)?;
@@ -142,7 +140,7 @@ impl MemDesk {
 
     /// The bytes of the file of this name, where there is one.
     pub fn file(&self, name: &str) -> Option<&[u8]>
-        ensures { option_copied result ≡ file_named self.now.files name.now }
+        ensures { option_copied result ≡ file_named self.now.files.all name.now }
     {
         find_bytes(&self.files, name)
     }
@@ -164,15 +162,15 @@ impl MemDesk {
 
 impl Desk for MemDesk {
     ghost use Rattle.std.specs.Prelude.{◌≡◌, ◌<◌, ◌↔◌, min, [], ◌++◌, length, take, drop, Some, None, refl, IsErr, IsNone, IfOk, OnOk, OnErr};
-    ghost use Rattle.mps_base.specs.Desk.{SameElsewhere, text_in, with_file};
-    ghost use Rattle.mps_base.specs.MemDesk.{outside_of, one_more_call, next_count, IsNextListed, place_of, files_logged};
+    ghost use Rattle.mps_base.specs.Desk.{SameElsewhere, text_in, made_for_log, after_log};
+    ghost use Rattle.mps_base.specs.MemDesk.{outside_of, one_more_call, next_count, IsNextListed};
 
     ghost outside = { outside_of };
 
     fn open(&mut self, name: &str) -> Result<(), Failed>
         ensures listed { IsNextListed self.old.opens → IsErr result }
-        ensures absent { IsNone (text_in self.old.files name.now) → IsErr result }
-        ensures ok { IfOk result (λ _. Some self.new.input ≡ text_in self.old.files name.now) }
+        ensures absent { IsNone (text_in self.old.files.all name.now) → IsErr result }
+        ensures ok { IfOk result (λ _. Some self.new.input ≡ text_in self.old.files.all name.now) }
         ensures ok_state { OnOk result (self.new
             ≡ record self.old { input = self.new.input; opens = one_more_call self.old.opens }) }
         ensures err { OnErr result (self.new
@@ -215,8 +213,7 @@ impl Desk for MemDesk {
         ensures elsewhere { SameElsewhere name.now (outside_of self.old) (outside_of self.new) }
         ensures listed { IsNextListed self.old.creates → IsErr result }
         ensures ok { OnOk result (self.new ≡ record self.old {
-          files = with_file self.old.files name.now [];
-          log_file = Some (place_of self.old.files name.now);
+          files = made_for_log name.now self.old.files;
           creates = one_more_call self.old.creates;
         }) }
         ensures err { OnErr result (self.new ≡ record self.old {
@@ -225,8 +222,8 @@ impl Desk for MemDesk {
         }) }
     {
         if !self.creates.next_fails() {
-            if let Ok(place) = put_file(self.alloc, &mut self.files, name, &[]) {
-                self.log_file = Some(place);
+            if let Ok(name) = make_file(self.alloc, &mut self.files, name) {
+                self.log_file = Some(name);
                 return Ok(());
             }
         }
@@ -239,7 +236,7 @@ impl Desk for MemDesk {
         ensures count { IfOk result (λ n. n ≡ min (length bytes.now) self.old.most) }
         ensures some { IfOk result (λ n. 0 < length bytes.now → 0 < n) }
         ensures ok { IfOk result (λ n. self.new ≡ record self.old {
-          files = files_logged self.old.files self.old.log_file (take n bytes.now);
+          files = after_log (take n bytes.now) self.old.files;
           logged = self.old.logged ++ take n bytes.now;
           logs = one_more_call self.old.logs;
         }) }
@@ -251,7 +248,8 @@ impl Desk for MemDesk {
         let count = bytes.len().min(self.most);
         if !self.logs.next_fails() {
             let piece = &bytes[..count];
-            if add_to_log(&mut self.logged, &mut self.files, self.log_file, piece).is_ok() {
+            let name = self.log_file.as_ref();
+            if add_to_log(&mut self.logged, &mut self.files, name, piece).is_ok() {
                 return Ok(count);
             }
         }

@@ -1,9 +1,9 @@
 // A file that a desk in memory keeps.
-ghost use Rattle.std.specs.Prelude.{◌≡◌, ◌<◌, ◌≤◌, [], ◌++◌, length, IfOk, OnOk, OnErr};
-ghost use Rattle.std.specs.Option.{option_copied, ForSome};
+ghost use Rattle.std.specs.Prelude.{◌≡◌, [], ◌++◌, string_bytes, IfOk, OnOk, OnErr};
+ghost use Rattle.std.specs.Option.{option_copied, option_map};
 ghost use Rattle.std.specs.Str.{bytes_eq};
-ghost use Rattle.mps_base.specs.Desk.{file_named, with_file};
-ghost use Rattle.mps_base.specs.MemDesk.{place_of, files_logged};
+ghost use Rattle.mps_base.specs.Desk.{file_named, with_file, with_more, with_logged};
+ghost use Rattle.mps_base.specs.MemDesk.{place_of};
 
 use std::alloc::{AllocError, Global};
 use std::marker::Model;
@@ -85,18 +85,15 @@ pub fn find_bytes<'a>(files: &'a [StoredFile], name: &str) -> Option<&'a [u8]>
     Some(file.bytes())
 }
 
-/// Makes these the bytes of the file of this name, and answers its place.
+/// Makes these the bytes of the file of this name.
 #[tactic(auto, using(crate::proofs::Files::at_places))]
 pub fn put_file(
     alloc: Global,
     files: &mut Vec<StoredFile>,
     name: &str,
     bytes: &[u8],
-) -> Result<usize, AllocError>
+) -> Result<(), AllocError>
     ensures put { OnOk result (files.new.items ≡ with_file files.old.items name.now bytes.now) }
-    ensures place { IfOk result (λ place. place ≡ place_of files.old.items name.now) }
-    ensures there { IfOk result (λ place. place < length files.new.items) }
-    ensures grows { length files.old.items ≤ length files.new.items }
     ensures err { OnErr result (files.new.items ≡ files.old.items) }
 {
     let place = find_place(files, name);
@@ -107,7 +104,22 @@ pub fn put_file(
     } else {
         files.push(StoredFile::new(alloc, name, bytes)?)?;
     }
-    Ok(place)
+    Ok(())
+}
+
+/// Makes the file of this name empty, and answers a copy of the name.
+pub fn make_file(
+    alloc: Global,
+    files: &mut Vec<StoredFile>,
+    name: &str,
+) -> Result<String, AllocError>
+    ensures name { IfOk result (λ copy. string_bytes copy ≡ name.now) }
+    ensures made { OnOk result (files.new.items ≡ with_file files.old.items name.now []) }
+    ensures err { OnErr result (files.new.items ≡ files.old.items) }
+{
+    let copy = String::from_str(alloc, name)?;
+    put_file(alloc, files, name, &[])?;
+    Ok(copy)
 }
 
 /// Adds the bytes to all that was logged, and to the log's file where there is one.
@@ -115,25 +127,39 @@ pub fn put_file(
 pub fn add_to_log(
     logged: &mut Vec<u8>,
     files: &mut Vec<StoredFile>,
-    log_file: Option<usize>,
+    log_file: Option<&String>,
     bytes: &[u8],
 ) -> Result<(), AllocError>
-    requires { ForSome log_file (λ place. place < length files.old.items) }
     ensures logged { OnOk result (logged.new.items ≡ logged.old.items ++ bytes.now) }
-    ensures files { OnOk result (files.new.items ≡ files_logged files.old.items log_file bytes.now) }
-    ensures kept { length files.new.items ≡ length files.old.items }
+    ensures filed { OnOk result (files.new.items
+        ≡ with_logged files.old.items (option_map string_bytes (option_copied log_file.entry)) bytes.now) }
     ensures err { OnErr result (logged.new.items ≡ logged.old.items) }
     ensures err_files { OnErr result (files.new.items ≡ files.old.items) }
 {
     let before = logged.len();
     logged.extend_from_slice(bytes)?;
-    let Some(place) = log_file else {
-        return Ok(());
-    };
-    let file = &mut files[place];
-    if let Err(failed) = file.extend(bytes) {
-        logged.truncate(before);
-        return Err(failed);
+    match log_file {
+        Some(name) => {
+            let extended = extend_file(files, name, bytes);
+            if extended.is_err() {
+                logged.truncate(before);
+            }
+            extended
+        }
+        None => Ok(()),
     }
-    Ok(())
+}
+
+/// Adds the bytes to those of the file of this name, where there is one.
+#[tactic(auto, using(crate::proofs::Files::at_places))]
+fn extend_file(files: &mut Vec<StoredFile>, name: &str, bytes: &[u8]) -> Result<(), AllocError>
+    ensures ok { OnOk result (files.new.items ≡ with_more files.old.items name.now bytes.now) }
+    ensures err { OnErr result (files.new.items ≡ files.old.items) }
+{
+    let place = find_place(files, name);
+    if place >= files.len() {
+        return Ok(());
+    }
+    let file = &mut files[place];
+    file.extend(bytes)
 }
