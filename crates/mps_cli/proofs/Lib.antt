@@ -1,5 +1,6 @@
 pub mod Outsides
 pub mod Between
+pub mod LogFile
 pub mod NextLine
 pub mod RecordBytes
 pub mod LineByLine

@@ -1,5 +1,5 @@
 -- One change of the outside after another.
-use Rattle.std.proofs.Common.{◌≡◌, ℕ, ◌+◌, ◌-◌, ◌≤◌, Option, Some, None, List, ◌++◌, length, take, drop, refl, ◌∙◌, ap, arith, append_assoc, inl, inr}
+use Rattle.std.proofs.Common.{◌≡◌, ℕ, ◌+◌, ◌-◌, ◌≤◌, Option, Some, None, List, [], ◌++◌, length, take, drop, refl, sym, ◌∙◌, ap, arith, append_assoc, append-nil, inl, inr}
 use Rattle.std.proofs.Math.Seq.{take-add}
 use Rattle.std.proofs.lemmas.List.{take_rest}
 use Rattle.std.proofs.lemmas.Grind.{common_steps}
@@ -104,6 +104,16 @@ risen_from a b c le (inl lt) = inl (omega arith)
 risen_from a b c le (inr last) = inr last
 
 -- nothing behind what is told
+pub appended_empty : (told : Option (List ℕ)) → told ≡ appended told []
+appended_empty None = refl
+appended_empty (Some bytes) = ap Some (sym (append-nil bytes))
+
+-- a piece behind another
+pub appended_twice : (told : Option (List ℕ)) (a b : List ℕ) → appended (appended told a) b ≡ appended told (a ++ b)
+appended_twice None a b = refl
+appended_twice (Some bytes) a b = ap Some (append_assoc bytes a b)
+
+-- nothing of a piece behind what is told
 pub appended_nothing : (told : Option (List ℕ)) (piece : List ℕ) → told ≡ appended told (take 0 piece)
 appended_nothing None piece = refl
 appended_nothing (Some bytes) piece = ap Some (grind (arith, common_steps))

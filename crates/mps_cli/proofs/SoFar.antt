@@ -1,5 +1,5 @@
 -- What a run has done so far, and what is left to do.
-use Rattle.std.proofs.Common.{◌≡◌, ℕ, ◌+◌, ◌<◌, ◌≤◌, true, false, Option, Some, None, List, [], ◌∷◌, ◌++◌, length, take, drop, refl, sym, ◌∙◌, ap, arith, append_assoc, append-nil, option_and_then, subst, zero-add, not, nat_lt}
+use Rattle.std.proofs.Common.{◌≡◌, ℕ, ◌+◌, ◌<◌, ◌≤◌, true, false, Option, Some, None, List, [], ◌∷◌, ◌++◌, length, take, drop, refl, sym, ◌∙◌, ap, arith, append-nil, option_and_then, subst, zero-add, not, nat_lt}
 use Rattle.std.specs.List.{list_all}
 use Rattle.std.proofs.lemmas.List.Sums.{prefix_len-le-length}
 use Rattle.std.proofs.lemmas.List.{map-append, length-take-le}
@@ -24,6 +24,7 @@ use Rattle.mps_cli.specs.declared.ending.Ending.{Ending}
 use Rattle.mps_cli.specs.declared.ending.Ending.TheVariants as ending
 use Rattle.mps_cli.specs.declared.next.Next.{Next}
 use Rattle.mps_cli.specs.declared.next.Next.TheVariants.{Line, TooLong, End}
+use Rattle.mps_cli.proofs.Outsides.{appended_empty, appended_twice}
 use Rattle.mps_cli.proofs.LineByLine.{first_line, take_one_more, good_append, commands_append}
 
 -- so many lines of a script were run, and these bytes are left of it
@@ -49,14 +50,6 @@ pub record SoFar (kept : Kept) (lines pools : ℕ) (old now : Outside) (script l
   pub unsupported : AreUnsupportedWhereDue empty_world history
   pub stands : StandsFor kept (world_after_history history)
   pub replayed : replay (log_of history) ≡ Some (live_blocks (world_after_history history))
-
-appended_empty : (told : Option (List ℕ)) → told ≡ appended told []
-appended_empty None = refl
-appended_empty (Some bytes) = ap Some (sym (append-nil bytes))
-
-appended_twice : (told : Option (List ℕ)) (a b : List ℕ) → appended (appended told a) b ≡ appended told (a ++ b)
-appended_twice None a b = refl
-appended_twice (Some bytes) a b = ap Some (append_assoc bytes a b)
 
 read_nothing : (left : Option (List ℕ)) → ReadSoFar 0 [] left left
 read_nothing None = refl

@@ -15,6 +15,7 @@ use Rattle.mps_generator.specs.Script.{script as generated_script}
 use Rattle.mps_words.specs.Meaning.{Meaning, Runs, Converts, Reads, Lists, Generates}
 use Rattle.mps_words.specs.Words.{meaning}
 use Rattle.mps_cli.specs.Ending.{IsReported, Reports}
+use Rattle.mps_cli.specs.LogFile.{IsInFile, LogsInto}
 use Rattle.mps_cli.specs.Script.{Answered, RanWith}
 use Rattle.mps_cli.specs.declared.ending.Ending.TheVariants.{NoMeaning}
 
@@ -24,7 +25,7 @@ pub record TellsUsage (old new : Outside) : Type 0 where
   pub others : OnlyReports old new
 
 -- `run`
-pub record RunsScript (script : List ℕ) (status : ℕ) (old new : Outside) : Type 0 where
+pub record RunsScript (log script : List ℕ) (status : ℕ) (old new : Outside) : Type 0 where
   -- one line is reported, which tells of the ending that has this status; where the status is 0, none
   pub reported : IsReported status old new
   -- A whole run of a script that the desk tells: there is a history of its commands, each with its line, up to the end or
@@ -35,6 +36,10 @@ pub record RunsScript (script : List ℕ) (status : ℕ) (old new : Outside) : T
   -- Where printing didn't fail, what was printed is in any case the answer line of each step of a history of the first
   -- lines, and nothing else.
   pub answered : status ≢ 4 → (bytes : List ℕ) → old.text script ≡ Some bytes → Answered bytes old new
+  -- what was logged is exactly what the log's file holds, and no other file has changed
+  pub in_file : is_whole_status status ≡ true → IsInFile log old new
+  -- that holds with any status, unless nothing was logged and no file has changed
+  pub filed : LogsInto log old new
 
 -- `cnv`
 pub record ConvertsLog (log : List ℕ) (kinds : ℕ) (status : ℕ) (old new : Outside) : Type 0 where
@@ -90,7 +95,7 @@ pub record GeneratesScript (seed count : ℕ) (status : ℕ) (old new : Outside)
 -- what is done with a status, by what the words ask for
 abbrev pub DoesAsAsked : Option Meaning → (status : ℕ) → (old new : Outside) → Type 0
 DoesAsAsked None status old new = TellsUsage old new
-DoesAsAsked (Some (Runs log script)) status old new = RunsScript script status old new
+DoesAsAsked (Some (Runs log script)) status old new = RunsScript log script status old new
 DoesAsAsked (Some (Converts log kinds)) status old new = ConvertsLog log kinds status old new
 DoesAsAsked (Some (Reads text)) status old new = ReadsText text status old new
 DoesAsAsked (Some (Lists log)) status old new = ListsBlocks log status old new
@@ -99,6 +104,10 @@ DoesAsAsked (Some (Generates seed count)) status old new = GeneratesScript seed 
 pub help_prints_nothing : (status : ℕ) (old new : Outside) → DoesAsAsked (meaning (codes "run" ∷ codes "--help" ∷ [])) status old new
     → new.printed ≡ old.printed
 help_prints_nothing status old new does = does.others.printed
+
+pub a_log_by_its_name : (old new : Outside) → DoesAsAsked (meaning (codes "run" ∷ codes "-o" ∷ codes "a" ∷ codes "s" ∷ [])) 0 old new
+    → IsInFile (codes "a") old new
+a_log_by_its_name old new does = does.in_file refl
 
 pub a_script_by_its_name : (old new : Outside) (bytes : List ℕ) → DoesAsAsked (meaning (codes "run" ∷ codes "-o" ∷ codes "a" ∷ codes "s" ∷ [])) 0 old new
     → old.text (codes "s") ≡ Some bytes → RanWith 0 bytes old new

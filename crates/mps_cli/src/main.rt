@@ -3,6 +3,7 @@
 #![tactic(auto)]
 
 mod ending;
+mod laws;
 mod lines;
 mod log;
 mod mps;

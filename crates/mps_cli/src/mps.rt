@@ -73,7 +73,7 @@ fn run_command<D: Desk>(alloc: Global, command: Command<'_>, desk: &mut D) -> u8
 /// Runs a script, and reports how the run ended.
 fn run_script<D: Desk>(alloc: Global, log: &str, script: &str, desk: &mut D) -> u8
     ensures meaning { result ≢ 2 }
-    ensures runs { RunsScript script.now result (D.outside desk.old) (D.outside desk.new) }
+    ensures runs { RunsScript log.now script.now result (D.outside desk.old) (D.outside desk.new) }
     ensures read_failed { result ≡ 3 → HasRisen (D.outside desk.old).in_faults (D.outside desk.new).in_faults }
     ensures write_failed { result ≡ 4 → HasRisen (D.outside desk.old).out_faults (D.outside desk.new).out_faults }
     ensures log_failed { result ≡ 5 → HasRisen (D.outside desk.old).log_faults (D.outside desk.new).log_faults }

@@ -1,7 +1,7 @@
 // The run of a script.
-ghost use Rattle.std.specs.Prelude.{◌≡◌, ◌≢◌, ◌≤◌, ◌+◌, ◌∷◌, ◌⊎◌, [], ℕ, List, true, false, Some, IfSome, IfNone, IfErr, OnOk};
+ghost use Rattle.std.specs.Prelude.{◌≡◌, ◌≢◌, ◌≤◌, ◌+◌, ◌∷◌, ◌⊎◌, [], ℕ, List, true, false, Some, IfSome, IfNone, IfErr, OnOk, OnErr};
 ghost use Rattle.std.specs.Option.{option_map};
-ghost use Rattle.mps_base.specs.Desk.{SameElsewhere, with_file};
+ghost use Rattle.mps_base.specs.Desk.{SameElsewhere, made_for_log};
 ghost use Rattle.mps_base.specs.Record.{records_bytes};
 ghost use Rattle.mps_script.specs.Line.{call_of_line};
 ghost use Rattle.mps_script.specs.Text.{text_of};
@@ -10,7 +10,8 @@ ghost use Rattle.mps_cli.specs.Ending.{HasCause, CountsGrow, IsQuiet};
 ghost use Rattle.mps_cli.specs.Buffer.{left_of};
 ghost use Rattle.mps_cli.specs.Records.{records_of_done};
 ghost use Rattle.mps_cli.specs.Script.{Command, StepsRan, RanTo, RanLines, Answered, IsBadHere, is_good, is_whole, commands_of_call};
-ghost use Rattle.mps_cli.specs.Write.{appended};
+ghost use Rattle.mps_cli.specs.LogFile.{LogsInto, IsInFile};
+ghost use Rattle.mps_cli.specs.Write.{appended, LogTakes};
 ghost use Rattle.mps_cli.specs.declared.ending.Ending.TheVariants.{NoMeaning, ReadFailed, WriteFailed, LogFailed};
 
 use crate::ending::Ending;
@@ -29,6 +30,8 @@ use std::alloc::Global;
 pub fn run<D: Desk>(alloc: Global, log: &str, script: &str, desk: &mut D) -> Ending
     ensures meaning { result ≢ NoMeaning }
     ensures cause { HasCause result (D.outside desk.old) (D.outside desk.new) }
+    ensures filed { LogsInto log.now (D.outside desk.old) (D.outside desk.new) }
+    ensures whole_log { is_whole result ≡ true → IsInFile log.now (D.outside desk.old) (D.outside desk.new) }
     ensures counts { CountsGrow (D.outside desk.old) (D.outside desk.new) }
     ensures quiet { IsQuiet (D.outside desk.old) (D.outside desk.new) }
     ensures ran { is_whole result ≡ true → (bytes : List ℕ) → (D.outside desk.old).text script.now ≡ Some bytes
@@ -52,8 +55,9 @@ pub fn run<D: Desk>(alloc: Global, log: &str, script: &str, desk: &mut D) -> End
 /// Opens the script, and then makes the log; answers how the run ends where one of them fails.
 fn open_files<D: Desk>(desk: &mut D, log: &str, script: &str) -> Result<(), Ending>
     ensures input { OnOk result ((D.outside desk.new).input ≡ (D.outside desk.old).text script.now) }
-    ensures made { OnOk result ((D.outside desk.new).files ≡ option_map (λ files. with_file files log.now []) (D.outside desk.old).files) }
+    ensures made { OnOk result ((D.outside desk.new).files ≡ option_map (made_for_log log.now) (D.outside desk.old).files) }
     ensures elsewhere { SameElsewhere log.now (D.outside desk.old) (D.outside desk.new) }
+    ensures unmade { OnErr result ((D.outside desk.new).files ≡ (D.outside desk.old).files) }
     ensures printed { (D.outside desk.new).printed ≡ (D.outside desk.old).printed }
     ensures logged { (D.outside desk.new).logged ≡ (D.outside desk.old).logged }
     ensures failed { IfErr result (λ ending. (ending ≡ ReadFailed) ⊎ (ending ≡ LogFailed)) }
@@ -73,6 +77,7 @@ fn open_files<D: Desk>(desk: &mut D, log: &str, script: &str) -> Result<(), Endi
 fn run_lines<D: Desk>(alloc: Global, desk: &mut D, lines: &mut Lines) -> Ending
     ensures meaning { result ≢ NoMeaning }
     ensures cause { HasCause result (D.outside desk.old) (D.outside desk.new) }
+    ensures takes { LogTakes (D.outside desk.old) (D.outside desk.new) }
     ensures counts { CountsGrow (D.outside desk.old) (D.outside desk.new) }
     ensures quiet { IsQuiet (D.outside desk.old) (D.outside desk.new) }
     ensures ran { is_whole result ≡ true → (script : List ℕ) → left_of lines.old (D.outside desk.old).input ≡ Some script
@@ -122,6 +127,7 @@ fn run_line<D: Desk>(
     ensures records_first { IfSome result (λ ending. ending ≢ WriteFailed → (D.outside desk.new).printed ≡ (D.outside desk.old).printed) }
     ensures meaning { IfSome result (λ ending. ending ≢ NoMeaning) }
     ensures cause { IfSome result (λ ending. HasCause ending (D.outside desk.old) (D.outside desk.new)) }
+    ensures takes { LogTakes (D.outside desk.old) (D.outside desk.new) }
     ensures counts { CountsGrow (D.outside desk.old) (D.outside desk.new) }
     ensures quiet { IsQuiet (D.outside desk.old) (D.outside desk.new) }
 {
@@ -150,6 +156,7 @@ fn run_call<D: Desk>(
     ensures records_first { IfSome result (λ ending. ending ≢ WriteFailed → (D.outside desk.new).printed ≡ (D.outside desk.old).printed) }
     ensures meaning { IfSome result (λ ending. ending ≢ NoMeaning) }
     ensures cause { IfSome result (λ ending. HasCause ending (D.outside desk.old) (D.outside desk.new)) }
+    ensures takes { LogTakes (D.outside desk.old) (D.outside desk.new) }
     ensures counts { CountsGrow (D.outside desk.old) (D.outside desk.new) }
     ensures quiet { IsQuiet (D.outside desk.old) (D.outside desk.new) }
 {
@@ -180,6 +187,7 @@ fn log_then_print<D: Desk>(
     ensures failed { IfErr result (λ ending. (ending ≡ WriteFailed) ⊎ (ending ≡ LogFailed)) }
     ensures cause { IfErr result (λ ending. HasCause ending (D.outside desk.old) (D.outside desk.new)) }
     ensures input { (D.outside desk.new).input ≡ (D.outside desk.old).input }
+    ensures takes { LogTakes (D.outside desk.old) (D.outside desk.new) }
     ensures counts { CountsGrow (D.outside desk.old) (D.outside desk.new) }
     ensures quiet { IsQuiet (D.outside desk.old) (D.outside desk.new) }
 {

@@ -1,13 +1,14 @@
 // Writing whole pieces to a desk, whose calls may take a part of a piece.
 ghost use Rattle.std.specs.Prelude.{◌≡◌, ◌≤◌, OnOk, OnErr};
 ghost use Rattle.mps_base.specs.Desk.{HasRisen, OnlyLogs, OnlyPrints, OnlyReports};
-ghost use Rattle.mps_cli.specs.Write.{appended};
+ghost use Rattle.mps_cli.specs.Write.{appended, LogTakes};
 
 use mps_base::{Desk, Failed};
 
 /// Writes a whole piece to the log.
 pub fn log_all<D: Desk>(desk: &mut D, piece: &[u8]) -> Result<(), Failed>
     ensures logged { OnOk result ((D.outside desk.new).logged ≡ appended (D.outside desk.old).logged piece.now) }
+    ensures takes { LogTakes (D.outside desk.old) (D.outside desk.new) }
     ensures counted { (D.outside desk.old).log_faults ≤ (D.outside desk.new).log_faults }
     ensures cause { OnErr result (HasRisen (D.outside desk.old).log_faults (D.outside desk.new).log_faults) }
     ensures others { OnlyLogs (D.outside desk.old) (D.outside desk.new) }

@@ -1,4 +1,5 @@
 use Rattle.std.proofs.Common.{append-nil}
+use Rattle.mps_cli.proofs.LogFile.{takes_self}
 use Rattle.mps_cli.proofs.log.log_accepted.Goals as goal
 
 pub returns-in-Arena-clause-logged : goal.returns-in-Arena-clause-logged
@@ -18,3 +19,6 @@ returns-in-PoolMfs-clause-logged g c = rw c.in-PoolMfs.is (simp append-nil c.log
 
 pub returns-in-PoolMvff-clause-logged : goal.returns-in-PoolMvff-clause-logged
 returns-in-PoolMvff-clause-logged g c = rw c.in-PoolMvff.is (simp append-nil c.log_record-in-PoolMvff.ensures.logged)
+
+pub returns-in_default-clause-takes : goal.returns-in_default-clause-takes
+returns-in_default-clause-takes g c = takes_self (g.D.Desk.outside c.args.desk.now)

@@ -2,6 +2,7 @@ use Rattle.std.proofs.Common.{◌≡◌, ◌∙◌, ap, refl, subst, true}
 use Rattle.mps_reading.specs.Ending.{is_whole_status}
 use Rattle.mps_cli.specs.Ending.{status_of}
 use Rattle.mps_cli.proofs.SoFar.{answered_between, ran_then_reported, reported_after, whole_status}
+use Rattle.mps_cli.proofs.LogFile.{in_file_then_reported, logs_into_then_reported}
 use Rattle.mps_cli.proofs.mps.run_script.Goals as goal
 
 pub returns-clause-runs : goal.returns-clause-runs
@@ -27,4 +28,10 @@ returns-clause-runs g c = record {
       (g.D.Desk.outside c.report.new.desk) refl
       (c.run-ending.ensures.answered (λ is. other (c.status_of.ensures ∙ ap status_of is)) bytes e)
       c.report.ensures.others.printed;
+  in_file = λ whole.
+      in_file_then_reported c.args.log.now (g.D.Desk.outside c.args.desk.now) (g.D.Desk.outside c.run-ending.new.desk) (g.D.Desk.outside c.report.new.desk)
+      (c.run-ending.ensures.whole_log (whole_status c.run-ending.result (subst (λ n. is_whole_status n ≡ true) c.status_of.ensures whole)))
+      c.report.ensures.others;
+  filed = logs_into_then_reported c.args.log.now (g.D.Desk.outside c.args.desk.now) (g.D.Desk.outside c.run-ending.new.desk)
+      (g.D.Desk.outside c.report.new.desk) c.run-ending.ensures.filed c.report.ensures.others;
 }

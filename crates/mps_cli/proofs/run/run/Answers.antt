@@ -1,8 +1,9 @@
-use Rattle.std.proofs.Common.{◌≡◌, Some, ◌∙◌, ap, refl}
+use Rattle.std.proofs.Common.{◌≡◌, Some, ◌∙◌, ap, refl, inl, inr}
 use Rattle.mps_base.specs.Record.{header_bytes}
 use Rattle.mps_cli.specs.Buffer.{Waiting, left_of}
 use Rattle.mps_cli.specs.Write.{appended}
 use Rattle.mps_cli.proofs.SoFar.{answered_between, answered_nothing, ran_behind_header}
+use Rattle.mps_cli.proofs.LogFile.{in_file, takes_then}
 use Rattle.mps_cli.proofs.run.run.Goals as goal
 
 pub returns-clause-ran : goal.returns-clause-ran
@@ -39,3 +40,26 @@ returns-clause-answered g c other bytes e =
     (g.D.Desk.outside c.run_lines.new.desk)
     (c.in-Ok-log_header.ensures.others.printed ∙ c.in-Ok-open_files.ensures.printed)
     (c.run_lines.ensures.answered other bytes left) refl
+
+pub returns-clause-filed : goal.returns-clause-filed
+returns-clause-filed g c =
+    inl (in_file c.args.log.now (g.D.Desk.outside c.args.desk.now) (g.D.Desk.outside c.open_files.new.desk) (g.D.Desk.outside c.run_lines.new.desk)
+    c.in-Ok-open_files.ensures.logged c.in-Ok-open_files.ensures.made
+    (takes_then _ _ _ c.in-Ok-log_header.ensures.takes c.run_lines.ensures.takes))
+
+pub returns-clause-whole_log : goal.returns-clause-whole_log
+returns-clause-whole_log g c whole =
+    in_file c.args.log.now (g.D.Desk.outside c.args.desk.now) (g.D.Desk.outside c.open_files.new.desk) (g.D.Desk.outside c.run_lines.new.desk)
+    c.in-Ok-open_files.ensures.logged c.in-Ok-open_files.ensures.made
+    (takes_then _ _ _ c.in-Ok-log_header.ensures.takes c.run_lines.ensures.takes)
+
+pub returns-in_default-log_header-clause-filed : goal.returns-in_default-log_header-clause-filed
+returns-in_default-log_header-clause-filed g c =
+    inl (in_file c.args.log.now (g.D.Desk.outside c.args.desk.now) (g.D.Desk.outside c.open_files.new.desk) (g.D.Desk.outside c.log_header.new.desk)
+    c.in-Ok-open_files.ensures.logged c.in-Ok-open_files.ensures.made c.in_default-log_header.ensures.takes)
+
+pub returns-in_default-clause-filed : goal.returns-in_default-clause-filed
+returns-in_default-clause-filed g c = inr (record { logged = refl; files = refl })
+
+pub returns-in-Err-clause-filed : goal.returns-in-Err-clause-filed
+returns-in-Err-clause-filed g c = inr (record { logged = c.in-Err.ensures.logged; files = c.in-Err.ensures.unmade })

@@ -1,6 +1,6 @@
 use Rattle.std.proofs.Common.{◌≡◌, ◌≤◌, ◌-◌, length, take}
 use Rattle.mps_base.specs.Desk.{OnlyLogs}
-use Rattle.mps_cli.specs.Write.{appended}
+use Rattle.mps_cli.specs.Write.{appended, LogTakes}
 use Rattle.mps_cli.proofs.write.log_all.Given as goal
 
 abbrev pub invariant-loop-written : goal.invariant-loop-written
@@ -8,6 +8,7 @@ invariant-loop-written g l = record {
   within : l.written ≤ length l.piece;
   told : (g.D.Desk.outside l.desk).logged ≡ appended (g.D.Desk.outside l.initial.desk).logged (take l.written l.piece);
   counted : (g.D.Desk.outside l.initial.desk).log_faults ≤ (g.D.Desk.outside l.desk).log_faults;
+  takes : LogTakes (g.D.Desk.outside l.initial.desk) (g.D.Desk.outside l.desk);
   others : OnlyLogs (g.D.Desk.outside l.initial.desk) (g.D.Desk.outside l.desk);
 }
 
