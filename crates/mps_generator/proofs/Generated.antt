@@ -32,40 +32,31 @@ makes_an_object kind step slot target lt =
     let d : eqb kind 7 ≡ false = ne_eqb kind 7 (λ e. omega (arith, e)) in
     rw (a, b, c, d) refl
 
--- ---- what is left, one line on. `old` is what was left before
+-- ---- the lines before a step, one line on
 
 -- the first line of an object
-pub object_begins : (old : List (List ℕ)) (count step state slot target kind after : ℕ) (text : List ℕ) (behind : List (List ℕ))
-    → lines_from (count - step) step state ≡ old → step < count
+pub object_begins : (count step state slot target kind after : ℕ) (text : List ℕ) (behind : List (List ℕ))
+    → step < count
     → slot ≡ number_below 16 (next_state state) → target ≡ number_below 16 (next_state (next_state state)) → kind ≡ number_below 8 (state_after_step state)
     → after ≡ state_after_step state → kind < 4
     → allocating_lines step slot target ≡ text ∷ behind
-    → old ≡ text ∷ (behind ++ lines_from (count - (step + 1)) (step + 1) after)
-object_begins old count step state slot target kind after text behind was lt slot-is target-is kind-is after-is small line =
+    → lines_from (count - step) step state ≡ text ∷ (behind ++ lines_from (count - (step + 1)) (step + 1) after)
+object_begins count step state slot target kind after text behind lt slot-is target-is kind-is after-is small line =
     let lines : step_lines step state ≡ text ∷ behind =
     step_drawn step state slot target kind slot-is target-is kind-is ∙ makes_an_object kind step slot target small ∙ line in
-    sym was ∙ lines_more count step state lt
+    lines_more count step state lt
     ∙ ap (λ (x : List (List ℕ)). x ++ lines_from (count - (step + 1)) (step + 1) (state_after_step state)) lines
     ∙ ap (λ (s : ℕ). text ∷ (behind ++ lines_from (count - (step + 1)) (step + 1) s)) (sym after-is)
 
 -- the one line of another step
-pub step_ends : (old : List (List ℕ)) (count step state slot target kind after : ℕ) (text : List ℕ)
-    → lines_from (count - step) step state ≡ old → step < count
+pub step_ends : (count step state slot target kind after : ℕ) (text : List ℕ)
+    → step < count
     → slot ≡ number_below 16 (next_state state) → target ≡ number_below 16 (next_state (next_state state)) → kind ≡ number_below 8 (state_after_step state)
     → after ≡ state_after_step state
     → ((n : ℕ) → lines_of_kind kind n slot target ≡ text ∷ [])
-    → old ≡ text ∷ lines_from (count - (step + 1)) (step + 1) after
-step_ends old count step state slot target kind after text was lt slot-is target-is kind-is after-is line =
+    → lines_from (count - step) step state ≡ text ∷ lines_from (count - (step + 1)) (step + 1) after
+step_ends count step state slot target kind after text lt slot-is target-is kind-is after-is line =
     let lines : step_lines step state ≡ text ∷ [] = step_drawn step state slot target kind slot-is target-is kind-is ∙ line step in
-    sym was ∙ lines_more count step state lt
+    lines_more count step state lt
     ∙ ap (λ (x : List (List ℕ)). x ++ lines_from (count - (step + 1)) (step + 1) (state_after_step state)) lines
     ∙ ap (λ (s : ℕ). text ∷ lines_from (count - (step + 1)) (step + 1) s) (sym after-is)
-
--- the last lines begin
-pub ending_begins : (old : List (List ℕ)) (count step state : ℕ) (text : List ℕ) (behind : List (List ℕ))
-    → lines_from (count - step) step state ≡ old → count ≤ step → ending_lines ≡ text ∷ behind → old ≡ text ∷ behind
-ending_begins old count step state text behind was le line = sym was ∙ no_lines_more count step state le ∙ line
-
--- a line of an object
-pub object_goes_on : (old lines rest : List (List ℕ)) (text : List ℕ) (behind : List (List ℕ)) → lines ++ rest ≡ old → lines ≡ text ∷ behind → old ≡ text ∷ (behind ++ rest)
-object_goes_on old lines rest text behind was line = sym was ∙ ap (λ (x : List (List ℕ)). x ++ rest) line

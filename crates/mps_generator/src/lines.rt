@@ -1,7 +1,9 @@
 // The lines of a generated script, one by one.
 
-ghost use Rattle.std.specs.Prelude.{◌≡◌, ◌≤◌, ◌<◌, ◌∷◌, [], take, MatchOption, IfSome};
-ghost use Rattle.mps_generator.specs.Script.{script_lines, next_state, number_below, state_after_step};
+ghost use Rattle.std.specs.Prelude.{◌≡◌, ◌≤◌, ◌<◌, ◌∷◌, [], take, drop, MatchOption, IfSome};
+ghost use Rattle.mps_generator.specs.Script.{script_lines, ending_lines, next_state, number_below, state_after_step};
+ghost use Rattle.mps_generator.specs.GenLines.{lines_left, CanStand};
+ghost use Rattle.mps_generator.specs.declared.lines.Place.TheVariants as place;
 
 use crate::script_lines::{put_allocating, put_ending, put_making, put_step};
 use std::marker::Model;
@@ -23,13 +25,19 @@ enum Place {
     Ending(u8),
 }
 
-/// The lines of a generated script, one by one. It takes no memory. Contracts see the lines that are left.
+// A place in a script, and what the lines from there on come from.
 #[derive(Debug, Drop)]
-pub struct GenLines {
+struct Standing {
     state: u64,
     step: u64,
     count: u64,
     place: Place,
+}
+
+/// The lines of a generated script, one by one. It takes no memory. Contracts see the lines that are left.
+#[derive(Debug, Drop)]
+pub struct GenLines {
+    standing: Standing,
 }
 
 impl Model for GenLines {
@@ -39,9 +47,9 @@ impl Model for GenLines {
 
     ghost use Rattle.mps_generator.specs.GenLines.{lines_left, CanStand};
 
-    ghost view = { lines_left };
+    ghost view = { λ g. lines_left g.standing };
 
-    ghost invariant = { CanStand };
+    ghost invariant = { λ g. CanStand g.standing };
 }
 
 impl GenLines {
@@ -51,10 +59,12 @@ impl GenLines {
         ensures { result ≡ script_lines seed count }
     {
         GenLines {
-            state: seed,
-            step: 0,
-            count,
-            place: Place::Making(0),
+            standing: Standing {
+                state: seed,
+                step: 0,
+                count,
+                place: Place::Making(0),
+            },
         }
     }
 
@@ -64,63 +74,103 @@ impl GenLines {
         ensures line { MatchOption result ((self.old ≡ []) × (self.new ≡ [])) (λ length. self.old ≡ take length line.new ∷ self.new) }
         ensures short { IfSome result (λ length. length ≤ 64) }
     {
-        match self.place {
-            Place::Making(behind) if behind < 4 => {
-                self.place = Place::Making(behind + 1);
-                Some(put_making(behind, line))
-            }
-            Place::Making(_) => {
-                self.place = Place::Stepping;
-                Some(put_making(4, line))
-            }
-            Place::Stepping if self.step < self.count => {
-                let Drawn {
-                    slot,
-                    target,
-                    kind,
-                    state,
-                } = draw(self.state);
-                self.state = state;
-                if kind < 4 {
-                    self.place = Place::Allocating {
-                        behind: 1,
-                        slot,
-                        target,
-                    };
-                    Some(put_allocating(0, self.step, slot, target, line))
-                } else {
-                    self.step += 1;
-                    Some(put_step(kind, slot, target, line))
-                }
-            }
-            Place::Stepping => {
-                self.place = Place::Ending(1);
-                Some(put_ending(0, line))
-            }
+        let at = &mut self.standing;
+        match at.place {
+            Place::Making(behind) => Some(at.making_line(behind, line)),
+            Place::Stepping if at.step < at.count => Some(at.step_line(line)),
+            Place::Stepping => Some(at.ending_line(0, line)),
             Place::Allocating {
                 behind,
                 slot,
                 target,
-            } if behind < 3 => {
-                self.place = Place::Allocating {
-                    behind: behind + 1,
-                    slot,
-                    target,
-                };
-                Some(put_allocating(behind, self.step, slot, target, line))
-            }
-            Place::Allocating { slot, target, .. } => {
-                let length = put_allocating(3, self.step, slot, target, line);
-                self.step += 1;
-                self.place = Place::Stepping;
-                Some(length)
-            }
-            Place::Ending(behind) if behind < 3 => {
-                self.place = Place::Ending(behind + 1);
-                Some(put_ending(behind, line))
-            }
+            } => Some(at.allocating_line(behind, slot, target, line)),
+            Place::Ending(behind) if behind < 3 => Some(at.ending_line(behind, line)),
             Place::Ending(_) => None,
         }
+    }
+}
+
+// Each method writes the next line of one place, goes behind it, and answers its length.
+impl Standing {
+    // One of the lines that make things.
+    fn making_line(&mut self, behind: u8, line: &mut [u8; 64]) -> u32
+        requires here { self.old.place ≡ place.Making behind }
+        requires stands { CanStand self.old }
+        ensures line { lines_left self.old ≡ take result line.new ∷ lines_left self.new }
+        ensures short { result ≤ 64 }
+        ensures stands { CanStand self.new }
+    {
+        let length = put_making(behind, line);
+        self.place = if behind < 4 {
+            Place::Making(behind + 1)
+        } else {
+            Place::Stepping
+        };
+        length
+    }
+
+    // The first line of a step.
+    fn step_line(&mut self, line: &mut [u8; 64]) -> u32
+        requires here { self.old.place ≡ place.Stepping }
+        requires more { self.old.step < self.old.count }
+        ensures line { lines_left self.old ≡ take result line.new ∷ lines_left self.new }
+        ensures short { result ≤ 64 }
+        ensures stands { CanStand self.new }
+    {
+        let Drawn {
+            slot,
+            target,
+            kind,
+            state,
+        } = draw(self.state);
+        self.state = state;
+        let makes_an_object = kind < 4;
+        if makes_an_object {
+            self.place = Place::Allocating {
+                behind: 1,
+                slot,
+                target,
+            };
+            put_allocating(0, self.step, slot, target, line)
+        } else {
+            self.step += 1;
+            put_step(kind, slot, target, line)
+        }
+    }
+
+    // Another line of a step that makes an object.
+    fn allocating_line(&mut self, behind: u8, slot: u64, target: u64, line: &mut [u8; 64]) -> u32
+        requires here { self.old.place ≡ place.Allocating behind slot target }
+        requires stands { CanStand self.old }
+        ensures line { lines_left self.old ≡ take result line.new ∷ lines_left self.new }
+        ensures short { result ≤ 64 }
+        ensures stands { CanStand self.new }
+    {
+        if behind < 3 {
+            self.place = Place::Allocating {
+                behind: behind + 1,
+                slot,
+                target,
+            };
+            put_allocating(behind, self.step, slot, target, line)
+        } else {
+            let length = put_allocating(3, self.step, slot, target, line);
+            self.step += 1;
+            self.place = Place::Stepping;
+            length
+        }
+    }
+
+    // One of the last lines.
+    fn ending_line(&mut self, behind: u8, line: &mut [u8; 64]) -> u32
+        requires here { lines_left self.old ≡ drop behind ending_lines }
+        requires some { behind < 3 }
+        ensures line { lines_left self.old ≡ take result line.new ∷ lines_left self.new }
+        ensures short { result ≤ 64 }
+        ensures stands { CanStand self.new }
+    {
+        self.place = Place::Ending(behind + 1);
+        put_ending(behind, line)
     }
 }
 
