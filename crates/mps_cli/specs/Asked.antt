@@ -8,7 +8,7 @@ use Rattle.mps_output.specs.Streams.{Prints, Reports as ReportsText}
 use Rattle.mps_reading.specs.Causes.{Answers}
 use Rattle.mps_reading.specs.Ending.{ReportsStatus, is_whole_status}
 use Rattle.mps_live_blocks.specs.Listed.{ListedWith, IsOnly as IsOnlyList, ListsPart}
-use Rattle.mps_readable.specs.Text.{ReadWith, IsOnlyReading}
+use Rattle.mps_readable.specs.Text.{ReadWith, IsCutShort as IsCutShortText, IsOnlyReading}
 use Rattle.mps_tools.specs.Converted.{ConvertedWith, Fails, IsCutShort, IsOnly}
 use Rattle.mps_generator.specs.Ending.{FailsWithin}
 use Rattle.mps_generator.specs.Script.{script as generated_script}
@@ -65,6 +65,8 @@ pub record ReadsText (text : List ℕ) (status : ℕ) (old new : Outside) : Type
   pub readable : (bytes : List ℕ) → old.text text ≡ Some bytes → ReadWith bytes status old new
   -- and nothing else
   pub only : is_whole_status status ≡ true → (bytes : List ℕ) → old.text text ≡ Some bytes → IsOnlyReading bytes status old new
+  -- where a write failed, the front of the readable text of some lines at the front of the text was printed
+  pub cut : status ≡ 4 → (bytes : List ℕ) → old.text text ≡ Some bytes → IsCutShortText bytes old new
   -- just the ending that has this status is reported
   pub reported : ReportsStatus status old new
 

@@ -119,7 +119,7 @@ one_more version count number named t left left_behind left_then unread before a
     }
 
 -- what is left behind them, where all that was left is told
-left_told : (x bytes : List ℕ) (left left_behind : Option (List ℕ)) → option_map closed left ≡ option_map (λ rest. x ++ closed rest) left_behind → left ≡ Some bytes
+pub left_told : (x bytes : List ℕ) (left left_behind : Option (List ℕ)) → option_map closed left ≡ option_map (λ rest. x ++ closed rest) left_behind → left ≡ Some bytes
     → (rest : List ℕ) × (left_behind ≡ Some rest) × (closed bytes ≡ x ++ closed rest)
 left_told x bytes left None e f =
     absurd (let g : Some (closed bytes) ≡ None = sym (ap (λ (o : Option (List ℕ)). option_map closed o) f) ∙ e in cc)
@@ -129,7 +129,7 @@ left_told x bytes left (Some rest) e f =
 -- ---- the end
 
 -- the lines so far, of a text that is told
-abbrev shown_so_far : (version : Version) (count : ℕ) (named : Naming) (left left_behind before after : Option (List ℕ)) (bytes rest : List ℕ) → count < 4294967295
+abbrev pub shown_so_far : (version : Version) (count : ℕ) (named : Naming) (left left_behind before after : Option (List ℕ)) (bytes rest : List ℕ) → count < 4294967295
     → (s : LinesSoFar version count named left left_behind before after) → closed bytes ≡ flat_map record_line s.records ++ closed rest → ShowsFirst version bytes before after
 shown_so_far version count named left left_behind before after bytes rest few s spelled = record {
   records = s.records;

@@ -12,5 +12,6 @@ pub mod NextLine
 pub mod AllLines
 pub mod FirstLines
 pub mod WholeText
+pub mod Cut
 pub mod OnlyReading
 mod AscendingLabels

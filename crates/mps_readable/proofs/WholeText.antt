@@ -106,7 +106,7 @@ flushed R bytes a d ending result after (inl e) printed front h =
     (h (subst (λ (r : Result (Unit {0}) Stop). IsToFlush r → d.printed ≡ after) e printed) (λ f. front (e ∙ f)))
 flushed R bytes a d ending result after (inr e) printed front h = rw e.0 tt
 
-told_left : (version : Version) (bytes : List ℕ) (left : Option (List ℕ)) → Some (closed bytes) ≡ option_map (λ rest. first_line version ++ closed rest) left
+pub told_left : (version : Version) (bytes : List ℕ) (left : Option (List ℕ)) → Some (closed bytes) ≡ option_map (λ rest. first_line version ++ closed rest) left
     → (rest : List ℕ) × (left ≡ Some rest) × (closed bytes ≡ first_line version ++ closed rest)
 told_left version bytes None e = absurd (let f : Some (closed bytes) ≡ None = e in cc)
 told_left version bytes (Some rest) e = (rest, refl, (let f : Some (closed bytes) ≡ Some (first_line version ++ closed rest) = e in cc))

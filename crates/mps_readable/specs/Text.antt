@@ -1,5 +1,5 @@
 -- A portable text, where the reading of its lines ends, and what is printed of it.
-use Rattle.std.specs.Prelude.{◌≡◌, ◌≢◌, ℕ, ◌+◌, ◌<◌, ◌≤◌, ◌⊎◌, ◌==◌, if◌then◌else◌, codes, Option, Some, None, Result, Ok, Err, List, [], ◌∷◌, ◌++◌, length, All, refl}
+use Rattle.std.specs.Prelude.{◌≡◌, ◌≢◌, ℕ, ◌+◌, ◌<◌, ◌≤◌, ◌⊎◌, ◌==◌, if◌then◌else◌, codes, Option, Some, None, Result, Ok, Err, List, [], ◌∷◌, ◌++◌, length, take, All, refl}
 use Rattle.std.specs.Fmt.{digits}
 use Rattle.std.specs.List.{flat_map}
 use Rattle.std.specs.Option.{option_map}
@@ -102,6 +102,16 @@ pub record FailsBehind (bytes : List ℕ) (old new : Outside) : Type 0 where
   pub front : ReadsFront bytes old new
   pub breaks : BreaksOff front.left new.input
 
+-- a write failed: the front of the readable text of the lines of some records at the front of the text was printed
+pub record IsCutShort (bytes : List ℕ) (old new : Outside) : Type 0 where
+  pub version : Version
+  pub records : List Record
+  pub named : Naming
+  pub rest : List ℕ
+  pub begins : BeginsWith version records named rest bytes
+  pub count : ℕ
+  pub printed : new.printed ≡ option_map (λ before. before ++ take count (readable_text version records)) old.printed
+
 -- without a first line nothing is printed
 pub record FindsNoFirstLine (bytes : List ℕ) (line : ℕ) (old new : Outside) : Type 0 where
   pub first : line ≡ 1
@@ -175,3 +185,7 @@ pub the_readable_text :
     ++ codes "10 Label at=0x1000[ring] id=0\n11 Move from=0x1000[ring] to=0x2000[ring]\n11 End\n"
 unfolding digits
 the_readable_text = refl
+
+pub the_front_of_the_readable_text : take 38 (readable_text Two example) ≡ codes "mpslog 2\n1 ArenaCreate grains=8 limit="
+unfolding digits
+the_front_of_the_readable_text = refl

@@ -1,5 +1,5 @@
 -- The reading of a text line by line.
-use Rattle.std.specs.Prelude.{◌≡◌, ◌≢◌, ℕ, ◌<◌, ◌≤◌, ◌⊎◌, true, false, Option, Some, None, IfSome, Bool, Result, Ok, Err, List, [], ◌++◌, length, drop, All, codes}
+use Rattle.std.specs.Prelude.{◌≡◌, ◌≢◌, ℕ, ◌<◌, ◌≤◌, ◌⊎◌, true, false, Option, Some, None, IfSome, Bool, Result, Ok, Err, List, [], ◌++◌, length, take, drop, All, codes}
 use Rattle.std.specs.List.{flat_map}
 use Rattle.std.specs.Option.{option_map}
 use Rattle.mps_base.specs.Record.{Record}
@@ -109,6 +109,27 @@ AllLines version bytes unread before after (Err stop.WriteFailed) = Unit {0}
 AllLines version bytes unread before after (Err stop.BadHeader) = ⊥
 AllLines version bytes unread before after (Err (stop.BadRecord at fault)) = ⊥
 AllLines version bytes unread before after (Err (stop.BadReplay at)) = ⊥
+
+-- ---- where a write failed
+
+-- more was printed than before
+abbrev pub Grows : (old new : Option (List ℕ)) → Type 0
+Grows old new = (front : List ℕ) × (new ≡ option_map (λ before. before ++ front) old)
+
+-- the front of what was gathered was printed
+abbrev pub PutsPart : (old new : Option (List ℕ)) → (gathered : List ℕ) → Type 0
+PutsPart old new gathered = (count : ℕ) × (new ≡ option_map (λ before. before ++ take count gathered) old)
+
+-- the lines of some records were read, and the front of their readable text, behind what was gathered, was printed
+pub record ShowsPart (version : Version) (bytes gathered : List ℕ) (old new : Option (List ℕ)) : Type 0 where
+  pub records : List Record
+  pub named : Naming
+  pub left : List ℕ
+  pub each : All (IsRecord version) records
+  pub meaning : after_records version no_names records ≡ Some named
+  pub few : length records < 4294967295
+  pub spelled : closed bytes ≡ flat_map record_line records ++ closed left
+  pub part : PutsPart old new (gathered ++ readable version records)
 
 -- ---- the first line
 

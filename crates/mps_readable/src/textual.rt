@@ -13,8 +13,8 @@ ghost use Rattle.mps_output.specs.Streams.{Runs};
 ghost use Rattle.mps_readable.specs.Labels.{no_names, after_record};
 ghost use Rattle.mps_readable.specs.Line.{Spells};
 ghost use Rattle.mps_readable.specs.NextLine.{IsFront, HasNoLine, PutsLine};
-ghost use Rattle.mps_readable.specs.Text.{HasRead, ReadWith, IsOnlyReading};
-ghost use Rattle.mps_readable.specs.TextSteps.{PendingLine, NextLine, AllLines, first_text, FindsFirst, TakesFirst, TextOpens};
+ghost use Rattle.mps_readable.specs.Text.{HasRead, ReadWith, IsCutShort, IsOnlyReading};
+ghost use Rattle.mps_readable.specs.TextSteps.{PendingLine, NextLine, AllLines, Grows, PutsPart, ShowsPart, first_text, FindsFirst, TakesFirst, TextOpens};
 
 use crate::cuts::place_of;
 use crate::labels::{LabelFault, Labels};
@@ -42,6 +42,9 @@ pub fn txt<D: Desk>(alloc: Global, text: &str, desk: &mut D) -> u8
     // readable text, one with a wrong line gives 6, its number and the text before it.
     ensures only { is_whole_status result ≡ true → (bytes : List ℕ) → (D.outside desk.old).text text.now ≡ Some bytes
         → IsOnlyReading bytes result (D.outside desk.old) (D.outside desk.new) }
+    // Where a write failed, the front of the readable text of some lines at the front of the text was printed.
+    ensures cut { result ≡ 4 → (bytes : List ℕ) → (D.outside desk.old).text text.now ≡ Some bytes
+        → IsCutShort bytes (D.outside desk.old) (D.outside desk.new) }
     // With any status its ending was reported, and nothing with 0.
     ensures reported { ReportsStatus result (D.outside desk.old) (D.outside desk.new) }
 {
@@ -56,6 +59,8 @@ fn read_text<D: Desk>(alloc: Global, text: &str, desk: &mut D) -> Result<(), Sto
     ensures err_faults { (D.outside desk.new).err_faults ≡ (D.outside desk.old).err_faults }
     ensures read { (bytes : List ℕ) → (D.outside desk.old).text text.now ≡ Some bytes
         → HasRead bytes result (D.outside desk.old) (D.outside desk.new) }
+    ensures cut { result ≡ Err Stop.WriteFailed → (bytes : List ℕ) → (D.outside desk.old).text text.now ≡ Some bytes
+        → IsCutShort bytes (D.outside desk.old) (D.outside desk.new) }
 {
     let mut input = match Input::new(alloc) {
         Ok(input) => input,
@@ -162,6 +167,9 @@ fn read_lines<D: Desk>(
     ensures err_faults { (D.outside desk.new).err_faults ≡ (D.outside desk.old).err_faults }
     ensures all { (bytes : List ℕ) → left_of (D.outside desk.old) input.old ≡ Some bytes
         → AllLines version bytes (D.outside desk.new).input (put_out (D.outside desk.old) output.old) (put_out (D.outside desk.new) output.new) result }
+    ensures grows { Grows (D.outside desk.old).printed (D.outside desk.new).printed }
+    ensures cut { result ≡ Err Stop.WriteFailed → (bytes : List ℕ) → left_of (D.outside desk.old) input.old ≡ Some bytes
+        → ShowsPart version bytes output.old (D.outside desk.old).printed (D.outside desk.new).printed }
 {
     for behind in 0..u32::MAX - 1 {
         if !read_next(u64::from(behind) + 2, version, labels, input, output, desk)? {
@@ -184,6 +192,8 @@ fn read_next<D: Desk>(
     ensures works { Works (D.outside desk.old) (D.outside desk.new) input.old input.new result }
     ensures gives { NextLine version number labels.old labels.new (left_of (D.outside desk.old) input.old) (left_of (D.outside desk.new) input.new)
         (D.outside desk.new).input (put_out (D.outside desk.old) output.old) (put_out (D.outside desk.new) output.new) result }
+    ensures grows { Grows (D.outside desk.old).printed (D.outside desk.new).printed }
+    ensures cut { result ≡ Err Stop.WriteFailed → PutsPart (D.outside desk.old).printed (D.outside desk.new).printed output.old }
     ensures at_end { IsAtEnd (D.outside desk.new) input.new }
     ensures reported { (D.outside desk.new).reported ≡ (D.outside desk.old).reported }
     ensures err_faults { (D.outside desk.new).err_faults ≡ (D.outside desk.old).err_faults }

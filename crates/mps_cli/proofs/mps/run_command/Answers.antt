@@ -24,6 +24,7 @@ returns-in-Read-clause-asked g c = rw c.in-Read.is (record {
   answers = c.txt.ensures.answers;
   readable = c.txt.ensures.readable;
   only = c.txt.ensures.only;
+  cut = c.txt.ensures.cut;
   reported = c.txt.ensures.reported;
 })
 

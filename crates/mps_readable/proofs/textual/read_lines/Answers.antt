@@ -7,6 +7,7 @@ use Rattle.mps_reading.specs.PutOut.{put_out}
 use Rattle.mps_reading.proofs.Causes.{works-then}
 use Rattle.mps_readable.specs.TextSteps.{NextLine}
 use Rattle.mps_readable.proofs.AllLines.{one_more, all_read, all_stop, all_counted}
+use Rattle.mps_readable.proofs.Cut.{grows_none, grows_then, lines_cut, not_at_the_end, handed_on}
 use Rattle.mps_readable.proofs.textual.read_lines.Goals as goal
 
 pub returns-in_err-read_next-clause-all : goal.returns-in_err-read_next-clause-all
@@ -40,6 +41,31 @@ returns-clause-all g c bytes told =
     bytes c.after_the_last.result (omega arith) c.loop-behind.invariant.so_far (c.after_the_last.ensures.gives c.loop-behind.invariant.at_end) c.after_the_last.ensures.unread
     (ap (λ (o : Option (List ℕ)). option_map (λ printed. printed ++ c.loop-behind.output) o) c.after_the_last.ensures.printed) told
 
+pub returns-in_err-read_next-clause-grows : goal.returns-in_err-read_next-clause-grows
+returns-in_err-read_next-clause-grows g c =
+    grows_then (g.D.Desk.outside c.args.desk.now).printed (g.D.Desk.outside c.loop-behind.desk).printed (g.D.Desk.outside c.read_next.new.desk).printed c.loop-behind.invariant.grows c.read_next.ensures.grows
+
+pub returns-then-not-branch-clause-grows : goal.returns-then-not-branch-clause-grows
+returns-then-not-branch-clause-grows g c =
+    grows_then (g.D.Desk.outside c.args.desk.now).printed (g.D.Desk.outside c.loop-behind.desk).printed (g.D.Desk.outside c.read_next.new.desk).printed c.loop-behind.invariant.grows c.read_next.ensures.grows
+
+pub returns-clause-grows : goal.returns-clause-grows
+returns-clause-grows g c =
+    grows_then (g.D.Desk.outside c.args.desk.now).printed (g.D.Desk.outside c.loop-behind.desk).printed (g.D.Desk.outside c.after_the_last.new.desk).printed c.loop-behind.invariant.grows
+    (grows_none (g.D.Desk.outside c.loop-behind.desk).printed (g.D.Desk.outside c.after_the_last.new.desk).printed c.after_the_last.ensures.printed)
+
+pub returns-in_err-read_next-clause-cut : goal.returns-in_err-read_next-clause-cut
+returns-in_err-read_next-clause-cut g c failed bytes told =
+    let p = err_from_is_err_and c.from_residual.result c.from_residual.ensures.1 in
+    lines_cut c.args.version c.loop-behind.behind c.loop-behind.labels
+    (left_of (g.D.Desk.outside c.args.desk.now) c.args.input.now) (left_of (g.D.Desk.outside c.loop-behind.desk) c.loop-behind.input)
+    (g.D.Desk.outside c.args.desk.now) (g.D.Desk.outside c.loop-behind.desk) (g.D.Desk.outside c.read_next.new.desk) c.args.output.now c.loop-behind.output bytes
+    (omega arith) c.loop-behind.invariant.so_far c.loop-behind.invariant.grows (c.in_err-read_next.ensures.cut (handed_on _ _ c.from_residual.result p.0 _ _ p.1 p.2 failed)) told
+
+pub returns-clause-cut : goal.returns-clause-cut
+returns-clause-cut g c failed bytes told =
+    not_at_the_end _ (left_of (g.D.Desk.outside c.loop-behind.desk) c.loop-behind.input) c.after_the_last.result (c.after_the_last.ensures.gives c.loop-behind.invariant.at_end) failed
+
 pub loop-behind-preserved : goal.loop-behind-preserved
 loop-behind-preserved g c =
     let works : Works {T = Unit {0}} (g.D.Desk.outside c.args.desk.now) (g.D.Desk.outside c.loop-behind.desk) c.args.input.now c.loop-behind.input (Ok tt) = c.loop-behind.invariant.works in
@@ -56,6 +82,7 @@ loop-behind-preserved g c =
       reported = c.in_ok-read_next.ensures.reported ∙ c.loop-behind.invariant.reported;
       err_faults = c.in_ok-read_next.ensures.err_faults ∙ c.loop-behind.invariant.err_faults;
       at_end = c.in_ok-read_next.ensures.at_end;
+      grows = grows_then (g.D.Desk.outside c.args.desk.now).printed (g.D.Desk.outside c.loop-behind.desk).printed (g.D.Desk.outside c.read_next.new.desk).printed c.loop-behind.invariant.grows c.read_next.ensures.grows;
       so_far = one_more c.args.version c.loop-behind.behind (c.from.result + 2) c.loop-behind.labels c.read_next.new.labels
           (left_of (g.D.Desk.outside c.args.desk.now) c.args.input.now) (left_of (g.D.Desk.outside c.loop-behind.desk) c.loop-behind.input) (left_of (g.D.Desk.outside c.read_next.new.desk) c.read_next.new.input) (g.D.Desk.outside c.read_next.new.desk).input
           (put_out (g.D.Desk.outside c.args.desk.now) c.args.output.now) (put_out (g.D.Desk.outside c.loop-behind.desk) c.loop-behind.output) (put_out (g.D.Desk.outside c.read_next.new.desk) c.read_next.new.output)

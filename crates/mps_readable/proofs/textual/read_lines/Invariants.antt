@@ -3,6 +3,7 @@ use Rattle.mps_reading.specs.Causes.{Works}
 use Rattle.mps_reading.specs.Input.{IsAtEnd}
 use Rattle.mps_reading.specs.Left.{left_of}
 use Rattle.mps_reading.specs.PutOut.{put_out}
+use Rattle.mps_readable.specs.TextSteps.{Grows}
 use Rattle.mps_readable.proofs.AllLines.{LinesSoFar}
 use Rattle.mps_readable.proofs.textual.read_lines.Given as goal
 
@@ -12,6 +13,7 @@ invariant-loop-behind g l = record {
   reported : (g.D.Desk.outside l.desk).reported ≡ (g.D.Desk.outside l.initial.desk).reported;
   err_faults : (g.D.Desk.outside l.desk).err_faults ≡ (g.D.Desk.outside l.initial.desk).err_faults;
   at_end : IsAtEnd (g.D.Desk.outside l.desk) l.input;
+  grows : Grows (g.D.Desk.outside l.initial.desk).printed (g.D.Desk.outside l.desk).printed;
   so_far : LinesSoFar l.version l.behind l.labels (left_of (g.D.Desk.outside l.initial.desk) l.initial.input) (left_of (g.D.Desk.outside l.desk) l.input)
       (put_out (g.D.Desk.outside l.initial.desk) l.initial.output) (put_out (g.D.Desk.outside l.desk) l.output);
 }

@@ -1,4 +1,4 @@
-use Rattle.std.proofs.Common.{◌≡◌, drop, ap, sym, subst, ◌∙◌, ℕ, Ok, Bool}
+use Rattle.std.proofs.Common.{◌≡◌, drop, take, ap, sym, subst, ◌∙◌, ℕ, Ok, Bool}
 use Rattle.std.specs.Prelude.{unwrap_or}
 use Rattle.std.proofs.lemmas.Result.{err_from_is_err_and}
 use Rattle.mps_reading.specs.Input.{Buffered}
@@ -6,6 +6,7 @@ use Rattle.mps_reading.specs.Left.{left_of}
 use Rattle.mps_reading.specs.PutOut.{put_out}
 use Rattle.mps_readable.specs.TextSteps.{NextLine}
 use Rattle.mps_readable.proofs.NextLine.{next_line, next_stops}
+use Rattle.mps_readable.proofs.Cut.{grows_by, puts_part}
 use Rattle.mps_readable.proofs.textual.read_next.Goals as goal
 
 pub returns-in_err-size-clause-gives : goal.returns-in_err-size-clause-gives
@@ -31,3 +32,25 @@ returns-clause-gives g c =
     (next_line c.args.version c.args.number c.args.labels.now c.read_line.new.labels (g.D.Desk.outside c.args.desk.now) (g.D.Desk.outside c.fill.new.desk) (g.D.Desk.outside c.make_room.new.desk)
     c.args.input.now c.fill.new.self c.args.output.now c.make_room.new.output c.read_line.new.output c.in_ok-size.size
     c.requires c.fill.ensures.read c.fill.ensures.enough c.in_ok-make_room.ensures.kept c.make_room.ensures.input c.in_ok-size.ensures.gives))
+
+pub returns-in_err-make_room-clause-grows : goal.returns-in_err-make_room-clause-grows
+returns-in_err-make_room-clause-grows g c =
+    let p = c.in_err-make_room.ensures.part in
+    grows_by (take p.count c.args.output.now) (g.D.Desk.outside c.args.desk.now).printed (g.D.Desk.outside c.fill.new.desk).printed (g.D.Desk.outside c.make_room.new.desk).printed
+    c.fill.ensures.read.others.printed p.part.printed
+
+pub returns-in_err-make_room-clause-cut : goal.returns-in_err-make_room-clause-cut
+returns-in_err-make_room-clause-cut g c failed =
+    puts_part (g.D.Desk.outside c.args.desk.now) (g.D.Desk.outside c.fill.new.desk) (g.D.Desk.outside c.make_room.new.desk) c.args.output.now c.fill.ensures.read.others.printed c.in_err-make_room.ensures.part
+
+pub returns-in_err-size-clause-grows : goal.returns-in_err-size-clause-grows
+returns-in_err-size-clause-grows g c =
+    let k = c.in_ok-make_room.ensures.kept in
+    grows_by k.text (g.D.Desk.outside c.args.desk.now).printed (g.D.Desk.outside c.fill.new.desk).printed (g.D.Desk.outside c.make_room.new.desk).printed
+    c.fill.ensures.read.others.printed k.printed.printed
+
+pub returns-clause-grows : goal.returns-clause-grows
+returns-clause-grows g c =
+    let k = c.in_ok-make_room.ensures.kept in
+    grows_by k.text (g.D.Desk.outside c.args.desk.now).printed (g.D.Desk.outside c.fill.new.desk).printed (g.D.Desk.outside c.make_room.new.desk).printed
+    c.fill.ensures.read.others.printed k.printed.printed

@@ -1,5 +1,6 @@
 use Rattle.mps_reading.proofs.Reported.{reports_status}
 use Rattle.mps_readable.proofs.WholeText.{read_with}
+use Rattle.mps_readable.proofs.Cut.{cut_with}
 use Rattle.mps_readable.proofs.OnlyReading.{only_reading}
 use Rattle.mps_readable.proofs.textual.txt.Goals as goal
 
@@ -18,3 +19,8 @@ pub returns-clause-reported : goal.returns-clause-reported
 returns-clause-reported g c =
     reports_status c.finish.result c.read_text-ending.result (g.D.Desk.outside c.args.desk.now) (g.D.Desk.outside c.read_text-ending.new.desk) (g.D.Desk.outside c.finish.new.desk)
     c.read_text-ending.ensures.reported c.read_text-ending.ensures.err_faults c.finish.ensures.done c.finish.ensures.quiet c.finish.ensures.status c.finish.ensures.reported
+
+pub returns-clause-cut : goal.returns-clause-cut
+returns-clause-cut g c four bytes told =
+    cut_with c.finish.result bytes c.read_text-ending.result (g.D.Desk.outside c.args.desk.now) (g.D.Desk.outside c.read_text-ending.new.desk) (g.D.Desk.outside c.finish.new.desk) four
+    (λ e. c.read_text-ending.ensures.cut e bytes told) c.finish.ensures.done c.finish.ensures.status c.finish.ensures.reported
