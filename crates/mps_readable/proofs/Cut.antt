@@ -1,10 +1,8 @@
 -- A reading that ends where a write fails.
-use Rattle.std.proofs.Common.{◌≡◌, ℕ, ◌<◌, ◌⊎◌, List, [], ◌++◌, length, take, drop, Option, Some, None, Result, Ok, Err, refl, sym, ap, subst, ◌∙◌, append_assoc, arith, inl, inr}
+use Rattle.std.proofs.Common.{◌≡◌, ℕ, ◌<◌, ◌⊎◌, List, ◌++◌, take, Option, Some, Result, Ok, Err, refl, sym, ap, subst, ◌∙◌, append_assoc, arith, inl, inr}
 use Rattle.std.specs.Prelude.{OnOk, IfErr}
 use Rattle.std.specs.List.{flat_map}
 use Rattle.std.specs.Option.{option_map}
-use Rattle.std.proofs.lemmas.List.{append_cancel_left, take-append-drop}
-use Rattle.std.proofs.Math.Seq.{take-append_seam}
 use Rattle.mps_base.specs.Desk.{Outside}
 use Rattle.mps_event.specs.declared.version.Version.{Version}
 use Rattle.mps_output.specs.declared.stop.Stop.{Stop}
@@ -12,54 +10,20 @@ use Rattle.mps_output.specs.declared.stop.Stop.TheVariants as stop
 use Rattle.mps_output.specs.Reports.{status_of, report_of}
 use Rattle.mps_output.specs.Streams.{PrintsPart, Reports}
 use Rattle.mps_reading.specs.Input.{Buffered}
-use Rattle.mps_reading.specs.Left.{left_of, LastGives}
-use Rattle.mps_reading.specs.PutOut.{put_out}
+use Rattle.mps_reading.specs.Left.{left_of}
+use Rattle.mps_reading.specs.PutOut.{put_out, Grows, PutsPart}
 use Rattle.mps_reading.specs.Opening.{first_line}
 use Rattle.mps_reading.specs.RecordLine.{record_line}
-use Rattle.mps_reading.proofs.PutOut.{nothing_put, one_put}
+use Rattle.mps_reading.proofs.PartPut.{part_of_text, puts_part}
+use Rattle.mps_reading.proofs.Stops.{stopped, err_is, is_write_failed}
 use Rattle.mps_readable.specs.Labels.{Naming}
 use Rattle.mps_readable.specs.Readable.{readable}
 use Rattle.mps_readable.specs.Text.{closed, IsCutShort}
-use Rattle.mps_readable.specs.TextSteps.{ShowsFirst, ShowsPart, AllLines, Grows, PutsPart}
+use Rattle.mps_readable.specs.TextSteps.{ShowsFirst, ShowsPart, AllLines}
 use Rattle.mps_readable.proofs.AllLines.{LinesSoFar, left_told, shown_so_far}
 use Rattle.mps_readable.proofs.WholeText.{told_left}
 
--- ---- what was printed grows
-
-pub grows_none : (o p : Option (List ℕ)) → p ≡ o → Grows o p
-grows_none o p e = ([], e ∙ nothing_put o)
-
-pub grows_then : (o p q : Option (List ℕ)) → Grows o p → Grows p q → Grows o q
-grows_then o p q e f = (e.0 ++ f.0, one_put e.0 f.0 o p q e.1 f.1)
-
-pub grows_by : (text : List ℕ) (o p q : Option (List ℕ)) → p ≡ o → q ≡ option_map (λ before. before ++ text) p → Grows o q
-grows_by text o p q same e = (text, e ∙ ap (λ (x : Option (List ℕ)). option_map (λ before. before ++ text) x) same)
-
-pub puts_part : (a b c : Outside) (gathered : List ℕ) → b.printed ≡ a.printed → PrintsPart b c gathered → PutsPart a.printed c.printed gathered
-puts_part a b c gathered same p = (p.count, p.part.printed ∙ ap (λ (x : Option (List ℕ)). option_map (λ before. before ++ take p.count gathered) x) same)
-
 -- ---- the front of the whole text
-
-some_is : (x y : List ℕ) → Some x ≡ Some y → x ≡ y
-some_is x y e = cc
-
-part_of_text : (front gathered out lines : List ℕ) (n : ℕ) (o c d : Option (List ℕ)) → c ≡ option_map (λ before. before ++ front) o
-    → option_map (λ printed. printed ++ gathered) c ≡ option_map (λ all. all ++ lines) (option_map (λ printed. printed ++ out) o)
-    → d ≡ option_map (λ before. before ++ take n gathered) c → PutsPart o d (out ++ lines)
-part_of_text front gathered out lines n None c d grown put part = (0, rw (part, grown) refl)
-part_of_text front gathered out lines n (Some before) c d grown put part =
-    let all : Some ((before ++ front) ++ gathered) ≡ Some ((before ++ out) ++ lines) =
-    ap (λ (x : Option (List ℕ)). option_map (λ printed. printed ++ gathered) x) (sym grown) ∙ put in
-    let text : front ++ gathered ≡ out ++ lines =
-    append_cancel_left before (front ++ gathered) (out ++ lines)
-    (sym (append_assoc before front gathered) ∙ some_is ((before ++ front) ++ gathered) ((before ++ out) ++ lines) all ∙ append_assoc before out lines) in
-    let some = front ++ take n gathered in
-    let parts : out ++ lines ≡ some ++ drop n gathered =
-    sym text ∙ ap (λ (x : List ℕ). front ++ x) (sym (take-append-drop n gathered)) ∙ sym (append_assoc front (take n gathered) (drop n gathered)) in
-    let taken : take (length some) (out ++ lines) ≡ some = ap (take (length some)) parts ∙ take-append_seam some (drop n gathered) in (
-      length some,
-      one_put front (take n gathered) (Some before) c d grown part ∙ ap (λ (x : List ℕ). Some (before ++ x)) (sym taken),
-    )
 
 part_of_shown : (version : Version) (bytes out gathered : List ℕ) (a b c : Outside) → ShowsFirst version bytes (put_out a out) (put_out b gathered)
     → Grows a.printed b.printed → PutsPart b.printed c.printed gathered → ShowsPart version bytes out a.printed c.printed
@@ -82,20 +46,6 @@ pub lines_cut : (version : Version) (count : ℕ) (named : Naming) (left left_be
 lines_cut version count named left left_behind a b c out gathered bytes few s grown part e =
     let g = left_told (flat_map record_line s.records) bytes left left_behind s.front e in
     part_of_shown version bytes out gathered a b c (shown_so_far version count named left left_behind (put_out a out) (put_out b gathered) bytes g.0 few s g.2) grown part
-
-pub not_at_the_end : (P : Type 0) (left : Option (List ℕ)) (result : Result (Unit {0}) Stop) → LastGives left result → result ≡ Err stop.WriteFailed → P
-not_at_the_end P left result h e = absurd (subst (λ (r : Result (Unit {0}) Stop). LastGives left r) e h)
-
--- a stop in place of a value of a type
-abbrev stopped : (T : Type 0) → Stop → Result T Stop
-stopped T why = Err why
-
-err_is : (T : Type 0) (x y : Stop) → stopped T x ≡ stopped T y → x ≡ y
-err_is T x y e = cc
-
--- a stop that was handed on
-pub handed_on : (T U : Type 0) (r : Result T Stop) (y why other : Stop) → r ≡ stopped T y → y ≡ why → r ≡ stopped T other → stopped U why ≡ stopped U other
-handed_on T U r y why other e f g = ap (stopped U) (sym f ∙ err_is T y other (sym e ∙ g))
 
 -- ---- a text
 
@@ -181,18 +131,8 @@ cut_later bytes a b c h e = record {
   printed = e ∙ h.printed;
 }
 
-four : (why : Stop) → status_of why ≡ 4 → why ≡ stop.WriteFailed
-four stop.WriteFailed e = refl
-four stop.ReadFailed e = absurd (omega (arith, e))
-four stop.BadHeader e = absurd (omega (arith, e))
-four (stop.BadRecord at fault) e = absurd (omega (arith, e))
-four (stop.BadReplay at) e = absurd (omega (arith, e))
-four (stop.BadLine line) e = absurd (omega (arith, e))
-four stop.TooLong e = absurd (omega (arith, e))
-four stop.OutOfMemory e = absurd (omega (arith, e))
-
 pub cut_with : (status : ℕ) (bytes : List ℕ) (ending : Ending) (a b c : Outside) → status ≡ 4 → (ending ≡ Err stop.WriteFailed → IsCutShort bytes a b)
     → OnOk ending (status ≡ 0) → IfErr ending (λ why. status ≡ status_of why) → IfErr ending (λ why. Reports b c (report_of why)) → IsCutShort bytes a c
 cut_with status bytes (Ok value) a b c e h zero is reports = absurd (omega (arith, e, zero))
 cut_with status bytes (Err why) a b c e h zero is reports =
-    cut_later bytes a b c (h (ap (λ (w : Stop). Err w) (four why (sym is ∙ e)))) reports.others.printed
+    cut_later bytes a b c (h (ap (λ (w : Stop). Err w) (is_write_failed why (sym is ∙ e)))) reports.others.printed

@@ -1,5 +1,5 @@
 -- The reading of a text line by line.
-use Rattle.std.specs.Prelude.{◌≡◌, ◌≢◌, ℕ, ◌<◌, ◌≤◌, ◌⊎◌, true, false, Option, Some, None, IfSome, Bool, Result, Ok, Err, List, [], ◌++◌, length, take, drop, All, codes}
+use Rattle.std.specs.Prelude.{◌≡◌, ◌≢◌, ℕ, ◌<◌, ◌≤◌, ◌⊎◌, true, false, Option, Some, None, IfSome, Bool, Result, Ok, Err, List, [], ◌++◌, length, drop, All, codes}
 use Rattle.std.specs.List.{flat_map}
 use Rattle.std.specs.Option.{option_map}
 use Rattle.mps_base.specs.Record.{Record}
@@ -10,7 +10,7 @@ use Rattle.mps_output.specs.declared.stop.Stop.{Stop}
 use Rattle.mps_output.specs.declared.stop.Stop.TheVariants as stop
 use Rattle.mps_reading.specs.Input.{Buffered}
 use Rattle.mps_reading.specs.Opening.{first_line}
-use Rattle.mps_reading.specs.PutOut.{PutsOut}
+use Rattle.mps_reading.specs.PutOut.{PutsOut, PutsPart}
 use Rattle.mps_reading.specs.RecordLine.{record_line}
 use Rattle.mps_readable.specs.Line.{record_text, Spells}
 use Rattle.mps_readable.specs.Cuts.{Lacks}
@@ -111,14 +111,6 @@ AllLines version bytes unread before after (Err (stop.BadRecord at fault)) = ⊥
 AllLines version bytes unread before after (Err (stop.BadReplay at)) = ⊥
 
 -- ---- where a write failed
-
--- more was printed than before
-abbrev pub Grows : (old new : Option (List ℕ)) → Type 0
-Grows old new = (front : List ℕ) × (new ≡ option_map (λ before. before ++ front) old)
-
--- the front of what was gathered was printed
-abbrev pub PutsPart : (old new : Option (List ℕ)) → (gathered : List ℕ) → Type 0
-PutsPart old new gathered = (count : ℕ) × (new ≡ option_map (λ before. before ++ take count gathered) old)
 
 -- the lines of some records were read, and the front of their readable text, behind what was gathered, was printed
 pub record ShowsPart (version : Version) (bytes gathered : List ℕ) (old new : Option (List ℕ)) : Type 0 where

@@ -8,13 +8,13 @@ ghost use Rattle.mps_reading.specs.Causes.{IsCaused, IsTold, Works, Answers};
 ghost use Rattle.mps_reading.specs.Ending.{is_whole_status, ReportsStatus};
 ghost use Rattle.mps_reading.specs.Input.{IsAtEnd};
 ghost use Rattle.mps_reading.specs.Left.{left_of};
-ghost use Rattle.mps_reading.specs.PutOut.{put_out};
+ghost use Rattle.mps_reading.specs.PutOut.{put_out, Grows, PutsPart};
 ghost use Rattle.mps_output.specs.Streams.{Runs};
 ghost use Rattle.mps_readable.specs.Labels.{no_names, after_record};
 ghost use Rattle.mps_readable.specs.Line.{Spells};
 ghost use Rattle.mps_readable.specs.NextLine.{IsFront, HasNoLine, PutsLine};
 ghost use Rattle.mps_readable.specs.Text.{HasRead, ReadWith, IsCutShort, IsOnlyReading};
-ghost use Rattle.mps_readable.specs.TextSteps.{PendingLine, NextLine, AllLines, Grows, PutsPart, ShowsPart, first_text, FindsFirst, TakesFirst, TextOpens};
+ghost use Rattle.mps_readable.specs.TextSteps.{PendingLine, NextLine, AllLines, ShowsPart, first_text, FindsFirst, TakesFirst, TextOpens};
 
 use crate::cuts::place_of;
 use crate::labels::{LabelFault, Labels};

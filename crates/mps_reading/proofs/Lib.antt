@@ -4,6 +4,8 @@ pub mod Fronts
 pub mod Behind
 pub mod Left
 pub mod PutOut
+pub mod PartPut
+pub mod Stops
 pub mod Records
 pub mod Opening
 pub mod Reported

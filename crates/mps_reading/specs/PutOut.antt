@@ -1,5 +1,5 @@
 -- What was put out: printed, or gathered to be printed.
-use Rattle.std.specs.Prelude.{◌≡◌, ℕ, Option, Result, Ok, Err, List, ◌++◌}
+use Rattle.std.specs.Prelude.{◌≡◌, ℕ, Option, Result, Ok, Err, List, ◌++◌, take}
 use Rattle.std.specs.Option.{option_map}
 use Rattle.mps_base.specs.Desk.{Outside}
 use Rattle.mps_output.specs.declared.stop.Stop.{Stop}
@@ -12,6 +12,14 @@ put_out o gathered = option_map (λ printed. printed ++ gathered) o.printed
 -- a text more was put out
 abbrev pub PutsOut : (before after : Option (List ℕ)) → (text : List ℕ) → Type 0
 PutsOut before after text = after ≡ option_map (λ all. all ++ text) before
+
+-- more was printed than before
+abbrev pub Grows : (old new : Option (List ℕ)) → Type 0
+Grows old new = (front : List ℕ) × (new ≡ option_map (λ before. before ++ front) old)
+
+-- the front of what was gathered was printed
+abbrev pub PutsPart : (old new : Option (List ℕ)) → (gathered : List ℕ) → Type 0
+PutsPart old new gathered = (count : ℕ) × (new ≡ option_map (λ before. before ++ take count gathered) old)
 
 -- an ending at which all that was put out is to be printed
 abbrev pub IsToFlush : {T : Type 0} → Result T Stop → Type 0

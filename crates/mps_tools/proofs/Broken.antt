@@ -47,13 +47,6 @@ cut_record version ended pending bytes (Some rest) told none = record {
   still = refl;
 }
 
--- a stop in place of a value of a type
-abbrev pub stopped : (T : Type 0) → Stop → Result T Stop
-stopped T why = Err why
-
-pub err_is : (T : Type 0) (x y : Stop) → stopped T x ≡ stopped T y → x ≡ y
-err_is T x y e = cc
-
 abbrev pub NextBreaks : Version → (left unread before after : Option (List ℕ)) → Type 0
 NextBreaks version left unread before after = ((bytes : List ℕ) → left ≡ Some bytes → IsCutRecord version bytes unread) × (after ≡ before)
 
@@ -65,9 +58,6 @@ next_breaks version a b c x y p q r reads kept same gives = (
 )
 
 -- a stop that is handed on is the same
-pub handed_on : (T U : Type 0) (r : Result T Stop) (y why other : Stop) → r ≡ stopped T y → y ≡ why → r ≡ stopped T other → stopped U why ≡ stopped U other
-handed_on T U r y why other e f g = ap (stopped U) (sym f ∙ err_is T y other (sym e ∙ g))
-
 -- ---- all records before
 
 pub front_breaks : (version : Version) (kinds count offset : ℕ) (left left_behind unread before after put : Option (List ℕ)) (bytes : List ℕ) → count < 4294967296

@@ -1,10 +1,8 @@
 -- A conversion that ends where a write fails.
-use Rattle.std.proofs.Common.{◌≡◌, ℕ, ◌<◌, List, [], ◌++◌, length, take, drop, Option, Some, None, Result, Ok, Err, refl, sym, ap, subst, ◌∙◌, append_assoc, arith}
+use Rattle.std.proofs.Common.{◌≡◌, ℕ, ◌<◌, List, ◌++◌, take, Option, Some, Result, Ok, Err, refl, sym, ap, subst, ◌∙◌, append_assoc, arith}
 use Rattle.std.specs.Prelude.{OnOk, IfErr}
 use Rattle.std.specs.List.{flat_map}
 use Rattle.std.specs.Option.{option_map}
-use Rattle.std.proofs.lemmas.List.{append-nil, append_cancel_left, take-append-drop}
-use Rattle.std.proofs.Math.Seq.{take-append_seam}
 use Rattle.mps_base.specs.Desk.{Outside}
 use Rattle.mps_base.specs.Record.{header_bytes, records_bytes}
 use Rattle.mps_event.specs.declared.version.Version.{Version}
@@ -14,61 +12,19 @@ use Rattle.mps_output.specs.declared.stop.Stop.TheVariants as stop
 use Rattle.mps_output.specs.Reports.{status_of, report_of}
 use Rattle.mps_output.specs.Streams.{PrintsPart, Reports}
 use Rattle.mps_reading.specs.Input.{Buffered}
-use Rattle.mps_reading.specs.Left.{left_of, LastGives}
-use Rattle.mps_reading.specs.PutOut.{put_out}
+use Rattle.mps_reading.specs.Left.{left_of}
+use Rattle.mps_reading.specs.PutOut.{put_out, Grows, PutsPart}
 use Rattle.mps_reading.specs.Opening.{first_line}
 use Rattle.mps_reading.proofs.Left.{left_behind_told}
 use Rattle.mps_reading.proofs.Opening.{header_told}
+use Rattle.mps_reading.proofs.PartPut.{part_of_text}
+use Rattle.mps_reading.proofs.Stops.{err_is, is_write_failed}
 use Rattle.mps_tools.specs.Portable.{line_of_kinds}
 use Rattle.mps_tools.specs.Converted.{IsCutShort}
-use Rattle.mps_tools.specs.Converting.{Grows, PutsPart, ConvertsFront, ConvertsPart, ConvertsAll, AllGive}
+use Rattle.mps_tools.specs.Converting.{ConvertsFront, ConvertsPart, ConvertsAll, AllGive}
 use Rattle.mps_tools.proofs.Converting.{SoFar}
-use Rattle.mps_tools.proofs.Broken.{err_is}
 
--- ---- what was printed grows
-
-nothing_more : (o : Option (List ℕ)) → o ≡ option_map (λ before. before ++ []) o
-nothing_more None = refl
-nothing_more (Some text) = ap Some (sym (append-nil text))
-
-both : (x y : List ℕ) (o p q : Option (List ℕ)) → p ≡ option_map (λ before. before ++ x) o → q ≡ option_map (λ before. before ++ y) p → q ≡ option_map (λ before. before ++ (x ++ y)) o
-both x y None p q e f = rw (f, e) refl
-both x y (Some text) p q e f = rw (f, e) (ap Some (append_assoc text x y))
-
-pub grows_none : (o p : Option (List ℕ)) → p ≡ o → Grows o p
-grows_none o p e = ([], e ∙ nothing_more o)
-
-pub grows_then : (o p q : Option (List ℕ)) → Grows o p → Grows p q → Grows o q
-grows_then o p q e f = (e.0 ++ f.0, both e.0 f.0 o p q e.1 f.1)
-
-pub grows_by : (text : List ℕ) (o p q : Option (List ℕ)) → p ≡ o → q ≡ option_map (λ before. before ++ text) p → Grows o q
-grows_by text o p q same e = (text, e ∙ ap (λ (x : Option (List ℕ)). option_map (λ before. before ++ text) x) same)
-
-pub puts_part : (a b c : Outside) (gathered : List ℕ) → b.printed ≡ a.printed → PrintsPart b c gathered → PutsPart a.printed c.printed gathered
-puts_part a b c gathered same p = (p.count, p.part.printed ∙ ap (λ (x : Option (List ℕ)). option_map (λ before. before ++ take p.count gathered) x) same)
-
--- ---- the front of the whole text
-
-some_is : (x y : List ℕ) → Some x ≡ Some y → x ≡ y
-some_is x y e = cc
-
-part_of_text : (front gathered out lines : List ℕ) (n : ℕ) (o c d : Option (List ℕ)) → c ≡ option_map (λ before. before ++ front) o
-    → option_map (λ printed. printed ++ gathered) c ≡ option_map (λ all. all ++ lines) (option_map (λ printed. printed ++ out) o)
-    → d ≡ option_map (λ before. before ++ take n gathered) c → PutsPart o d (out ++ lines)
-part_of_text front gathered out lines n None c d grown put part = (0, rw (part, grown) refl)
-part_of_text front gathered out lines n (Some before) c d grown put part =
-    let all : Some ((before ++ front) ++ gathered) ≡ Some ((before ++ out) ++ lines) =
-    ap (λ (x : Option (List ℕ)). option_map (λ printed. printed ++ gathered) x) (sym grown) ∙ put in
-    let text : front ++ gathered ≡ out ++ lines =
-    append_cancel_left before (front ++ gathered) (out ++ lines)
-    (sym (append_assoc before front gathered) ∙ some_is ((before ++ front) ++ gathered) ((before ++ out) ++ lines) all ∙ append_assoc before out lines) in
-    let some = front ++ take n gathered in
-    let parts : out ++ lines ≡ some ++ drop n gathered =
-    sym text ∙ ap (λ (x : List ℕ). front ++ x) (sym (take-append-drop n gathered)) ∙ sym (append_assoc front (take n gathered) (drop n gathered)) in
-    let taken : take (length some) (out ++ lines) ≡ some = ap (take (length some)) parts ∙ take-append_seam some (drop n gathered) in (
-      length some,
-      both front (take n gathered) (Some before) c d grown part ∙ ap (λ (x : List ℕ). Some (before ++ x)) (sym taken),
-    )
+-- ---- a record
 
 pub records_cut : (version : Version) (kinds count offset : ℕ) (left left_behind : Option (List ℕ)) (a b c : Outside) (out gathered bytes : List ℕ) → count < 4294967296
     → SoFar version kinds count offset left left_behind (put_out a out) (put_out b gathered) → Grows a.printed b.printed → PutsPart b.printed c.printed gathered
@@ -83,9 +39,6 @@ records_cut version kinds count offset left left_behind a b c out gathered bytes
       spelled = g.2;
       part = part_of_text grown.0 gathered out (flat_map (line_of_kinds version kinds) s.records) part.0 a.printed b.printed c.printed grown.1 s.put part.1;
     }
-
-pub not_at_the_end : (P : Type 0) (left : Option (List ℕ)) (result : Result (Unit {0}) Stop) → LastGives left result → result ≡ Err stop.WriteFailed → P
-not_at_the_end P left result h e = absurd (subst (λ (r : Result (Unit {0}) Stop). LastGives left r) e h)
 
 -- ---- a log
 
@@ -178,18 +131,8 @@ cut_later kinds bytes a b c h e = record {
   printed = e ∙ h.printed;
 }
 
-four : (why : Stop) → status_of why ≡ 4 → why ≡ stop.WriteFailed
-four stop.WriteFailed e = refl
-four stop.ReadFailed e = absurd (omega (arith, e))
-four stop.BadHeader e = absurd (omega (arith, e))
-four (stop.BadRecord at fault) e = absurd (omega (arith, e))
-four (stop.BadReplay at) e = absurd (omega (arith, e))
-four (stop.BadLine line) e = absurd (omega (arith, e))
-four stop.TooLong e = absurd (omega (arith, e))
-four stop.OutOfMemory e = absurd (omega (arith, e))
-
 pub cut_with : (kinds status : ℕ) (bytes : List ℕ) (ending : Ending) (a b c : Outside) → status ≡ 4 → (ending ≡ Err stop.WriteFailed → IsCutShort kinds bytes a b)
     → OnOk ending (status ≡ 0) → IfErr ending (λ why. status ≡ status_of why) → IfErr ending (λ why. Reports b c (report_of why)) → IsCutShort kinds bytes a c
 cut_with kinds status bytes (Ok value) a b c e h zero is reports = absurd (omega (arith, e, zero))
 cut_with kinds status bytes (Err why) a b c e h zero is reports =
-    cut_later kinds bytes a b c (h (ap (λ (w : Stop). Err w) (four why (sym is ∙ e)))) reports.others.printed
+    cut_later kinds bytes a b c (h (ap (λ (w : Stop). Err w) (is_write_failed why (sym is ∙ e)))) reports.others.printed

@@ -1,5 +1,5 @@
 -- The conversion of a log step by step.
-use Rattle.std.specs.Prelude.{◌≡◌, ℕ, ◌+◌, ◌<◌, true, false, Option, Some, None, IfSome, Result, Ok, Err, List, [], ◌++◌, length, take, drop, All}
+use Rattle.std.specs.Prelude.{◌≡◌, ℕ, ◌+◌, ◌<◌, true, false, Option, Some, None, IfSome, Result, Ok, Err, List, [], ◌++◌, length, drop, All}
 use Rattle.std.specs.Option.{option_map}
 use Rattle.mps_base.specs.Record.{Record, record_bytes, records_bytes}
 use Rattle.mps_event.specs.declared.version.Version.{Version}
@@ -9,7 +9,7 @@ use Rattle.std.specs.List.{flat_map}
 use Rattle.mps_output.specs.declared.stop.Stop.{Stop}
 use Rattle.mps_output.specs.declared.stop.Stop.TheVariants as stop
 use Rattle.mps_reading.specs.Input.{Buffered}
-use Rattle.mps_reading.specs.PutOut.{PutsOut}
+use Rattle.mps_reading.specs.PutOut.{PutsOut, PutsPart}
 use Rattle.mps_reading.specs.Ending.{EndsAt}
 use Rattle.mps_tools.specs.Portable.{line_of_kinds}
 use Rattle.mps_tools.specs.Converted.{IsCutRecord}
@@ -73,14 +73,6 @@ pub record ConvertsFront (version : Version) (kinds : ℕ) (bytes : List ℕ) (u
   pub spelled : bytes ≡ records_bytes records ++ rest
   pub cut : IsCutRecord version rest unread
   pub put : PutsOut before after (flat_map (line_of_kinds version kinds) records)
-
--- more was printed than before
-abbrev pub Grows : (old new : Option (List ℕ)) → Type 0
-Grows old new = (front : List ℕ) × (new ≡ option_map (λ before. before ++ front) old)
-
--- the front of what was gathered was printed
-abbrev pub PutsPart : (old new : Option (List ℕ)) → (gathered : List ℕ) → Type 0
-PutsPart old new gathered = (count : ℕ) × (new ≡ option_map (λ before. before ++ take count gathered) old)
 
 -- records at the front of what was left were converted, and the front of their lines, behind what was gathered, was printed
 pub record ConvertsPart (version : Version) (kinds : ℕ) (bytes : List ℕ) (gathered : List ℕ) (old new : Option (List ℕ)) : Type 0 where

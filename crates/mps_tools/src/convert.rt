@@ -9,10 +9,10 @@ ghost use Rattle.mps_tools.specs.Portable.{is_wanted, line_of_kinds};
 ghost use Rattle.mps_reading.specs.RecordLine.{record_line, field_text};
 ghost use Rattle.mps_reading.specs.Input.{IsAtEnd};
 ghost use Rattle.mps_reading.specs.Left.{left_of};
-ghost use Rattle.mps_reading.specs.PutOut.{put_out};
+ghost use Rattle.mps_reading.specs.PutOut.{put_out, Grows, PutsPart};
 ghost use Rattle.mps_reading.specs.Ending.{is_whole_status, ReportsStatus};
 ghost use Rattle.mps_tools.specs.Converted.{ConvertedWith, HasConverted, IsCutRecord, IsCutShort, Fails, IsOnly};
-ghost use Rattle.mps_tools.specs.Converting.{Grows, PutsPart, ConvertsPart, ConvertsFront, PendingGives, NextGives, AllGive};
+ghost use Rattle.mps_tools.specs.Converting.{ConvertsPart, ConvertsFront, PendingGives, NextGives, AllGive};
 ghost use Rattle.mps_tools.specs.KindSet.{bits_of};
 ghost use Rattle.mps_output.specs.Streams.{Runs};
 

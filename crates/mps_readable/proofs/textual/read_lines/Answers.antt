@@ -5,9 +5,11 @@ use Rattle.mps_reading.specs.Causes.{Works}
 use Rattle.mps_reading.specs.Left.{left_of}
 use Rattle.mps_reading.specs.PutOut.{put_out}
 use Rattle.mps_reading.proofs.Causes.{works-then}
+use Rattle.mps_reading.proofs.PartPut.{grows_none, grows_then}
+use Rattle.mps_reading.proofs.Stops.{not_at_the_end, handed_on}
 use Rattle.mps_readable.specs.TextSteps.{NextLine}
 use Rattle.mps_readable.proofs.AllLines.{one_more, all_read, all_stop, all_counted}
-use Rattle.mps_readable.proofs.Cut.{grows_none, grows_then, lines_cut, not_at_the_end, handed_on}
+use Rattle.mps_readable.proofs.Cut.{lines_cut}
 use Rattle.mps_readable.proofs.textual.read_lines.Goals as goal
 
 pub returns-in_err-read_next-clause-all : goal.returns-in_err-read_next-clause-all

@@ -2,8 +2,7 @@ use Rattle.std.proofs.Common.{◌≡◌, Ok}
 use Rattle.mps_reading.specs.Causes.{Works}
 use Rattle.mps_reading.specs.Input.{IsAtEnd}
 use Rattle.mps_reading.specs.Left.{left_of}
-use Rattle.mps_reading.specs.PutOut.{put_out}
-use Rattle.mps_readable.specs.TextSteps.{Grows}
+use Rattle.mps_reading.specs.PutOut.{put_out, Grows}
 use Rattle.mps_readable.proofs.AllLines.{LinesSoFar}
 use Rattle.mps_readable.proofs.textual.read_lines.Given as goal
 

@@ -4,9 +4,9 @@ use Rattle.std.proofs.lemmas.Result.{err_from_is_err_and}
 use Rattle.mps_reading.specs.Input.{Buffered}
 use Rattle.mps_reading.specs.Left.{left_of}
 use Rattle.mps_reading.specs.PutOut.{put_out}
+use Rattle.mps_reading.proofs.PartPut.{grows_by, puts_part}
 use Rattle.mps_readable.specs.TextSteps.{NextLine}
 use Rattle.mps_readable.proofs.NextLine.{next_line, next_stops}
-use Rattle.mps_readable.proofs.Cut.{grows_by, puts_part}
 use Rattle.mps_readable.proofs.textual.read_next.Goals as goal
 
 pub returns-in_err-size-clause-gives : goal.returns-in_err-size-clause-gives

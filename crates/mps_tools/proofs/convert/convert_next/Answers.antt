@@ -6,8 +6,9 @@ use Rattle.mps_tools.specs.KindSet.{bits_of}
 use Rattle.mps_reading.specs.Left.{left_of}
 use Rattle.mps_reading.specs.PutOut.{put_out}
 use Rattle.mps_tools.specs.Converting.{NextGives}
-use Rattle.mps_tools.proofs.Cut.{grows_by, puts_part}
-use Rattle.mps_tools.proofs.Broken.{next_breaks, handed_on}
+use Rattle.mps_reading.proofs.PartPut.{grows_by, puts_part}
+use Rattle.mps_reading.proofs.Stops.{handed_on}
+use Rattle.mps_tools.proofs.Broken.{next_breaks}
 use Rattle.mps_tools.proofs.Converting.{next_gives, next_stops}
 use Rattle.mps_tools.proofs.convert.convert_next.Goals as goal
 

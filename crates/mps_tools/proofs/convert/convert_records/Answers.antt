@@ -6,8 +6,10 @@ use Rattle.mps_tools.specs.KindSet.{bits_of}
 use Rattle.mps_reading.specs.Left.{left_of}
 use Rattle.mps_reading.specs.PutOut.{put_out}
 use Rattle.mps_reading.proofs.Causes.{works-then}
-use Rattle.mps_tools.proofs.Cut.{grows_none, grows_then, records_cut, not_at_the_end}
-use Rattle.mps_tools.proofs.Broken.{front_breaks, last_breaks, handed_on}
+use Rattle.mps_reading.proofs.PartPut.{grows_none, grows_then}
+use Rattle.mps_reading.proofs.Stops.{not_at_the_end, handed_on}
+use Rattle.mps_tools.proofs.Cut.{records_cut}
+use Rattle.mps_tools.proofs.Broken.{front_breaks, last_breaks}
 use Rattle.mps_tools.proofs.Converting.{one_more}
 use Rattle.mps_tools.proofs.convert.convert_records.Goals as goal
 

@@ -3,8 +3,7 @@ use Rattle.mps_reading.specs.Causes.{Works}
 use Rattle.mps_reading.specs.Input.{IsAtEnd}
 use Rattle.mps_tools.specs.KindSet.{bits_of}
 use Rattle.mps_reading.specs.Left.{left_of}
-use Rattle.mps_reading.specs.PutOut.{put_out}
-use Rattle.mps_tools.specs.Converting.{Grows}
+use Rattle.mps_reading.specs.PutOut.{put_out, Grows}
 use Rattle.mps_tools.proofs.Converting.{SoFar}
 use Rattle.mps_tools.proofs.convert.convert_records.Given as goal
 

@@ -1,0 +1,46 @@
+-- What was printed where a write failed.
+use Rattle.std.proofs.Common.{◌≡◌, ℕ, List, [], ◌++◌, length, take, drop, Option, Some, None, refl, sym, ap, ◌∙◌, append_assoc}
+use Rattle.std.specs.Option.{option_map}
+use Rattle.std.proofs.lemmas.List.{append_cancel_left, take-append-drop}
+use Rattle.std.proofs.Math.Seq.{take-append_seam}
+use Rattle.mps_base.specs.Desk.{Outside}
+use Rattle.mps_output.specs.Streams.{PrintsPart}
+use Rattle.mps_reading.specs.PutOut.{Grows, PutsPart}
+use Rattle.mps_reading.proofs.PutOut.{nothing_put, one_put}
+
+-- ---- what was printed grows
+
+pub grows_none : (o p : Option (List ℕ)) → p ≡ o → Grows o p
+grows_none o p e = ([], e ∙ nothing_put o)
+
+pub grows_then : (o p q : Option (List ℕ)) → Grows o p → Grows p q → Grows o q
+grows_then o p q e f = (e.0 ++ f.0, one_put e.0 f.0 o p q e.1 f.1)
+
+pub grows_by : (text : List ℕ) (o p q : Option (List ℕ)) → p ≡ o → q ≡ option_map (λ before. before ++ text) p → Grows o q
+grows_by text o p q same e = (text, e ∙ ap (λ (x : Option (List ℕ)). option_map (λ before. before ++ text) x) same)
+
+pub puts_part : (a b c : Outside) (gathered : List ℕ) → b.printed ≡ a.printed → PrintsPart b c gathered → PutsPart a.printed c.printed gathered
+puts_part a b c gathered same p = (p.count, p.part.printed ∙ ap (λ (x : Option (List ℕ)). option_map (λ before. before ++ take p.count gathered) x) same)
+
+-- ---- the front of the whole text
+
+some_is : (x y : List ℕ) → Some x ≡ Some y → x ≡ y
+some_is x y e = cc
+
+pub part_of_text : (front gathered out lines : List ℕ) (n : ℕ) (o c d : Option (List ℕ)) → c ≡ option_map (λ before. before ++ front) o
+    → option_map (λ printed. printed ++ gathered) c ≡ option_map (λ all. all ++ lines) (option_map (λ printed. printed ++ out) o)
+    → d ≡ option_map (λ before. before ++ take n gathered) c → PutsPart o d (out ++ lines)
+part_of_text front gathered out lines n None c d grown put part = (0, rw (part, grown) refl)
+part_of_text front gathered out lines n (Some before) c d grown put part =
+    let all : Some ((before ++ front) ++ gathered) ≡ Some ((before ++ out) ++ lines) =
+    ap (λ (x : Option (List ℕ)). option_map (λ printed. printed ++ gathered) x) (sym grown) ∙ put in
+    let text : front ++ gathered ≡ out ++ lines =
+    append_cancel_left before (front ++ gathered) (out ++ lines)
+    (sym (append_assoc before front gathered) ∙ some_is ((before ++ front) ++ gathered) ((before ++ out) ++ lines) all ∙ append_assoc before out lines) in
+    let some = front ++ take n gathered in
+    let parts : out ++ lines ≡ some ++ drop n gathered =
+    sym text ∙ ap (λ (x : List ℕ). front ++ x) (sym (take-append-drop n gathered)) ∙ sym (append_assoc front (take n gathered) (drop n gathered)) in
+    let taken : take (length some) (out ++ lines) ≡ some = ap (take (length some)) parts ∙ take-append_seam some (drop n gathered) in (
+      length some,
+      one_put front (take n gathered) (Some before) c d grown part ∙ ap (λ (x : List ℕ). Some (before ++ x)) (sym taken),
+    )
