@@ -7,3 +7,5 @@ pub mod LineByLine
 pub mod InRange
 pub mod Steps
 pub mod SoFar
+pub mod Fronts
+pub mod Leaving

@@ -70,7 +70,7 @@ at_start kept o left stands = record {
 }
 
 -- one line more of a script
-read_more : (n : ℕ) (h steps : History) (script rest line rest2 : List ℕ) → ReadUpTo n h script rest
+pub read_more : (n : ℕ) (h steps : History) (script rest line rest2 : List ℕ) → ReadUpTo n h script rest
     → 0 < length rest → line ≡ take (length_of_line rest) rest → rest2 ≡ drop (length_of_line rest + 1) rest
     → is_good line ≡ true → commands_of steps ≡ commands_of_call (n + 1) (call_of_line line)
     → ReadUpTo (n + 1) (h ++ steps) script rest2
@@ -117,7 +117,7 @@ replay_behind store middle (r ∷ rs) behind e =
     replay_step (store_after store r) middle rs behind (λ s h. replay_behind s middle rs behind h) e
 
 -- steps behind others
-unsupported-append : (w : World) (h steps : History) → AreUnsupportedWhereDue w h → AreUnsupportedWhereDue (world_after_steps w h) steps
+pub unsupported-append : (w : World) (h steps : History) → AreUnsupportedWhereDue w h → AreUnsupportedWhereDue (world_after_steps w h) steps
     → AreUnsupportedWhereDue w (h ++ steps)
 unsupported-append w [] steps before behind = behind
 unsupported-append w (s ∷ ss) steps before behind = (before.0, unsupported-append (world_after w s) ss steps before.1 behind)

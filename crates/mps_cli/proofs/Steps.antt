@@ -22,7 +22,7 @@ use Rattle.mps_model.specs.Replay.{replay_from}
 use Rattle.mps_model.specs.History.{live_blocks}
 
 -- the answer is `unsupported` where the reply is
-said_unsupported : (r : Reply) (b : Bool) → (r ≡ reply.Unsupported) ↔ IsTrue b → (Said r ≡ Said reply.Unsupported) ↔ IsTrue b
+pub said_unsupported : (r : Reply) (b : Bool) → (r ≡ reply.Unsupported) ↔ IsTrue b → (Said r ≡ Said reply.Unsupported) ↔ IsTrue b
 said_unsupported r b h = (λ e. h.0 (let a : r ≡ reply.Unsupported = cc in a), λ t. ap Said (h.1 t))
 
 -- a command that was answered is one step

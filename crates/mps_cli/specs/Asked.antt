@@ -15,6 +15,7 @@ use Rattle.mps_generator.specs.Script.{script as generated_script}
 use Rattle.mps_words.specs.Meaning.{Meaning, Runs, Converts, Reads, Lists, Generates}
 use Rattle.mps_words.specs.Words.{meaning}
 use Rattle.mps_cli.specs.Ending.{IsReported, Reports}
+use Rattle.mps_cli.specs.Leaving.{LeavesWith}
 use Rattle.mps_cli.specs.LogFile.{IsInFile, LogsInto}
 use Rattle.mps_cli.specs.Script.{Answered, RanWith}
 use Rattle.mps_cli.specs.declared.ending.Ending.TheVariants.{NoMeaning}
@@ -36,6 +37,10 @@ pub record RunsScript (log script : List ℕ) (status : ℕ) (old new : Outside)
   -- Where printing didn't fail, what was printed is in any case the answer line of each step of a history of the first
   -- lines, and nothing else.
   pub answered : status ≢ 4 → (bytes : List ℕ) → old.text script ≡ Some bytes → Answered bytes old new
+  -- With any status: what was printed and logged is that of the first lines, whose commands were answered. Where the log or
+  -- printing failed, there may be a part of the next command behind them: the front of its records, or all of them and the
+  -- front of its answer.
+  pub leaves : (bytes : List ℕ) → old.text script ≡ Some bytes → LeavesWith status bytes old new
   -- what was logged is exactly what the log's file holds, and no other file has changed
   pub in_file : is_whole_status status ≡ true → IsInFile log old new
   -- that holds with any status, unless nothing was logged and no file has changed

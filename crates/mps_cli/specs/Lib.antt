@@ -5,3 +5,4 @@ pub mod LogFile
 pub mod Buffer
 pub mod Records
 pub mod Script
+pub mod Leaving

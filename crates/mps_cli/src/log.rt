@@ -7,6 +7,7 @@ ghost use Rattle.mps_event.specs.Event.{code_of};
 ghost use Rattle.mps_event.specs.declared.version.Version.TheVariants.{One};
 ghost use Rattle.mps_model.specs.Log.{record_of, records_of_accepted, records_of_command, kind_number as number_of_kind};
 ghost use Rattle.mps_model.specs.Answer.{Said};
+ghost use Rattle.mps_reading.specs.PutOut.{PutsPart};
 ghost use Rattle.mps_cli.specs.Write.{appended, LogTakes};
 ghost use Rattle.mps_cli.specs.Records.{records_of_done};
 
@@ -19,6 +20,8 @@ use mps_model::{Call, Reply};
 /// Writes the header of a log.
 pub fn log_header<D: Desk>(desk: &mut D) -> Result<(), Failed>
     ensures logged { OnOk result ((D.outside desk.new).logged ≡ appended (D.outside desk.old).logged (header_bytes 1)) }
+    ensures part { OnErr result (PutsPart (D.outside desk.old).logged (D.outside desk.new).logged
+        (header_bytes 1)) }
     ensures takes { LogTakes (D.outside desk.old) (D.outside desk.new) }
     ensures counted { (D.outside desk.old).log_faults ≤ (D.outside desk.new).log_faults }
     ensures cause { OnErr result (HasRisen (D.outside desk.old).log_faults (D.outside desk.new).log_faults) }
@@ -37,6 +40,8 @@ pub fn log_records<D: Desk>(
 ) -> Result<(), Failed>
     ensures logged { OnOk result ((D.outside desk.new).logged
         ≡ appended (D.outside desk.old).logged (records_bytes (records_of_done line pools call.now done.now))) }
+    ensures part { OnErr result (PutsPart (D.outside desk.old).logged (D.outside desk.new).logged
+        (records_bytes (records_of_done line pools call.now done.now))) }
     ensures takes { LogTakes (D.outside desk.old) (D.outside desk.new) }
     ensures counted { (D.outside desk.old).log_faults ≤ (D.outside desk.new).log_faults }
     ensures cause { OnErr result (HasRisen (D.outside desk.old).log_faults (D.outside desk.new).log_faults) }
@@ -51,6 +56,8 @@ pub fn log_records<D: Desk>(
 fn log_move<D: Desk>(desk: &mut D, line: u32, moved: &Move) -> Result<(), Failed>
     ensures logged { OnOk result ((D.outside desk.new).logged
         ≡ appended (D.outside desk.old).logged (record_bytes (record_of moved.now line))) }
+    ensures part { OnErr result (PutsPart (D.outside desk.old).logged (D.outside desk.new).logged
+        (record_bytes (record_of moved.now line))) }
     ensures takes { LogTakes (D.outside desk.old) (D.outside desk.new) }
     ensures counted { (D.outside desk.old).log_faults ≤ (D.outside desk.new).log_faults }
     ensures cause { OnErr result (HasRisen (D.outside desk.old).log_faults (D.outside desk.new).log_faults) }
@@ -111,6 +118,8 @@ fn log_command<D: Desk>(
 ) -> Result<(), Failed>
     ensures logged { OnOk result ((D.outside desk.new).logged
         ≡ appended (D.outside desk.old).logged (records_bytes (records_of_command pools call.now (Said reply.now) line))) }
+    ensures part { OnErr result (PutsPart (D.outside desk.old).logged (D.outside desk.new).logged
+        (records_bytes (records_of_command pools call.now (Said reply.now) line))) }
     ensures takes { LogTakes (D.outside desk.old) (D.outside desk.new) }
     ensures counted { (D.outside desk.old).log_faults ≤ (D.outside desk.new).log_faults }
     ensures cause { OnErr result (HasRisen (D.outside desk.old).log_faults (D.outside desk.new).log_faults) }
@@ -125,6 +134,8 @@ fn log_command<D: Desk>(
 fn log_accepted<D: Desk>(desk: &mut D, line: u32, pools: u64, call: &Call) -> Result<(), Failed>
     ensures logged { OnOk result ((D.outside desk.new).logged
         ≡ appended (D.outside desk.old).logged (records_bytes (records_of_accepted pools call.now line))) }
+    ensures part { OnErr result (PutsPart (D.outside desk.old).logged (D.outside desk.new).logged
+        (records_bytes (records_of_accepted pools call.now line))) }
     ensures takes { LogTakes (D.outside desk.old) (D.outside desk.new) }
     ensures counted { (D.outside desk.old).log_faults ≤ (D.outside desk.new).log_faults }
     ensures cause { OnErr result (HasRisen (D.outside desk.old).log_faults (D.outside desk.new).log_faults) }
@@ -183,6 +194,8 @@ fn log_record<D: Desk>(desk: &mut D, line: u32, event: Event, fields: &[u64]) ->
     requires few { length fields.now ≤ 4 }
     ensures logged { OnOk result ((D.outside desk.new).logged
         ≡ appended (D.outside desk.old).logged (record_bytes (record { line = line; code = code_of event; fields = fields.now }))) }
+    ensures part { OnErr result (PutsPart (D.outside desk.old).logged (D.outside desk.new).logged
+        (record_bytes (record { line = line; code = code_of event; fields = fields.now }))) }
     ensures takes { LogTakes (D.outside desk.old) (D.outside desk.new) }
     ensures counted { (D.outside desk.old).log_faults ≤ (D.outside desk.new).log_faults }
     ensures cause { OnErr result (HasRisen (D.outside desk.old).log_faults (D.outside desk.new).log_faults) }

@@ -1,5 +1,5 @@
 // The run of a script.
-ghost use Rattle.std.specs.Prelude.{◌≡◌, ◌≢◌, ◌≤◌, ◌+◌, ◌∷◌, ◌⊎◌, [], ℕ, List, true, false, Some, IfSome, IfNone, IfErr, OnOk, OnErr};
+ghost use Rattle.std.specs.Prelude.{◌≡◌, ◌≢◌, ◌≤◌, ◌+◌, ◌∷◌, ◌⊎◌, [], ℕ, List, true, false, Some, Err, IfSome, IfNone, IfErr, OnOk, OnErr};
 ghost use Rattle.std.specs.Option.{option_map};
 ghost use Rattle.mps_base.specs.Desk.{SameElsewhere, made_for_log};
 ghost use Rattle.mps_base.specs.Record.{records_bytes};
@@ -10,6 +10,8 @@ ghost use Rattle.mps_cli.specs.Ending.{HasCause, CountsGrow, IsQuiet};
 ghost use Rattle.mps_cli.specs.Buffer.{left_of};
 ghost use Rattle.mps_cli.specs.Records.{records_of_done};
 ghost use Rattle.mps_cli.specs.Script.{Command, StepsRan, RanTo, RanLines, Answered, IsBadHere, is_good, is_whole, commands_of_call};
+ghost use Rattle.mps_reading.specs.PutOut.{PutsPart};
+ghost use Rattle.mps_cli.specs.Leaving.{Leaves, LeavesRun, Stops};
 ghost use Rattle.mps_cli.specs.LogFile.{LogsInto, IsInFile};
 ghost use Rattle.mps_cli.specs.Write.{appended, LogTakes};
 ghost use Rattle.mps_cli.specs.declared.ending.Ending.TheVariants.{NoMeaning, ReadFailed, WriteFailed, LogFailed};
@@ -36,6 +38,8 @@ pub fn run<D: Desk>(alloc: Global, log: &str, script: &str, desk: &mut D) -> End
     ensures quiet { IsQuiet (D.outside desk.old) (D.outside desk.new) }
     ensures ran { is_whole result ≡ true → (bytes : List ℕ) → (D.outside desk.old).text script.now ≡ Some bytes
         → RanTo result bytes (D.outside desk.old) (D.outside desk.new) }
+    ensures leaves { (bytes : List ℕ) → (D.outside desk.old).text script.now ≡ Some bytes
+        → LeavesRun result bytes (D.outside desk.old) (D.outside desk.new) }
     ensures answered { result ≢ WriteFailed → (bytes : List ℕ) → (D.outside desk.old).text script.now ≡ Some bytes
         → Answered bytes (D.outside desk.old) (D.outside desk.new) }
 {
@@ -82,6 +86,8 @@ fn run_lines<D: Desk>(alloc: Global, desk: &mut D, lines: &mut Lines) -> Ending
     ensures quiet { IsQuiet (D.outside desk.old) (D.outside desk.new) }
     ensures ran { is_whole result ≡ true → (script : List ℕ) → left_of lines.old (D.outside desk.old).input ≡ Some script
         → RanLines result script (D.outside desk.old) (D.outside desk.new) }
+    ensures leaves { (script : List ℕ) → left_of lines.old (D.outside desk.old).input ≡ Some script
+        → Leaves result [] script (D.outside desk.old) (D.outside desk.new) }
     ensures answered { result ≢ WriteFailed → (script : List ℕ) → left_of lines.old (D.outside desk.old).input ≡ Some script
         → Answered script (D.outside desk.old) (D.outside desk.new) }
 {
@@ -124,6 +130,8 @@ fn run_line<D: Desk>(
     ensures good { IfNone result (is_good bytes.now ≡ true) }
     ensures few { pools.new ≤ pools.old + 1 }
     ensures whole { IfSome result (λ ending. is_whole ending ≡ true → IsBadHere bytes.now line ending (D.outside desk.old) (D.outside desk.new)) }
+    ensures stops { IfSome result (λ ending. Stops ending (commands_of_call line (call_of_line bytes.now)) heap.old pools.old
+        (D.outside desk.old) (D.outside desk.new)) }
     ensures records_first { IfSome result (λ ending. ending ≢ WriteFailed → (D.outside desk.new).printed ≡ (D.outside desk.old).printed) }
     ensures meaning { IfSome result (λ ending. ending ≢ NoMeaning) }
     ensures cause { IfSome result (λ ending. HasCause ending (D.outside desk.old) (D.outside desk.new)) }
@@ -153,6 +161,8 @@ fn run_call<D: Desk>(
         (D.outside desk.old) (D.outside desk.new)) }
     ensures few { pools.new ≤ pools.old + 1 }
     ensures whole { IfSome result (λ ending. is_whole ending ≡ false) }
+    ensures stops { IfSome result (λ ending. Stops ending (record { line = line; call = call.now } ∷ []) heap.old pools.old
+        (D.outside desk.old) (D.outside desk.new)) }
     ensures records_first { IfSome result (λ ending. ending ≢ WriteFailed → (D.outside desk.new).printed ≡ (D.outside desk.old).printed) }
     ensures meaning { IfSome result (λ ending. ending ≢ NoMeaning) }
     ensures cause { IfSome result (λ ending. HasCause ending (D.outside desk.old) (D.outside desk.new)) }
@@ -183,6 +193,12 @@ fn log_then_print<D: Desk>(
     ensures logged { OnOk result ((D.outside desk.new).logged
         ≡ appended (D.outside desk.old).logged (records_bytes (records_of_done line pools call.now done.now))) }
     ensures printed { OnOk result ((D.outside desk.new).printed ≡ appended (D.outside desk.old).printed (text_of done.now.reply)) }
+    ensures log_cut { result ≡ Err LogFailed → PutsPart (D.outside desk.old).logged (D.outside desk.new).logged
+        (records_bytes (records_of_done line pools call.now done.now)) }
+    ensures all_logged { result ≡ Err WriteFailed → (D.outside desk.new).logged
+        ≡ appended (D.outside desk.old).logged (records_bytes (records_of_done line pools call.now done.now)) }
+    ensures answer_cut { result ≡ Err WriteFailed → PutsPart (D.outside desk.old).printed (D.outside desk.new).printed
+        (text_of done.now.reply) }
     ensures records_first { IfErr result (λ ending. ending ≢ WriteFailed → (D.outside desk.new).printed ≡ (D.outside desk.old).printed) }
     ensures failed { IfErr result (λ ending. (ending ≡ WriteFailed) ⊎ (ending ≡ LogFailed)) }
     ensures cause { IfErr result (λ ending. HasCause ending (D.outside desk.old) (D.outside desk.new)) }

@@ -2,6 +2,7 @@ use Rattle.std.proofs.Common.{◌≡◌, ◌∙◌, ap, refl, subst, true}
 use Rattle.mps_reading.specs.Ending.{is_whole_status}
 use Rattle.mps_cli.specs.Ending.{status_of}
 use Rattle.mps_cli.proofs.SoFar.{answered_between, ran_then_reported, reported_after, whole_status}
+use Rattle.mps_cli.proofs.Leaving.{leaves_then_reported}
 use Rattle.mps_cli.proofs.LogFile.{in_file_then_reported, logs_into_then_reported}
 use Rattle.mps_cli.proofs.mps.run_script.Goals as goal
 
@@ -28,6 +29,12 @@ returns-clause-runs g c = record {
       (g.D.Desk.outside c.report.new.desk) refl
       (c.run-ending.ensures.answered (λ is. other (c.status_of.ensures ∙ ap status_of is)) bytes e)
       c.report.ensures.others.printed;
+  leaves = λ bytes e. record {
+    ends = c.run-ending.result;
+    status_is = c.status_of.ensures;
+    leaves = leaves_then_reported c.run-ending.result bytes (g.D.Desk.outside c.args.desk.now) (g.D.Desk.outside c.run-ending.new.desk)
+        (g.D.Desk.outside c.report.new.desk) (c.run-ending.ensures.leaves bytes e) c.report.ensures.others;
+  };
   in_file = λ whole.
       in_file_then_reported c.args.log.now (g.D.Desk.outside c.args.desk.now) (g.D.Desk.outside c.run-ending.new.desk) (g.D.Desk.outside c.report.new.desk)
       (c.run-ending.ensures.whole_log (whole_status c.run-ending.result (subst (λ n. is_whole_status n ≡ true) c.status_of.ensures whole)))

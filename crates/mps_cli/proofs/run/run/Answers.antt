@@ -4,6 +4,7 @@ use Rattle.mps_cli.specs.Buffer.{Waiting, left_of}
 use Rattle.mps_cli.specs.Write.{appended}
 use Rattle.mps_cli.proofs.SoFar.{answered_between, answered_nothing, ran_behind_header}
 use Rattle.mps_cli.proofs.LogFile.{in_file, takes_then}
+use Rattle.mps_cli.proofs.Leaving.{leaves_behind_header, leaves_unbegun}
 use Rattle.mps_cli.proofs.run.run.Goals as goal
 
 pub returns-clause-ran : goal.returns-clause-ran
@@ -63,3 +64,20 @@ returns-in_default-clause-filed g c = inr (record { logged = refl; files = refl 
 
 pub returns-in-Err-clause-filed : goal.returns-in-Err-clause-filed
 returns-in-Err-clause-filed g c = inr (record { logged = c.in-Err.ensures.logged; files = c.in-Err.ensures.unmade })
+
+pub returns-clause-leaves : goal.returns-clause-leaves
+returns-clause-leaves g c bytes e =
+    let input : (g.D.Desk.outside c.log_header.new.desk).input ≡ Some bytes =
+    c.in-Ok-log_header.ensures.others.input ∙ (c.in-Ok-open_files.ensures.input ∙ e) in
+    let left : left_of c.in-Ok.lines (g.D.Desk.outside c.log_header.new.desk).input ≡ Some bytes =
+    ap (left_of c.in-Ok.lines) input ∙ ap (λ (w : Waiting). left_of w (Some bytes)) c.in-Ok.ensures in
+    leaves_behind_header c.run_lines.result bytes (g.D.Desk.outside c.args.desk.now) (g.D.Desk.outside c.log_header.new.desk)
+    (g.D.Desk.outside c.run_lines.new.desk)
+    (c.in-Ok-log_header.ensures.others.printed ∙ c.in-Ok-open_files.ensures.printed)
+    (c.in-Ok-log_header.ensures.logged ∙ ap (λ told. appended told (header_bytes 1)) c.in-Ok-open_files.ensures.logged)
+    (c.run_lines.ensures.leaves bytes left)
+
+pub returns-in-Err-clause-leaves : goal.returns-in-Err-clause-leaves
+returns-in-Err-clause-leaves g c bytes e =
+    leaves_unbegun c.in-Err.ending bytes (g.D.Desk.outside c.args.desk.now) (g.D.Desk.outside c.open_files.new.desk)
+    c.in-Err.ensures.failed c.in-Err.ensures.printed c.in-Err.ensures.logged

@@ -1,10 +1,12 @@
-use Rattle.std.proofs.Common.{◌≡◌, ◌+◌, true, refl, subst, sym, ap, arith}
+use Rattle.std.proofs.Common.{◌≡◌, ◌+◌, true, refl, ◌∙◌, subst, sym, ap, arith}
 use Rattle.mps_script.specs.Line.{call_of_line}
 use Rattle.mps_cli.specs.Buffer.{ComesNextOf, left_of}
 use Rattle.mps_cli.specs.Script.{IsBadHere, StepsRan, commands_of_call, is_good}
 use Rattle.mps_cli.specs.declared.next.Next.TheVariants.{Line, TooLong}
-use Rattle.mps_cli.proofs.SoFar.{SoFar, at_start, one_line_more, ends_long_line, ends_too_long, ends_bad_line, counts_line, quiet_line}
+use Rattle.mps_cli.proofs.SoFar.{SoFar, at_start, answered_so_far, one_line_more, ends_long_line, ends_too_long, ends_bad_line, counts_line, quiet_line}
 use Rattle.mps_cli.proofs.LogFile.{takes_self, takes_behind_reading}
+use Rattle.mps_cli.specs.Leaving.{Stops}
+use Rattle.mps_cli.proofs.Leaving.{leaves_line}
 use Rattle.mps_cli.proofs.run.run_lines.Goals as goal
 
 pub returns-in-TooLong-clause-ran : goal.returns-in-TooLong-clause-ran
@@ -60,3 +62,20 @@ pub returns-in-Some-clause-takes : goal.returns-in-Some-clause-takes
 returns-in-Some-clause-takes g c =
     takes_behind_reading (g.D.Desk.outside c.args.desk.now) (g.D.Desk.outside c.loop-next.desk) (g.D.Desk.outside c.next.new.desk)
     (g.D.Desk.outside c.run_line.new.desk) c.loop-next.invariant.takes c.in-Ok.ensures.others c.in-Some.ensures.takes
+
+pub returns-in-Some-clause-leaves : goal.returns-in-Some-clause-leaves
+returns-in-Some-clause-leaves g c script e =
+    leaves_line c.in-Some.ending c.loop-next.heap c.loop-next.line c.loop-next.pools (g.D.Desk.outside c.args.desk.now) (g.D.Desk.outside c.loop-next.desk)
+    (g.D.Desk.outside c.next.new.desk) (g.D.Desk.outside c.run_line.new.desk) script (left_of c.loop-next.lines (g.D.Desk.outside c.loop-next.desk).input)
+    c.next.new.self.line (left_of c.next.new.self (g.D.Desk.outside c.next.new.desk).input)
+    (subst (λ s. SoFar c.loop-next.heap c.loop-next.line c.loop-next.pools (g.D.Desk.outside c.args.desk.now) (g.D.Desk.outside c.loop-next.desk) s (left_of c.loop-next.lines (g.D.Desk.outside c.loop-next.desk).input)) e c.loop-next.invariant.so_far)
+    c.in-Ok.ensures.others (subst (λ n. ComesNextOf n (left_of c.loop-next.lines (g.D.Desk.outside c.loop-next.desk).input) c.next.new.self.line (left_of c.next.new.self (g.D.Desk.outside c.next.new.desk).input)) c.in-Line.is c.in-Ok.ensures.next)
+    (subst (λ bytes. Stops c.in-Some.ending (commands_of_call (c.loop-next.line + 1) (call_of_line bytes)) c.loop-next.heap c.loop-next.pools (g.D.Desk.outside c.next.new.desk) (g.D.Desk.outside c.run_line.new.desk))
+    c.line.ensures c.in-Some.ensures.stops)
+
+pub returns-in-Some-clause-answered : goal.returns-in-Some-clause-answered
+returns-in-Some-clause-answered g c other script e =
+    answered_so_far c.loop-next.heap c.loop-next.line c.loop-next.pools (g.D.Desk.outside c.args.desk.now) (g.D.Desk.outside c.loop-next.desk)
+    (g.D.Desk.outside c.run_line.new.desk) script (left_of c.loop-next.lines (g.D.Desk.outside c.loop-next.desk).input)
+    (subst (λ s. SoFar c.loop-next.heap c.loop-next.line c.loop-next.pools (g.D.Desk.outside c.args.desk.now) (g.D.Desk.outside c.loop-next.desk) s (left_of c.loop-next.lines (g.D.Desk.outside c.loop-next.desk).input)) e c.loop-next.invariant.so_far)
+    (c.in-Some.ensures.records_first other ∙ c.in-Ok.ensures.others.printed)
