@@ -1,5 +1,5 @@
 -- The names that a text interns, and the labels of its addresses.
-use Rattle.std.specs.Prelude.{◌≡◌, ℕ, ◌==◌, nat_lt, if◌then◌else◌, codes, Option, Some, None, List, [], ◌∷◌, ◌++◌, length, slice_index, slice_get, option_and_then, refl}
+use Rattle.std.specs.Prelude.{◌≡◌, ℕ, ◌==◌, nat_lt, if◌then◌else◌, codes, Option, Some, None, List, [], ◌∷◌, ◌++◌, length, slice_index, slice_get, option_and_then, Bool, true, false, is_some, refl}
 use Rattle.std.specs.Ordering.{nat_cmp}
 use Rattle.std.specs.Map.{lookup, remove_entry}
 use Rattle.std.specs.BTreeMap.{insert_entry, is_at}
@@ -82,6 +82,33 @@ abbrev pub after_records : Version → Naming → List Record → Option Naming
 after_records version s [] = Some s
 after_records version s (r ∷ rs) = option_and_then (λ next. after_records version next rs) (after_record version s r)
 
+-- whether a record of an event with these fields takes memory: for a name or a label more, or for one that moves along
+abbrev pub takes_memory : Event → (fields : List ℕ) → Naming → Bool
+takes_memory Intern fields s = true
+takes_memory Label fields s = true
+takes_memory Move fields s = is_some (id_at s (slice_index fields 0))
+takes_memory Commit fields s = false
+takes_memory Alloc fields s = false
+takes_memory Free fields s = false
+takes_memory ArenaCreate fields s = false
+takes_memory LimitSet fields s = false
+takes_memory PoolCreate fields s = false
+takes_memory Flip fields s = false
+takes_memory End fields s = false
+takes_memory SegAlloc fields s = false
+takes_memory SegFree fields s = false
+takes_memory Splat fields s = false
+takes_memory Stay fields s = false
+takes_memory Post fields s = false
+
+-- the same of a record of a text of this version
+abbrev pub record_takes_memory : Version → Naming → Record → Bool
+record_takes_memory version s r = takes (event_of version r.code)
+  where
+    takes : Option Event → Bool
+    takes None = false
+    takes (Some event) = takes_memory event r.fields s
+
 -- the names and labels behind some records of a text
 abbrev pub IsReached : Naming → Type 0
 IsReached s = (version : Version) × (records : List Record) × (after_records version no_names records ≡ Some s)
@@ -157,3 +184,15 @@ a_move_to_itself_loses_the_label = refl
 
 pub a_post_keeps_the_labels : after_record Two example (record { line = 1; code = 84; fields = 0x1000 ∷ [] }) ≡ Some example
 a_post_keeps_the_labels = refl
+
+pub a_name_takes_memory : record_takes_memory Two no_names (intern_ring 0) ≡ true
+a_name_takes_memory = refl
+
+pub a_label_that_moves_takes_memory : record_takes_memory Two example (move_record 0x1000 0x2000) ≡ true
+a_label_that_moves_takes_memory = refl
+
+pub a_move_without_a_label_takes_none : record_takes_memory Two example (move_record 0x2000 0x1000) ≡ false
+a_move_without_a_label_takes_none = refl
+
+pub a_new_block_takes_none : record_takes_memory Two example (record { line = 1; code = 80; fields = 0x3000 ∷ 4 ∷ 0 ∷ [] }) ≡ false
+a_new_block_takes_none = refl

@@ -3,7 +3,7 @@ use Rattle.std.specs.Prelude.{◌≡◌, ◌≢◌, ℕ, ◌+◌, ◌<◌, ◌�
 use Rattle.std.specs.Fmt.{digits}
 use Rattle.std.specs.List.{flat_map}
 use Rattle.std.specs.Option.{option_map}
-use Rattle.mps_base.specs.Desk.{Outside, HasRisen}
+use Rattle.mps_base.specs.Desk.{Outside, OnlyReports}
 use Rattle.mps_base.specs.Record.{Record}
 use Rattle.mps_event.specs.declared.version.Version.{Version}
 use Rattle.mps_event.specs.declared.version.Version.TheVariants.{Two}
@@ -12,9 +12,10 @@ use Rattle.mps_output.specs.declared.stop.Stop.{Stop}
 use Rattle.mps_output.specs.declared.stop.Stop.TheVariants as stop
 use Rattle.mps_reading.specs.Opening.{first_line}
 use Rattle.mps_reading.specs.Ending.{status_of_ending, HasReported}
+use Rattle.mps_reading.specs.PutOut.{PrintsAsFar}
 use Rattle.mps_reading.specs.RecordLine.{record_line}
 use Rattle.mps_readable.specs.Cuts.{Lacks}
-use Rattle.mps_readable.specs.Labels.{Naming, no_names, after_record, after_records}
+use Rattle.mps_readable.specs.Labels.{Naming, no_names, after_record, after_records, record_takes_memory}
 use Rattle.mps_readable.specs.Readable.{readable}
 
 -- the bytes of a text, with the line feed that its last line may lack
@@ -74,14 +75,13 @@ pub record Reads {T : Type 0} (bytes : List ℕ) (ending : Result T Stop) (old n
   pub ends_at : TextEndsAt version named ending (length records) rest
   pub printed : new.printed ≡ option_map (λ before. before ++ readable_text version records) old.printed
 
--- the first lines of a text were read, and what was printed behind what stood there is their readable text
-pub record ReadsFront (bytes : List ℕ) (old new : Outside) : Type 0 where
+-- the first lines of a text are those of these records, and this is left of it
+pub record FirstLines (bytes : List ℕ) : Type 0 where
   pub version : Version
   pub records : List Record
   pub named : Naming
   pub left : List ℕ
   pub begins : BeginsWith version records named (closed left) bytes
-  pub printed : new.printed ≡ option_map (λ before. before ++ readable_text version records) old.printed
 
 -- of these bytes a part of a line had come, of at most 4,096 bytes, and what follows it is still unread
 pub record BreaksOff (bytes : List ℕ) (unread : Option (List ℕ)) : Type 0 where
@@ -97,10 +97,27 @@ pub record FailsBefore (bytes : List ℕ) (old new : Outside) : Type 0 where
   pub breaks : (new.input ≡ old.input) ⊎ BreaksOff bytes new.input
   pub printed : new.printed ≡ old.printed
 
--- a read failed behind the whole lines that had come, and those are printed in readable text
+-- a read failed behind the whole lines that had come, and the readable text of these was printed; where a write failed too,
+-- the front of it
 pub record FailsBehind (bytes : List ℕ) (old new : Outside) : Type 0 where
-  pub front : ReadsFront bytes old new
+  pub front : FirstLines bytes
   pub breaks : BreaksOff front.left new.input
+  pub printed : PrintsAsFar old new (readable_text front.version front.records)
+
+-- the next line is that of a record that takes memory: it names a label, sets one, or moves one along
+pub record IsNextToTakeMemory (version : Version) (before : Naming) (rest : List ℕ) : Type 0 where
+  pub next : Record
+  pub behind : List ℕ
+  pub grammar : IsRecord version next
+  pub front : rest ≡ record_line next ++ behind
+  pub takes : record_takes_memory version before next ≡ true
+
+-- memory was wanting at such a line of a text of version 2, and the readable text of the lines before it was printed
+pub record WantsMemory (bytes : List ℕ) (old new : Outside) : Type 0 where
+  pub front : FirstLines bytes
+  pub labelled : front.version ≡ Two
+  pub next : IsNextToTakeMemory front.version front.named (closed front.left)
+  pub printed : new.printed ≡ option_map (λ before. before ++ readable_text front.version front.records) old.printed
 
 -- a write failed: the front of the readable text of the lines of some records at the front of the text was printed
 pub record IsCutShort (bytes : List ℕ) (old new : Outside) : Type 0 where
@@ -118,16 +135,15 @@ pub record FindsNoFirstLine (bytes : List ℕ) (line : ℕ) (old new : Outside) 
   pub none : HasNoFirstLine bytes
   pub printed : new.printed ≡ old.printed
 
--- the same of every ending; where a read failed and no write did, the whole lines that had come are printed; where memory was
--- wanting, the lines before
+-- the same of every ending; where a read failed, the whole lines that had come are printed; where memory was wanting, nothing
+-- happened yet or the lines before are printed
 abbrev pub HasRead : {T : Type 0} → (bytes : List ℕ) → Result T Stop → (old new : Outside) → Type 0
 HasRead bytes (Ok value) old new = Reads bytes (Ok value) old new
 HasRead bytes (Err (stop.BadLine line)) old new =
     FindsNoFirstLine bytes line old new ⊎ Reads {T = Unit {0}} bytes (Err (stop.BadLine line)) old new
 HasRead bytes (Err stop.TooLong) old new = Reads {T = Unit {0}} bytes (Err stop.TooLong) old new
-HasRead bytes (Err stop.ReadFailed) old new =
-    FailsBefore bytes old new ⊎ (FailsBehind bytes old new ⊎ HasRisen old.out_faults new.out_faults)
-HasRead bytes (Err stop.OutOfMemory) old new = (new.printed ≡ old.printed) ⊎ ReadsFront bytes old new
+HasRead bytes (Err stop.ReadFailed) old new = FailsBefore bytes old new ⊎ FailsBehind bytes old new
+HasRead bytes (Err stop.OutOfMemory) old new = OnlyReports old new ⊎ WantsMemory bytes old new
 HasRead bytes (Err stop.WriteFailed) old new = Unit {0}
 HasRead bytes (Err stop.BadHeader) old new = ⊥
 HasRead bytes (Err (stop.BadRecord at fault)) old new = ⊥

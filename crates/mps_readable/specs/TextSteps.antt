@@ -15,9 +15,9 @@ use Rattle.mps_reading.specs.RecordLine.{record_line}
 use Rattle.mps_readable.specs.Line.{record_text, Spells}
 use Rattle.mps_readable.specs.Cuts.{Lacks}
 use Rattle.mps_readable.specs.NextLine.{IsFront, IsLongFront}
-use Rattle.mps_readable.specs.Labels.{Naming, no_names, after_record, after_records}
+use Rattle.mps_readable.specs.Labels.{Naming, no_names, after_record, after_records, record_takes_memory}
 use Rattle.mps_readable.specs.Readable.{readable_line, readable}
-use Rattle.mps_readable.specs.Text.{closed, HasNoFirstLine, IsWrongNext, TextEndsAt, BreaksOff}
+use Rattle.mps_readable.specs.Text.{closed, HasNoFirstLine, IsWrongNext, IsNextToTakeMemory, TextEndsAt, BreaksOff}
 
 -- ---- the line of a record
 
@@ -28,6 +28,14 @@ IsWrong version before line = (r : Record) → Spells version line r → after_r
 -- the line at the front is wrong
 abbrev pub IsWrongFront : Version → (before : Naming) → Buffered → Type 0
 IsWrongFront version before b = ((line : List ℕ) × (size : ℕ) × IsFront b line size × IsWrong version before line) ⊎ IsLongFront b
+
+-- the line at the front is that of a record that takes memory
+pub record TakesMemory (version : Version) (before : Naming) (b : Buffered) : Type 0 where
+  pub read : Record
+  pub size : ℕ
+  pub grammar : IsRecord version read
+  pub front : IsFront b (record_text read) size
+  pub takes : record_takes_memory version before read ≡ true
 
 -- the line at the front, of a record, was put out in readable text
 pub record ShowsFront (version : Version) (s t : Naming) (size : ℕ) (b : Buffered) (before after : List ℕ) : Type 0 where
@@ -43,7 +51,7 @@ PendingLine version number s t b before after (Ok (Some size)) = ShowsFront vers
 PendingLine version number s t b before after (Ok None) = (b.pending ≡ []) × (b.failed ≡ false) × (after ≡ before)
 PendingLine version number s t b before after (Err (stop.BadLine line)) = (line ≡ number) × IsWrongFront version s b × (after ≡ before)
 PendingLine version number s t b before after (Err stop.ReadFailed) = Lacks 10 b.pending × (length b.pending ≤ 4096) × (after ≡ before)
-PendingLine version number s t b before after (Err stop.OutOfMemory) = after ≡ before
+PendingLine version number s t b before after (Err stop.OutOfMemory) = TakesMemory version s b × (after ≡ before)
 PendingLine version number s t b before after (Err stop.WriteFailed) = ⊥
 PendingLine version number s t b before after (Err stop.BadHeader) = ⊥
 PendingLine version number s t b before after (Err (stop.BadRecord at fault)) = ⊥
@@ -69,7 +77,8 @@ NextLine version number s t left left_behind unread before after (Err (stop.BadL
 NextLine version number s t left left_behind unread before after (Err stop.ReadFailed) =
     IfSome left (λ bytes. BreaksOff bytes unread) × (after ≡ before)
 NextLine version number s t left left_behind unread before after (Err stop.WriteFailed) = Unit {0}
-NextLine version number s t left left_behind unread before after (Err stop.OutOfMemory) = after ≡ before
+NextLine version number s t left left_behind unread before after (Err stop.OutOfMemory) =
+    IfSome left (λ bytes. IsNextToTakeMemory version s (closed bytes)) × (after ≡ before)
 NextLine version number s t left left_behind unread before after (Err stop.BadHeader) = ⊥
 NextLine version number s t left left_behind unread before after (Err (stop.BadRecord at fault)) = ⊥
 NextLine version number s t left left_behind unread before after (Err (stop.BadReplay at)) = ⊥
@@ -98,13 +107,18 @@ pub record ShowsCome (version : Version) (bytes : List ℕ) (unread before after
   pub shown : ShowsFirst version bytes before after
   pub breaks : BreaksOff shown.left unread
 
+-- lines were read and put out up to one that takes memory
+pub record ShowsBeforeMemory (version : Version) (bytes : List ℕ) (before after : Option (List ℕ)) : Type 0 where
+  pub shown : ShowsFirst version bytes before after
+  pub next : IsNextToTakeMemory version shown.named (closed shown.left)
+
 -- the same of every ending
 abbrev pub AllLines : {T : Type 0} → Version → (bytes : List ℕ) → (unread before after : Option (List ℕ)) → Result T Stop → Type 0
 AllLines version bytes unread before after (Ok value) = ShowsAll version bytes before after (Ok value)
 AllLines version bytes unread before after (Err (stop.BadLine line)) = ShowsAll {T = Unit {0}} version bytes before after (Err (stop.BadLine line))
 AllLines version bytes unread before after (Err stop.TooLong) = ShowsAll {T = Unit {0}} version bytes before after (Err stop.TooLong)
 AllLines version bytes unread before after (Err stop.ReadFailed) = ShowsCome version bytes unread before after
-AllLines version bytes unread before after (Err stop.OutOfMemory) = ShowsFirst version bytes before after
+AllLines version bytes unread before after (Err stop.OutOfMemory) = ShowsBeforeMemory version bytes before after
 AllLines version bytes unread before after (Err stop.WriteFailed) = Unit {0}
 AllLines version bytes unread before after (Err stop.BadHeader) = ⊥
 AllLines version bytes unread before after (Err (stop.BadRecord at fault)) = ⊥

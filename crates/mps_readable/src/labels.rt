@@ -1,10 +1,10 @@
 // The names that a text interns, and the labels of its addresses.
 
-ghost use Rattle.std.specs.Prelude.{◌≡◌, ◌++◌, ◌≢◌, ◌<◌, ◌≤◌, Some, None, length, OnOk, OnErr};
+ghost use Rattle.std.specs.Prelude.{◌≡◌, ◌++◌, ◌≢◌, ◌<◌, ◌≤◌, true, Some, None, is_some, length, OnOk, OnErr};
 ghost use Rattle.std.specs.Option.{option_map};
 ghost use Rattle.mps_base.specs.Record.{number_bytes};
 ghost use Rattle.mps_event.specs.Name.{name_in, interned_bytes};
-ghost use Rattle.mps_readable.specs.Labels.{no_names, label_at, after_event, with_name, with_label, without_label, moved};
+ghost use Rattle.mps_readable.specs.Labels.{no_names, id_at, label_at, after_event, takes_memory, with_name, with_label, without_label, moved};
 
 use crate::record_line::RecordLine;
 use mps_event::Event;
@@ -59,6 +59,7 @@ impl Labels {
     pub(crate) fn apply(&mut self, entry: &RecordLine) -> Result<(), LabelFault>
         ensures taken { OnOk result (after_event entry.now.event entry.now.fields self.old ≡ Some self.new) }
         ensures refused { result ≡ Err LabelFault.BadLine → after_event entry.now.event entry.now.fields self.old ≡ None }
+        ensures memory { result ≡ Err LabelFault.OutOfMemory → takes_memory entry.now.event entry.now.fields self.old ≡ true }
     {
         let first = entry.fields[0];
         let second = entry.fields[1];
@@ -113,6 +114,7 @@ impl Labels {
     fn relocate(&mut self, from: u64, to: u64) -> Result<(), LabelFault>
         ensures moved { OnOk result (self.new ≡ moved self.old from to) }
         ensures fault { OnErr result (result ≡ Err LabelFault.OutOfMemory) }
+        ensures memory { OnErr result (is_some (id_at self.old from) ≡ true) }
     {
         match self.at.get(&from).copied() {
             Some(id) => self.put(to, id)?,

@@ -10,7 +10,7 @@ ghost use Rattle.mps_reading.specs.Input.{IsAtEnd};
 ghost use Rattle.mps_reading.specs.Left.{left_of};
 ghost use Rattle.mps_reading.specs.PutOut.{put_out, Grows, PutsPart};
 ghost use Rattle.mps_output.specs.Streams.{Runs};
-ghost use Rattle.mps_readable.specs.Labels.{no_names, after_record};
+ghost use Rattle.mps_readable.specs.Labels.{no_names, after_record, record_takes_memory};
 ghost use Rattle.mps_readable.specs.Line.{Spells};
 ghost use Rattle.mps_readable.specs.NextLine.{IsFront, HasNoLine, PutsLine};
 ghost use Rattle.mps_readable.specs.Text.{HasRead, ReadWith, IsCutShort, IsOnlyReading};
@@ -34,8 +34,9 @@ const LONGEST_LINE: usize = 4096;
 /// begins, 8 for want of memory.
 pub fn txt<D: Desk>(alloc: Global, text: &str, desk: &mut D) -> u8
     ensures answers { Answers (D.outside desk.old) (D.outside desk.new) result }
-    // Where the opened file is told: this was read, printed and reported; after a failed read the whole lines that had come
-    // are printed, if no write failed, and for want of memory the lines before.
+    // Where the opened file is told: this was read, printed and reported. After a failed read the whole lines that had come are
+    // printed, and the front of that, where a write failed too. Memory is wanting before the desk is called, or at a line that
+    // names a label, sets one or moves one along, and then the lines before it are printed.
     ensures readable { (bytes : List ℕ) → (D.outside desk.old).text text.now ≡ Some bytes
         → ReadWith bytes result (D.outside desk.old) (D.outside desk.new) }
     // And nothing else, where the status is none of a fault or for want of memory: a whole text gives 0 and all of its
@@ -237,6 +238,7 @@ fn put_line(
     requires { length output.old + 512 ≤ 65536 }
     ensures put { OnOk result (PutsLine version line.now labels.old labels.new output.old output.new) }
     ensures bad { result ≡ Err LabelFault.BadLine → (r : Record) → Spells version line.now r → after_record version labels.old r ≡ None }
+    ensures memory { result ≡ Err LabelFault.OutOfMemory → (r : Record) × Spells version line.now r × (record_takes_memory version labels.old r ≡ true) }
     ensures nothing { OnErr result (output.new ≡ output.old) }
 {
     let entry = match record_of_line(line, version) {

@@ -1,7 +1,7 @@
 -- What was put out: printed, or gathered to be printed.
-use Rattle.std.specs.Prelude.{◌≡◌, ℕ, Option, Result, Ok, Err, List, ◌++◌, take}
+use Rattle.std.specs.Prelude.{◌≡◌, ℕ, ◌⊎◌, Option, Result, Ok, Err, List, ◌++◌, take}
 use Rattle.std.specs.Option.{option_map}
-use Rattle.mps_base.specs.Desk.{Outside}
+use Rattle.mps_base.specs.Desk.{Outside, HasRisen}
 use Rattle.mps_output.specs.declared.stop.Stop.{Stop}
 use Rattle.mps_output.specs.declared.stop.Stop.TheVariants as stop
 
@@ -20,6 +20,12 @@ Grows old new = (front : List ℕ) × (new ≡ option_map (λ before. before ++ 
 -- the front of what was gathered was printed
 abbrev pub PutsPart : (old new : Option (List ℕ)) → (gathered : List ℕ) → Type 0
 PutsPart old new gathered = (count : ℕ) × (new ≡ option_map (λ before. before ++ take count gathered) old)
+
+-- a text was printed, or, where a write failed, the front of it
+abbrev pub PrintsAsFar : (old new : Outside) → (text : List ℕ) → Type 0
+PrintsAsFar old new text =
+    (new.printed ≡ option_map (λ before. before ++ text) old.printed)
+    ⊎ (HasRisen old.out_faults new.out_faults × PutsPart old.printed new.printed text)
 
 -- an ending at which all that was put out is to be printed
 abbrev pub IsToFlush : {T : Type 0} → Result T Stop → Type 0

@@ -1,12 +1,12 @@
 // The header, the room for what is printed, and the end: what the readers of a log and of its text share.
 
-ghost use Rattle.std.specs.Prelude.{◌≡◌, ◌≢◌, ◌≤◌, ◌+◌, ◌++◌, ◌⊎◌, ℕ, List, [], Some, true, false, length, OnOk, OnErr};
+ghost use Rattle.std.specs.Prelude.{◌≡◌, ◌≢◌, ◌≤◌, ◌+◌, ◌++◌, ◌⊎◌, ℕ, List, [], Some, true, false, length, IfErr, OnOk, OnErr};
 ghost use Rattle.mps_base.specs.Desk.{HasRisen};
 ghost use Rattle.mps_reading.specs.Causes.{IsCaused, IsTold, Works};
 ghost use Rattle.mps_output.specs.Streams.{Runs, Kept, PrintsPart};
 ghost use Rattle.mps_reading.specs.Input.{IsAtEnd};
 ghost use Rattle.mps_reading.specs.Left.{left_of, LastGives, EndGives};
-ghost use Rattle.mps_reading.specs.PutOut.{put_out, IsToFlush};
+ghost use Rattle.mps_reading.specs.PutOut.{put_out, IsToFlush, PrintsAsFar};
 ghost use Rattle.mps_reading.specs.Opening.{first_line, IsCutHeader, OpensWith, TakesHeader};
 
 use crate::input::Input;
@@ -22,6 +22,8 @@ pub const MOST_OF_A_RECORD: usize = 40;
 pub fn open_log<D: Desk>(log: &str, input: &mut Input, desk: &mut D) -> Result<Version, Stop>
     requires { input.old ≡ record { pending = []; ended = false; failed = false } }
     ensures opened { (bytes : List ℕ) → (D.outside desk.old).text log.now ≡ Some bytes → OpensWith bytes (left_of (D.outside desk.new) input.new) result }
+    // There are no other stops.
+    ensures stops { IfErr result (λ why. (why ≡ Stop.ReadFailed) ⊎ (why ≡ Stop.BadHeader)) }
     // Where it could not be opened, or a read failed, the header had not come whole.
     ensures early { result ≡ Err Stop.ReadFailed → (bytes : List ℕ) → (D.outside desk.old).text log.now ≡ Some bytes
         → ((D.outside desk.new).input ≡ (D.outside desk.old).input) ⊎ IsCutHeader bytes (D.outside desk.new).input }
@@ -124,8 +126,8 @@ pub fn flush_after<D: Desk>(
     ensures reported { (D.outside desk.new).reported ≡ (D.outside desk.old).reported }
     ensures err_faults { (D.outside desk.new).err_faults ≡ (D.outside desk.old).err_faults }
     ensures printed { IsToFlush result → (D.outside desk.new).printed ≡ put_out (D.outside desk.old) output.old }
-    ensures front { result ≡ Err Stop.ReadFailed → ((D.outside desk.new).printed ≡ put_out (D.outside desk.old) output.old)
-        ⊎ HasRisen (D.outside desk.old).out_faults (D.outside desk.new).out_faults }
+    // Where a read had failed, a write may fail too: then the front of what was gathered was printed.
+    ensures front { result ≡ Err Stop.ReadFailed → PrintsAsFar (D.outside desk.old) (D.outside desk.new) output.old }
     // Where a write fails, the front of what was gathered was printed; where one had failed before, nothing more.
     ensures part { result ≡ Err Stop.WriteFailed → ending ≢ Err Stop.WriteFailed → PrintsPart (D.outside desk.old) (D.outside desk.new) output.old }
     ensures no_more { ending ≡ Err Stop.WriteFailed → D.outside desk.new ≡ D.outside desk.old }

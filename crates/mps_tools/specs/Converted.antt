@@ -1,7 +1,7 @@
 -- What is printed of a log in portable text, and where the printing ends.
 use Rattle.std.specs.Prelude.{◌≡◌, ℕ, ◌<◌, ◌⊎◌, false, Option, Some, None, Result, Ok, Err, List, ◌++◌, length, take, All}
 use Rattle.std.specs.Option.{option_map}
-use Rattle.mps_base.specs.Desk.{Outside, HasRisen}
+use Rattle.mps_base.specs.Desk.{Outside}
 use Rattle.mps_base.specs.Record.{Record}
 use Rattle.mps_event.specs.declared.version.Version.{Version}
 use Rattle.mps_event.specs.Grammar.{IsRecord, log_bytes}
@@ -10,6 +10,7 @@ use Rattle.mps_output.specs.declared.stop.Stop.{Stop}
 use Rattle.mps_output.specs.declared.stop.Stop.TheVariants as stop
 use Rattle.mps_reading.specs.Opening.{HasNoHeader, IsCutHeader}
 use Rattle.mps_reading.specs.Ending.{EndsAt, status_of_ending, HasReported}
+use Rattle.mps_reading.specs.PutOut.{PrintsAsFar}
 use Rattle.mps_tools.specs.Portable.{portable}
 
 -- the bytes are the header of a version, whole records, and a rest at which the reading ends; what was printed behind what
@@ -37,7 +38,8 @@ pub record FailsBefore (bytes : List ℕ) (old new : Outside) : Type 0 where
   pub cut : (new.input ≡ old.input) ⊎ IsCutHeader bytes new.input
   pub printed : new.printed ≡ old.printed
 
--- a read failed behind the whole records that had come, and the portable text of exactly these was printed
+-- a read failed behind the whole records that had come, and the portable text of exactly these was printed; where a write
+-- failed too, the front of it
 pub record FailsBehind (kinds : ℕ) (bytes : List ℕ) (old new : Outside) : Type 0 where
   pub version : Version
   pub records : List Record
@@ -46,7 +48,7 @@ pub record FailsBehind (kinds : ℕ) (bytes : List ℕ) (old new : Outside) : Ty
   pub few : length records < 4294967296
   pub spelled : bytes ≡ log_bytes version records ++ rest
   pub cut : IsCutRecord version rest new.input
-  pub printed : new.printed ≡ option_map (λ before. before ++ portable version kinds records) old.printed
+  pub printed : PrintsAsFar old new (portable version kinds records)
 
 -- a write failed: the front of the portable text of some records at the front of the log was printed
 pub record IsCutShort (kinds : ℕ) (bytes : List ℕ) (old new : Outside) : Type 0 where
@@ -59,9 +61,9 @@ pub record IsCutShort (kinds : ℕ) (bytes : List ℕ) (old new : Outside) : Typ
   pub count : ℕ
   pub printed : new.printed ≡ option_map (λ before. before ++ take count (portable version kinds records)) old.printed
 
--- where a read failed: one of these, or a write failed too
+-- where a read failed: one of these
 abbrev pub Fails : (kinds : ℕ) → (bytes : List ℕ) → (old new : Outside) → Type 0
-Fails kinds bytes old new = FailsBefore bytes old new ⊎ (FailsBehind kinds bytes old new ⊎ HasRisen old.out_faults new.out_faults)
+Fails kinds bytes old new = FailsBefore bytes old new ⊎ FailsBehind kinds bytes old new
 
 -- the same of every ending: without a header nothing is printed
 abbrev pub HasConverted : {T : Type 0} → (kinds : ℕ) → (bytes : List ℕ) → Result T Stop → (old new : Outside) → Type 0

@@ -1,6 +1,6 @@
 // `cnv`: the portable text of a log.
 
-ghost use Rattle.std.specs.Prelude.{◌≡◌, ◌≤◌, ◌<◌, ◌+◌, ◌*◌, ◌++◌, ℕ, List, Some, true, length, IfOk, IfSome};
+ghost use Rattle.std.specs.Prelude.{◌≡◌, ◌≢◌, ◌≤◌, ◌<◌, ◌+◌, ◌*◌, ◌++◌, ℕ, List, Some, true, length, IfOk, IfSome};
 ghost use Rattle.mps_reading.specs.Causes.{IsCaused, IsTold, Works, Answers};
 ghost use Rattle.std.specs.List.{flat_map};
 ghost use Rattle.mps_event.specs.Event.{event_of};
@@ -14,7 +14,9 @@ ghost use Rattle.mps_reading.specs.Ending.{is_whole_status, ReportsStatus};
 ghost use Rattle.mps_tools.specs.Converted.{ConvertedWith, HasConverted, IsCutRecord, IsCutShort, Fails, IsOnly};
 ghost use Rattle.mps_tools.specs.Converting.{ConvertsPart, ConvertsFront, PendingGives, NextGives, AllGive};
 ghost use Rattle.mps_tools.specs.KindSet.{bits_of};
-ghost use Rattle.mps_output.specs.Streams.{Runs};
+ghost use Rattle.mps_output.specs.Reports.{report_of};
+ghost use Rattle.mps_output.specs.Streams.{Runs, Reports};
+ghost use Rattle.mps_output.specs.declared.stop.Stop.TheVariants.{OutOfMemory};
 
 use crate::kinds::Kinds;
 use mps_base::Desk;
@@ -35,12 +37,12 @@ pub fn cnv<D: Desk>(alloc: Global, log: &str, kinds: Kinds, desk: &mut D) -> u8
     // Where the opened file is told, and the status is none of a fault or for want of memory: exactly this was printed.
     ensures converted { is_whole_status result ≡ true → (bytes : List ℕ) → (D.outside desk.old).text log.now ≡ Some bytes
         → ConvertedWith (bits_of kinds) bytes result (D.outside desk.old) (D.outside desk.new) }
-    // Where the log could not be read: the whole records that had come were printed.
+    // Where the log could not be read: the whole records that had come were printed; the front of that, where a write failed
+    // too.
     ensures broken { result ≡ 3 → (bytes : List ℕ) → (D.outside desk.old).text log.now ≡ Some bytes
         → Fails (bits_of kinds) bytes (D.outside desk.old) (D.outside desk.new) }
-    // Memory is wanting only before anything is printed.
-    ensures no_memory { result ≡ 8 → (bytes : List ℕ) → (D.outside desk.old).text log.now ≡ Some bytes
-        → (D.outside desk.new).printed ≡ (D.outside desk.old).printed }
+    // Memory is wanting only before the desk is called: that is reported, and nothing else happens.
+    ensures no_memory { result ≡ 8 → Reports (D.outside desk.old) (D.outside desk.new) (report_of OutOfMemory) }
     // Where a write failed: a front of the text was printed.
     ensures cut { result ≡ 4 → (bytes : List ℕ) → (D.outside desk.old).text log.now ≡ Some bytes
         → IsCutShort (bits_of kinds) bytes (D.outside desk.old) (D.outside desk.new) }
@@ -59,6 +61,7 @@ fn convert<D: Desk>(alloc: Global, log: &str, kinds: Kinds, desk: &mut D) -> Res
     ensures err_faults { (D.outside desk.new).err_faults ≡ (D.outside desk.old).err_faults }
     ensures broken { result ≡ Err Stop.ReadFailed → (bytes : List ℕ) → (D.outside desk.old).text log.now ≡ Some bytes
         → Fails (bits_of kinds) bytes (D.outside desk.old) (D.outside desk.new) }
+    ensures no_memory { result ≡ Err Stop.OutOfMemory → D.outside desk.new ≡ D.outside desk.old }
     ensures cut { result ≡ Err Stop.WriteFailed → (bytes : List ℕ) → (D.outside desk.old).text log.now ≡ Some bytes
         → IsCutShort (bits_of kinds) bytes (D.outside desk.old) (D.outside desk.new) }
     ensures converted { (bytes : List ℕ) → (D.outside desk.old).text log.now ≡ Some bytes
@@ -91,6 +94,7 @@ fn convert_records<D: Desk>(
     ensures err_faults { (D.outside desk.new).err_faults ≡ (D.outside desk.old).err_faults }
     ensures broken { result ≡ Err Stop.ReadFailed → (bytes : List ℕ) → left_of (D.outside desk.old) input.old ≡ Some bytes
         → ConvertsFront version (bits_of kinds) bytes (D.outside desk.new).input (put_out (D.outside desk.old) output.old) (put_out (D.outside desk.new) output.new) }
+    ensures memory { result ≢ Err Stop.OutOfMemory }
     ensures grows { Grows (D.outside desk.old).printed (D.outside desk.new).printed }
     ensures cut { result ≡ Err Stop.WriteFailed → (bytes : List ℕ) → left_of (D.outside desk.old) input.old ≡ Some bytes
         → ConvertsPart version (bits_of kinds) bytes output.old (D.outside desk.old).printed (D.outside desk.new).printed }
