@@ -145,11 +145,13 @@ reports_more a b c bytes at count before reported counted others =
 pub reported_all : (a b : Outside) (bytes : List ℕ) (at : ℕ) → length bytes ≤ at → IsReporting a b (take at bytes) → Reports a b bytes
 reported_all a b bytes at le r = record {
   reported = inr (r.reported ∙ ap (λ (x : List ℕ). option_map (λ front. front ++ x) a.reported) (take_all at bytes le));
+  counted = r.counted;
   others = r.others;
 }
 
-pub report_failed : (a b c : Outside) (bytes front : List ℕ) → IsReporting a b front → OnlyReports b c → HasRisen b.err_faults c.err_faults → Reports a c bytes
-report_failed a b c bytes front r others fault = record {
+pub report_failed : (a b c : Outside) (bytes front : List ℕ) → IsReporting a b front → OnlyReports b c → HasRisen b.err_faults c.err_faults → b.err_faults ≤ c.err_faults → Reports a c bytes
+report_failed a b c bytes front r others fault counted = record {
   reported = inl (risen_earlier a.err_faults b.err_faults c.err_faults r.counted fault);
+  counted = omega (arith, r.counted);
   others = reports_only-then a b c r.others others;
 }

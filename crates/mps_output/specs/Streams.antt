@@ -18,6 +18,7 @@ pub record PrintsPart (old new : Outside) (text : List ℕ) : Type 0 where
 -- a text was reported, if no fault came
 pub record Reports (old new : Outside) (text : List ℕ) : Type 0 where
   pub reported : HasRisen old.err_faults new.err_faults ⊎ (new.reported ≡ option_map (λ before. before ++ text) old.reported)
+  pub counted : old.err_faults ≤ new.err_faults
   pub others : OnlyReports old new
 
 -- some of what was gathered was printed, and what is printed and gathered together stays the same
@@ -26,11 +27,13 @@ pub record Kept (old new : Outside) (gathered_before gathered : List ℕ) : Type
   pub printed : Prints old new text
   pub same : gathered_before ≡ text ++ gathered
 
--- a tool ran: counts don't fall, and the files and the log stay as they are
+-- a tool ran: counts don't fall, and the files, what opening a name gives, and the log stay as they are
 pub record Runs (old new : Outside) : Type 0 where
   pub in_counted : old.in_faults ≤ new.in_faults
   pub out_counted : old.out_faults ≤ new.out_faults
+  pub err_counted : old.err_faults ≤ new.err_faults
   pub files : new.files ≡ old.files
+  pub text : new.text ≡ old.text
   pub logged : new.logged ≡ old.logged
   pub log_faults : new.log_faults ≡ old.log_faults
 

@@ -11,13 +11,15 @@ use Rattle.mps_reading.specs.Causes.{IsFaulty, CauseOf, IsCaused, CauseFrom, IsC
 use Rattle.mps_output.proofs.Outside.{risen_later, risen_earlier}
 
 pub runs-none : (o : Outside) → Runs o o
-runs-none o = record { in_counted = omega arith; out_counted = omega arith; files = refl; logged = refl; log_faults = refl }
+runs-none o = record { in_counted = omega arith; out_counted = omega arith; err_counted = omega arith; files = refl; text = refl; logged = refl; log_faults = refl }
 
 pub runs-then : (a b c : Outside) → Runs a b → Runs b c → Runs a c
 runs-then a b c e f = record {
   in_counted = omega (arith, e.in_counted, f.in_counted);
   out_counted = omega (arith, e.out_counted, f.out_counted);
+  err_counted = omega (arith, e.err_counted, f.err_counted);
   files = f.files ∙ e.files;
+  text = f.text ∙ e.text;
   logged = f.logged ∙ e.logged;
   log_faults = f.log_faults ∙ e.log_faults;
 }
@@ -26,13 +28,23 @@ same-le : (a b : ℕ) → b ≡ a → a ≤ b
 same-le a b e = omega (arith, e)
 
 pub runs_reading : (a b : Outside) → a.in_faults ≤ b.in_faults → OnlyReads a b → Runs a b
-runs_reading a b counted o = record { in_counted = counted; out_counted = same-le _ _ o.out_faults; files = o.files; logged = o.logged; log_faults = o.log_faults }
+runs_reading a b counted o = record {
+  in_counted = counted;
+  out_counted = same-le _ _ o.out_faults;
+  err_counted = same-le _ _ o.err_faults;
+  files = o.files;
+  text = o.text;
+  logged = o.logged;
+  log_faults = o.log_faults;
+}
 
 pub runs_printing : (a b : Outside) (text : List ℕ) → Prints a b text → Runs a b
 runs_printing a b text p = record {
   in_counted = same-le _ _ p.others.in_faults;
   out_counted = p.counted;
+  err_counted = same-le _ _ p.others.err_faults;
   files = p.others.files;
+  text = p.others.text;
   logged = p.others.logged;
   log_faults = p.others.log_faults;
 }
@@ -41,7 +53,9 @@ pub runs_reports : (a b : Outside) (text : List ℕ) → Reports a b text → Ru
 runs_reports a b text r = record {
   in_counted = same-le _ _ r.others.in_faults;
   out_counted = same-le _ _ r.others.out_faults;
+  err_counted = r.counted;
   files = r.others.files;
+  text = r.others.text;
   logged = r.others.logged;
   log_faults = r.others.log_faults;
 }

@@ -1,11 +1,12 @@
 -- What was printed where a write failed.
-use Rattle.std.proofs.Common.{◌≡◌, ℕ, List, [], ◌++◌, length, take, drop, Option, Some, None, refl, sym, ap, ◌∙◌, append_assoc}
+use Rattle.std.proofs.Common.{◌≡◌, ℕ, ◌≤◌, List, [], ◌++◌, length, take, drop, Option, Some, None, refl, sym, ap, subst, ◌∙◌, append_assoc, inl, inr}
 use Rattle.std.specs.Option.{option_map}
 use Rattle.std.proofs.lemmas.List.{append_cancel_left, take-append-drop}
 use Rattle.std.proofs.Math.Seq.{take-append_seam}
 use Rattle.mps_base.specs.Desk.{Outside}
 use Rattle.mps_output.specs.Streams.{PrintsPart}
-use Rattle.mps_reading.specs.PutOut.{Grows, PutsPart}
+use Rattle.mps_output.proofs.Outside.{risen_earlier}
+use Rattle.mps_reading.specs.PutOut.{put_out, Grows, PutsOut, PutsPart, PrintsAsFar}
 use Rattle.mps_reading.proofs.PutOut.{nothing_put, one_put}
 
 -- ---- what was printed grows
@@ -44,3 +45,26 @@ part_of_text front gathered out lines n (Some before) c d grown put part =
       length some,
       one_put front (take n gathered) (Some before) c d grown part ∙ ap (λ (x : List ℕ). Some (before ++ x)) (sym taken),
     )
+
+-- ---- all of it, or its front
+
+put_behind : (out lines : List ℕ) (o : Option (List ℕ)) → option_map (λ all. all ++ lines) (option_map (λ printed. printed ++ out) o) ≡ option_map (λ before. before ++ (out ++ lines)) o
+put_behind out lines None = refl
+put_behind out lines (Some before) = ap Some (append_assoc before out lines)
+
+-- what was gathered was printed as far as it went: so was the whole text
+pub as_far_of_text : (gathered out lines : List ℕ) (a b c : Outside) → a.out_faults ≤ b.out_faults → Grows a.printed b.printed
+    → PutsOut (put_out a out) (put_out b gathered) lines → PrintsAsFar b c gathered → PrintsAsFar a c (out ++ lines)
+as_far_of_text gathered out lines a b c counted grown put (inl printed) = inl (printed ∙ put ∙ put_behind out lines a.printed)
+as_far_of_text gathered out lines a b c counted grown put (inr h) =
+    inr (risen_earlier a.out_faults b.out_faults c.out_faults counted h.0, part_of_text grown.0 gathered out lines h.1.0 a.printed b.printed c.printed grown.1 put h.1.1)
+
+-- it stays so from an outside on with as much printed
+pub as_far_since : (text : List ℕ) (a b c : Outside) → a.out_faults ≤ b.out_faults → b.printed ≡ a.printed → PrintsAsFar b c text → PrintsAsFar a c text
+as_far_since text a b c counted same (inl printed) = inl (printed ∙ ap (λ (o : Option (List ℕ)). option_map (λ before. before ++ text) o) same)
+as_far_since text a b c counted same (inr h) =
+    inr (risen_earlier a.out_faults b.out_faults c.out_faults counted h.0, subst (λ (o : Option (List ℕ)). PutsPart o c.printed text) same h.1)
+
+-- and up to an outside with as much printed
+pub as_far_later : (text : List ℕ) (a b c : Outside) → PrintsAsFar a b text → c.printed ≡ b.printed → c.out_faults ≡ b.out_faults → PrintsAsFar a c text
+as_far_later text a b c h printed faults = rw (printed, faults) h

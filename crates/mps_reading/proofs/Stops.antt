@@ -28,3 +28,13 @@ is_write_failed (stop.BadReplay at) e = absurd (omega (arith, e))
 is_write_failed (stop.BadLine line) e = absurd (omega (arith, e))
 is_write_failed stop.TooLong e = absurd (omega (arith, e))
 is_write_failed stop.OutOfMemory e = absurd (omega (arith, e))
+
+pub is_out_of_memory : (why : Stop) → status_of why ≡ 8 → why ≡ stop.OutOfMemory
+is_out_of_memory stop.OutOfMemory e = refl
+is_out_of_memory stop.ReadFailed e = absurd (omega (arith, e))
+is_out_of_memory stop.WriteFailed e = absurd (omega (arith, e))
+is_out_of_memory stop.BadHeader e = absurd (omega (arith, e))
+is_out_of_memory (stop.BadRecord at fault) e = absurd (omega (arith, e))
+is_out_of_memory (stop.BadReplay at) e = absurd (omega (arith, e))
+is_out_of_memory (stop.BadLine line) e = absurd (omega (arith, e))
+is_out_of_memory stop.TooLong e = absurd (omega (arith, e))

@@ -39,12 +39,28 @@ pub record ReportsStatus (status : ℕ) (old new : Outside) : Type 0 where
   pub status_is : status ≡ status_of_ending ending
   pub reported : HasReported ending old new
 
+-- a file that could not be opened: that is told, or before it that memory was wanting, and nothing was printed
+abbrev pub IsUnopened : (status : ℕ) → (old new : Outside) → Type 0
+IsUnopened status old new = ((status ≡ 3) ⊎ (status ≡ 8)) × (new.printed ≡ old.printed)
+
 -- the status tells that no call of the desk failed that matters, and that memory wasn't wanting
 abbrev pub is_whole_status : ℕ → Bool
 is_whole_status status = (status == 0) || ((status == 6) || (status == 7))
 
 pub a_failed_read_is_not_whole : is_whole_status 3 ≡ false
 a_failed_read_is_not_whole = refl
+
+pub a_failed_write_is_not_whole : is_whole_status 4 ≡ false
+a_failed_write_is_not_whole = refl
+
+pub want_of_memory_is_not_whole : is_whole_status 8 ≡ false
+want_of_memory_is_not_whole = refl
+
+pub the_end_is_whole : is_whole_status 0 ≡ true
+the_end_is_whole = refl
+
+pub too_many_records_are_told : is_whole_status 7 ≡ true
+too_many_records_are_told = refl
 
 pub a_bad_record_is_told : is_whole_status 6 ≡ true
 a_bad_record_is_told = refl

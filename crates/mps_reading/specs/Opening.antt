@@ -1,6 +1,7 @@
 -- The header of a log that was opened, and the first line of a text.
-use Rattle.std.specs.Prelude.{◌≡◌, ◌≢◌, ℕ, ◌<◌, ◌≤◌, true, codes, Option, Some, Result, Ok, Err, List, ◌++◌, length}
+use Rattle.std.specs.Prelude.{◌≡◌, ◌≢◌, ℕ, ◌<◌, ◌≤◌, true, codes, Option, Some, None, IsSome, Result, Ok, Err, List, ◌++◌, length}
 use Rattle.std.specs.Option.{option_map}
+use Rattle.mps_base.specs.Desk.{Outside}
 use Rattle.mps_base.specs.Record.{header_bytes}
 use Rattle.mps_event.specs.declared.version.Version.{Version}
 use Rattle.mps_event.specs.declared.version.Version.TheVariants.{One, Two}
@@ -8,6 +9,10 @@ use Rattle.mps_event.specs.Event.{number_of_version}
 use Rattle.mps_output.specs.declared.stop.Stop.{Stop}
 use Rattle.mps_output.specs.declared.stop.Stop.TheVariants as stop
 use Rattle.mps_reading.specs.Input.{Buffered}
+
+-- the desk tells what it opens, and by this name it opens nothing
+abbrev pub OpensNothing : Outside → (name : List ℕ) → Type 0
+OpensNothing o name = IsSome o.input × (o.text name ≡ None)
 
 -- the bytes begin with the header of no version
 abbrev pub HasNoHeader : List ℕ → Type 0

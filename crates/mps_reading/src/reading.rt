@@ -7,7 +7,7 @@ ghost use Rattle.mps_output.specs.Streams.{Runs, Kept, PrintsPart};
 ghost use Rattle.mps_reading.specs.Input.{IsAtEnd};
 ghost use Rattle.mps_reading.specs.Left.{left_of, LastGives, EndGives};
 ghost use Rattle.mps_reading.specs.PutOut.{put_out, IsToFlush, PrintsAsFar};
-ghost use Rattle.mps_reading.specs.Opening.{first_line, IsCutHeader, OpensWith, TakesHeader};
+ghost use Rattle.mps_reading.specs.Opening.{OpensNothing, first_line, IsCutHeader, OpensWith, TakesHeader};
 
 use crate::input::Input;
 use mps_base::Desk;
@@ -24,6 +24,8 @@ pub fn open_log<D: Desk>(log: &str, input: &mut Input, desk: &mut D) -> Result<V
     ensures opened { (bytes : List ℕ) → (D.outside desk.old).text log.now ≡ Some bytes → OpensWith bytes (left_of (D.outside desk.new) input.new) result }
     // There are no other stops.
     ensures stops { IfErr result (λ why. (why ≡ Stop.ReadFailed) ⊎ (why ≡ Stop.BadHeader)) }
+    // Where the desk tells what it opens, a name that opens nothing could not be opened.
+    ensures missing { OpensNothing (D.outside desk.old) log.now → result ≡ Err Stop.ReadFailed }
     // Where it could not be opened, or a read failed, the header had not come whole.
     ensures early { result ≡ Err Stop.ReadFailed → (bytes : List ℕ) → (D.outside desk.old).text log.now ≡ Some bytes
         → ((D.outside desk.new).input ≡ (D.outside desk.old).input) ⊎ IsCutHeader bytes (D.outside desk.new).input }

@@ -3,7 +3,7 @@ use Rattle.std.proofs.Common.{◌≡◌, ℕ, ◌<◌, ◌≤◌, ◌⊎◌, Boo
 use Rattle.std.specs.Prelude.{OnOk, IfErr}
 use Rattle.std.specs.List.{flat_map}
 use Rattle.std.specs.Option.{option_map}
-use Rattle.mps_base.specs.Desk.{Outside, HasRisen}
+use Rattle.mps_base.specs.Desk.{Outside}
 use Rattle.mps_base.specs.Record.{header_bytes, records_bytes}
 use Rattle.mps_event.specs.declared.version.Version.{Version}
 use Rattle.mps_event.specs.Event.{number_of_version}
@@ -12,17 +12,17 @@ use Rattle.mps_output.specs.declared.stop.Stop.{Stop}
 use Rattle.mps_output.specs.declared.stop.Stop.TheVariants as stop
 use Rattle.mps_output.specs.Reports.{status_of, report_of}
 use Rattle.mps_output.specs.Streams.{Kept, Reports}
-use Rattle.mps_output.proofs.Outside.{risen_earlier}
 use Rattle.mps_reading.specs.Input.{Buffered, ReadsMore}
 use Rattle.mps_reading.specs.Left.{left_of}
-use Rattle.mps_reading.specs.PutOut.{put_out}
+use Rattle.mps_reading.specs.PutOut.{put_out, Grows, PrintsAsFar}
 use Rattle.mps_reading.specs.Opening.{first_line, IsCutHeader}
 use Rattle.mps_reading.proofs.Behind.{none_short}
 use Rattle.mps_reading.proofs.Left.{left_same, left_behind_told}
 use Rattle.mps_reading.proofs.PutOut.{put_same}
+use Rattle.mps_reading.proofs.PartPut.{as_far_of_text, as_far_since, as_far_later}
 use Rattle.mps_reading.proofs.Opening.{header_told}
-use Rattle.mps_tools.specs.Portable.{line_of_kinds}
-use Rattle.mps_tools.specs.Converted.{IsCutRecord, FailsBefore, FailsBehind, Fails, HasConverted}
+use Rattle.mps_tools.specs.Portable.{line_of_kinds, portable}
+use Rattle.mps_tools.specs.Converted.{IsCutRecord, FailsBefore, FailsBehind, Fails}
 use Rattle.mps_tools.specs.Converting.{ConvertsFront}
 use Rattle.mps_tools.proofs.Converting.{SoFar}
 
@@ -57,7 +57,6 @@ next_breaks version a b c x y p q r reads kept same gives = (
   ap (put_out c) gives.1 ∙ put_same b c p q kept ∙ ap (λ (o : Option (List ℕ)). option_map (λ printed. printed ++ p) o) reads.others.printed,
 )
 
--- a stop that is handed on is the same
 -- ---- all records before
 
 pub front_breaks : (version : Version) (kinds count offset : ℕ) (left left_behind unread before after put : Option (List ℕ)) (bytes : List ℕ) → count < 4294967296
@@ -84,49 +83,40 @@ last_breaks version left_behind unread after put same printed = (
 
 -- ---- a log
 
-printed_front : (line text : List ℕ) (o : Option (List ℕ)) → option_map (λ all. all ++ text) (option_map (λ printed. printed ++ line) o) ≡ option_map (λ before. before ++ (line ++ text)) o
-printed_front line text None = refl
-printed_front line text (Some before) = ap Some (append_assoc before line text)
-
-fails_behind : (version : Version) (kinds : ℕ) (bytes left out : List ℕ) (a b d : Outside) (unread after : Option (List ℕ)) → bytes ≡ header_bytes (number_of_version version) ++ left
-    → b.printed ≡ a.printed → out ≡ first_line version → ConvertsFront version kinds left unread (put_out b out) after → d.input ≡ unread → d.printed ≡ after → FailsBehind kinds bytes a d
-fails_behind version kinds bytes left out a b d unread after is same line front input printed = record {
-  version = version;
-  records = front.records;
-  rest = front.rest;
-  each = front.each;
-  few = front.few;
-  spelled = is ∙ ap (λ (x : List ℕ). header_bytes (number_of_version version) ++ x) front.spelled ∙ sym (append_assoc (header_bytes (number_of_version version)) (records_bytes front.records) front.rest);
-  cut = subst (λ (o : Option (List ℕ)). IsCutRecord version front.rest o) (sym input) front.cut;
-  printed = printed ∙ front.put
-      ∙ ap (λ (x : List ℕ). option_map (λ (t : List ℕ). t ++ flat_map (line_of_kinds version kinds) front.records) (option_map (λ printed. printed ++ x) b.printed)) line
-      ∙ ap (λ (o : Option (List ℕ)). option_map (λ (t : List ℕ). t ++ flat_map (line_of_kinds version kinds) front.records) (option_map (λ printed. printed ++ first_line version) o)) same
-      ∙ printed_front (first_line version) (flat_map (line_of_kinds version kinds) front.records) a.printed;
-}
-
-behind_or_risen : (version : Version) (kinds : ℕ) (bytes left out : List ℕ) (a b c d : Outside) (after : Option (List ℕ)) → bytes ≡ header_bytes (number_of_version version) ++ left
-    → b.printed ≡ a.printed → out ≡ first_line version → ConvertsFront version kinds left c.input (put_out b out) after → d.input ≡ c.input → a.out_faults ≤ c.out_faults
-    → (d.printed ≡ after) ⊎ HasRisen c.out_faults d.out_faults → Fails kinds bytes a d
-behind_or_risen version kinds bytes left out a b c d after is same line front input counted (inl printed) = inr (inl (fails_behind version kinds bytes left out a b d c.input after is same line front input printed))
-behind_or_risen version kinds bytes left out a b c d after is same line front input counted (inr risen) = inr (inr (risen_earlier a.out_faults c.out_faults d.out_faults counted risen))
+fails_behind : (version : Version) (kinds : ℕ) (bytes left out gathered : List ℕ) (a b c d : Outside) → bytes ≡ header_bytes (number_of_version version) ++ left
+    → b.printed ≡ a.printed → out ≡ first_line version → ConvertsFront version kinds left c.input (put_out b out) (put_out c gathered) → Grows b.printed c.printed → d.input ≡ c.input
+    → a.out_faults ≤ b.out_faults → b.out_faults ≤ c.out_faults → PrintsAsFar c d gathered → FailsBehind kinds bytes a d
+fails_behind version kinds bytes left out gathered a b c d is same line front grown input counted counted_since far =
+    let lines = flat_map (line_of_kinds version kinds) front.records in
+    record {
+      version = version;
+      records = front.records;
+      rest = front.rest;
+      each = front.each;
+      few = front.few;
+      spelled = is ∙ ap (λ (x : List ℕ). header_bytes (number_of_version version) ++ x) front.spelled ∙ sym (append_assoc (header_bytes (number_of_version version)) (records_bytes front.records) front.rest);
+      cut = subst (λ (o : Option (List ℕ)). IsCutRecord version front.rest o) (sym input) front.cut;
+      printed = subst (λ (x : List ℕ). PrintsAsFar a d (x ++ lines)) line
+          (as_far_since (out ++ lines) a b d counted same (as_far_of_text gathered out lines b c d counted_since grown front.put far));
+    }
 
 read_failed : (R : Type 0) (ending result : Result (Unit {0}) Stop) → (result ≡ ending) ⊎ ((result ≡ Err stop.WriteFailed) × R) → result ≡ Err stop.ReadFailed → ending ≡ Err stop.ReadFailed
 read_failed R ending result (inl e) f = sym e ∙ f
 read_failed R ending result (inr e) f = absurd (let g : Err stop.WriteFailed ≡ Err stop.ReadFailed = sym e.0 ∙ f in cc)
 
-pub fails_log : (R : Type 0) (version : Version) (kinds : ℕ) (bytes out : List ℕ) (a b c d : Outside) (x : Buffered) (after : Option (List ℕ)) (ending result : Result (Unit {0}) Stop)
+pub fails_log : (R : Type 0) (version : Version) (kinds : ℕ) (bytes out gathered : List ℕ) (a b c d : Outside) (x : Buffered) (ending result : Result (Unit {0}) Stop)
     → Some bytes ≡ option_map (λ rest. header_bytes (number_of_version version) ++ rest) (left_of b x) → b.printed ≡ a.printed → out ≡ first_line version
-    → (ending ≡ Err stop.ReadFailed → (left : List ℕ) → left_of b x ≡ Some left → ConvertsFront version kinds left c.input (put_out b out) after)
-    → (result ≡ ending) ⊎ ((result ≡ Err stop.WriteFailed) × R) → d.input ≡ c.input → a.out_faults ≤ c.out_faults
-    → (result ≡ Err stop.ReadFailed → (d.printed ≡ after) ⊎ HasRisen c.out_faults d.out_faults) → result ≡ Err stop.ReadFailed → Fails kinds bytes a d
-fails_log R version kinds bytes out a b c d x after ending result opened same line front first input counted printed failed =
+    → (ending ≡ Err stop.ReadFailed → (left : List ℕ) → left_of b x ≡ Some left → ConvertsFront version kinds left c.input (put_out b out) (put_out c gathered))
+    → Grows b.printed c.printed → (result ≡ ending) ⊎ ((result ≡ Err stop.WriteFailed) × R) → d.input ≡ c.input → a.out_faults ≤ b.out_faults → b.out_faults ≤ c.out_faults
+    → (result ≡ Err stop.ReadFailed → PrintsAsFar c d gathered) → result ≡ Err stop.ReadFailed → Fails kinds bytes a d
+fails_log R version kinds bytes out gathered a b c d x ending result opened same line front grown first input counted counted_since printed failed =
     let g = header_told (header_bytes (number_of_version version)) bytes (left_of b x) opened in
-    behind_or_risen version kinds bytes g.0 out a b c d after g.2 same line (front (read_failed R ending result first failed) g.0 g.1) input counted (printed failed)
+    inr (fails_behind version kinds bytes g.0 out gathered a b c d g.2 same line (front (read_failed R ending result first failed) g.0 g.1) grown input counted counted_since (printed failed))
 
 -- ---- the status
 
-behind_later : (kinds : ℕ) (bytes : List ℕ) (a b c : Outside) → FailsBehind kinds bytes a b → c.input ≡ b.input → c.printed ≡ b.printed → FailsBehind kinds bytes a c
-behind_later kinds bytes a b c h input printed = record {
+behind_later : (kinds : ℕ) (bytes : List ℕ) (a b c : Outside) → FailsBehind kinds bytes a b → c.input ≡ b.input → c.printed ≡ b.printed → c.out_faults ≡ b.out_faults → FailsBehind kinds bytes a c
+behind_later kinds bytes a b c h input printed faults = record {
   version = h.version;
   records = h.records;
   rest = h.rest;
@@ -134,7 +124,7 @@ behind_later kinds bytes a b c h input printed = record {
   few = h.few;
   spelled = h.spelled;
   cut = subst (λ (o : Option (List ℕ)). IsCutRecord h.version h.rest o) (sym input) h.cut;
-  printed = printed ∙ h.printed;
+  printed = as_far_later (portable h.version kinds h.records) a b c h.printed printed faults;
 }
 
 before_later : (bytes : List ℕ) (a b c : Outside) → FailsBefore bytes a b → c.input ≡ b.input → c.printed ≡ b.printed → FailsBefore bytes a c
@@ -145,8 +135,7 @@ before_later bytes a b c h input printed = record {
 
 fails_later : (kinds : ℕ) (bytes : List ℕ) (a b c : Outside) → Fails kinds bytes a b → c.input ≡ b.input → c.printed ≡ b.printed → c.out_faults ≡ b.out_faults → Fails kinds bytes a c
 fails_later kinds bytes a b c (inl h) input printed faults = inl (before_later bytes a b c h input printed)
-fails_later kinds bytes a b c (inr (inl h)) input printed faults = inr (inl (behind_later kinds bytes a b c h input printed))
-fails_later kinds bytes a b c (inr (inr h)) input printed faults = inr (inr (subst (λ (n : ℕ). HasRisen a.out_faults n) (sym faults) h))
+fails_later kinds bytes a b c (inr h) input printed faults = inr (behind_later kinds bytes a b c h input printed faults)
 
 three : (why : Stop) → status_of why ≡ 3 → why ≡ stop.ReadFailed
 three stop.ReadFailed e = refl
@@ -163,20 +152,3 @@ pub fails_with : (kinds status : ℕ) (bytes : List ℕ) (ending : Result (Unit 
 fails_with kinds status bytes (Ok value) a b c e h zero is reports = absurd (omega (arith, e, zero))
 fails_with kinds status bytes (Err why) a b c e h zero is reports =
     fails_later kinds bytes a b c (h (ap (λ (w : Stop). Err w) (three why (sym is ∙ e)))) reports.others.input reports.others.printed reports.others.out_faults
-
-eight : (why : Stop) → status_of why ≡ 8 → why ≡ stop.OutOfMemory
-eight stop.OutOfMemory e = refl
-eight stop.ReadFailed e = absurd (omega (arith, e))
-eight stop.WriteFailed e = absurd (omega (arith, e))
-eight stop.BadHeader e = absurd (omega (arith, e))
-eight (stop.BadRecord at fault) e = absurd (omega (arith, e))
-eight (stop.BadReplay at) e = absurd (omega (arith, e))
-eight (stop.BadLine line) e = absurd (omega (arith, e))
-eight stop.TooLong e = absurd (omega (arith, e))
-
-pub nothing_printed : (kinds status : ℕ) (bytes : List ℕ) (ending : Result (Unit {0}) Stop) (a b c : Outside) → status ≡ 8 → HasConverted kinds bytes ending a b
-    → OnOk ending (status ≡ 0) → IfErr ending (λ why. status ≡ status_of why) → IfErr ending (λ why. Reports b c (report_of why)) → c.printed ≡ a.printed
-nothing_printed kinds status bytes (Ok value) a b c e h zero is reports = absurd (omega (arith, e, zero))
-nothing_printed kinds status bytes (Err why) a b c e h zero is reports =
-    let printed : b.printed ≡ a.printed = subst (λ (w : Stop). HasConverted {T = Unit {0}} kinds bytes (Err w) a b) (eight why (sym is ∙ e)) h in
-    reports.others.printed ∙ printed

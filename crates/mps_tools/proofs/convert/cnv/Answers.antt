@@ -1,7 +1,7 @@
 use Rattle.mps_tools.specs.KindSet.{bits_of}
 use Rattle.mps_reading.proofs.Reported.{reports_status}
 use Rattle.mps_tools.proofs.Cut.{cut_with}
-use Rattle.mps_tools.proofs.Broken.{fails_with, nothing_printed}
+use Rattle.mps_tools.proofs.Broken.{fails_with, reports_no_memory}
 use Rattle.mps_tools.proofs.Wholly.{converted_with}
 use Rattle.mps_tools.proofs.OneReading.{only}
 use Rattle.mps_tools.proofs.convert.cnv.Goals as goal
@@ -28,9 +28,9 @@ returns-clause-broken g c three bytes told =
     (λ e. c.convert-ending.ensures.broken e bytes told) c.finish.ensures.done c.finish.ensures.status c.finish.ensures.reported
 
 pub returns-clause-no_memory : goal.returns-clause-no_memory
-returns-clause-no_memory g c eight bytes told =
-    nothing_printed (bits_of c.args.kinds) c.finish.result bytes c.convert-ending.result (g.D.Desk.outside c.args.desk.now) (g.D.Desk.outside c.convert-ending.new.desk) (g.D.Desk.outside c.finish.new.desk) eight
-    (c.convert-ending.ensures.converted bytes told) c.finish.ensures.done c.finish.ensures.status c.finish.ensures.reported
+returns-clause-no_memory g c eight =
+    reports_no_memory c.finish.result c.convert-ending.result (g.D.Desk.outside c.args.desk.now) (g.D.Desk.outside c.convert-ending.new.desk) (g.D.Desk.outside c.finish.new.desk) eight
+    c.convert-ending.ensures.no_memory c.finish.ensures.done c.finish.ensures.status c.finish.ensures.reported
 
 pub returns-clause-cut : goal.returns-clause-cut
 returns-clause-cut g c four bytes told =
