@@ -92,8 +92,20 @@ pub record EndsWith (version : Version) (records : List Record) (ending : Result
   pub spelled : bytes ≡ log_bytes version records ++ rest
   pub ends_at : EndsAt version ending (length records) (length (log_bytes version records)) rest
 
--- where the bytes end with such an ending behind such records, then with its status, and with the text of these records
-abbrev pub IsOnly : (kinds : ℕ) → (bytes : List ℕ) → (status : ℕ) → (old new : Outside) → Type 0
-IsOnly kinds bytes status old new =
-    (version : Version) (records : List Record) (ending : Result (Unit {0}) Stop) → EndsWith version records ending bytes
-    → (status ≡ status_of_ending ending) × (new.printed ≡ option_map (λ before. before ++ portable version kinds records) old.printed)
+-- a log of these bytes is told so: with the status of its ending, whose line is reported, and with the text of these records
+pub record Tells (kinds : ℕ) (version : Version) (records : List Record) (ending : Result (Unit {0}) Stop) (status : ℕ) (old new : Outside) : Type 0 where
+  pub status_is : status ≡ status_of_ending ending
+  pub printed : new.printed ≡ option_map (λ before. before ++ portable version kinds records) old.printed
+  pub reported : HasReported ending old new
+
+-- bytes that begin with no header are told so, and nothing is printed
+pub record TellsNoHeader (status : ℕ) (old new : Outside) : Type 0 where
+  pub status_is : status ≡ 6
+  pub printed : new.printed ≡ old.printed
+  pub reported : HasReported {T = Unit {0}} (Err stop.BadHeader) old new
+
+-- In whatever way the bytes end, the program tells just that.
+pub record IsOnly (kinds : ℕ) (bytes : List ℕ) (status : ℕ) (old new : Outside) : Type 0 where
+  pub with_header : (version : Version) (records : List Record) (ending : Result (Unit {0}) Stop) → EndsWith version records ending bytes
+      → Tells kinds version records ending status old new
+  pub without_header : HasNoHeader bytes → TellsNoHeader status old new

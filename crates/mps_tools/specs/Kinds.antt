@@ -27,6 +27,30 @@ kind_of Label = 64
 abbrev pub is_among : (kinds : ℕ) → Event → Bool
 is_among kinds event = bit_and kinds (kind_of event) == kind_of event
 
+pub the_kind_of_a_pool : kind_of PoolCreate ≡ 2
+the_kind_of_a_pool = refl
+
+pub the_kind_of_an_end : kind_of End ≡ 4
+the_kind_of_an_end = refl
+
+pub the_kind_of_a_segment_given_back : kind_of SegFree ≡ 8
+the_kind_of_a_segment_given_back = refl
+
+pub the_kind_of_a_splat : kind_of Splat ≡ 16
+the_kind_of_a_splat = refl
+
+pub the_kind_of_a_post : kind_of Post ≡ 32
+the_kind_of_a_post = refl
+
+pub the_kind_of_an_interned_name : kind_of Intern ≡ 64
+the_kind_of_an_interned_name = refl
+
+pub a_user_alone_has_no_limits : is_among 64 LimitSet ≡ false
+a_user_alone_has_no_limits = refl
+
+pub no_kinds_have_no_frees : is_among 0 Free ≡ false
+no_kinds_have_no_frees = refl
+
 pub seg_and_object_have_moves : is_among 40 Move ≡ true
 seg_and_object_have_moves = refl
 

@@ -1,6 +1,6 @@
 // `cnv`: the portable text of a log.
 
-ghost use Rattle.std.specs.Prelude.{◌≡◌, ◌≢◌, ◌≤◌, ◌<◌, ◌+◌, ◌*◌, ◌++◌, ℕ, List, Some, true, length, IfOk, IfSome};
+ghost use Rattle.std.specs.Prelude.{◌≡◌, ◌≢◌, ◌≤◌, ◌<◌, ◌+◌, ◌*◌, ◌++◌, ◌⊎◌, ℕ, List, Some, true, length, IfOk, IfSome};
 ghost use Rattle.mps_reading.specs.Causes.{IsCaused, IsTold, Works, Answers};
 ghost use Rattle.std.specs.List.{flat_map};
 ghost use Rattle.mps_event.specs.Event.{event_of};
@@ -10,7 +10,8 @@ ghost use Rattle.mps_reading.specs.RecordLine.{record_line, field_text};
 ghost use Rattle.mps_reading.specs.Input.{IsAtEnd};
 ghost use Rattle.mps_reading.specs.Left.{left_of};
 ghost use Rattle.mps_reading.specs.PutOut.{put_out, Grows, PutsPart};
-ghost use Rattle.mps_reading.specs.Ending.{is_whole_status, ReportsStatus};
+ghost use Rattle.mps_reading.specs.Ending.{is_whole_status, IsUnopened, ReportsStatus};
+ghost use Rattle.mps_reading.specs.Opening.{OpensNothing};
 ghost use Rattle.mps_tools.specs.Converted.{ConvertedWith, HasConverted, IsCutRecord, IsCutShort, Fails, IsOnly};
 ghost use Rattle.mps_tools.specs.Converting.{ConvertsPart, ConvertsFront, PendingGives, NextGives, AllGive};
 ghost use Rattle.mps_tools.specs.KindSet.{bits_of};
@@ -41,6 +42,8 @@ pub fn cnv<D: Desk>(alloc: Global, log: &str, kinds: Kinds, desk: &mut D) -> u8
     // too.
     ensures broken { result ≡ 3 → (bytes : List ℕ) → (D.outside desk.old).text log.now ≡ Some bytes
         → Fails (bits_of kinds) bytes (D.outside desk.old) (D.outside desk.new) }
+    // Where the desk tells what it opens, a log that is not there is not read: nothing is printed.
+    ensures missing { OpensNothing (D.outside desk.old) log.now → IsUnopened result (D.outside desk.old) (D.outside desk.new) }
     // Memory is wanting only before the desk is called: that is reported, and nothing else happens.
     ensures no_memory { result ≡ 8 → Reports (D.outside desk.old) (D.outside desk.new) (report_of OutOfMemory) }
     // Where a write failed: a front of the text was printed.
@@ -61,6 +64,8 @@ fn convert<D: Desk>(alloc: Global, log: &str, kinds: Kinds, desk: &mut D) -> Res
     ensures err_faults { (D.outside desk.new).err_faults ≡ (D.outside desk.old).err_faults }
     ensures broken { result ≡ Err Stop.ReadFailed → (bytes : List ℕ) → (D.outside desk.old).text log.now ≡ Some bytes
         → Fails (bits_of kinds) bytes (D.outside desk.old) (D.outside desk.new) }
+    ensures missing { OpensNothing (D.outside desk.old) log.now
+        → ((result ≡ Err Stop.ReadFailed) ⊎ (result ≡ Err Stop.OutOfMemory)) × ((D.outside desk.new).printed ≡ (D.outside desk.old).printed) }
     ensures no_memory { result ≡ Err Stop.OutOfMemory → D.outside desk.new ≡ D.outside desk.old }
     ensures cut { result ≡ Err Stop.WriteFailed → (bytes : List ℕ) → (D.outside desk.old).text log.now ≡ Some bytes
         → IsCutShort (bits_of kinds) bytes (D.outside desk.old) (D.outside desk.new) }

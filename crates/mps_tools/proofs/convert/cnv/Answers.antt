@@ -1,7 +1,7 @@
 use Rattle.mps_tools.specs.KindSet.{bits_of}
-use Rattle.mps_reading.proofs.Reported.{reports_status}
+use Rattle.mps_reading.proofs.Reported.{reports_status, reports_no_memory, unopened}
 use Rattle.mps_tools.proofs.Cut.{cut_with}
-use Rattle.mps_tools.proofs.Broken.{fails_with, reports_no_memory}
+use Rattle.mps_tools.proofs.Broken.{fails_with}
 use Rattle.mps_tools.proofs.Wholly.{converted_with}
 use Rattle.mps_tools.proofs.OneReading.{only}
 use Rattle.mps_tools.proofs.convert.cnv.Goals as goal
@@ -36,3 +36,8 @@ pub returns-clause-cut : goal.returns-clause-cut
 returns-clause-cut g c four bytes told =
     cut_with (bits_of c.args.kinds) c.finish.result bytes c.convert-ending.result (g.D.Desk.outside c.args.desk.now) (g.D.Desk.outside c.convert-ending.new.desk) (g.D.Desk.outside c.finish.new.desk) four
     (λ e. c.convert-ending.ensures.cut e bytes told) c.finish.ensures.done c.finish.ensures.status c.finish.ensures.reported
+
+pub returns-clause-missing : goal.returns-clause-missing
+returns-clause-missing g c nothing =
+    unopened c.finish.result c.convert-ending.result (g.D.Desk.outside c.args.desk.now) (g.D.Desk.outside c.convert-ending.new.desk) (g.D.Desk.outside c.finish.new.desk)
+    (c.convert-ending.ensures.missing nothing).0 (c.convert-ending.ensures.missing nothing).1 c.finish.ensures.status c.finish.ensures.reported
