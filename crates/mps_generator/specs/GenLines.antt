@@ -1,9 +1,10 @@
 -- The lines that a generator has left.
-use Rattle.std.specs.Prelude.{ℕ, ◌+◌, ◌-◌, ◌<◌, ◌≤◌, List, ◌++◌, drop}
+use Rattle.std.specs.Prelude.{◌≡◌, ℕ, ◌+◌, ◌-◌, ◌<◌, ◌≤◌, List, ◌++◌, [], ◌∷◌, drop, codes, refl}
+use Rattle.std.proofs.Common.{arith}
 use Rattle.mps_generator.specs.declared.lines.Place.{Place}
 use Rattle.mps_generator.specs.declared.lines.Place.TheVariants as place
 use Rattle.mps_generator.specs.declared.lines.Standing.{Standing}
-use Rattle.mps_generator.specs.Script.{making_lines, ending_lines, allocating_lines, lines_from}
+use Rattle.mps_generator.specs.Script.{making_lines, ending_lines, allocating_lines, lines_from, script_lines}
 
 abbrev pub lines_behind : Place → (state step count : ℕ) → List (List ℕ)
 lines_behind (place.Making behind) state step count = drop behind making_lines ++ lines_from (count - step) step state
@@ -24,3 +25,22 @@ IsPlace (place.Ending behind) step count = behind ≤ 3
 
 abbrev pub CanStand : Standing → Type 0
 CanStand at = IsPlace at.place at.step at.count
+
+pub a_new_generator_has_the_whole_script :
+    lines_left (record { state = 1; step = 0; count = 0; place = place.Making 0 }) ≡ script_lines 1 0
+a_new_generator_has_the_whole_script = refl
+
+pub the_last_line_is_left : lines_left (record { state = 1; step = 0; count = 0; place = place.Ending 2 }) ≡ codes "committed\n" ∷ []
+the_last_line_is_left = refl
+
+pub before_the_last_step : IsPlace (place.Allocating 3 6 9) 2 3
+before_the_last_step = (omega arith, omega arith)
+
+pub no_step_behind_the_last : IsPlace (place.Allocating 3 6 9) 3 3 → ⊥
+no_step_behind_the_last stands = omega arith
+
+pub a_generator_may_have_ended : CanStand (record { state = 1; step = 3; count = 3; place = place.Ending 3 })
+a_generator_may_have_ended = omega arith
+
+pub no_fourth_line_at_the_end : CanStand (record { state = 1; step = 3; count = 3; place = place.Ending 4 }) → ⊥
+no_fourth_line_at_the_end stands = omega arith
