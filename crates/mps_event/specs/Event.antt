@@ -1,5 +1,5 @@
 -- What records tell: for each event its code and the number of its fields, and which events a version of the log has.
-use Rattle.std.specs.Prelude.{◌≡◌, ℕ, ◌==◌, Option, Some, None, List, [], ◌∷◌, ◌++◌, find, refl}
+use Rattle.std.specs.Prelude.{◌≡◌, ℕ, ◌==◌, Option, Some, None, List, [], ◌∷◌, ◌++◌, find, map, replicate, refl}
 use Rattle.mps_base.specs.Record.{arena_create_code, limit_set_code, pool_create_code, flip_code, end_code, seg_alloc_code, seg_free_code, splat_code, commit_code, alloc_code, move_code, stay_code, post_code, free_code, intern_code, label_code}
 use Rattle.mps_event.specs.declared.version.Version.{Version}
 use Rattle.mps_event.specs.declared.version.Version.TheVariants.{One, Two}
@@ -69,8 +69,20 @@ the_second_version_interns = refl
 pub the_first_version_does_not : event_of One 96 ≡ None
 the_first_version_does_not = refl
 
-pub a_move_has_two_fields : field_count_of Move ≡ 2
-a_move_has_two_fields = refl
+pub the_end_has_no_field : field_count_of End ≡ 0
+the_end_has_no_field = refl
+
+pub five_events_have_one_field : map field_count_of (LimitSet ∷ SegFree ∷ Stay ∷ Post ∷ Free ∷ []) ≡ replicate 5 1
+five_events_have_one_field = refl
+
+pub four_events_have_two_fields : map field_count_of (ArenaCreate ∷ Splat ∷ Move ∷ Label ∷ []) ≡ replicate 4 2
+four_events_have_two_fields = refl
+
+pub five_events_have_three_fields : map field_count_of (PoolCreate ∷ Flip ∷ Commit ∷ Alloc ∷ Intern ∷ []) ≡ replicate 5 3
+five_events_have_three_fields = refl
+
+pub a_taken_segment_has_four_fields : field_count_of SegAlloc ≡ 4
+a_taken_segment_has_four_fields = refl
 
 pub there_is_no_code_three : event_of Two 3 ≡ None
 there_is_no_code_three = refl

@@ -1,5 +1,5 @@
 -- What the front of some bytes is read as: a record, nothing, or a fault, the first in the stated order.
-use Rattle.std.specs.Prelude.{◌≡◌, ℕ, zero, suc, ◌+◌, ◌*◌, Bool, true, false, nat_lt, ◌==◌, not, if◌then◌else◌, Option, Some, None, Result, Ok, Err, List, [], ◌∷◌, ◌++◌, length, drop, refl}
+use Rattle.std.specs.Prelude.{◌≡◌, ℕ, zero, suc, ◌+◌, ◌*◌, Bool, true, false, nat_lt, ◌==◌, not, if◌then◌else◌, Option, Some, None, Result, Ok, Err, List, [], ◌∷◌, ◌++◌, length, take, drop, refl}
 use Rattle.byteorder.specs.Endian.{little_number}
 use Rattle.mps_base.specs.Record.{Record, record_bytes}
 use Rattle.mps_event.specs.declared.version.Version.{Version}
@@ -73,6 +73,15 @@ a_wrong_count_comes_before_the_end = refl
 pub fields_that_are_missing : first_of One true (85 ∷ 0 ∷ 1 ∷ 0 ∷ 1 ∷ 0 ∷ 0 ∷ 0 ∷ []) ≡ Err Cut
 fields_that_are_missing = refl
 
+pub missing_fields_may_come : first_of One false (85 ∷ 0 ∷ 1 ∷ 0 ∷ 1 ∷ 0 ∷ 0 ∷ 0 ∷ []) ≡ Ok None
+missing_fields_may_come = refl
+
+pub nothing_is_left_at_the_end : first_of One true [] ≡ Ok None
+nothing_is_left_at_the_end = refl
+
+pub nothing_has_come_yet : first_of One false [] ≡ Ok None
+nothing_has_come_yet = refl
+
 pub no_label_in_version_one :
     first_of One true (record_bytes (record { line = 10; code = 97; fields = 0x1000 ∷ 0 ∷ [] })) ≡ Err UnknownCode
 no_label_in_version_one = refl
@@ -80,3 +89,17 @@ no_label_in_version_one = refl
 pub a_string_that_is_no_name :
     first_of Two true (record_bytes (record { line = 9; code = 96; fields = 0 ∷ 0x20 ∷ 0 ∷ [] })) ≡ Err BadString
 a_string_that_is_no_name = refl
+
+pub the_cut_comes_before_a_bad_string :
+    first_of Two true (take 31 (record_bytes (record { line = 9; code = 96; fields = 0 ∷ 0x20 ∷ 0 ∷ [] }))) ≡ Err Cut
+the_cut_comes_before_a_bad_string = refl
+
+pub an_interned_name_is_read :
+    first_of Two true (record_bytes (record { line = 9; code = 96; fields = 0 ∷ 0x676e6972 ∷ 0 ∷ [] }))
+    ≡ Ok (Some (record { line = 9; code = 96; fields = 0 ∷ 0x676e6972 ∷ 0 ∷ [] }))
+an_interned_name_is_read = refl
+
+pub a_label_is_read :
+    first_of Two true (record_bytes (record { line = 10; code = 97; fields = 0x1000 ∷ 0 ∷ [] }))
+    ≡ Ok (Some (record { line = 10; code = 97; fields = 0x1000 ∷ 0 ∷ [] }))
+a_label_is_read = refl

@@ -34,11 +34,72 @@ fn the_records_of_a_log(rt: HostRuntime) -> Result<(), Fail> {
     Ok(())
 }
 
+// `9 Intern 0 ring`, and the same with a blank for the name.
+const RING: [u8; 32] = [
+    96, 0, 3, 0, 9, 0, 0, 0, 0, 0, 0, 0, 0, 0, 0, 0, b'r', b'i', b'n', b'g', 0, 0, 0, 0, 0, 0, 0,
+    0, 0, 0, 0, 0,
+];
+
+const BLANK: [u8; 32] = [
+    96, 0, 3, 0, 9, 0, 0, 0, 0, 0, 0, 0, 0, 0, 0, 0, b' ', 0, 0, 0, 0, 0, 0, 0, 0, 0, 0, 0, 0, 0,
+    0, 0,
+];
+
+// A record of three fields.
+#[derive(Clone, Copy, Debug, PartialEq, Eq)]
+struct Three {
+    code: u16,
+    line: u32,
+    fields: [u64; 3],
+}
+
+const INTERN: Three = Three {
+    code: 96,
+    line: 9,
+    fields: [0, 0x676e_6972, 0],
+};
+
+fn three_at_front(bytes: &[u8], ended: bool, version: Version) -> Result<Option<Three>, LogFault> {
+    match first(bytes, ended, version)? {
+        Some(entry) if entry.count() == 3 => Ok(Some(Three {
+            code: entry.code(),
+            line: entry.line(),
+            fields: [entry.field(0), entry.field(1), entry.field(2)],
+        })),
+        _ => Ok(None),
+    }
+}
+
 #[test]
 fn an_interned_name_is_read_again(rt: HostRuntime) -> Result<(), Fail> {
     let mut room = [7u8; 40];
-    let size = put(&mut room, 9, 96, &[0, 0x676e_6972, 0], Version::Two);
+    let size = put(
+        &mut room,
+        INTERN.line,
+        INTERN.code,
+        &INTERN.fields,
+        Version::Two,
+    );
     assert_eq!(rt; size, 32);
     assert_eq!(rt; room[32], 7);
+    assert_eq!(rt;
+        three_at_front(&room, false, Version::Two),
+        Ok(Some(INTERN))
+    );
+    Ok(())
+}
+
+#[test]
+fn each_front_is_read_or_at_fault(rt: HostRuntime) -> Result<(), Fail> {
+    let cases = [
+        (&RING[..], Version::Two, Ok(Some(INTERN))),
+        (&RING[..31], Version::Two, Err(LogFault::Cut)),
+        (&RING[..], Version::One, Err(LogFault::UnknownCode)),
+        (&BLANK[..], Version::Two, Err(LogFault::BadString)),
+        (&BLANK[..31], Version::Two, Err(LogFault::Cut)),
+    ];
+    for (bytes, version, front) in cases {
+        assert_eq!(rt; three_at_front(bytes, true, version), front);
+    }
     Ok(())
 }
