@@ -1,15 +1,19 @@
 -- The file of the log: one piece behind another.
-use Rattle.std.proofs.Common.{◌≡◌, ℕ, Option, Some, None, List, [], ◌∷◌, ◌++◌, refl, sym, ◌∙◌, ap, arith, append_assoc, append-nil, true, inl, inr}
+use Rattle.std.proofs.Common.{◌≡◌, ◌⊎◌, ℕ, Option, Some, None, List, [], ◌∷◌, ◌++◌, refl, sym, ◌∙◌, ap, arith, append_assoc, append-nil, true, inl, inr}
 use Rattle.std.specs.Option.{option_map}
 use Rattle.std.proofs.lemmas.List.{append_cancel_left}
 use Rattle.std.proofs.lemmas.Slice.Eq.{bytes_eq-Decides}
 use Rattle.mps_base.specs.Desk.{Outside, File, Files, OnlyReads, OnlyReports, file_named, with_file, with_more, with_logged, made_for_log, after_log}
 use Rattle.mps_base.proofs.Files.{file_named-with_file_other}
 use Rattle.mps_model.specs.Log.{log_bytes}
-use Rattle.mps_reading.specs.Ending.{is_whole_status}
+use Rattle.mps_reading.specs.Ending.{is_whole_status, IsUnopened}
 use Rattle.mps_cli.specs.Write.{appended, LogTakes}
+use Rattle.mps_cli.specs.Ending.{status_of}
 use Rattle.mps_cli.specs.Asked.{RunsScript}
-use Rattle.mps_cli.specs.LogFile.{IsInFile, LogsInto, HoldsLog, with_log}
+use Rattle.mps_cli.specs.Leaving.{IsUnbegun}
+use Rattle.mps_cli.specs.LogFile.{IsInFile, IsUnlogged, LogsInto, HoldsLog, with_log}
+use Rattle.mps_cli.specs.declared.ending.Ending.{Ending}
+use Rattle.mps_cli.specs.declared.ending.Ending.TheVariants as ending
 use Rattle.mps_cli.proofs.Outsides.{appended_empty, appended_twice}
 
 with_more-nothing : (fs : List File) (name : List ℕ) → with_more fs name [] ≡ fs
@@ -92,6 +96,18 @@ in_file_then_reported name old mid new r o = record { bytes = r.bytes; logged = 
 pub logs_into_then_reported : (name : List ℕ) (old mid new : Outside) → LogsInto name old mid → OnlyReports mid new → LogsInto name old new
 logs_into_then_reported name old mid new (inl r) o = inl (in_file_then_reported name old mid new r o)
 logs_into_then_reported name old mid new (inr r) o = inr (record { logged = o.logged ∙ r.logged; files = o.files ∙ r.files })
+
+-- a script that is not there
+missing_status : (status : ℕ) (ends : Ending) → status ≡ status_of ends → (ends ≡ ending.ReadFailed) ⊎ (ends ≡ ending.OutOfMemory) → (status ≡ 3) ⊎ (status ≡ 8)
+missing_status status ends is (inl read) = inl (is ∙ ap status_of read)
+missing_status status ends is (inr memory) = inr (is ∙ ap status_of memory)
+
+pub missing_then_reported : (status : ℕ) (ends : Ending) (old mid new : Outside) → status ≡ status_of ends → (ends ≡ ending.ReadFailed) ⊎ (ends ≡ ending.OutOfMemory)
+    → IsUnbegun old mid → mid.files ≡ old.files → OnlyReports mid new → IsUnopened status old new × IsUnlogged old new
+missing_then_reported status ends old mid new is why unbegun files o = (
+  (missing_status status ends is why, o.printed ∙ unbegun.printed),
+  record { logged = o.logged ∙ unbegun.logged; files = o.files ∙ files },
+)
 
 file_named-with_file : (fs : List File) (name bytes : List ℕ) → file_named (with_file fs name bytes) name ≡ Some bytes
 file_named-with_file [] name bytes = grind (arith, bytes_eq-Decides name name)

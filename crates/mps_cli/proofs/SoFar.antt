@@ -269,6 +269,7 @@ counts_line a b c d f grew reads g = record {
   in_faults = omega (arith, f.in_faults, grew, g.in_faults);
   log_faults = omega (arith, f.log_faults, reads.log_faults, g.log_faults);
   out_faults = omega (arith, f.out_faults, reads.out_faults, g.out_faults);
+  err_faults = omega (arith, f.err_faults, reads.err_faults, g.err_faults);
 }
 
 -- ---- reports

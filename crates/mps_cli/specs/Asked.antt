@@ -6,7 +6,8 @@ use Rattle.mps_output.specs.declared.stop.Stop.TheVariants as stop
 use Rattle.mps_output.specs.Reports.{report_of}
 use Rattle.mps_output.specs.Streams.{Prints, Reports as ReportsText}
 use Rattle.mps_reading.specs.Causes.{Answers}
-use Rattle.mps_reading.specs.Ending.{ReportsStatus, is_whole_status}
+use Rattle.mps_reading.specs.Ending.{ReportsStatus, IsUnopened, is_whole_status}
+use Rattle.mps_reading.specs.Opening.{OpensNothing}
 use Rattle.mps_live_blocks.specs.Listed.{ListedWith, IsOnly as IsOnlyList, ListsPart}
 use Rattle.mps_readable.specs.Text.{ReadWith, IsCutShort as IsCutShortText, IsOnlyReading}
 use Rattle.mps_tools.specs.Converted.{ConvertedWith, Fails, IsCutShort, IsOnly}
@@ -16,7 +17,7 @@ use Rattle.mps_words.specs.Meaning.{Meaning, Runs, Converts, Reads, Lists, Gener
 use Rattle.mps_words.specs.Words.{meaning}
 use Rattle.mps_cli.specs.Ending.{IsReported, Reports}
 use Rattle.mps_cli.specs.Leaving.{LeavesWith}
-use Rattle.mps_cli.specs.LogFile.{IsInFile, LogsInto}
+use Rattle.mps_cli.specs.LogFile.{IsInFile, IsUnlogged, LogsInto}
 use Rattle.mps_cli.specs.Script.{Answered, RanWith}
 use Rattle.mps_cli.specs.declared.ending.Ending.TheVariants.{NoMeaning}
 
@@ -45,6 +46,8 @@ pub record RunsScript (log script : List ℕ) (status : ℕ) (old new : Outside)
   pub in_file : is_whole_status status ≡ true → IsInFile log old new
   -- that holds with any status, unless nothing was logged and no file has changed
   pub filed : LogsInto log old new
+  -- a script that is not there is not run: nothing is printed or logged, and no file changes
+  pub missing : OpensNothing old script → IsUnopened status old new × IsUnlogged old new
 
 -- `cnv`
 pub record ConvertsLog (log : List ℕ) (kinds : ℕ) (status : ℕ) (old new : Outside) : Type 0 where
@@ -54,10 +57,12 @@ pub record ConvertsLog (log : List ℕ) (kinds : ℕ) (status : ℕ) (old new : 
   pub converted : is_whole_status status ≡ true → (bytes : List ℕ) → old.text log ≡ Some bytes → ConvertedWith kinds bytes status old new
   -- and nothing else
   pub only : is_whole_status status ≡ true → (bytes : List ℕ) → old.text log ≡ Some bytes → IsOnly kinds bytes status old new
-  -- where a read failed, the text of the whole records that had come was printed
+  -- where a read failed, the text of the whole records that had come was printed; the front of that, where a write failed too
   pub broken : status ≡ 3 → (bytes : List ℕ) → old.text log ≡ Some bytes → Fails kinds bytes old new
-  -- memory is wanting only before anything is printed
-  pub no_memory : status ≡ 8 → (bytes : List ℕ) → old.text log ≡ Some bytes → new.printed ≡ old.printed
+  -- a log that is not there is not read, and nothing is printed
+  pub missing : OpensNothing old log → IsUnopened status old new
+  -- memory is wanting only before anything else happens
+  pub no_memory : status ≡ 8 → ReportsText old new (report_of stop.OutOfMemory)
   -- where a write failed, a front of the text was printed
   pub cut : status ≡ 4 → (bytes : List ℕ) → old.text log ≡ Some bytes → IsCutShort kinds bytes old new
   -- just the ending that has this status is reported
@@ -72,6 +77,8 @@ pub record ReadsText (text : List ℕ) (status : ℕ) (old new : Outside) : Type
   pub only : is_whole_status status ≡ true → (bytes : List ℕ) → old.text text ≡ Some bytes → IsOnlyReading bytes status old new
   -- where a write failed, the front of the readable text of some lines at the front of the text was printed
   pub cut : status ≡ 4 → (bytes : List ℕ) → old.text text ≡ Some bytes → IsCutShortText bytes old new
+  -- a text that is not there is not read, and nothing is printed
+  pub missing : OpensNothing old text → IsUnopened status old new
   -- just the ending that has this status is reported
   pub reported : ReportsStatus status old new
 
@@ -86,6 +93,8 @@ pub record ListsBlocks (log : List ℕ) (status : ℕ) (old new : Outside) : Typ
   pub silent : status ≢ 0 → status ≢ 4 → new.printed ≡ old.printed
   -- where a write failed, the front of the list was printed
   pub cut : status ≡ 4 → (bytes : List ℕ) → old.text log ≡ Some bytes → ListsPart bytes old new
+  -- a log that is not there is not read, and nothing is printed
+  pub missing : OpensNothing old log → IsUnopened status old new
   -- just the ending that has this status is reported
   pub reported : ReportsStatus status old new
 
@@ -119,3 +128,17 @@ a_log_by_its_name old new does = does.in_file refl
 pub a_script_by_its_name : (old new : Outside) (bytes : List ℕ) → DoesAsAsked (meaning (codes "run" ∷ codes "-o" ∷ codes "a" ∷ codes "s" ∷ [])) 0 old new
     → old.text (codes "s") ≡ Some bytes → RanWith 0 bytes old new
 a_script_by_its_name old new bytes does told = does.ran refl bytes told
+
+pub a_log_is_converted_whole : (old new : Outside) (bytes : List ℕ) → DoesAsAsked (meaning (codes "cnv" ∷ codes "-k" ∷ codes "seg,object" ∷ [])) 0 old new
+    → old.text (codes "mpsio.log") ≡ Some bytes → ConvertedWith 40 bytes 0 old new
+a_log_is_converted_whole old new bytes does told = does.converted refl bytes told
+
+pub a_missing_text_prints_nothing : (status : ℕ) (old new : Outside) → DoesAsAsked (meaning (codes "txt" ∷ codes "-l" ∷ codes "a" ∷ [])) status old new
+    → OpensNothing old (codes "a") → new.printed ≡ old.printed
+a_missing_text_prints_nothing status old new does nothing = (does.missing nothing).1
+
+pub a_bad_log_lists_nothing : (old new : Outside) → DoesAsAsked (meaning (codes "blocks" ∷ [])) 6 old new → new.printed ≡ old.printed
+a_bad_log_lists_nothing old new does = does.silent (λ ()) (λ ())
+
+pub a_script_is_generated : (old new : Outside) → DoesAsAsked (meaning (codes "gen" ∷ codes "7" ∷ codes "0" ∷ [])) 0 old new → Prints old new (generated_script 7 0)
+a_script_is_generated old new does = does.whole refl

@@ -44,6 +44,7 @@ pub record CountsGrow (old new : Outside) : Type 0 where
   pub in_faults : old.in_faults ≤ new.in_faults
   pub log_faults : old.log_faults ≤ new.log_faults
   pub out_faults : old.out_faults ≤ new.out_faults
+  pub err_faults : old.err_faults ≤ new.err_faults
 
 -- nothing was reported
 pub record IsQuiet (old new : Outside) : Type 0 where

@@ -1,6 +1,6 @@
 -- What a run leaves printed and logged, however it ends.
 use Rattle.std.specs.Prelude.{ℕ, ◌≡◌, ◌+◌, ◌⊎◌, List, [], ◌∷◌, ◌++◌, take, drop, codes, refl, IsTrue}
-use Rattle.mps_base.specs.Desk.{Outside}
+use Rattle.mps_base.specs.Desk.{Outside, OnlyReports}
 use Rattle.mps_base.specs.Record.{record_bytes, records_bytes, header_bytes, limit_set_code}
 use Rattle.mps_model.specs.declared.call.Call.TheVariants as call
 use Rattle.mps_model.specs.declared.reply.Reply.TheVariants as reply
@@ -96,14 +96,14 @@ pub record LeavesHeader (old new : Outside) : Type 0 where
   pub count : ℕ
   pub logged : new.logged ≡ appended old.logged (take count (header_bytes 1))
 
--- By the ending: it may come before the log has its header, where memory is wanting, the script can't be opened or the log
--- can't be made and begun. Else it is as behind the header.
+-- By the ending: it may come before the log has its header, where memory is wanting (before anything else happens), the
+-- script can't be opened, or the log can't be made and begun. Else it is as behind the header.
 abbrev pub LeavesRun : Ending → (script : List ℕ) → (old new : Outside) → Type 0
 LeavesRun ending.Done script old new = Leaves ending.Done (header_bytes 1) script old new
 LeavesRun (ending.BadLine line) script old new = Leaves (ending.BadLine line) (header_bytes 1) script old new
 LeavesRun ending.TooLong script old new = Leaves ending.TooLong (header_bytes 1) script old new
 LeavesRun ending.ReadFailed script old new = IsUnbegun old new ⊎ Leaves ending.ReadFailed (header_bytes 1) script old new
-LeavesRun ending.OutOfMemory script old new = IsUnbegun old new ⊎ Leaves ending.OutOfMemory (header_bytes 1) script old new
+LeavesRun ending.OutOfMemory script old new = OnlyReports old new ⊎ Leaves ending.OutOfMemory (header_bytes 1) script old new
 LeavesRun ending.LogFailed script old new = LeavesHeader old new ⊎ Leaves ending.LogFailed (header_bytes 1) script old new
 LeavesRun ending.WriteFailed script old new = Leaves ending.WriteFailed (header_bytes 1) script old new
 LeavesRun ending.NoMeaning script old new = ⊥

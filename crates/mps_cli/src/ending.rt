@@ -50,6 +50,7 @@ pub fn status_of(ending: Ending) -> u8
 /// Reports how a run ended, in one line; nothing where it was done. A fault while reporting changes nothing else.
 pub fn report<D: Desk>(desk: &mut D, ending: Ending)
     ensures reported { Reports ending (D.outside desk.old) (D.outside desk.new) }
+    ensures counted { (D.outside desk.old).err_faults ≤ (D.outside desk.new).err_faults }
     ensures others { OnlyReports (D.outside desk.old) (D.outside desk.new) }
 {
     let mut text = [0u8; LONGEST_REPORT];

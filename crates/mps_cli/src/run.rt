@@ -1,7 +1,7 @@
 // The run of a script.
 ghost use Rattle.std.specs.Prelude.{◌≡◌, ◌≢◌, ◌≤◌, ◌+◌, ◌∷◌, ◌⊎◌, [], ℕ, List, true, false, Some, Err, IfSome, IfNone, IfErr, OnOk, OnErr};
 ghost use Rattle.std.specs.Option.{option_map};
-ghost use Rattle.mps_base.specs.Desk.{SameElsewhere, made_for_log};
+ghost use Rattle.mps_base.specs.Desk.{made_for_log};
 ghost use Rattle.mps_base.specs.Record.{records_bytes};
 ghost use Rattle.mps_script.specs.Line.{call_of_line};
 ghost use Rattle.mps_script.specs.Text.{text_of};
@@ -10,11 +10,12 @@ ghost use Rattle.mps_cli.specs.Ending.{HasCause, CountsGrow, IsQuiet};
 ghost use Rattle.mps_cli.specs.Buffer.{left_of};
 ghost use Rattle.mps_cli.specs.Records.{records_of_done};
 ghost use Rattle.mps_cli.specs.Script.{Command, StepsRan, RanTo, RanLines, Answered, IsBadHere, is_good, is_whole, commands_of_call};
+ghost use Rattle.mps_reading.specs.Opening.{OpensNothing};
 ghost use Rattle.mps_reading.specs.PutOut.{PutsPart};
-ghost use Rattle.mps_cli.specs.Leaving.{Leaves, LeavesRun, Stops};
+ghost use Rattle.mps_cli.specs.Leaving.{IsUnbegun, Leaves, LeavesRun, Stops};
 ghost use Rattle.mps_cli.specs.LogFile.{LogsInto, IsInFile};
 ghost use Rattle.mps_cli.specs.Write.{appended, LogTakes};
-ghost use Rattle.mps_cli.specs.declared.ending.Ending.TheVariants.{NoMeaning, ReadFailed, WriteFailed, LogFailed};
+ghost use Rattle.mps_cli.specs.declared.ending.Ending.TheVariants.{NoMeaning, ReadFailed, WriteFailed, LogFailed, OutOfMemory};
 
 use crate::ending::Ending;
 use crate::lines::Lines;
@@ -33,6 +34,9 @@ pub fn run<D: Desk>(alloc: Global, log: &str, script: &str, desk: &mut D) -> End
     ensures meaning { result ≢ NoMeaning }
     ensures cause { HasCause result (D.outside desk.old) (D.outside desk.new) }
     ensures filed { LogsInto log.now (D.outside desk.old) (D.outside desk.new) }
+    ensures missing { OpensNothing (D.outside desk.old) script.now
+        → ((result ≡ ReadFailed) ⊎ (result ≡ OutOfMemory)) × IsUnbegun (D.outside desk.old) (D.outside desk.new)
+        × ((D.outside desk.new).files ≡ (D.outside desk.old).files) }
     ensures whole_log { is_whole result ≡ true → IsInFile log.now (D.outside desk.old) (D.outside desk.new) }
     ensures counts { CountsGrow (D.outside desk.old) (D.outside desk.new) }
     ensures quiet { IsQuiet (D.outside desk.old) (D.outside desk.new) }
@@ -60,10 +64,10 @@ pub fn run<D: Desk>(alloc: Global, log: &str, script: &str, desk: &mut D) -> End
 fn open_files<D: Desk>(desk: &mut D, log: &str, script: &str) -> Result<(), Ending>
     ensures input { OnOk result ((D.outside desk.new).input ≡ (D.outside desk.old).text script.now) }
     ensures made { OnOk result ((D.outside desk.new).files ≡ option_map (made_for_log log.now) (D.outside desk.old).files) }
-    ensures elsewhere { SameElsewhere log.now (D.outside desk.old) (D.outside desk.new) }
     ensures unmade { OnErr result ((D.outside desk.new).files ≡ (D.outside desk.old).files) }
     ensures printed { (D.outside desk.new).printed ≡ (D.outside desk.old).printed }
     ensures logged { (D.outside desk.new).logged ≡ (D.outside desk.old).logged }
+    ensures missing { OpensNothing (D.outside desk.old) script.now → result ≡ Err ReadFailed }
     ensures failed { IfErr result (λ ending. (ending ≡ ReadFailed) ⊎ (ending ≡ LogFailed)) }
     ensures cause { IfErr result (λ ending. HasCause ending (D.outside desk.old) (D.outside desk.new)) }
     ensures counts { CountsGrow (D.outside desk.old) (D.outside desk.new) }

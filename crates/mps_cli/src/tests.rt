@@ -123,7 +123,6 @@ fn each_call_of_the_desk_may_fail(rt: HostRuntime) -> Result<(), Fail> {
         (DeskCall::Log, 3, 5, b"ok\nok\n", b"mps: log failed\n"),
         (DeskCall::Read, 2, 3, FIRST_ANSWERS, b"mps: read failed\n"),
         (DeskCall::Out, 3, 4, b"ok\nok\n", b"mps: write failed\n"),
-        (DeskCall::Err, 1, 0, FIRST_ANSWERS, b""),
     ] {
         let mut desk = MemDesk::new(rt.alloc());
         desk.add_file("-", FIRST)?;
@@ -219,18 +218,20 @@ fn an_allocation_may_fail(rt: HostRuntime) -> Result<(), Fail> {
     Ok(())
 }
 
-/// A line of 4096 bytes is read, and one of 4097 is bad.
+/// A line of 4096 bytes is read, and one of 4097 is bad, also where that can't be reported.
 #[test]
 fn a_line_of_4096_bytes_is_the_longest(rt: HostRuntime) -> Result<(), Fail> {
-    for (length, status, printed, reported) in [
-        (4096, 0, b"ok\nunsupported\nok\n".as_slice(), b"".as_slice()),
-        (4097, 6, b"ok\n", b"mps: script line 2: bad line\n"),
+    for (length, failing, status, printed, reported) in [
+        (4096, 2, 0, b"ok\nunsupported\nok\n".as_slice(), b"".as_slice()),
+        (4097, 2, 6, b"ok\n", b"mps: script line 2: bad line\n"),
+        (4097, 1, 6, b"ok\n", b""),
     ] {
         let mut script = Vec::from_slice(rt.alloc(), b"arena 8 8\n")?;
         script.resize(10 + length, b'x')?;
         script.extend_from_slice(b"\ntable t 1\n")?;
         let mut desk = MemDesk::new(rt.alloc());
         desk.add_file("-", &script)?;
+        desk.fail(DeskCall::Err, failing)?;
         let wanted = Answers {
             status,
             printed,

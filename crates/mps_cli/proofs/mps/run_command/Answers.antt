@@ -6,6 +6,7 @@ returns-in-Convert-clause-asked g c = rw c.in-Convert.is (record {
   converted = c.cnv.ensures.converted;
   only = c.cnv.ensures.only;
   broken = c.cnv.ensures.broken;
+  missing = c.cnv.ensures.missing;
   no_memory = c.cnv.ensures.no_memory;
   cut = c.cnv.ensures.cut;
   reported = c.cnv.ensures.reported;
@@ -25,6 +26,7 @@ returns-in-Read-clause-asked g c = rw c.in-Read.is (record {
   readable = c.txt.ensures.readable;
   only = c.txt.ensures.only;
   cut = c.txt.ensures.cut;
+  missing = c.txt.ensures.missing;
   reported = c.txt.ensures.reported;
 })
 
@@ -35,5 +37,6 @@ returns-in-Blocks-clause-asked g c = rw c.in-Blocks.is (record {
   only = c.blocks-in-Blocks.ensures.only;
   silent = c.blocks-in-Blocks.ensures.silent;
   cut = c.blocks-in-Blocks.ensures.cut;
+  missing = c.blocks-in-Blocks.ensures.missing;
   reported = c.blocks-in-Blocks.ensures.reported;
 })

@@ -3,7 +3,7 @@ use Rattle.mps_reading.specs.Ending.{is_whole_status}
 use Rattle.mps_cli.specs.Ending.{status_of}
 use Rattle.mps_cli.proofs.SoFar.{answered_between, ran_then_reported, reported_after, whole_status}
 use Rattle.mps_cli.proofs.Leaving.{leaves_then_reported}
-use Rattle.mps_cli.proofs.LogFile.{in_file_then_reported, logs_into_then_reported}
+use Rattle.mps_cli.proofs.LogFile.{in_file_then_reported, logs_into_then_reported, missing_then_reported}
 use Rattle.mps_cli.proofs.mps.run_script.Goals as goal
 
 pub returns-clause-runs : goal.returns-clause-runs
@@ -41,4 +41,8 @@ returns-clause-runs g c = record {
       c.report.ensures.others;
   filed = logs_into_then_reported c.args.log.now (g.D.Desk.outside c.args.desk.now) (g.D.Desk.outside c.run-ending.new.desk)
       (g.D.Desk.outside c.report.new.desk) c.run-ending.ensures.filed c.report.ensures.others;
+  missing = λ nothing.
+      let found = c.run-ending.ensures.missing nothing in
+      missing_then_reported c.status_of.result c.run-ending.result (g.D.Desk.outside c.args.desk.now) (g.D.Desk.outside c.run-ending.new.desk) (g.D.Desk.outside c.report.new.desk)
+      c.status_of.ensures found.0 found.1 found.2 c.report.ensures.others;
 }

@@ -52,7 +52,7 @@ loop-next-preserved g c = record {
 pub loop-next-init : goal.loop-next-init
 loop-next-init g c = record {
   few = omega arith;
-  counts = record { in_faults = omega arith; log_faults = omega arith; out_faults = omega arith };
+  counts = record { in_faults = omega arith; log_faults = omega arith; out_faults = omega arith; err_faults = omega arith };
   quiet = record { reported = refl; err_faults = refl };
   takes = takes_self (g.D.Desk.outside c.args.desk.now);
   so_far = at_start c.new-heap.result (g.D.Desk.outside c.args.desk.now) (left_of c.args.lines.now (g.D.Desk.outside c.args.desk.now).input) c.new-heap.ensures;
