@@ -2,9 +2,9 @@
 -- are two words, stand before the operands, and come at most once.
 --
 --   run [-o LOG] [SCRIPT]          LOG is `mpsio.log` and SCRIPT `-` where they are not given
---   cnv [-f LOG] [-k KINDS]        in either order; all kinds where they are not given
+--   cnv [-f LOG] [-k KINDS]        in either order; LOG is `mpsio.log` and KINDS all kinds where they are not given
 --   txt [-l TEXT]                  TEXT is `-` where it is not given
---   blocks [-f LOG]
+--   blocks [-f LOG]                LOG is `mpsio.log` where it is not given
 --   gen SEED COUNT                 decimal numbers below 2^64; COUNT is at most 1,000,000
 use Rattle.std.specs.Prelude.{◌≡◌, ℕ, nat_le, ◌&&◌, if◌then◌else◌, codes, Option, Some, None, option_and_then, List, [], ◌∷◌, refl}
 use Rattle.std.specs.Str.{bytes_eq}
@@ -80,6 +80,9 @@ meaning (name ∷ words) = meaning_behind name words
 pub runs_standard_input : meaning (codes "run" ∷ []) ≡ Some (Runs (codes "mpsio.log") (codes "-"))
 runs_standard_input = refl
 
+pub runs_a_script : meaning (codes "run" ∷ codes "s" ∷ []) ≡ Some (Runs (codes "mpsio.log") (codes "s"))
+runs_a_script = refl
+
 pub runs_into_a_log : meaning (codes "run" ∷ codes "-o" ∷ codes "a.log" ∷ codes "b" ∷ []) ≡ Some (Runs (codes "a.log") (codes "b"))
 runs_into_a_log = refl
 
@@ -97,14 +100,23 @@ converts_in_the_other = refl
 pub converts_all : meaning (codes "cnv" ∷ []) ≡ Some (Converts (codes "mpsio.log") 127)
 converts_all = refl
 
+pub converts_a_log : meaning (codes "cnv" ∷ codes "-f" ∷ codes "a" ∷ []) ≡ Some (Converts (codes "a") 127)
+converts_a_log = refl
+
 pub converts_repeated_kinds : meaning (codes "cnv" ∷ codes "-k" ∷ codes "seg,seg" ∷ []) ≡ Some (Converts (codes "mpsio.log") 8)
 converts_repeated_kinds = refl
 
 pub reads_standard_input : meaning (codes "txt" ∷ codes "-l" ∷ codes "-" ∷ []) ≡ Some (Reads (codes "-"))
 reads_standard_input = refl
 
+pub reads_where_no_text_is_named : meaning (codes "txt" ∷ []) ≡ Some (Reads (codes "-"))
+reads_where_no_text_is_named = refl
+
 pub lists_a_log : meaning (codes "blocks" ∷ codes "-f" ∷ codes "a" ∷ []) ≡ Some (Lists (codes "a"))
 lists_a_log = refl
+
+pub lists_the_usual_log : meaning (codes "blocks" ∷ []) ≡ Some (Lists (codes "mpsio.log"))
+lists_the_usual_log = refl
 
 pub generates_the_most : meaning (codes "gen" ∷ codes "7" ∷ codes "1000000" ∷ []) ≡ Some (Generates 7 1000000)
 generates_the_most = refl

@@ -13,64 +13,71 @@ fn words_of(alloc: Global, line: &str) -> Result<Vec<String>, AllocError> {
     Ok(words)
 }
 
+fn runs<'a>(log: &'a str, script: &'a str) -> Command<'a> {
+    Command::Run { log, script }
+}
+
+fn converts(log: &str, kinds: Kinds) -> Command<'_> {
+    Command::Convert { log, kinds }
+}
+
+fn every_kind() -> Kinds {
+    Kinds::ARENA
+        | Kinds::POOL
+        | Kinds::TRACE
+        | Kinds::SEG
+        | Kinds::REF
+        | Kinds::OBJECT
+        | Kinds::USER
+}
+
 #[test]
-fn each_line_asks_for_what_the_table_says(rt: HostRuntime) -> Result<(), AllocError> {
+fn each_line_asks_for_its_command(rt: HostRuntime) -> Result<(), AllocError> {
     let cases = [
-        (
-            "run",
-            Some(Command::Run {
-                log: "mpsio.log",
-                script: "-",
-            }),
-        ),
-        (
-            "run -o a s",
-            Some(Command::Run {
-                log: "a",
-                script: "s",
-            }),
-        ),
+        ("run", runs("mpsio.log", "-")),
+        ("run -o a s", runs("a", "s")),
         (
             "cnv -k seg,user,seg -f -",
-            Some(Command::Convert {
-                log: "-",
-                kinds: Kinds::SEG | Kinds::USER,
-            }),
+            converts("-", Kinds::SEG | Kinds::USER),
         ),
-        (
-            "cnv",
-            Some(Command::Convert {
-                log: "mpsio.log",
-                kinds: Kinds::ARENA
-                    | Kinds::POOL
-                    | Kinds::TRACE
-                    | Kinds::SEG
-                    | Kinds::REF
-                    | Kinds::OBJECT
-                    | Kinds::USER,
-            }),
-        ),
-        ("txt -l t", Some(Command::Read { text: "t" })),
-        ("blocks", Some(Command::Blocks { log: "mpsio.log" })),
+        ("cnv", converts("mpsio.log", every_kind())),
+        ("txt -l t", Command::Read { text: "t" }),
+        ("blocks", Command::Blocks { log: "mpsio.log" }),
         (
             "gen 18446744073709551615 1000000",
-            Some(Command::Generate {
+            Command::Generate {
                 seed: 18446744073709551615,
                 count: 1_000_000,
-            }),
+            },
         ),
-        ("", None),
-        ("run --help", None),
-        ("run -o ", None),
-        ("run -o -", None),
-        ("run -o a -o b", None),
-        ("run s -o a", None),
-        ("cnv -k seg,", None),
-        ("gen 01 1", None),
-        ("gen 1 1000001", None),
     ];
-    for (line, asked) in cases {
-        assert!(rt; command_of(&words_of(rt.alloc(), line)?) == asked, "{line}");
+    for (line, command) in cases {
+        assert!(rt;
+            command_of(&words_of(rt.alloc(), line)?) == Some(command),
+            "{line}"
+        );
+    }
+    Ok(())
+}
+
+#[test]
+fn other_lines_ask_for_nothing(rt: HostRuntime) -> Result<(), AllocError> {
+    let lines = [
+        "",
+        "run --help",
+        "run -o ",
+        "run -o -",
+        "run -o a -o b",
+        "run s -o a",
+        "cnv -k seg,",
+        "gen 01 1",
+        "gen 1 1000001",
+    ];
+    for line in lines {
+        assert!(rt;
+            command_of(&words_of(rt.alloc(), line)?).is_none(),
+            "{line}"
+        );
     }
     Ok(())
 }
