@@ -96,7 +96,7 @@ all_printed a b bytes at le p = prints-as a b _ _ (take_all at bytes le) p
 
 -- ---- reporting
 
-reports_only-same : (o : Outside) → OnlyReports o o
+pub reports_only-same : (o : Outside) → OnlyReports o o
 reports_only-same o = record {
   files = refl;
   text = refl;
@@ -108,7 +108,7 @@ reports_only-same o = record {
   out_faults = refl;
 }
 
-reports_only-then : (a b c : Outside) → OnlyReports a b → OnlyReports b c → OnlyReports a c
+pub reports_only-then : (a b c : Outside) → OnlyReports a b → OnlyReports b c → OnlyReports a c
 reports_only-then a b c e f = record {
   files = f.files ∙ e.files;
   text = f.text ∙ e.text;

@@ -17,13 +17,13 @@ use Rattle.mps_reading.proofs.PutOut.{nothing_put, one_put}
 use Rattle.mps_reading.proofs.Records.{none_yet, all_and_one, flat_one}
 use Rattle.mps_readable.specs.Labels.{Naming, no_names, after_record, after_records}
 use Rattle.mps_readable.specs.Readable.{readable_line, readable_from, readable}
-use Rattle.mps_readable.specs.Text.{closed, IsWrongNext, BreaksOff}
+use Rattle.mps_readable.specs.Text.{closed, IsWrongNext, IsNextToTakeMemory, BreaksOff}
 use Rattle.mps_readable.specs.TextSteps.{NextLine, ShowsFirst, AllLines}
 use Rattle.mps_readable.proofs.Closed.{closed-some}
 
 -- ---- one record more
 
-named_is : (x y : Naming) → Some x ≡ Some y → x ≡ y
+pub named_is : (x y : Naming) → Some x ≡ Some y → x ≡ y
 named_is x y e = cc
 
 then_one : (version : Version) (first : Option Naming) (rs : List Record) (r : Record) (named t : Naming)
@@ -41,7 +41,7 @@ after_one version s [] r named t e f =
 after_one version s (x ∷ rs) r named t e f =
     then_one version (after_record version s x) rs r named t (λ n g. after_one version n rs r named t g f) e
 
-first_step : (version : Version) (first : Option Naming) (rs : List Record) (named : Naming) → option_and_then (λ n. after_records version n rs) first ≡ Some named
+pub first_step : (version : Version) (first : Option Naming) (rs : List Record) (named : Naming) → option_and_then (λ n. after_records version n rs) first ≡ Some named
     → (n : Naming) × (first ≡ Some n) × (after_records version n rs ≡ Some named)
 first_step version None rs named e = absurd (let f : None ≡ Some named = e in cc)
 first_step version (Some n) rs named e = (n, refl, e)
@@ -186,7 +186,10 @@ all_stop version count number named t left left_behind left_then unread before a
 all_stop version count number named t left left_behind left_then unread before after put bytes stop.WriteFailed few is s n e = tt
 all_stop version count number named t left left_behind left_then unread before after put bytes stop.OutOfMemory few is s n e =
     let g = left_told (flat_map record_line s.records) bytes left left_behind s.front e in
-    shown_later version bytes before after put (shown_so_far version count named left left_behind before after bytes g.0 (omega (arith, few)) s g.2) n
+    record {
+      shown = shown_later version bytes before after put (shown_so_far version count named left left_behind before after bytes g.0 (omega (arith, few)) s g.2) n.1;
+      next = subst (λ (o : Option (List ℕ)). IfSome o (λ bytes. IsNextToTakeMemory version named (closed bytes))) g.1 n.0;
+    }
 all_stop version count number named t left left_behind left_then unread before after put bytes stop.BadHeader few is s n e = absurd n
 all_stop version count number named t left left_behind left_then unread before after put bytes (stop.BadRecord at fault) few is s n e = absurd n
 all_stop version count number named t left left_behind left_then unread before after put bytes (stop.BadReplay at) few is s n e = absurd n

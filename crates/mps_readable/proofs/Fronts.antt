@@ -11,9 +11,9 @@ use Rattle.mps_reading.specs.RecordLine.{record_line}
 use Rattle.mps_readable.specs.Cuts.{Lacks}
 use Rattle.mps_readable.specs.Line.{record_text}
 use Rattle.mps_readable.specs.Labels.{Naming}
-use Rattle.mps_readable.specs.Text.{closed, IsWrongNext}
+use Rattle.mps_readable.specs.Text.{closed, IsWrongNext, IsNextToTakeMemory}
 use Rattle.mps_readable.specs.NextLine.{IsFront}
-use Rattle.mps_readable.specs.TextSteps.{IsWrong, IsWrongFront}
+use Rattle.mps_readable.specs.TextSteps.{IsWrong, IsWrongFront, TakesMemory}
 use Rattle.mps_readable.proofs.OneCut.{one_cut}
 use Rattle.mps_readable.proofs.Closed.{closed-line, closed-last, closed-adds}
 use Rattle.mps_readable.proofs.Spelling.{text_lacks, text_short}
@@ -103,3 +103,14 @@ wrong_front version before b more (inl h) end enough =
 wrong_front version before b more (inr h) end enough =
     let g = long_closed h.front h.others b.pending more h.pending in
     wrong_of_long version before h.front g.0 (b.pending ++ more) h.lacks h.long g.1
+
+-- so is the line of a record that takes memory
+pub memory_front : (version : Version) (before : Naming) (b : Buffered) (more : List ℕ) → TakesMemory version before b → (b.ended ≡ true → more ≡ [])
+    → (b.ended ≡ false → b.failed ≡ false → 4097 ≤ length b.pending) → IsNextToTakeMemory version before (closed (b.pending ++ more))
+memory_front version before b more h end enough = record {
+  next = h.read;
+  behind = closed (drop h.size b.pending ++ more);
+  grammar = h.grammar;
+  front = front_closed b (record_text h.read) h.size more h.front end enough ∙ sym (line_feed_behind h.read (closed (drop h.size b.pending ++ more)));
+  takes = h.takes;
+}

@@ -10,6 +10,7 @@ mod Closed
 mod Fronts
 pub mod NextLine
 pub mod AllLines
+mod FirstVersion
 pub mod FirstLines
 pub mod WholeText
 pub mod Cut

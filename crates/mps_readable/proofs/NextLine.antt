@@ -17,9 +17,9 @@ use Rattle.mps_readable.specs.Cuts.{Lacks}
 use Rattle.mps_readable.specs.Line.{record_text}
 use Rattle.mps_readable.specs.Labels.{Naming}
 use Rattle.mps_readable.specs.Readable.{readable_line}
-use Rattle.mps_readable.specs.Text.{closed, IsWrongNext, BreaksOff}
+use Rattle.mps_readable.specs.Text.{closed, IsWrongNext, IsNextToTakeMemory, BreaksOff}
 use Rattle.mps_readable.specs.TextSteps.{PendingLine, NextLine}
-use Rattle.mps_readable.proofs.Fronts.{front_closed, line_feed_behind, wrong_front, IsWrongRest}
+use Rattle.mps_readable.proofs.Fronts.{front_closed, line_feed_behind, wrong_front, memory_front}
 
 -- before something was put out
 put_before : (a b c : Outside) (p q : List ℕ) → b.printed ≡ a.printed → Kept b c p q → put_out c q ≡ put_out a p
@@ -41,14 +41,14 @@ front_left : (text : List ℕ) (line pending behind : List ℕ) (input : Option 
 front_left text line pending behind None ends h = refl
 front_left text line pending behind (Some more) ends h = ap Some (h more refl ∙ sym (ends (closed (behind ++ more))))
 
-wrong_left : (version : Version) (before : Naming) (pending : List ℕ) (input : Option (List ℕ)) → ((more : List ℕ) → input ≡ Some more → IsWrongRest version before (pending ++ more))
-    → IfSome (option_map (λ rest. pending ++ rest) input) (λ bytes. (0 < length (closed bytes)) × IsWrongNext version before (closed bytes))
-wrong_left version before pending None h = tt
-wrong_left version before pending (Some more) h = let g = h more refl in (g.some, g.wrong)
+-- what holds of what is pending and all that may follow it holds of what is left
+of_left : (P : List ℕ → Type 0) (pending : List ℕ) (input : Option (List ℕ)) → ((more : List ℕ) → input ≡ Some more → P (pending ++ more)) → IfSome (option_map (λ rest. pending ++ rest) input) P
+of_left P pending None h = tt
+of_left P pending (Some more) h = h more refl
 
 pub broken_left : (pending : List ℕ) (input unread : Option (List ℕ)) → Lacks 10 pending → length pending ≤ 4096 → unread ≡ input → IfSome (option_map (λ rest. pending ++ rest) input) (λ bytes. BreaksOff bytes unread)
-broken_left pending None unread lacks short same = tt
-broken_left pending (Some more) unread lacks short same = record { part = pending; others = more; split = refl; lacks = lacks; short = short; still = same }
+broken_left pending input unread lacks short same =
+    of_left (λ bytes. BreaksOff bytes unread) pending input (λ more told. record { part = pending; others = more; split = refl; lacks = lacks; short = short; still = same ∙ told })
 
 -- the next line, from what is pending: the pieces before it were read and printed
 pub next_line : (version : Version) (number : ℕ) (s t : Naming) (a b c : Outside) (x y : Buffered) (p q r : List ℕ) (size : Option ℕ)
@@ -82,7 +82,8 @@ next_stops version number s t a b c x y left_behind p q r (stop.BadLine line) at
     let left : left_of b y ≡ left_of a x = left_same a b x y reads in (
       gives.0,
       subst (λ (o : Option (List ℕ)). IfSome o (λ bytes. (0 < length (closed bytes)) × IsWrongNext version s (closed bytes))) left
-          (wrong_left version s y.pending b.input (λ more told. wrong_front version s y more gives.1 (end_told y.ended b.input more told (reads.end at_end)) enough)),
+          (of_left (λ bytes. (0 < length (closed bytes)) × IsWrongNext version s (closed bytes)) y.pending b.input
+          (λ more told. let g = wrong_front version s y more gives.1 (end_told y.ended b.input more told (reads.end at_end)) enough in (g.some, g.wrong))),
       ap (put_out c) gives.2 ∙ put_before a b c p q reads.others.printed kept,
     )
 next_stops version number s t a b c x y left_behind p q r stop.ReadFailed at_end reads enough kept same gives =
@@ -91,7 +92,12 @@ next_stops version number s t a b c x y left_behind p q r stop.ReadFailed at_end
       ap (put_out c) gives.2 ∙ put_before a b c p q reads.others.printed kept,
     )
 next_stops version number s t a b c x y left_behind p q r stop.OutOfMemory at_end reads enough kept same gives =
-    ap (put_out c) gives ∙ put_before a b c p q reads.others.printed kept
+    let left : left_of b y ≡ left_of a x = left_same a b x y reads in (
+      subst (λ (o : Option (List ℕ)). IfSome o (λ bytes. IsNextToTakeMemory version s (closed bytes))) left
+          (of_left (λ bytes. IsNextToTakeMemory version s (closed bytes)) y.pending b.input
+          (λ more told. memory_front version s y more gives.0 (end_told y.ended b.input more told (reads.end at_end)) enough)),
+      ap (put_out c) gives.1 ∙ put_before a b c p q reads.others.printed kept,
+    )
 next_stops version number s t a b c x y left_behind p q r stop.WriteFailed at_end reads enough kept same gives = absurd gives
 next_stops version number s t a b c x y left_behind p q r stop.BadHeader at_end reads enough kept same gives = absurd gives
 next_stops version number s t a b c x y left_behind p q r (stop.BadRecord at fault) at_end reads enough kept same gives = absurd gives

@@ -1,7 +1,6 @@
 use Rattle.std.proofs.Common.{◌++◌, ◌∙◌, ap, List, ℕ, arith}
 use Rattle.mps_reading.specs.Opening.{first_line}
-use Rattle.mps_reading.specs.PutOut.{put_out}
-use Rattle.mps_readable.proofs.WholeText.{reads_text, failed_since}
+use Rattle.mps_readable.proofs.WholeText.{reads_text}
 use Rattle.mps_readable.proofs.Cut.{cuts_text}
 use Rattle.mps_readable.proofs.textual.read_text.Goals as goal
 
@@ -9,12 +8,12 @@ pub returns-clause-read : goal.returns-clause-read
 returns-clause-read g c bytes told =
     let line = c.put_first_line.ensures ∙ ap (λ (x : List ℕ). x ++ first_line c.in_ok-version.version) c.in-Ok-new.ensures in
     let opened = c.in_ok-version.ensures.opened bytes told in
-    reads_text _ c.in_ok-version.version bytes c.put_first_line.new.output
+    reads_text _ c.in_ok-version.version bytes c.put_first_line.new.output c.read_lines-ending.new.output
     (g.D.Desk.outside c.args.desk.now) (g.D.Desk.outside c.open_text.new.desk) (g.D.Desk.outside c.read_lines-ending.new.desk) (g.D.Desk.outside c.flush_after.new.desk)
-    c.open_text.new.input (put_out (g.D.Desk.outside c.read_lines-ending.new.desk) c.read_lines-ending.new.output) c.read_lines-ending.result c.flush_after.result
-    opened c.open_text.ensures.printed line c.flush_after.ensures.input c.read_lines-ending.ensures.all c.flush_after.ensures.first c.flush_after.ensures.printed
-    (λ e. failed_since (g.D.Desk.outside c.args.desk.now) (g.D.Desk.outside c.read_lines-ending.new.desk) (g.D.Desk.outside c.flush_after.new.desk)
-    (omega (arith, c.open_text.ensures.runs.out_counted, c.read_lines-ending.ensures.works.runs.out_counted)) (c.flush_after.ensures.front e))
+    c.open_text.new.input c.read_lines-ending.result c.flush_after.result
+    opened c.open_text.ensures.printed line c.flush_after.ensures.input c.read_lines-ending.ensures.grows
+    (omega (arith, c.open_text.ensures.runs.out_counted, c.read_lines-ending.ensures.works.runs.out_counted))
+    c.read_lines-ending.ensures.all c.flush_after.ensures.first c.flush_after.ensures.printed c.flush_after.ensures.front
 
 pub returns-clause-cut : goal.returns-clause-cut
 returns-clause-cut g c failed bytes told =
