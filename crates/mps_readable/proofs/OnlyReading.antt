@@ -18,7 +18,7 @@ use Rattle.mps_reading.specs.Ending.{status_of_ending, is_whole_status, HasRepor
 use Rattle.mps_reading.specs.RecordLine.{record_line}
 use Rattle.mps_readable.specs.Line.{record_text}
 use Rattle.mps_readable.specs.Labels.{Naming, no_names, after_record, after_records}
-use Rattle.mps_readable.specs.Text.{readable_text, TextEndsAt, TextEndsWith, Reads, HasRead, ReadWith, IsOnlyReading}
+use Rattle.mps_readable.specs.Text.{readable_text, BeginsWith, HasNoFirstLine, FindsNoFirstLine, TextEndsAt, TextEndsWith, Reads, HasRead, ReadWith, Tells, IsOnlyReading}
 use Rattle.mps_readable.proofs.OneCut.{one_cut}
 use Rattle.mps_readable.proofs.Spelling.{record_text_lacks, one_text}
 
@@ -197,24 +197,46 @@ one_reading v w first second e f bytes a b =
 
 -- ---- so a reading is the only one
 
-only_of : (bytes : List ℕ) (status : ℕ) (ending : Result (Unit {0}) Stop) (old new : Outside) → status ≡ status_of_ending ending → HasReported ending old new → Reads bytes ending old new → IsOnlyReading bytes status old new
-only_of bytes status ending old new is reported c version records other h =
+tells : (bytes : List ℕ) (status : ℕ) (ending : Result (Unit {0}) Stop) (old new : Outside) → status ≡ status_of_ending ending → HasReported ending old new → Reads bytes ending old new
+    → (version : Version) (records : List Record) (other : Result (Unit {0}) Stop) → TextEndsWith version records other bytes → Tells version records other status old new
+tells bytes status ending old new is reported c version records other h =
     let mine : TextEndsWith c.version c.records ending bytes = record { named = c.named; rest = c.rest; begins = c.begins; ends_at = c.ends_at } in
-    let s = one_reading c.version version c.records records ending other bytes mine h in (
-      is ∙ ap (λ (e : Result (Unit {0}) Stop). status_of_ending e) s.ending,
-      c.printed
+    let s = one_reading c.version version c.records records ending other bytes mine h in
+    record {
+      status_is = is ∙ ap (λ (e : Result (Unit {0}) Stop). status_of_ending e) s.ending;
+      printed = c.printed
           ∙ ap (λ (v : Version). option_map (λ before. before ++ readable_text v c.records) old.printed) s.version
-          ∙ ap (λ (rs : List Record). option_map (λ before. before ++ readable_text version rs) old.printed) s.records,
-      subst (λ (e : Result (Unit {0}) Stop). HasReported e old new) s.ending reported,
-    )
+          ∙ ap (λ (rs : List Record). option_map (λ before. before ++ readable_text version rs) old.printed) s.records;
+      reported = subst (λ (e : Result (Unit {0}) Stop). HasReported e old new) s.ending reported;
+    }
+
+-- bytes that were read begin with a first line
+begins_with_one : (version : Version) (records : List Record) (named : Naming) (rest bytes : List ℕ) → BeginsWith version records named rest bytes → HasNoFirstLine bytes → ⊥
+begins_with_one version records named rest bytes b none = none version (flat_map record_line records ++ rest) (b.spelled ∙ append_assoc (first_line version) (flat_map record_line records) rest)
+
+only_of : (bytes : List ℕ) (status : ℕ) (ending : Result (Unit {0}) Stop) (old new : Outside) → status ≡ status_of_ending ending → HasReported ending old new → Reads bytes ending old new → IsOnlyReading bytes status old new
+only_of bytes status ending old new is reported c = record {
+  with_first_line = tells bytes status ending old new is reported c;
+  without_first_line = λ none. absurd (begins_with_one c.version c.records c.named c.rest bytes c.begins none);
+}
+
+only_without : (bytes : List ℕ) (status line : ℕ) (old new : Outside) → status ≡ 6 → HasReported {T = Unit {0}} (Err (stop.BadLine line)) old new → FindsNoFirstLine bytes line old new
+    → IsOnlyReading bytes status old new
+only_without bytes status line old new is reported h = record {
+  with_first_line = λ version records ending e. absurd (begins_with_one version records e.named e.rest bytes e.begins h.none);
+  without_first_line = λ none. record {
+    status_is = is;
+    printed = h.printed;
+    reported = subst (λ (n : ℕ). HasReported {T = Unit {0}} (Err (stop.BadLine n)) old new) h.first reported;
+  };
+}
 
 not_whole : (status other : ℕ) → status ≡ other → is_whole_status status ≡ true → is_whole_status other ≡ false → ⊥
 not_whole status other is whole broken = absurd (let e : true ≡ false = sym whole ∙ ap is_whole_status is ∙ broken in cc)
 
 only_ending : (bytes : List ℕ) (status : ℕ) (ending : Result (Unit {0}) Stop) (old new : Outside) → is_whole_status status ≡ true → status ≡ status_of_ending ending → HasReported ending old new → HasRead bytes ending old new → IsOnlyReading bytes status old new
 only_ending bytes status (Ok value) old new whole is reported h = only_of bytes status (Ok value) old new is reported h
-only_ending bytes status (Err (stop.BadLine line)) old new whole is reported (inl none) = λ version records ending e.
-    absurd (none.none version (flat_map record_line records ++ e.rest) (e.begins.spelled ∙ append_assoc (first_line version) (flat_map record_line records) e.rest))
+only_ending bytes status (Err (stop.BadLine line)) old new whole is reported (inl h) = only_without bytes status line old new is reported h
 only_ending bytes status (Err (stop.BadLine line)) old new whole is reported (inr h) = only_of bytes status (Err (stop.BadLine line)) old new is reported h
 only_ending bytes status (Err stop.TooLong) old new whole is reported h = only_of bytes status (Err stop.TooLong) old new is reported h
 only_ending bytes status (Err stop.ReadFailed) old new whole is reported h = absurd (not_whole status 3 is whole refl)

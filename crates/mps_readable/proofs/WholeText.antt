@@ -3,7 +3,7 @@ use Rattle.std.proofs.Common.{◌≡◌, ℕ, ◌≤◌, ◌⊎◌, List, ◌++�
 use Rattle.std.specs.Prelude.{OnOk, IfErr}
 use Rattle.std.specs.List.{flat_map}
 use Rattle.std.specs.Option.{option_map}
-use Rattle.mps_base.specs.Desk.{Outside, HasRisen, OnlyReports}
+use Rattle.mps_base.specs.Desk.{Outside, OnlyReports}
 use Rattle.mps_event.specs.declared.version.Version.{Version}
 use Rattle.mps_output.specs.declared.stop.Stop.{Stop}
 use Rattle.mps_output.specs.declared.stop.Stop.TheVariants as stop
@@ -11,12 +11,12 @@ use Rattle.mps_output.specs.Reports.{status_of, report_of}
 use Rattle.mps_output.specs.Streams.{Reports}
 use Rattle.mps_reading.specs.Input.{Buffered}
 use Rattle.mps_reading.specs.Left.{left_of}
-use Rattle.mps_reading.specs.PutOut.{put_out, Grows, PutsPart, PrintsAsFar, IsToFlush}
+use Rattle.mps_reading.specs.PutOut.{put_out, Grows, PrintsAsFar, IsToFlush}
 use Rattle.mps_reading.specs.Opening.{first_line}
 use Rattle.mps_reading.specs.RecordLine.{record_line}
 use Rattle.mps_reading.proofs.Reported.{has_reported}
-use Rattle.mps_reading.proofs.PartPut.{part_of_text}
-use Rattle.mps_output.proofs.Outside.{risen_earlier, reports_only-same, reports_only-then}
+use Rattle.mps_reading.proofs.PartPut.{as_far_of_text, as_far_later}
+use Rattle.mps_output.proofs.Outside.{reports_only-same, reports_only-then}
 use Rattle.mps_readable.specs.Readable.{readable}
 use Rattle.mps_readable.specs.Text.{closed, readable_text, BeginsWith, Reads, FirstLines, BreaksOff, FailsBefore, FailsBehind, WantsMemory, HasRead, ReadWith}
 use Rattle.mps_readable.specs.TextSteps.{ShowsFirst, ShowsAll, ShowsCome, ShowsBeforeMemory, AllLines, TextOpens}
@@ -70,27 +70,13 @@ first_lines version bytes left before after is h = record {
   begins = begins version bytes left before after is h;
 }
 
--- what was printed behind a failed read
-prints_as_far : (version : Version) (out text gathered : List ℕ) (a b c d : Outside) → b.printed ≡ a.printed → out ≡ first_line version
-    → put_out c gathered ≡ option_map (λ all. all ++ text) (put_out b out) → Grows b.printed c.printed → a.out_faults ≤ c.out_faults
-    → PrintsAsFar c d gathered → PrintsAsFar a d (first_line version ++ text)
-prints_as_far version out text gathered a b c d same line put grown counted (inl all) =
-    inl (all ∙ put_all version out text a.printed b.printed (put_out c gathered) same line put)
-prints_as_far version out text gathered a b c d same line put grown counted (inr part) =
-    let front = part_of_text grown.0 gathered out text part.1.0 b.printed c.printed d.printed grown.1 put part.1.1 in
-    inr (
-      risen_earlier a.out_faults c.out_faults d.out_faults counted part.0,
-      subst (λ (o : Option (List ℕ)). PutsPart o d.printed (first_line version ++ text)) same
-          (subst (λ (x : List ℕ). PutsPart b.printed d.printed (x ++ text)) line front),
-    )
-
 fails_behind : (version : Version) (bytes left out gathered : List ℕ) (a b c d : Outside) → closed bytes ≡ first_line version ++ closed left → b.printed ≡ a.printed
     → out ≡ first_line version → d.input ≡ c.input → Grows b.printed c.printed → a.out_faults ≤ c.out_faults
     → ShowsCome version left c.input (put_out b out) (put_out c gathered) → PrintsAsFar c d gathered → FailsBehind bytes a d
 fails_behind version bytes left out gathered a b c d is same line unread grown counted h far = record {
   front = first_lines version bytes left (put_out b out) (put_out c gathered) is h.shown;
   breaks = subst (λ (o : Option (List ℕ)). BreaksOff h.shown.left o) (sym unread) h.breaks;
-  printed = prints_as_far version out (readable version h.shown.records) gathered a b c d same line h.shown.put grown counted far;
+  printed = as_far_of_text out (first_line version) (readable version h.shown.records) gathered a b c d same line h.shown.put grown counted far;
 }
 
 wants_memory : (version : Version) (bytes left out : List ℕ) (a b d : Outside) (after : Option (List ℕ)) → closed bytes ≡ first_line version ++ closed left → b.printed ≡ a.printed
@@ -163,16 +149,12 @@ before_later : (bytes : List ℕ) (a b c : Outside) → c.input ≡ b.input → 
 before_later bytes a b c e (inl h) = inl (e ∙ h)
 before_later bytes a b c e (inr h) = inr (subst (λ (o : Option (List ℕ)). BreaksOff bytes o) (sym e) h)
 
-as_far_later : (text : List ℕ) (a b c : Outside) → OnlyReports b c → PrintsAsFar a b text → PrintsAsFar a c text
-as_far_later text a b c o (inl all) = inl (o.printed ∙ all)
-as_far_later text a b c o (inr part) = inr (subst (λ (n : ℕ). HasRisen a.out_faults n) (sym o.out_faults) part.0, (part.1.0, o.printed ∙ part.1.1))
-
 failed_later : (bytes : List ℕ) (a b c : Outside) → OnlyReports b c → FailsBefore bytes a b ⊎ FailsBehind bytes a b → FailsBefore bytes a c ⊎ FailsBehind bytes a c
 failed_later bytes a b c o (inl h) = inl (record { breaks = before_later bytes a b c o.input h.breaks; printed = o.printed ∙ h.printed })
 failed_later bytes a b c o (inr h) = inr (record {
   front = h.front;
   breaks = subst (λ (o : Option (List ℕ)). BreaksOff h.front.left o) (sym o.input) h.breaks;
-  printed = as_far_later (readable_text h.front.version h.front.records) a b c o h.printed;
+  printed = as_far_later (readable_text h.front.version h.front.records) a b c h.printed o.printed o.out_faults;
 })
 
 memory_later : (bytes : List ℕ) (a b c : Outside) → OnlyReports b c → OnlyReports a b ⊎ WantsMemory bytes a b → OnlyReports a c ⊎ WantsMemory bytes a c

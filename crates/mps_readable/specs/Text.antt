@@ -163,13 +163,24 @@ pub record TextEndsWith (version : Version) (records : List Record) (ending : Re
   pub begins : BeginsWith version records named rest bytes
   pub ends_at : TextEndsAt version named ending (length records) rest
 
--- where the bytes end with such an ending behind the lines of such records, then with its status and its report, and with
--- the readable text of these records
-abbrev pub IsOnlyReading : (bytes : List ℕ) → (status : ℕ) → (old new : Outside) → Type 0
-IsOnlyReading bytes status old new =
-    (version : Version) (records : List Record) (ending : Result (Unit {0}) Stop) → TextEndsWith version records ending bytes
-    → (status ≡ status_of_ending ending) × (new.printed ≡ option_map (λ before. before ++ readable_text version records) old.printed)
-    × HasReported ending old new
+-- a text of these bytes is told so: with the status of its ending, whose line is reported, and with the readable text of these
+-- records
+pub record Tells (version : Version) (records : List Record) (ending : Result (Unit {0}) Stop) (status : ℕ) (old new : Outside) : Type 0 where
+  pub status_is : status ≡ status_of_ending ending
+  pub printed : new.printed ≡ option_map (λ before. before ++ readable_text version records) old.printed
+  pub reported : HasReported ending old new
+
+-- bytes that begin with no first line are told so, and nothing is printed
+pub record TellsNoFirstLine (status : ℕ) (old new : Outside) : Type 0 where
+  pub status_is : status ≡ 6
+  pub printed : new.printed ≡ old.printed
+  pub reported : HasReported {T = Unit {0}} (Err (stop.BadLine 1)) old new
+
+-- in whatever way the bytes end, the program tells just that
+pub record IsOnlyReading (bytes : List ℕ) (status : ℕ) (old new : Outside) : Type 0 where
+  pub with_first_line : (version : Version) (records : List Record) (ending : Result (Unit {0}) Stop) → TextEndsWith version records ending bytes
+      → Tells version records ending status old new
+  pub without_first_line : HasNoFirstLine bytes → TellsNoFirstLine status old new
 
 pub a_last_line_without_a_line_feed : closed (codes "mpslog 1\n10 33") ≡ codes "mpslog 1\n10 33\n"
 a_last_line_without_a_line_feed = refl

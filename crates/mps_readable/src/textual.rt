@@ -1,11 +1,12 @@
 // `txt`: the readable text of a portable text.
 
-ghost use Rattle.std.specs.Prelude.{◌≡◌, ◌≢◌, ◌≤◌, ◌+◌, ℕ, List, Some, true, false, None, [], length, IfOk, IfErr, IfSome, IfNone, OnOk, OnErr};
+ghost use Rattle.std.specs.Prelude.{◌≡◌, ◌≢◌, ◌≤◌, ◌+◌, ◌⊎◌, ℕ, List, Some, true, false, None, [], length, IfOk, IfErr, IfSome, IfNone, OnOk, OnErr};
 ghost use Rattle.mps_base.specs.Record.{Record};
 ghost use Rattle.mps_base.specs.Desk.{HasRisen};
 ghost use Rattle.mps_event.specs.declared.version.Version.{Version};
 ghost use Rattle.mps_reading.specs.Causes.{IsCaused, IsTold, Works, Answers};
-ghost use Rattle.mps_reading.specs.Ending.{is_whole_status, ReportsStatus};
+ghost use Rattle.mps_reading.specs.Ending.{is_whole_status, IsUnopened, ReportsStatus};
+ghost use Rattle.mps_reading.specs.Opening.{OpensNothing};
 ghost use Rattle.mps_reading.specs.Input.{IsAtEnd};
 ghost use Rattle.mps_reading.specs.Left.{left_of};
 ghost use Rattle.mps_reading.specs.PutOut.{put_out, Grows, PutsPart};
@@ -46,6 +47,8 @@ pub fn txt<D: Desk>(alloc: Global, text: &str, desk: &mut D) -> u8
     // Where a write failed, the front of the readable text of some lines at the front of the text was printed.
     ensures cut { result ≡ 4 → (bytes : List ℕ) → (D.outside desk.old).text text.now ≡ Some bytes
         → IsCutShort bytes (D.outside desk.old) (D.outside desk.new) }
+    // Where the desk tells what it opens, a text that is not there is not read: nothing is printed.
+    ensures missing { OpensNothing (D.outside desk.old) text.now → IsUnopened result (D.outside desk.old) (D.outside desk.new) }
     // With any status its ending was reported, and nothing with 0.
     ensures reported { ReportsStatus result (D.outside desk.old) (D.outside desk.new) }
 {
@@ -62,6 +65,8 @@ fn read_text<D: Desk>(alloc: Global, text: &str, desk: &mut D) -> Result<(), Sto
         → HasRead bytes result (D.outside desk.old) (D.outside desk.new) }
     ensures cut { result ≡ Err Stop.WriteFailed → (bytes : List ℕ) → (D.outside desk.old).text text.now ≡ Some bytes
         → IsCutShort bytes (D.outside desk.old) (D.outside desk.new) }
+    ensures missing { OpensNothing (D.outside desk.old) text.now
+        → ((result ≡ Err Stop.ReadFailed) ⊎ (result ≡ Err Stop.OutOfMemory)) × ((D.outside desk.new).printed ≡ (D.outside desk.old).printed) }
 {
     let mut input = match Input::new(alloc) {
         Ok(input) => input,
@@ -85,6 +90,7 @@ fn open_text<D: Desk>(text: &str, input: &mut Input, desk: &mut D) -> Result<Ver
         (D.outside desk.old).input (D.outside desk.new).input result }
     ensures reported { (D.outside desk.new).reported ≡ (D.outside desk.old).reported }
     ensures err_faults { (D.outside desk.new).err_faults ≡ (D.outside desk.old).err_faults }
+    ensures missing { OpensNothing (D.outside desk.old) text.now → result ≡ Err Stop.ReadFailed }
     ensures at_end { OnOk result (IsAtEnd (D.outside desk.new) input.new) }
     ensures printed { (D.outside desk.new).printed ≡ (D.outside desk.old).printed }
     ensures cause { IsCaused (D.outside desk.old) (D.outside desk.new) result }

@@ -52,19 +52,21 @@ put_behind : (out lines : List ℕ) (o : Option (List ℕ)) → option_map (λ a
 put_behind out lines None = refl
 put_behind out lines (Some before) = ap Some (append_assoc before out lines)
 
--- what was gathered was printed as far as it went: so was the whole text
-pub as_far_of_text : (gathered out lines : List ℕ) (a b c : Outside) → a.out_faults ≤ b.out_faults → Grows a.printed b.printed
-    → PutsOut (put_out a out) (put_out b gathered) lines → PrintsAsFar b c gathered → PrintsAsFar a c (out ++ lines)
-as_far_of_text gathered out lines a b c counted grown put (inl printed) = inl (printed ∙ put ∙ put_behind out lines a.printed)
-as_far_of_text gathered out lines a b c counted grown put (inr h) =
-    inr (risen_earlier a.out_faults b.out_faults c.out_faults counted h.0, part_of_text grown.0 gathered out lines h.1.0 a.printed b.printed c.printed grown.1 put h.1.1)
+-- what was gathered was printed as far as it went: so was the whole text, whose first line was gathered first
+pub as_far_of_text : (out line text gathered : List ℕ) (a b c d : Outside) → b.printed ≡ a.printed → out ≡ line → PutsOut (put_out b out) (put_out c gathered) text
+    → Grows b.printed c.printed → a.out_faults ≤ c.out_faults → PrintsAsFar c d gathered → PrintsAsFar a d (line ++ text)
+as_far_of_text out line text gathered a b c d same is put grown counted (inl all) =
+    inl (all ∙ put ∙ put_behind out text b.printed
+    ∙ ap (λ (x : List ℕ). option_map (λ before. before ++ (x ++ text)) b.printed) is
+    ∙ ap (λ (o : Option (List ℕ)). option_map (λ before. before ++ (line ++ text)) o) same)
+as_far_of_text out line text gathered a b c d same is put grown counted (inr part) =
+    let front = part_of_text grown.0 gathered out text part.1.0 b.printed c.printed d.printed grown.1 put part.1.1 in
+    inr (
+      risen_earlier a.out_faults c.out_faults d.out_faults counted part.0,
+      subst (λ (o : Option (List ℕ)). PutsPart o d.printed (line ++ text)) same
+          (subst (λ (x : List ℕ). PutsPart b.printed d.printed (x ++ text)) is front),
+    )
 
--- it stays so from an outside on with as much printed
-pub as_far_since : (text : List ℕ) (a b c : Outside) → a.out_faults ≤ b.out_faults → b.printed ≡ a.printed → PrintsAsFar b c text → PrintsAsFar a c text
-as_far_since text a b c counted same (inl printed) = inl (printed ∙ ap (λ (o : Option (List ℕ)). option_map (λ before. before ++ text) o) same)
-as_far_since text a b c counted same (inr h) =
-    inr (risen_earlier a.out_faults b.out_faults c.out_faults counted h.0, subst (λ (o : Option (List ℕ)). PutsPart o c.printed text) same h.1)
-
--- and up to an outside with as much printed
+-- the same up to an outside with as much printed
 pub as_far_later : (text : List ℕ) (a b c : Outside) → PrintsAsFar a b text → c.printed ≡ b.printed → c.out_faults ≡ b.out_faults → PrintsAsFar a c text
 as_far_later text a b c h printed faults = rw (printed, faults) h

@@ -19,7 +19,7 @@ use Rattle.mps_reading.specs.Opening.{first_line, IsCutHeader}
 use Rattle.mps_reading.proofs.Behind.{none_short}
 use Rattle.mps_reading.proofs.Left.{left_same, left_behind_told}
 use Rattle.mps_reading.proofs.PutOut.{put_same}
-use Rattle.mps_reading.proofs.PartPut.{as_far_of_text, as_far_since, as_far_later}
+use Rattle.mps_reading.proofs.PartPut.{as_far_of_text, as_far_later}
 use Rattle.mps_reading.proofs.Opening.{header_told}
 use Rattle.mps_tools.specs.Portable.{line_of_kinds, portable}
 use Rattle.mps_tools.specs.Converted.{IsCutRecord, FailsBefore, FailsBehind, Fails}
@@ -85,20 +85,17 @@ last_breaks version left_behind unread after put same printed = (
 
 fails_behind : (version : Version) (kinds : ℕ) (bytes left out gathered : List ℕ) (a b c d : Outside) → bytes ≡ header_bytes (number_of_version version) ++ left
     → b.printed ≡ a.printed → out ≡ first_line version → ConvertsFront version kinds left c.input (put_out b out) (put_out c gathered) → Grows b.printed c.printed → d.input ≡ c.input
-    → a.out_faults ≤ b.out_faults → b.out_faults ≤ c.out_faults → PrintsAsFar c d gathered → FailsBehind kinds bytes a d
-fails_behind version kinds bytes left out gathered a b c d is same line front grown input counted counted_since far =
-    let lines = flat_map (line_of_kinds version kinds) front.records in
-    record {
-      version = version;
-      records = front.records;
-      rest = front.rest;
-      each = front.each;
-      few = front.few;
-      spelled = is ∙ ap (λ (x : List ℕ). header_bytes (number_of_version version) ++ x) front.spelled ∙ sym (append_assoc (header_bytes (number_of_version version)) (records_bytes front.records) front.rest);
-      cut = subst (λ (o : Option (List ℕ)). IsCutRecord version front.rest o) (sym input) front.cut;
-      printed = subst (λ (x : List ℕ). PrintsAsFar a d (x ++ lines)) line
-          (as_far_since (out ++ lines) a b d counted same (as_far_of_text gathered out lines b c d counted_since grown front.put far));
-    }
+    → a.out_faults ≤ c.out_faults → PrintsAsFar c d gathered → FailsBehind kinds bytes a d
+fails_behind version kinds bytes left out gathered a b c d is same line front grown input counted far = record {
+  version = version;
+  records = front.records;
+  rest = front.rest;
+  each = front.each;
+  few = front.few;
+  spelled = is ∙ ap (λ (x : List ℕ). header_bytes (number_of_version version) ++ x) front.spelled ∙ sym (append_assoc (header_bytes (number_of_version version)) (records_bytes front.records) front.rest);
+  cut = subst (λ (o : Option (List ℕ)). IsCutRecord version front.rest o) (sym input) front.cut;
+  printed = as_far_of_text out (first_line version) (flat_map (line_of_kinds version kinds) front.records) gathered a b c d same line front.put grown counted far;
+}
 
 read_failed : (R : Type 0) (ending result : Result (Unit {0}) Stop) → (result ≡ ending) ⊎ ((result ≡ Err stop.WriteFailed) × R) → result ≡ Err stop.ReadFailed → ending ≡ Err stop.ReadFailed
 read_failed R ending result (inl e) f = sym e ∙ f
@@ -107,11 +104,11 @@ read_failed R ending result (inr e) f = absurd (let g : Err stop.WriteFailed ≡
 pub fails_log : (R : Type 0) (version : Version) (kinds : ℕ) (bytes out gathered : List ℕ) (a b c d : Outside) (x : Buffered) (ending result : Result (Unit {0}) Stop)
     → Some bytes ≡ option_map (λ rest. header_bytes (number_of_version version) ++ rest) (left_of b x) → b.printed ≡ a.printed → out ≡ first_line version
     → (ending ≡ Err stop.ReadFailed → (left : List ℕ) → left_of b x ≡ Some left → ConvertsFront version kinds left c.input (put_out b out) (put_out c gathered))
-    → Grows b.printed c.printed → (result ≡ ending) ⊎ ((result ≡ Err stop.WriteFailed) × R) → d.input ≡ c.input → a.out_faults ≤ b.out_faults → b.out_faults ≤ c.out_faults
+    → Grows b.printed c.printed → (result ≡ ending) ⊎ ((result ≡ Err stop.WriteFailed) × R) → d.input ≡ c.input → a.out_faults ≤ c.out_faults
     → (result ≡ Err stop.ReadFailed → PrintsAsFar c d gathered) → result ≡ Err stop.ReadFailed → Fails kinds bytes a d
-fails_log R version kinds bytes out gathered a b c d x ending result opened same line front grown first input counted counted_since printed failed =
+fails_log R version kinds bytes out gathered a b c d x ending result opened same line front grown first input counted printed failed =
     let g = header_told (header_bytes (number_of_version version)) bytes (left_of b x) opened in
-    inr (fails_behind version kinds bytes g.0 out gathered a b c d g.2 same line (front (read_failed R ending result first failed) g.0 g.1) grown input counted counted_since (printed failed))
+    inr (fails_behind version kinds bytes g.0 out gathered a b c d g.2 same line (front (read_failed R ending result first failed) g.0 g.1) grown input counted (printed failed))
 
 -- ---- the status
 

@@ -1,4 +1,4 @@
-use Rattle.mps_reading.proofs.Reported.{reports_status}
+use Rattle.mps_reading.proofs.Reported.{reports_status, unopened}
 use Rattle.mps_readable.proofs.WholeText.{read_with}
 use Rattle.mps_readable.proofs.Cut.{cut_with}
 use Rattle.mps_readable.proofs.OnlyReading.{only_reading}
@@ -24,3 +24,8 @@ pub returns-clause-cut : goal.returns-clause-cut
 returns-clause-cut g c four bytes told =
     cut_with c.finish.result bytes c.read_text-ending.result (g.D.Desk.outside c.args.desk.now) (g.D.Desk.outside c.read_text-ending.new.desk) (g.D.Desk.outside c.finish.new.desk) four
     (λ e. c.read_text-ending.ensures.cut e bytes told) c.finish.ensures.done c.finish.ensures.status c.finish.ensures.reported
+
+pub returns-clause-missing : goal.returns-clause-missing
+returns-clause-missing g c nothing =
+    unopened c.finish.result c.read_text-ending.result (g.D.Desk.outside c.args.desk.now) (g.D.Desk.outside c.read_text-ending.new.desk) (g.D.Desk.outside c.finish.new.desk)
+    (c.read_text-ending.ensures.missing nothing).0 (c.read_text-ending.ensures.missing nothing).1 c.finish.ensures.status c.finish.ensures.reported

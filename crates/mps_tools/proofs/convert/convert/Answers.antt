@@ -22,7 +22,7 @@ returns-clause-broken g c failed bytes told =
     (g.D.Desk.outside c.args.desk.now) (g.D.Desk.outside c.open_log.new.desk) (g.D.Desk.outside c.convert_records-ending.new.desk) (g.D.Desk.outside c.flush_after.new.desk)
     c.open_log.new.input c.convert_records-ending.result c.flush_after.result
     (c.in_ok-version.ensures.opened bytes told) c.open_log.ensures.printed line c.convert_records-ending.ensures.broken c.convert_records-ending.ensures.grows c.flush_after.ensures.first c.flush_after.ensures.input
-    c.open_log.ensures.runs.out_counted c.convert_records-ending.ensures.works.runs.out_counted c.flush_after.ensures.front failed
+    (omega (arith, c.open_log.ensures.runs.out_counted, c.convert_records-ending.ensures.works.runs.out_counted)) c.flush_after.ensures.front failed
 
 pub returns-clause-cut : goal.returns-clause-cut
 returns-clause-cut g c failed bytes told =
