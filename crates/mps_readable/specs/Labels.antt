@@ -1,5 +1,5 @@
 -- The names that a text interns, and the labels of its addresses.
-use Rattle.std.specs.Prelude.{◌≡◌, ℕ, ◌==◌, nat_lt, if◌then◌else◌, codes, Option, Some, None, List, [], ◌∷◌, ◌++◌, length, slice_index, slice_get, option_and_then, Bool, true, false, is_some, refl}
+use Rattle.std.specs.Prelude.{◌≡◌, ℕ, ◌==◌, nat_lt, if◌then◌else◌, codes, Option, Some, None, List, [], ◌∷◌, ◌++◌, length, slice_index, slice_get, map, replicate, option_and_then, Bool, true, false, is_some, refl}
 use Rattle.std.specs.Ordering.{nat_cmp}
 use Rattle.std.specs.Map.{lookup, remove_entry}
 use Rattle.std.specs.BTreeMap.{insert_entry, is_at}
@@ -182,8 +182,12 @@ pub a_move_to_itself_loses_the_label : after_record Two example (move_record 0x1
     ≡ Some (record example { labels = (0x3000, 1) ∷ [] })
 a_move_to_itself_loses_the_label = refl
 
-pub a_post_keeps_the_labels : after_record Two example (record { line = 1; code = 84; fields = 0x1000 ∷ [] }) ≡ Some example
-a_post_keeps_the_labels = refl
+-- arena and pool, flips and ends, segments, splats, stays and posts
+pub other_records_keep_names_and_labels :
+    map (λ code. after_record Two example (record { line = 1; code = code; fields = 0x1000 ∷ 1 ∷ 0 ∷ 0 ∷ [] }))
+    (1 ∷ 2 ∷ 16 ∷ 32 ∷ 33 ∷ 48 ∷ 49 ∷ 64 ∷ 83 ∷ 84 ∷ [])
+    ≡ replicate 10 (Some example)
+other_records_keep_names_and_labels = refl
 
 pub a_name_takes_memory : record_takes_memory Two no_names (intern_ring 0) ≡ true
 a_name_takes_memory = refl

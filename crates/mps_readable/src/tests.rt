@@ -16,7 +16,12 @@ const LABELLED_READABLE: &[u8] =
     11 Free at=0x2000[ring]\n";
 
 /// Texts of version 1 whose second line is wrong: zeros in front, spaces, fields, numbers, codes.
-const BAD_SECOND: [&[u8]; 13] = [
+const BAD_SECOND: [&[u8]; 18] = [
+    b"mpslog 1\n1 1 8\n",
+    b"mpslog 1\n1 21\n",
+    b"mpslog 1\n1 82 A 1\n",
+    b"mpslog 1\n01 33\n",
+    b"mpslog 1\n1 82 01 1\n",
     b"mpslog 1\n010 33\n",
     b"mpslog 1\n1 85 01000\n",
     b"mpslog 1\n1 33 \n",
@@ -63,6 +68,21 @@ fn compare(
     Ok(())
 }
 
+// Read and printed whole and byte by byte, a text gives the same.
+fn compare_in_pieces(
+    rt: &impl Abort,
+    alloc: Global,
+    text: &[u8],
+    wanted: &Answers<'_>,
+) -> Result<(), AllocError> {
+    for most in [usize::MAX, 1] {
+        let mut desk = MemDesk::new(alloc);
+        desk.pieces(most);
+        compare(rt, alloc, text, &mut desk, wanted)?;
+    }
+    Ok(())
+}
+
 #[test]
 fn a_text_with_labels_in_pieces(rt: HostRuntime) -> Result<(), Fail> {
     let wanted = Answers {
@@ -86,8 +106,7 @@ fn texts_with_a_wrong_second_line(rt: HostRuntime) -> Result<(), Fail> {
         reported: b"mps: text line 2: bad line\n",
     };
     for text in BAD_SECOND {
-        let mut desk = MemDesk::new(rt.alloc());
-        compare(&rt, rt.alloc(), text, &mut desk, &wanted)?;
+        compare_in_pieces(&rt, rt.alloc(), text, &wanted)?;
     }
     Ok(())
 }
@@ -100,23 +119,26 @@ fn texts_with_a_wrong_third_line(rt: HostRuntime) -> Result<(), Fail> {
         reported: b"mps: text line 3: bad line\n",
     };
     for text in BAD_THIRD {
-        let mut desk = MemDesk::new(rt.alloc());
-        compare(&rt, rt.alloc(), text, &mut desk, &wanted)?;
+        compare_in_pieces(&rt, rt.alloc(), text, &wanted)?;
     }
     Ok(())
 }
 
 #[test]
 fn texts_without_a_first_line(rt: HostRuntime) -> Result<(), Fail> {
-    let texts: [&[u8]; 3] = [b"", b"mpslog 3\n1 33\n", b"mpslog 1\r\n1 33\r\n"];
+    let texts: [&[u8]; 4] = [
+        b"",
+        b"mpslog 3\n1 33\n",
+        b"mpslog 9\n",
+        b"mpslog 1\r\n1 33\r\n",
+    ];
     let wanted = Answers {
         status: 6,
         printed: b"",
         reported: b"mps: text line 1: bad line\n",
     };
     for text in texts {
-        let mut desk = MemDesk::new(rt.alloc());
-        compare(&rt, rt.alloc(), text, &mut desk, &wanted)?;
+        compare_in_pieces(&rt, rt.alloc(), text, &wanted)?;
     }
     Ok(())
 }
@@ -160,15 +182,38 @@ fn a_read_that_fails(rt: HostRuntime) -> Result<(), Fail> {
     Ok(())
 }
 
+/// A write fails, alone and behind a read that failed before; and a report fails, which changes no status.
 #[test]
-fn a_write_that_fails(rt: HostRuntime) -> Result<(), Fail> {
-    let wanted = Answers {
-        status: 4,
-        printed: b"",
-        reported: b"mps: write failed\n",
-    };
-    let mut desk = MemDesk::new(rt.alloc());
-    desk.fail(DeskCall::Out, 1)?;
-    compare(&rt, rt.alloc(), LABELLED, &mut desk, &wanted)?;
+fn calls_that_fail(rt: HostRuntime) -> Result<(), Fail> {
+    for (first, second, number, status, printed, reported) in [
+        (
+            DeskCall::Out,
+            DeskCall::Out,
+            2u64,
+            4u8,
+            b"".as_slice(),
+            b"mps: write failed\n".as_slice(),
+        ),
+        (
+            DeskCall::Out,
+            DeskCall::Read,
+            2,
+            3,
+            b"",
+            b"mps: read failed\n",
+        ),
+        (DeskCall::Err, DeskCall::Read, 1, 3, b"", b""),
+    ] {
+        let mut desk = MemDesk::new(rt.alloc());
+        desk.pieces(30);
+        desk.fail(first, 1)?;
+        desk.fail(second, number)?;
+        let wanted = Answers {
+            status,
+            printed,
+            reported,
+        };
+        compare(&rt, rt.alloc(), LABELLED, &mut desk, &wanted)?;
+    }
     Ok(())
 }
