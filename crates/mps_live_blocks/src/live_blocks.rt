@@ -1,10 +1,11 @@
 // `blocks`: the blocks that are live at the end of a log.
 
-ghost use Rattle.std.specs.Prelude.{◌≡◌, ◌≢◌, ◌≤◌, ◌<◌, ◌+◌, ℕ, List, Some, true, length, IfOk, IfSome, OnOk};
+ghost use Rattle.std.specs.Prelude.{◌≡◌, ◌≢◌, ◌≤◌, ◌<◌, ◌+◌, ◌⊎◌, ℕ, List, Some, true, length, IfOk, IfSome, OnOk};
 ghost use Rattle.mps_reading.specs.Causes.{IsCaused, IsTold, Works, Answers};
 ghost use Rattle.mps_reading.specs.Input.{IsAtEnd};
 ghost use Rattle.mps_reading.specs.Left.{left_of};
-ghost use Rattle.mps_reading.specs.Ending.{is_whole_status, ReportsStatus};
+ghost use Rattle.mps_reading.specs.Opening.{OpensNothing};
+ghost use Rattle.mps_reading.specs.Ending.{is_whole_status, IsUnopened, ReportsStatus};
 ghost use Rattle.mps_output.specs.Streams.{Runs};
 ghost use Rattle.mps_live_blocks.specs.Replayed.{at_the_start};
 ghost use Rattle.mps_live_blocks.specs.Listed.{ListedWith, IsOnly, ListsPart, HasListed, IsSilent};
@@ -36,6 +37,8 @@ pub fn blocks<D: Desk>(alloc: Global, log: &str, desk: &mut D) -> u8
     // Where a write failed, the front of the list was printed.
     ensures cut { result ≡ 4 → (bytes : List ℕ) → (D.outside desk.old).text log.now ≡ Some bytes
         → ListsPart bytes (D.outside desk.old) (D.outside desk.new) }
+    // Where the desk tells what it opens, a log that is not there is not read: nothing is printed.
+    ensures missing { OpensNothing (D.outside desk.old) log.now → IsUnopened result (D.outside desk.old) (D.outside desk.new) }
 {
     let ending = list_blocks(alloc, log, desk);
     finish(ending, desk)
@@ -49,6 +52,7 @@ fn list_blocks<D: Desk>(alloc: Global, log: &str, desk: &mut D) -> Result<(), St
     ensures silent { IsSilent result → (D.outside desk.new).printed ≡ (D.outside desk.old).printed }
     ensures listed { (bytes : List ℕ) → (D.outside desk.old).text log.now ≡ Some bytes
         → HasListed bytes result (D.outside desk.old) (D.outside desk.new) }
+    ensures missing { OpensNothing (D.outside desk.old) log.now → (result ≡ Err Stop.ReadFailed) ⊎ (result ≡ Err Stop.OutOfMemory) }
 {
     let mut output = match Output::new(alloc) {
         Ok(output) => output,
@@ -69,6 +73,7 @@ fn replay_log<D: Desk>(alloc: Global, log: &str, desk: &mut D) -> Result<Replay,
     ensures reported { (D.outside desk.new).reported ≡ (D.outside desk.old).reported }
     ensures err_faults { (D.outside desk.new).err_faults ≡ (D.outside desk.old).err_faults }
     ensures replayed { (bytes : List ℕ) → (D.outside desk.old).text log.now ≡ Some bytes → HasReplayed bytes result }
+    ensures missing { OpensNothing (D.outside desk.old) log.now → (result ≡ Err Stop.ReadFailed) ⊎ (result ≡ Err Stop.OutOfMemory) }
 {
     let mut input = match Input::new(alloc) {
         Ok(input) => input,
