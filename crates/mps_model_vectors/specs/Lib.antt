@@ -4,6 +4,7 @@ pub mod Copying
 pub mod Flipped
 pub mod Weak
 pub mod Finalized
+pub mod Incremental
 pub mod WrongAnswers
 pub mod WrongMoves
 pub mod WrongUnits

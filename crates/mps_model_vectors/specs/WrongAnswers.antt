@@ -9,8 +9,9 @@ use Rattle.mps_model.specs.declared.reply.Reply.TheVariants as reply
 use Rattle.mps_model.specs.Step.{Step, History}
 use Rattle.mps_model.specs.History.{IsLegalHistory}
 use Rattle.mps_model_vectors.specs.Script.{d, p, t, x, at_index, address, zones, step}
-use Rattle.mps_model_vectors.specs.OneBlock.{prelude, pair_head, one_block}
+use Rattle.mps_model_vectors.specs.OneBlock.{prelude, one_block}
 use Rattle.mps_model_vectors.specs.Flipped.{flip_steps, commit_step}
+use Rattle.mps_model_vectors.specs.Incremental.{linked_started, get_step}
 
 -- a history that a step can't follow
 abbrev pub CannotFollow : History → Step → Type 0
@@ -108,27 +109,8 @@ FreshAfterMove = CannotFollow moved_on fresh
 
 -- ---- the read barrier
 
--- two linked blocks: the one in slot 0, at 0x1018, refers to the one at 0x1000, which no slot holds
-abbrev pub linked : History
-linked =
-    prelude
-    ++ step 5 (call.Reserve x pair_head) (moves.Seg (address 0x1000) 1 0 0 ∷ []) reply.Ok
-    ∷ step 6 (call.Commit x (at_index t 1)) (moves.Commit (address 0x1000) 3 0 ∷ []) reply.Ok
-    ∷ step 7 (call.Reserve x pair_head) [] reply.Ok
-    ∷ step 8 (call.InitReference x 1 (at_index t 1)) [] reply.Ok
-    ∷ step 9 (call.Commit x (at_index t 0)) (moves.Commit (address 0x1018) 3 0 ∷ []) reply.Ok
-    ∷ step 10 (call.Clear (at_index t 1)) [] reply.Ok
-    ∷ []
-
--- a collection begins, and moves the block in slot 0
-abbrev pub linked_started : History
-linked_started =
-    linked
-    ++ step 11 call.Start (moves.Flip (zones 2) 16 0 ∷ moves.Seg (address 0x2000) 1 0 0 ∷ moves.Moved (address 0x1018) (address 0x2000) ∷ []) reply.Ok
-    ∷ []
-
 abbrev pub get_without_barrier : Step
-get_without_barrier = step 12 (call.Get (at_index t 1) (at_index t 0) 1) [] reply.Ok
+get_without_barrier = get_step []
 
 -- a `get` hands out a block at its old place
 abbrev pub GetOfOldPlace : Type 0

@@ -13,7 +13,8 @@ use Rattle.mps_model_vectors.specs.Script.{a, p, t, w, x, y, at_index, address, 
 use Rattle.mps_model_vectors.specs.OneBlock.{one_block}
 use Rattle.mps_model_vectors.specs.Weak.{weak_pair}
 use Rattle.mps_model_vectors.specs.Finalized.{registering, first_message, waiting}
-use Rattle.mps_model_vectors.specs.WrongAnswers.{CannotFollow, linked}
+use Rattle.mps_model_vectors.specs.Incremental.{linked}
+use Rattle.mps_model_vectors.specs.WrongAnswers.{CannotFollow}
 
 -- a weak reference is splatted whose target is in a slot
 abbrev pub splat_of_held : Step

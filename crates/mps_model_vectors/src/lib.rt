@@ -7,6 +7,7 @@ ghost use Rattle.mps_model_vectors.specs.Copying.{CopyingIsLegal, CopyingIsRepla
 ghost use Rattle.mps_model_vectors.specs.Flipped.{FlippedIsLegal};
 ghost use Rattle.mps_model_vectors.specs.Weak.{WeakIsLegal};
 ghost use Rattle.mps_model_vectors.specs.Finalized.{FinalizedIsLegal, PostsAreExact};
+ghost use Rattle.mps_model_vectors.specs.Incremental.{IncrementalIsLegal};
 ghost use Rattle.mps_model_vectors.specs.WrongAnswers.{FlippedWithoutFlip, CommitAcrossFlip, LimitBesideGap, LimitBesideRun, StaleWithoutFlip, FreshAfterMove, GetOfOldPlace};
 ghost use Rattle.mps_model_vectors.specs.WrongMoves.{SplatOfReachable, TwoPostsForOne, MoveOfPinned, FreeOfWaiting, StayBesideRoom, MarkedInPlace, UntoldFree, MoveAfterSplat};
 ghost use Rattle.mps_model_vectors.specs.WrongUnits.{CollectWithoutMoves, StartDoesAll, TwoUnitsForOne, ReclaimedDownwards, WeakScannedAsExact, PollWhereClamped};
@@ -40,6 +41,30 @@ pub fn weak_is_legal()
 /// A history in which a block that was registered twice is posted twice, and then freed, is legal.
 pub fn finalized_is_legal()
     ensures { FinalizedIsLegal }
+{}
+
+/// A history in which a collection goes on in pieces is legal: `start` moves the block in a slot, the read barrier of a
+/// `get` moves the block that is read, and `step` scans both, gives the old segment back and ends. The script, whose
+/// `get` at another place `get_of_old_place` refuses:
+///
+/// ```text
+/// arena 8 8
+/// table t 4
+/// pool p amc front
+/// ap x p exact
+/// reserve x f:3:1
+/// commit x t.1
+/// reserve x f:3:1
+/// init x 1 t.1
+/// commit x t.0
+/// clear t.1
+/// start
+/// get t.1 t.0 1
+/// step 100
+/// addr t.1
+/// ```
+pub fn incremental_is_legal()
+    ensures { IncrementalIsLegal }
 {}
 
 /// `commit` can't answer `flipped` where no flip came.
