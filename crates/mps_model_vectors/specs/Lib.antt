@@ -5,6 +5,8 @@ pub mod Flipped
 pub mod Weak
 pub mod Finalized
 pub mod Incremental
+pub mod Staying
+pub mod Pinned
 pub mod WrongAnswers
 pub mod WrongMoves
 pub mod WrongUnits

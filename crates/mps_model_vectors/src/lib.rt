@@ -8,6 +8,8 @@ ghost use Rattle.mps_model_vectors.specs.Flipped.{FlippedIsLegal};
 ghost use Rattle.mps_model_vectors.specs.Weak.{WeakIsLegal};
 ghost use Rattle.mps_model_vectors.specs.Finalized.{FinalizedIsLegal, PostsAreExact};
 ghost use Rattle.mps_model_vectors.specs.Incremental.{IncrementalIsLegal};
+ghost use Rattle.mps_model_vectors.specs.Staying.{StayingIsLegal};
+ghost use Rattle.mps_model_vectors.specs.Pinned.{PinnedIsLegal};
 ghost use Rattle.mps_model_vectors.specs.WrongAnswers.{FlippedWithoutFlip, CommitAcrossFlip, LimitBesideGap, LimitBesideRun, StaleWithoutFlip, FreshAfterMove, GetOfOldPlace};
 ghost use Rattle.mps_model_vectors.specs.WrongMoves.{SplatOfReachable, TwoPostsForOne, MoveOfPinned, FreeOfWaiting, StayBesideRoom, MarkedInPlace, UntoldFree, MoveAfterSplat};
 ghost use Rattle.mps_model_vectors.specs.WrongUnits.{CollectWithoutMoves, StartDoesAll, TwoUnitsForOne, ReclaimedDownwards, WeakScannedAsExact, PollWhereClamped};
@@ -65,6 +67,45 @@ pub fn finalized_is_legal()
 /// ```
 pub fn incremental_is_legal()
     ensures { IncrementalIsLegal }
+{}
+
+/// A history in which a block stays for want of room is legal: the arena's one grain is held. The script, beside
+/// `stay_beside_room`:
+///
+/// ```text
+/// arena 1 1
+/// table t 1
+/// pool p amc leaf
+/// ap x p exact
+/// reserve x l:2
+/// commit x t.0
+/// collect
+/// addr t.0
+/// ```
+pub fn staying_is_legal()
+    ensures { StayingIsLegal }
+{}
+
+/// A history in which an area word keeps a block alive and in place is legal: it lies in the block, and no slot holds
+/// the block when it is collected. The script, beside `move_of_pinned`:
+///
+/// ```text
+/// arena 8 8
+/// table t 1
+/// area a 1
+/// pool p amc leaf
+/// ap x p exact
+/// reserve x l:4
+/// commit x t.0
+/// poke a.0 0x1008
+/// clear t.0
+/// collect
+/// peek a.0
+/// take t.0 a.0
+/// addr t.0
+/// ```
+pub fn pinned_is_legal()
+    ensures { PinnedIsLegal }
 {}
 
 /// `commit` can't answer `flipped` where no flip came.
