@@ -7,6 +7,7 @@ pub mod Finalized
 pub mod Incremental
 pub mod Staying
 pub mod Pinned
+pub mod Manual
 pub mod WrongAnswers
 pub mod WrongMoves
 pub mod WrongUnits

@@ -32,6 +32,9 @@ q = letter 113
 abbrev pub t : Name
 t = letter 116
 
+abbrev pub v : Name
+v = letter 118
+
 abbrev pub w : Name
 w = letter 119
 

@@ -10,6 +10,7 @@ ghost use Rattle.mps_model_vectors.specs.Finalized.{FinalizedIsLegal, PostsAreEx
 ghost use Rattle.mps_model_vectors.specs.Incremental.{IncrementalIsLegal};
 ghost use Rattle.mps_model_vectors.specs.Staying.{StayingIsLegal};
 ghost use Rattle.mps_model_vectors.specs.Pinned.{PinnedIsLegal};
+ghost use Rattle.mps_model_vectors.specs.Manual.{ManualIsLegal};
 ghost use Rattle.mps_model_vectors.specs.WrongAnswers.{FlippedWithoutFlip, CommitAcrossFlip, LimitBesideGap, LimitBesideRun, StaleWithoutFlip, FreshAfterMove, GetOfOldPlace};
 ghost use Rattle.mps_model_vectors.specs.WrongMoves.{SplatOfReachable, TwoPostsForOne, MoveOfPinned, FreeOfWaiting, StayBesideRoom, MarkedInPlace, UntoldFree, MoveAfterSplat};
 ghost use Rattle.mps_model_vectors.specs.WrongUnits.{CollectWithoutMoves, StartDoesAll, TwoUnitsForOne, ReclaimedDownwards, WeakScannedAsExact, PollWhereClamped};
@@ -106,6 +107,29 @@ pub fn staying_is_legal()
 /// ```
 pub fn pinned_is_legal()
     ensures { PinnedIsLegal }
+{}
+
+/// A history of manual blocks is legal: a segment is taken for a block that fits in no gap, and given back with its last
+/// block; between, one block is refused by the commit limit and then for want of a run. The script:
+///
+/// ```text
+/// arena 3 3
+/// pool v mvff
+/// blocks b 4
+/// alloc v 512 b.0
+/// alloc v 512 b.1
+/// alloc v 1024 b.2
+/// free b.0
+/// alloc v 1024 b.2
+/// alloc v 2 b.2
+/// alloc v 2 b.3
+/// free b.2
+/// store b.3 1 7
+/// load b.3 1
+/// live
+/// ```
+pub fn manual_is_legal()
+    ensures { ManualIsLegal }
 {}
 
 /// `commit` can't answer `flipped` where no flip came.
