@@ -6,6 +6,7 @@ pub mod Weak
 pub mod Finalized
 pub mod Incremental
 pub mod Staying
+pub mod Polled
 pub mod Pinned
 pub mod Manual
 pub mod Refusing

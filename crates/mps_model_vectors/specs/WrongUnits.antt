@@ -1,5 +1,5 @@
 -- Histories that are not legal because of which moves a call makes.
-use Rattle.std.specs.Prelude.{[], ◌∷◌, ◌++◌, replicate}
+use Rattle.std.specs.Prelude.{[], ◌∷◌, ◌++◌}
 use Rattle.mps_base.specs.declared.moves.Move.TheVariants as moves
 use Rattle.mps_base.specs.declared.names.Kind.TheVariants as kind
 use Rattle.mps_base.specs.declared.names.Rank.TheVariants as rank
@@ -9,6 +9,7 @@ use Rattle.mps_model.specs.Step.{Step, History}
 use Rattle.mps_model_vectors.specs.Script.{p, q, t, w, x, y, at_index, address, zones, step}
 use Rattle.mps_model_vectors.specs.OneBlock.{prelude, one_block}
 use Rattle.mps_model_vectors.specs.Copying.{copying_moves}
+use Rattle.mps_model_vectors.specs.Polled.{clamped, clamped_reserve}
 use Rattle.mps_model_vectors.specs.WrongAnswers.{CannotFollow}
 
 -- `collect` does nothing
@@ -93,28 +94,15 @@ weak_scanned =
 abbrev pub WeakScannedAsExact : Type 0
 WeakScannedAsExact = CannotFollow weakly_held weak_scanned
 
--- a generation holds more than its capacity, and the arena is clamped
-abbrev pub clamped : History
-clamped =
-    step 1 (call.Arena 8 8) [] reply.Ok
-    ∷ step 2 (call.Chain q 1 (replicate 8 0)) [] reply.Ok
-    ∷ step 3 (call.PoolOnChain p kind.Amc 3 q) [] reply.Ok
-    ∷ step 4 (call.Table t 1) [] reply.Ok
-    ∷ step 5 (call.Point x p rank.Exact) [] reply.Ok
-    ∷ step 6 (call.Reserve x 0x20003) (moves.Seg (address 0x1000) 1 0 0 ∷ []) reply.Ok
-    ∷ step 7 (call.Commit x (at_index t 0)) (moves.Commit (address 0x1000) 512 0 ∷ []) reply.Ok
-    ∷ step 8 call.Clamp [] reply.Ok
-    ∷ []
-
--- a `reserve` polls there
+-- a `reserve` polls in a clamped arena
 abbrev pub clamped_poll : Step
 clamped_poll =
-    step 9 (call.Reserve x 0x203)
+    clamped_reserve
     (moves.Flip (zones 2) 0 0
     ∷ moves.Seg (address 0x2000) 1 0 0
     ∷ moves.Moved (address 0x1000) (address 0x2000)
     ∷ moves.Seg (address 0x3000) 1 0 0
-    ∷ []) reply.Ok
+    ∷ [])
 
 abbrev pub PollWhereClamped : Type 0
 PollWhereClamped = CannotFollow clamped clamped_poll

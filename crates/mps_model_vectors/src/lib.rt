@@ -9,6 +9,7 @@ ghost use Rattle.mps_model_vectors.specs.Weak.{WeakIsLegal};
 ghost use Rattle.mps_model_vectors.specs.Finalized.{FinalizedIsLegal, PostsAreExact};
 ghost use Rattle.mps_model_vectors.specs.Incremental.{IncrementalIsLegal};
 ghost use Rattle.mps_model_vectors.specs.Staying.{StayingIsLegal};
+ghost use Rattle.mps_model_vectors.specs.Polled.{PolledIsLegal};
 ghost use Rattle.mps_model_vectors.specs.Pinned.{PinnedIsLegal};
 ghost use Rattle.mps_model_vectors.specs.Manual.{ManualIsLegal};
 ghost use Rattle.mps_model_vectors.specs.WrongAnswers.{FlippedWithoutFlip, CommitAcrossFlip, LimitBesideGap, LimitBesideRun, StaleWithoutFlip, FreshAfterMove, GetOfOldPlace};
@@ -85,6 +86,31 @@ pub fn incremental_is_legal()
 /// ```
 pub fn staying_is_legal()
     ensures { StayingIsLegal }
+{}
+
+/// A history in which a `reserve` polls is legal: not while the arena is clamped, where `poll_where_clamped` begins, but
+/// once it is released, with the flip of the generation that is due; and the next one polls the units that end that
+/// collection. The script:
+///
+/// ```text
+/// arena 8 8
+/// chain q 0
+/// pool p amc leaf q
+/// table t 1
+/// ap x p exact
+/// reserve x l:512
+/// commit x t.0
+/// clamp
+/// reserve x l:2
+/// commit x t.0
+/// release
+/// reserve x l:512
+/// commit x t.0
+/// reserve x l:2
+/// committed
+/// ```
+pub fn polled_is_legal()
+    ensures { PolledIsLegal }
 {}
 
 /// A history in which an area word keeps a block alive and in place is legal: it lies in the block, and no slot holds
