@@ -9,6 +9,7 @@ pub mod Staying
 pub mod Polled
 pub mod Pinned
 pub mod Manual
+pub mod Reclaiming
 pub mod WrongAnswers
 pub mod WrongMoves
 pub mod WrongUnits

@@ -6,10 +6,11 @@ use Rattle.mps_base.specs.declared.names.Rank.TheVariants as rank
 use Rattle.mps_model.specs.declared.call.Call.TheVariants as call
 use Rattle.mps_model.specs.declared.reply.Reply.TheVariants as reply
 use Rattle.mps_model.specs.Step.{Step, History}
-use Rattle.mps_model_vectors.specs.Script.{p, q, t, w, x, y, at_index, address, zones, step}
+use Rattle.mps_model_vectors.specs.Script.{t, w, x, y, at_index, address, zones, step}
 use Rattle.mps_model_vectors.specs.OneBlock.{prelude, one_block}
 use Rattle.mps_model_vectors.specs.Copying.{copying_moves}
 use Rattle.mps_model_vectors.specs.Polled.{clamped, clamped_reserve}
+use Rattle.mps_model_vectors.specs.Reclaiming.{two_to_reclaim, one_unit}
 use Rattle.mps_model_vectors.specs.WrongAnswers.{CannotFollow}
 
 -- `collect` does nothing
@@ -26,27 +27,10 @@ whole_start = step 9 call.Start copying_moves reply.Ok
 abbrev pub StartDoesAll : Type 0
 StartDoesAll = CannotFollow one_block whole_start
 
--- two blocks of marking pools, in a segment each, that nothing holds, and a collection that was begun
-abbrev pub two_to_reclaim : History
-two_to_reclaim =
-    step 1 (call.Arena 8 8) [] reply.Ok
-    ∷ step 2 (call.Table t 1) [] reply.Ok
-    ∷ step 3 (call.Pool p kind.Ams 1) [] reply.Ok
-    ∷ step 4 (call.Pool q kind.Ams 1) [] reply.Ok
-    ∷ step 5 (call.Point x p rank.Exact) [] reply.Ok
-    ∷ step 6 (call.Point y q rank.Exact) [] reply.Ok
-    ∷ step 7 (call.Reserve x 0x201) (moves.Seg (address 0x1000) 1 0 0 ∷ []) reply.Ok
-    ∷ step 8 (call.Commit x (at_index t 0)) (moves.Commit (address 0x1000) 2 0 ∷ []) reply.Ok
-    ∷ step 9 (call.Reserve y 0x201) (moves.Seg (address 0x2000) 1 1 0 ∷ []) reply.Ok
-    ∷ step 10 (call.Commit y (at_index t 0)) (moves.Commit (address 0x2000) 2 1 ∷ []) reply.Ok
-    ∷ step 11 (call.Clear (at_index t 0)) [] reply.Ok
-    ∷ step 12 call.Start (moves.Flip (zones 0) 16 0 ∷ []) reply.Ok
-    ∷ []
-
 -- one unit is asked, and two segments are reclaimed
 abbrev pub two_reclaimed : Step
 two_reclaimed =
-    step 13 (call.Step 1)
+    one_unit 13
     (moves.Free (address 0x1000)
     ∷ moves.Unseg (address 0x1000)
     ∷ moves.Free (address 0x2000)
@@ -61,12 +45,12 @@ TwoUnitsForOne = CannotFollow two_to_reclaim two_reclaimed
 abbrev pub upper_first : History
 upper_first =
     two_to_reclaim
-    ++ step 13 (call.Step 1) (moves.Free (address 0x2000) ∷ moves.Unseg (address 0x2000) ∷ []) reply.More
+    ++ one_unit 13 (moves.Free (address 0x2000) ∷ moves.Unseg (address 0x2000) ∷ []) reply.More
     ∷ []
 
 abbrev pub lower_reclaimed : Step
 lower_reclaimed =
-    step 14 (call.Step 1) (moves.Free (address 0x1000) ∷ moves.Unseg (address 0x1000) ∷ moves.End ∷ []) reply.Idle
+    one_unit 14 (moves.Free (address 0x1000) ∷ moves.Unseg (address 0x1000) ∷ moves.End ∷ []) reply.Idle
 
 abbrev pub ReclaimedDownwards : Type 0
 ReclaimedDownwards = CannotFollow upper_first lower_reclaimed

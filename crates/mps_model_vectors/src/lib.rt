@@ -12,6 +12,7 @@ ghost use Rattle.mps_model_vectors.specs.Staying.{StayingIsLegal};
 ghost use Rattle.mps_model_vectors.specs.Polled.{PolledIsLegal};
 ghost use Rattle.mps_model_vectors.specs.Pinned.{PinnedIsLegal};
 ghost use Rattle.mps_model_vectors.specs.Manual.{ManualIsLegal};
+ghost use Rattle.mps_model_vectors.specs.Reclaiming.{ReclaimingIsLegal};
 ghost use Rattle.mps_model_vectors.specs.WrongAnswers.{FlippedWithoutFlip, CommitAcrossFlip, LimitBesideGap, LimitBesideRun, StaleWithoutFlip, FreshAfterMove, GetOfOldPlace};
 ghost use Rattle.mps_model_vectors.specs.WrongMoves.{SplatOfReachable, TwoPostsForOne, MoveOfPinned, FreeOfWaiting, StayBesideRoom, MarkedInPlace, UntoldFree, MoveAfterSplat};
 ghost use Rattle.mps_model_vectors.specs.WrongUnits.{CollectWithoutMoves, StartDoesAll, TwoUnitsForOne, ReclaimedDownwards, WeakScannedAsExact, PollWhereClamped};
@@ -156,6 +157,33 @@ pub fn pinned_is_legal()
 /// ```
 pub fn manual_is_legal()
     ensures { ManualIsLegal }
+{}
+
+/// A history in which each `step 1` reclaims one segment, the lower one first, and nothing while the arena is clamped, is
+/// legal. The script, beside `two_units_for_one` and `reclaimed_downwards`:
+///
+/// ```text
+/// arena 8 8
+/// table t 1
+/// pool p ams front
+/// pool q ams front
+/// ap x p exact
+/// ap y q exact
+/// reserve x f:2:0
+/// commit x t.0
+/// reserve y f:2:0
+/// commit y t.0
+/// clear t.0
+/// start
+/// step 1
+/// clamp
+/// step 1
+/// release
+/// step 1
+/// live
+/// ```
+pub fn reclaiming_is_legal()
+    ensures { ReclaimingIsLegal }
 {}
 
 /// `commit` can't answer `flipped` where no flip came.
