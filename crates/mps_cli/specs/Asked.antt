@@ -137,8 +137,9 @@ pub a_missing_text_prints_nothing : (status : ℕ) (old new : Outside) → DoesA
     → OpensNothing old (codes "a") → new.printed ≡ old.printed
 a_missing_text_prints_nothing status old new does nothing = (does.missing nothing).1
 
-pub a_bad_log_lists_nothing : (old new : Outside) → DoesAsAsked (meaning (codes "blocks" ∷ [])) 6 old new → new.printed ≡ old.printed
-a_bad_log_lists_nothing old new does = does.silent (λ ()) (λ ())
+pub a_missing_log_lists_nothing : (status : ℕ) (old new : Outside) → DoesAsAsked (meaning (codes "blocks" ∷ [])) status old new
+    → OpensNothing old (codes "mpsio.log") → new.printed ≡ old.printed
+a_missing_log_lists_nothing status old new does nothing = (does.missing nothing).1
 
 pub a_script_is_generated : (old new : Outside) → DoesAsAsked (meaning (codes "gen" ∷ codes "7" ∷ codes "0" ∷ [])) 0 old new → Prints old new (generated_script 7 0)
 a_script_is_generated old new does = does.whole refl
