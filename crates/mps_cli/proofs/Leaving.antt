@@ -25,7 +25,8 @@ use Rattle.mps_cli.specs.Leaving.{IsUnbegun, LeavesWhole, NeedsMemory, Begins, L
 use Rattle.mps_cli.specs.declared.ending.Ending.{Ending}
 use Rattle.mps_cli.specs.declared.ending.Ending.TheVariants as ending
 use Rattle.mps_cli.specs.declared.next.Next.TheVariants.{Line}
-use Rattle.mps_cli.proofs.Outsides.{appended_empty, appended_twice, only_reports_then}
+use Rattle.mps_output.proofs.Outside.{reports_only-then}
+use Rattle.mps_cli.proofs.Outsides.{appended_empty, appended_twice}
 use Rattle.mps_cli.proofs.Steps.{said_unsupported}
 use Rattle.mps_cli.proofs.LineByLine.{first_line}
 use Rattle.mps_cli.proofs.SoFar.{SoFar, read_more, unsupported-append}
@@ -296,7 +297,7 @@ leaves_then_reported (ending.BadLine line) script old mid new r o = then_reporte
 leaves_then_reported ending.TooLong script old mid new r o = then_reported ending.TooLong (header_bytes 1) script old mid new r o
 leaves_then_reported ending.ReadFailed script old mid new (inl r) o = inl (unbegun_then_reported old mid new r o)
 leaves_then_reported ending.ReadFailed script old mid new (inr r) o = inr (then_reported ending.ReadFailed (header_bytes 1) script old mid new r o)
-leaves_then_reported ending.OutOfMemory script old mid new (inl r) o = inl (only_reports_then old mid new r o)
+leaves_then_reported ending.OutOfMemory script old mid new (inl r) o = inl (reports_only-then old mid new r o)
 leaves_then_reported ending.OutOfMemory script old mid new (inr r) o = inr (then_reported ending.OutOfMemory (header_bytes 1) script old mid new r o)
 leaves_then_reported ending.LogFailed script old mid new (inl r) o = inl (header_then_reported old mid new r o)
 leaves_then_reported ending.LogFailed script old mid new (inr r) o = inr (then_reported ending.LogFailed (header_bytes 1) script old mid new r o)

@@ -1,9 +1,9 @@
 -- One change of the outside after another.
-use Rattle.std.proofs.Common.{◌≡◌, ℕ, ◌+◌, ◌-◌, ◌≤◌, Option, Some, None, List, [], ◌++◌, length, take, drop, refl, sym, ◌∙◌, ap, arith, append_assoc, append-nil, inl, inr}
+use Rattle.std.proofs.Common.{◌≡◌, ℕ, ◌+◌, ◌-◌, ◌≤◌, Option, Some, None, List, [], ◌++◌, length, take, drop, refl, sym, ◌∙◌, ap, arith, append_assoc, append-nil}
 use Rattle.std.proofs.Math.Seq.{take-add}
 use Rattle.std.proofs.lemmas.List.{take_rest}
 use Rattle.std.proofs.lemmas.Grind.{common_steps}
-use Rattle.mps_base.specs.Desk.{Outside, OnlyLogs, OnlyPrints, OnlyReports, OnlyReads, HasRisen, added}
+use Rattle.mps_base.specs.Desk.{Outside, OnlyLogs, added}
 use Rattle.mps_cli.specs.Write.{appended}
 
 pub only_logs_self : (a : Outside) → OnlyLogs a a
@@ -25,83 +25,6 @@ only_logs_then a b c f g = record {
   reported = g.reported ∙ f.reported;
   err_faults = g.err_faults ∙ f.err_faults;
 }
-
-pub only_prints_self : (a : Outside) → OnlyPrints a a
-only_prints_self a = record {
-  files = refl;
-  text = refl;
-  input = refl;
-  in_faults = refl;
-  logged = refl;
-  log_faults = refl;
-  reported = refl;
-  err_faults = refl;
-}
-
-pub only_prints_then : (a b c : Outside) → OnlyPrints a b → OnlyPrints b c → OnlyPrints a c
-only_prints_then a b c f g = record {
-  files = g.files ∙ f.files;
-  text = g.text ∙ f.text;
-  input = g.input ∙ f.input;
-  in_faults = g.in_faults ∙ f.in_faults;
-  logged = g.logged ∙ f.logged;
-  log_faults = g.log_faults ∙ f.log_faults;
-  reported = g.reported ∙ f.reported;
-  err_faults = g.err_faults ∙ f.err_faults;
-}
-
-pub only_reports_self : (a : Outside) → OnlyReports a a
-only_reports_self a = record {
-  files = refl;
-  text = refl;
-  input = refl;
-  in_faults = refl;
-  logged = refl;
-  log_faults = refl;
-  printed = refl;
-  out_faults = refl;
-}
-
-pub only_reports_then : (a b c : Outside) → OnlyReports a b → OnlyReports b c → OnlyReports a c
-only_reports_then a b c f g = record {
-  files = g.files ∙ f.files;
-  text = g.text ∙ f.text;
-  input = g.input ∙ f.input;
-  in_faults = g.in_faults ∙ f.in_faults;
-  logged = g.logged ∙ f.logged;
-  log_faults = g.log_faults ∙ f.log_faults;
-  printed = g.printed ∙ f.printed;
-  out_faults = g.out_faults ∙ f.out_faults;
-}
-
-pub only_reads_self : (a : Outside) → OnlyReads a a
-only_reads_self a = record {
-  files = refl;
-  text = refl;
-  logged = refl;
-  log_faults = refl;
-  printed = refl;
-  out_faults = refl;
-  reported = refl;
-  err_faults = refl;
-}
-
-pub only_reads_then : (a b c : Outside) → OnlyReads a b → OnlyReads b c → OnlyReads a c
-only_reads_then a b c f g = record {
-  files = g.files ∙ f.files;
-  text = g.text ∙ f.text;
-  logged = g.logged ∙ f.logged;
-  log_faults = g.log_faults ∙ f.log_faults;
-  printed = g.printed ∙ f.printed;
-  out_faults = g.out_faults ∙ f.out_faults;
-  reported = g.reported ∙ f.reported;
-  err_faults = g.err_faults ∙ f.err_faults;
-}
-
--- a count that rose from a later value rose
-pub risen_from : (a b c : ℕ) → a ≤ b → HasRisen b c → HasRisen a c
-risen_from a b c le (inl lt) = inl (omega arith)
-risen_from a b c le (inr last) = inr last
 
 -- nothing behind what is told
 pub appended_empty : (told : Option (List ℕ)) → told ≡ appended told []

@@ -41,7 +41,7 @@ prints_only-same o = record {
   err_faults = refl;
 }
 
-prints_only-then : (a b c : Outside) → OnlyPrints a b → OnlyPrints b c → OnlyPrints a c
+pub prints_only-then : (a b c : Outside) → OnlyPrints a b → OnlyPrints b c → OnlyPrints a c
 prints_only-then a b c e f = record {
   files = f.files ∙ e.files;
   text = f.text ∙ e.text;

@@ -1,6 +1,7 @@
 use Rattle.std.proofs.Common.{◌≤◌, ◌-◌, length, arith}
 use Rattle.std.proofs.lemmas.Grind.{common_steps}
-use Rattle.mps_cli.proofs.Outsides.{appended_more, only_prints_then}
+use Rattle.mps_output.proofs.Outside.{prints_only-then}
+use Rattle.mps_cli.proofs.Outsides.{appended_more}
 use Rattle.mps_cli.proofs.write.out_all.Goals as goal
 
 pub loop-written-preserved : goal.loop-written-preserved
@@ -13,5 +14,5 @@ loop-written-preserved g c =
           (g.D.Desk.outside c.out.new.self).printed c.args.piece.now c.loop-written.written c.in_ok-written.field-0
           c.loop-written.invariant.told c.in_ok-written.ensures.printed c.loop-written.invariant.within short;
       counted = grind (arith, c.loop-written.invariant.counted, c.in_ok-written.ensures.counted);
-      others = only_prints_then _ _ _ c.loop-written.invariant.others c.in_ok-written.ensures.others;
+      others = prints_only-then _ _ _ c.loop-written.invariant.others c.in_ok-written.ensures.others;
     }
