@@ -4,22 +4,22 @@ use Rattle.mps_model.specs.World.{World, empty_run, empty_world}
 use Rattle.mps_model.specs.History.{IsLegalFrom, IsLegalHistory, world_after_steps}
 use Rattle.mps_model.specs.Units.{scans, reclaims}
 use Rattle.mps_model.proofs.Appending.{IsLegalFrom-then}
-use Rattle.mps_model_vectors.specs.Script.{address}
-use Rattle.mps_model_vectors.specs.Incremental.{linked, start_step, get_with_barrier, last_steps, linked_world, segment_at, collection_of_linked, tail_of_words, IncrementalIsLegal}
+use Rattle.mps_model_vectors.specs.Script.{address, grain_segment, words, tail}
+use Rattle.mps_model_vectors.specs.Incremental.{linked, start_step, get_with_barrier, last_steps, linked_world, collection_of_linked, IncrementalIsLegal}
 use Rattle.mps_model_vectors.proofs.Steps.{answered}
 
 -- before the collection, behind its flip, and with both blocks moved
 abbrev resting : World
-resting = linked_world None (segment_at 0x1000 ∷ []) 0x1000 0x1018 (record { from = 518; count = 506 }) [] [] None
+resting = linked_world None (grain_segment 0x1000 0 ∷ []) 0x1000 0x1018 (words 518 506) [] [] None
 
 abbrev started : World
 started =
-    linked_world None (segment_at 0x1000 ∷ segment_at 0x2000 ∷ []) 0x1000 0x2000 empty_run (tail_of_words 1027 509) (2 ∷ [])
+    linked_world None (grain_segment 0x1000 0 ∷ grain_segment 0x2000 0 ∷ []) 0x1000 0x2000 empty_run (tail 1027 509) (2 ∷ [])
     (Some (collection_of_linked (1 ∷ []) (1 ∷ [])))
 
 abbrev both_moved : World
 both_moved =
-    linked_world (Some 0) (segment_at 0x1000 ∷ segment_at 0x2000 ∷ []) 0x2018 0x2000 empty_run (tail_of_words 1030 506) (2 ∷ [])
+    linked_world (Some 0) (grain_segment 0x1000 0 ∷ grain_segment 0x2000 0 ∷ []) 0x2018 0x2000 empty_run (tail 1030 506) (2 ∷ [])
     (Some (collection_of_linked (0 ∷ 1 ∷ []) (0 ∷ 1 ∷ [])))
 
 linked_leaves : world_after_steps empty_world linked ≡ resting

@@ -10,6 +10,7 @@ pub mod Polled
 pub mod Pinned
 pub mod Manual
 pub mod Reclaiming
+pub mod Definalized
 pub mod Refusing
 pub mod WrongAnswers
 pub mod WrongMoves

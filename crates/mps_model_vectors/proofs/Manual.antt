@@ -2,14 +2,15 @@ use Rattle.std.proofs.Common.{◌≡◌, refl, [], ◌∷◌, ◌++◌, Some, No
 use Rattle.mps_model.specs.World.{World, empty_world}
 use Rattle.mps_model.specs.History.{IsLegalFrom, IsLegalHistory, world_after_steps}
 use Rattle.mps_model.proofs.Appending.{IsLegalFrom-then}
-use Rattle.mps_model_vectors.specs.Manual.{two_blocks, first_freed, sharing, blocks_world, segment_of_blocks, ManualIsLegal}
+use Rattle.mps_model_vectors.specs.Script.{grain_segment}
+use Rattle.mps_model_vectors.specs.Manual.{two_blocks, first_freed, sharing, blocks_world, ManualIsLegal}
 use Rattle.mps_model_vectors.proofs.Steps.{answered}
 
 abbrev both : World
-both = blocks_world (Some 0) (segment_of_blocks 0x1000 ∷ segment_of_blocks 0x2000 ∷ []) (Some 0x1000)
+both = blocks_world (Some 0) (grain_segment 0x1000 0 ∷ grain_segment 0x2000 0 ∷ []) (Some 0x1000)
 
 abbrev one_left : World
-one_left = blocks_world None (segment_of_blocks 0x2000 ∷ []) None
+one_left = blocks_world None (grain_segment 0x2000 0 ∷ []) None
 
 both_leave : world_after_steps empty_world two_blocks ≡ both
 both_leave = refl

@@ -5,41 +5,41 @@ use Rattle.mps_model.specs.History.{IsLegalFrom, IsLegalHistory, world_after_ste
 use Rattle.mps_model.specs.Units.{scans, reclaims}
 use Rattle.mps_model.proofs.Appending.{IsLegalFrom-then}
 use Rattle.mps_model.proofs.Reaching.{PathLeads-closed}
-use Rattle.mps_model_vectors.specs.Script.{address}
-use Rattle.mps_model_vectors.specs.Polled.{clamped, released, flip_polled, grain_committed, units_polled, grain_of_cells, large_block, small_block, polled_graph, polled_world, segment_polled, words_at_hand, polled_collection, PolledIsLegal}
+use Rattle.mps_model_vectors.specs.Script.{address, grain_segment, words, tail}
+use Rattle.mps_model_vectors.specs.Polled.{clamped, released, flip_polled, grain_committed, units_polled, grain_of_cells, large_block, small_block, polled_graph, polled_world, polled_collection, PolledIsLegal}
 use Rattle.mps_model_vectors.proofs.Refusing.{false_is_not_true}
 use Rattle.mps_model_vectors.proofs.Steps.{answered}
 
 -- the arena clamped; unclamped again; with a collection and an open reservation; and with that committed
 abbrev held : World
 held =
-    polled_world (polled_graph (large_block ∷ []) 0 None) (segment_polled 0x1000 ∷ []) (Some 0x1000 ∷ [])
-    (record { reserved_at = 0x1000; buffer = words_at_hand 1024 0 }) [] Clamped [] None
+    polled_world (polled_graph (large_block ∷ []) 0 None) (grain_segment 0x1000 0 ∷ []) (Some 0x1000 ∷ [])
+    (record { reserved_at = 0x1000; buffer = words 1024 0 }) [] Clamped [] None
 
 abbrev unclamped : World
 unclamped =
-    polled_world (polled_graph (large_block ∷ small_block ∷ []) 1 None) (segment_polled 0x1000 ∷ segment_polled 0x2000 ∷ [])
+    polled_world (polled_graph (large_block ∷ small_block ∷ []) 1 None) (grain_segment 0x1000 0 ∷ grain_segment 0x2000 0 ∷ [])
     (Some 0x1000 ∷ Some 0x2000 ∷ [])
-    (record { reserved_at = 0x2000; buffer = words_at_hand 1026 510 }) [] Unclamped [] None
+    (record { reserved_at = 0x2000; buffer = words 1026 510 }) [] Unclamped [] None
 
 abbrev four_segments : List Segment
-four_segments = segment_polled 0x1000 ∷ segment_polled 0x2000 ∷ segment_polled 0x3000 ∷ segment_polled 0x4000 ∷ []
+four_segments = grain_segment 0x1000 0 ∷ grain_segment 0x2000 0 ∷ grain_segment 0x3000 0 ∷ grain_segment 0x4000 0 ∷ []
 
 abbrev behind_small : List Tail
-behind_small = record { pool = 0; generation = 0; words = words_at_hand 1538 510 } ∷ []
+behind_small = tail 1538 510
 
 abbrev flipped : World
 flipped =
     polled_world
     (polled_graph (large_block ∷ small_block ∷ []) 1 (Some (record { head = 0x20003; cells = grain_of_cells; is_doomed = false })))
     four_segments (Some 0x1000 ∷ Some 0x3000 ∷ [])
-    (record { reserved_at = 0x4000; buffer = words_at_hand 2560 0 }) behind_small Unclamped (6 ∷ []) (Some (polled_collection (1 ∷ [])))
+    (record { reserved_at = 0x4000; buffer = words 2560 0 }) behind_small Unclamped (6 ∷ []) (Some (polled_collection (1 ∷ [])))
 
 abbrev committed : World
 committed =
     polled_world (polled_graph (large_block ∷ small_block ∷ large_block ∷ []) 2 None)
     four_segments (Some 0x1000 ∷ Some 0x3000 ∷ Some 0x4000 ∷ [])
-    (record { reserved_at = 0x4000; buffer = words_at_hand 2560 0 }) behind_small Unclamped (6 ∷ []) (Some (polled_collection (2 ∷ 1 ∷ [])))
+    (record { reserved_at = 0x4000; buffer = words 2560 0 }) behind_small Unclamped (6 ∷ []) (Some (polled_collection (2 ∷ 1 ∷ [])))
 
 clamped_leaves : world_after_steps empty_world clamped ≡ held
 clamped_leaves = refl

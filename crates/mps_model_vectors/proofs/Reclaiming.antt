@@ -6,20 +6,20 @@ use Rattle.mps_model.specs.History.{IsLegalFrom, IsLegalHistory, world_after_ste
 use Rattle.mps_model.specs.Units.{reclaims}
 use Rattle.mps_model.proofs.Appending.{IsLegalFrom-then}
 use Rattle.mps_model.proofs.Reaching.{PathLeads-closed}
-use Rattle.mps_model_vectors.specs.Script.{address}
-use Rattle.mps_model_vectors.specs.Reclaiming.{two_to_reclaim, lower_first, upper_last, segment_of_pool, dropped_world, collection_of_dropped, ReclaimingIsLegal}
+use Rattle.mps_model_vectors.specs.Script.{address, grain_segment}
+use Rattle.mps_model_vectors.specs.Reclaiming.{two_to_reclaim, lower_first, upper_last, dropped_world, collection_of_dropped, ReclaimingIsLegal}
 use Rattle.mps_model_vectors.proofs.Refusing.{false_is_not_true}
 use Rattle.mps_model_vectors.proofs.Steps.{answered}
 
 -- a collection was begun; and one segment is reclaimed
 abbrev begun : World
 begun =
-    dropped_world (segment_of_pool 0x1000 0 ∷ segment_of_pool 0x2000 1 ∷ []) (Some 0x1000)
+    dropped_world (grain_segment 0x1000 0 ∷ grain_segment 0x2000 1 ∷ []) (Some 0x1000)
     (collection_of_dropped (0x1000 ∷ 0x2000 ∷ []) Tracing 0 0)
 
 abbrev half_reclaimed : World
 half_reclaimed =
-    dropped_world (segment_of_pool 0x2000 1 ∷ []) None (collection_of_dropped (0x2000 ∷ []) Reclaiming 0x1000 1)
+    dropped_world (grain_segment 0x2000 1 ∷ []) None (collection_of_dropped (0x2000 ∷ []) Reclaiming 0x1000 1)
 
 begin_leaves : world_after_steps empty_world two_to_reclaim ≡ begun
 begin_leaves = refl

@@ -93,9 +93,6 @@ linked_world second segments place of_first buffer tails flips collection = reco
   collection = collection;
 }
 
-abbrev pub segment_at : (base : ℕ) → Segment
-segment_at base = record { base = base; grains = 1; pool = 0; generation = 0; rank = rank.Exact }
-
 -- the collection of the old segment, where these objects were moved and these were held
 abbrev pub collection_of_linked : (placed had : List ℕ) → Collection
 collection_of_linked placed had = record {
@@ -112,10 +109,6 @@ collection_of_linked placed had = record {
   units = 3;
   spent = 0;
 }
-
--- so many words at hand behind the moved blocks
-abbrev pub tail_of_words : (from count : ℕ) → List Tail
-tail_of_words from count = record { pool = 0; generation = 0; words = record { from = from; count = count } } ∷ []
 
 -- the history is legal
 abbrev pub IncrementalIsLegal : Type 0

@@ -10,6 +10,7 @@ pub mod Polled
 pub mod Pinned
 pub mod Manual
 pub mod Reclaiming
+pub mod Definalized
 pub mod WrongAnswers
 pub mod WrongMoves
 pub mod WrongUnits

@@ -1,7 +1,6 @@
 -- Manual blocks: a segment is taken for a block that fits in no gap, and given back with its last block.
 use Rattle.std.specs.Prelude.{ℕ, Option, Some, None, List, [], ◌∷◌, ◌++◌, replicate}
 use Rattle.mps_base.specs.declared.moves.Move.TheVariants as moves
-use Rattle.mps_base.specs.declared.names.Rank.TheVariants as rank
 use Rattle.mps_base.specs.declared.refusal.Refusal.TheVariants as refusal
 use Rattle.mps_model.specs.declared.call.Call.TheVariants as call
 use Rattle.mps_model.specs.declared.reply.Reply.TheVariants as reply
@@ -43,12 +42,9 @@ sharing =
 abbrev pub manual : History
 manual = two_blocks ++ (first_freed ++ sharing)
 
--- a block of zeros that fills a grain, and the segment of a grain at a base
+-- a block of zeros that fills a grain
 abbrev pub grain_of_zeros : Object
 grain_of_zeros = record { pool = 0; body = Manual (replicate 512 0) }
-
-abbrev pub segment_of_blocks : (base : ℕ) → Segment
-segment_of_blocks base = record { base = base; grains = 1; pool = 0; generation = 0; rank = rank.Exact }
 
 -- the world of the two blocks, with what place 0 has
 abbrev pub blocks_world : (first : Option ℕ) → List Segment → (place : Option ℕ) → World

@@ -1,7 +1,6 @@
 -- When a `reserve` polls: not in a clamped arena, with a flip where a generation is due, and with units where a collection
 -- runs.
 use Rattle.std.specs.Prelude.{ℕ, false, Option, Some, None, List, [], ◌∷◌, ◌++◌, replicate}
-use Rattle.mps_base.specs.Run.{Run}
 use Rattle.mps_base.specs.declared.moves.Move.{Move}
 use Rattle.mps_base.specs.declared.moves.Move.TheVariants as moves
 use Rattle.mps_base.specs.declared.names.Kind.TheVariants as kind
@@ -116,13 +115,6 @@ polled_world graph segments places at_point tails state flips collection = recor
   dependencies = [];
   collection = collection;
 }
-
--- a segment of one grain, and so many words at hand
-abbrev pub segment_polled : (base : ℕ) → Segment
-segment_polled base = record { base = base; grains = 1; pool = 0; generation = 0; rank = rank.Exact }
-
-abbrev pub words_at_hand : (from count : ℕ) → Run
-words_at_hand from count = record { from = from; count = count }
 
 -- the collection that the poll began, where the client held these since
 abbrev pub polled_collection : (had : List ℕ) → Collection

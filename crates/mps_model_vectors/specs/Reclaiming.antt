@@ -79,9 +79,6 @@ dropped_graph = record {
       ∷ [];
 }
 
-abbrev pub segment_of_pool : (base pool : ℕ) → Segment
-segment_of_pool base pool = record { base = base; grains = 1; pool = pool; generation = 0; rank = rank.Exact }
-
 -- the world of the two blocks, with the segments held, the first block's place, and the running collection
 abbrev pub dropped_world : List Segment → (first : Option ℕ) → Collection → World
 dropped_world segments first collection = record {

@@ -1,14 +1,17 @@
 -- Short words for the histories of this crate.
-use Rattle.std.specs.Prelude.{ℕ, List, ◌∷◌, replicate}
+use Rattle.std.specs.Prelude.{ℕ, List, [], ◌∷◌, replicate}
+use Rattle.mps_base.specs.Run.{Run}
 use Rattle.mps_base.specs.declared.address.Addr.{Addr}
 use Rattle.mps_base.specs.declared.address.ZoneSet.{ZoneSet}
 use Rattle.mps_base.specs.declared.names.Name.{Name}
 use Rattle.mps_base.specs.declared.names.Slot.{Slot}
+use Rattle.mps_base.specs.declared.names.Rank.TheVariants as rank
 use Rattle.mps_base.specs.declared.moves.Move.{Move}
 use Rattle.mps_model.specs.declared.call.Call.{Call}
 use Rattle.mps_model.specs.declared.reply.Reply.{Reply}
 use Rattle.mps_model.specs.Answer.{Said}
 use Rattle.mps_model.specs.Step.{Step}
+use Rattle.mps_model.specs.World.{Segment, Tail}
 
 -- the name of one letter
 abbrev pub letter : (code : ℕ) → Name
@@ -57,3 +60,14 @@ step line call moves said = record { line = line; call = call; moves = moves; an
 
 abbrev pub zones : ℕ → ZoneSet
 zones set = record { 0 = set }
+
+-- a segment of one grain, for blocks of the exact rank
+abbrev pub grain_segment : (base pool : ℕ) → Segment
+grain_segment base pool = record { base = base; grains = 1; pool = pool; generation = 0; rank = rank.Exact }
+
+abbrev pub words : (from count : ℕ) → Run
+words from count = record { from = from; count = count }
+
+-- these words are at hand for blocks of pool 0 that move
+abbrev pub tail : (from count : ℕ) → List Tail
+tail from count = record { pool = 0; generation = 0; words = words from count } ∷ []

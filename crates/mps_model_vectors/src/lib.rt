@@ -13,6 +13,7 @@ ghost use Rattle.mps_model_vectors.specs.Polled.{PolledIsLegal};
 ghost use Rattle.mps_model_vectors.specs.Pinned.{PinnedIsLegal};
 ghost use Rattle.mps_model_vectors.specs.Manual.{ManualIsLegal};
 ghost use Rattle.mps_model_vectors.specs.Reclaiming.{ReclaimingIsLegal};
+ghost use Rattle.mps_model_vectors.specs.Definalized.{DefinalizedIsLegal};
 ghost use Rattle.mps_model_vectors.specs.WrongAnswers.{FlippedWithoutFlip, CommitAcrossFlip, LimitBesideGap, LimitBesideRun, StaleWithoutFlip, FreshAfterMove, GetOfOldPlace};
 ghost use Rattle.mps_model_vectors.specs.WrongMoves.{SplatOfReachable, TwoPostsForOne, MoveOfPinned, FreeOfWaiting, StayBesideRoom, MarkedInPlace, UntoldFree, MoveAfterSplat};
 ghost use Rattle.mps_model_vectors.specs.WrongUnits.{CollectWithoutMoves, StartDoesAll, TwoUnitsForOne, ReclaimedDownwards, WeakScannedAsExact, PollWhereClamped};
@@ -184,6 +185,31 @@ pub fn manual_is_legal()
 /// ```
 pub fn reclaiming_is_legal()
     ensures { ReclaimingIsLegal }
+{}
+
+/// A history in which registrations are taken away, before a collection and while one runs, is legal: no message comes of
+/// them, nor, in this collection, of one that was made after its flip. The script:
+///
+/// ```text
+/// arena 8 8
+/// table t 4
+/// pool p amc front
+/// ap x p exact
+/// reserve x f:2:0
+/// commit x t.0
+/// finalize t.0
+/// definalize t.0
+/// definalize t.0
+/// finalize t.0
+/// start
+/// definalize t.0
+/// finalize t.0
+/// clear t.0
+/// step 100
+/// message t.0
+/// ```
+pub fn definalized_is_legal()
+    ensures { DefinalizedIsLegal }
 {}
 
 /// `commit` can't answer `flipped` where no flip came.
