@@ -11,6 +11,7 @@ pub mod Pinned
 pub mod Manual
 pub mod Reclaiming
 pub mod Definalized
+pub mod WeakReading
 pub mod Refusing
 pub mod WrongAnswers
 pub mod WrongMoves

@@ -17,9 +17,10 @@ use Rattle.mps_model.specs.Flip.{is_nothing, end_where}
 use Rattle.mps_model.proofs.Cutting.{one_unit}
 use Rattle.mps_model_vectors.specs.OneBlock.{one_block}
 use Rattle.mps_model_vectors.specs.WrongUnits as steps
-use Rattle.mps_model_vectors.specs.WrongUnits.{CollectWithoutMoves, StartDoesAll, TwoUnitsForOne, ReclaimedDownwards, WeakScannedAsExact, PollWhereClamped, upper_first, weakly_held}
+use Rattle.mps_model_vectors.specs.WrongUnits.{CollectWithoutMoves, StartDoesAll, TwoUnitsForOne, ReclaimedDownwards, WeakScannedAsExact, PollWhereClamped, upper_first}
 use Rattle.mps_model_vectors.specs.Polled.{clamped}
 use Rattle.mps_model_vectors.specs.Reclaiming.{two_to_reclaim}
+use Rattle.mps_model_vectors.specs.WeakReading.{weakly_held}
 use Rattle.mps_model_vectors.proofs.Refusing.{false_is_not_true, cannot_follow}
 
 -- what is appended to isn't empty, where the middle isn't

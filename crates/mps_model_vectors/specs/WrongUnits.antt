@@ -1,16 +1,15 @@
 -- Histories that are not legal because of which moves a call makes.
 use Rattle.std.specs.Prelude.{[], ◌∷◌, ◌++◌}
 use Rattle.mps_base.specs.declared.moves.Move.TheVariants as moves
-use Rattle.mps_base.specs.declared.names.Kind.TheVariants as kind
-use Rattle.mps_base.specs.declared.names.Rank.TheVariants as rank
 use Rattle.mps_model.specs.declared.call.Call.TheVariants as call
 use Rattle.mps_model.specs.declared.reply.Reply.TheVariants as reply
 use Rattle.mps_model.specs.Step.{Step, History}
-use Rattle.mps_model_vectors.specs.Script.{t, w, x, y, at_index, address, zones, step}
-use Rattle.mps_model_vectors.specs.OneBlock.{prelude, one_block}
+use Rattle.mps_model_vectors.specs.Script.{address, zones, step}
+use Rattle.mps_model_vectors.specs.OneBlock.{one_block}
 use Rattle.mps_model_vectors.specs.Copying.{copying_moves}
 use Rattle.mps_model_vectors.specs.Polled.{clamped, clamped_reserve}
 use Rattle.mps_model_vectors.specs.Reclaiming.{two_to_reclaim, one_unit}
+use Rattle.mps_model_vectors.specs.WeakReading.{weakly_held}
 use Rattle.mps_model_vectors.specs.WrongAnswers.{CannotFollow}
 
 -- `collect` does nothing
@@ -54,21 +53,6 @@ lower_reclaimed =
 
 abbrev pub ReclaimedDownwards : Type 0
 ReclaimedDownwards = CannotFollow upper_first lower_reclaimed
-
--- a weak object in slot 1 refers to a block of a copying pool that nothing else holds, and a collection was begun
-abbrev pub weakly_held : History
-weakly_held =
-    prelude
-    ++ step 5 (call.Pool w kind.Awl 1) [] reply.Ok
-    ∷ step 6 (call.Point y w rank.Weak) [] reply.Ok
-    ∷ step 7 (call.Reserve x 0x201) (moves.Seg (address 0x1000) 1 0 0 ∷ []) reply.Ok
-    ∷ step 8 (call.Commit x (at_index t 0)) (moves.Commit (address 0x1000) 2 0 ∷ []) reply.Ok
-    ∷ step 9 (call.Reserve y 0x100000201) (moves.Seg (address 0x2000) 1 1 0 ∷ []) reply.Ok
-    ∷ step 10 (call.InitReference y 1 (at_index t 0)) [] reply.Ok
-    ∷ step 11 (call.Commit y (at_index t 1)) (moves.Commit (address 0x2000) 2 1 ∷ []) reply.Ok
-    ∷ step 12 (call.Clear (at_index t 0)) [] reply.Ok
-    ∷ step 13 call.Start (moves.Flip (zones 2) 16 0 ∷ []) reply.Ok
-    ∷ []
 
 -- a unit scans the weak object as an exact one
 abbrev pub weak_scanned : Step

@@ -14,6 +14,7 @@ ghost use Rattle.mps_model_vectors.specs.Pinned.{PinnedIsLegal};
 ghost use Rattle.mps_model_vectors.specs.Manual.{ManualIsLegal};
 ghost use Rattle.mps_model_vectors.specs.Reclaiming.{ReclaimingIsLegal};
 ghost use Rattle.mps_model_vectors.specs.Definalized.{DefinalizedIsLegal};
+ghost use Rattle.mps_model_vectors.specs.WeakReading.{WeakReadingIsLegal};
 ghost use Rattle.mps_model_vectors.specs.WrongAnswers.{FlippedWithoutFlip, CommitAcrossFlip, LimitBesideGap, LimitBesideRun, StaleWithoutFlip, FreshAfterMove, GetOfOldPlace};
 ghost use Rattle.mps_model_vectors.specs.WrongMoves.{SplatOfReachable, TwoPostsForOne, MoveOfPinned, FreeOfWaiting, StayBesideRoom, MarkedInPlace, UntoldFree, MoveAfterSplat};
 ghost use Rattle.mps_model_vectors.specs.WrongUnits.{CollectWithoutMoves, StartDoesAll, TwoUnitsForOne, ReclaimedDownwards, WeakScannedAsExact, PollWhereClamped};
@@ -210,6 +211,36 @@ pub fn reclaiming_is_legal()
 /// ```
 pub fn definalized_is_legal()
     ensures { DefinalizedIsLegal }
+{}
+
+/// A history in which a weak reference is read while a collection runs is legal: the read barrier moves the target, and in
+/// the next collection it splats the reference. Both are legal where nothing but the reference leads to the target. The
+/// script, beside `weak_scanned_as_exact`:
+///
+/// ```text
+/// arena 8 8
+/// table t 4
+/// pool p amc front
+/// ap x p exact
+/// pool w awl front
+/// ap y w weak
+/// reserve x f:2:0
+/// commit x t.0
+/// reserve y f:2:1
+/// init y 1 t.0
+/// commit y t.1
+/// clear t.0
+/// start
+/// get t.0 t.1 1
+/// step 100
+/// clear t.0
+/// start
+/// get t.0 t.1 1
+/// null t.0
+/// step 100
+/// ```
+pub fn weak_reading_is_legal()
+    ensures { WeakReadingIsLegal }
 {}
 
 /// `commit` can't answer `flipped` where no flip came.
