@@ -12,6 +12,8 @@ pub mod Manual
 pub mod Reclaiming
 pub mod Definalized
 pub mod WeakReading
+pub mod FillingGaps
+pub mod Depending
 pub mod Refusing
 pub mod WrongAnswers
 pub mod WrongMoves

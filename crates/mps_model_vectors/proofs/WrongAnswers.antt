@@ -5,8 +5,10 @@ use Rattle.mps_model.specs.Answer.{Said}
 use Rattle.mps_model_vectors.specs.OneBlock.{prelude}
 use Rattle.mps_base.specs.declared.refusal.Refusal.TheVariants as refusal
 use Rattle.mps_model_vectors.specs.WrongAnswers as steps
-use Rattle.mps_model_vectors.specs.WrongAnswers.{reserved, commit_flipped, flipped_away, commit_with_move, commit_without_move, one_grain, depending, stale, moved_on, fresh, get_without_barrier, FlippedWithoutFlip, CommitAcrossFlip, LimitBesideGap, LimitBesideRun, StaleWithoutFlip, FreshAfterMove, GetOfOldPlace}
+use Rattle.mps_model_vectors.specs.WrongAnswers.{reserved, commit_flipped, flipped_away, commit_with_move, commit_without_move, stale, moved_on, fresh, get_without_barrier, FlippedWithoutFlip, CommitAcrossFlip, LimitBesideGap, LimitBesideRun, StaleWithoutFlip, FreshAfterMove, GetOfOldPlace}
 use Rattle.mps_model_vectors.specs.Incremental.{linked_started}
+use Rattle.mps_model_vectors.specs.FillingGaps.{one_grain}
+use Rattle.mps_model_vectors.specs.Depending.{depending}
 use Rattle.mps_model_vectors.proofs.Refusing.{false_is_not_true, cannot_follow}
 
 not_flipped : Said reply.Flipped ≡ Said reply.Ok → ⊥

@@ -4,7 +4,7 @@ use Rattle.mps_base.specs.Placement.{Place, NewSegment, OverLimit}
 use Rattle.mps_model.specs.Placement.{ForReserve, ForMove, placement_of}
 use Rattle.mps_model.specs.History.{world_after_history}
 use Rattle.mps_model_vectors.specs.OneBlock.{prelude, one_block}
-use Rattle.mps_model_vectors.specs.WrongAnswers.{one_grain}
+use Rattle.mps_model_vectors.specs.FillingGaps.{one_grain}
 use Rattle.mps_model_vectors.specs.Incremental.{linked_started}
 
 -- in an empty arena at the first grain; behind a block at a point, and behind a block that was moved; in a gap of a pool that

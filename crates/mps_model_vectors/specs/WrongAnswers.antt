@@ -1,17 +1,17 @@
 -- Histories that are not legal because of an answer.
 use Rattle.std.specs.Prelude.{[], ◌∷◌, ◌++◌}
 use Rattle.mps_base.specs.declared.moves.Move.TheVariants as moves
-use Rattle.mps_base.specs.declared.names.Kind.TheVariants as kind
-use Rattle.mps_base.specs.declared.names.Rank.TheVariants as rank
 use Rattle.mps_base.specs.declared.refusal.Refusal.TheVariants as refusal
 use Rattle.mps_model.specs.declared.call.Call.TheVariants as call
 use Rattle.mps_model.specs.declared.reply.Reply.TheVariants as reply
 use Rattle.mps_model.specs.Step.{Step, History}
 use Rattle.mps_model.specs.History.{IsLegalHistory}
-use Rattle.mps_model_vectors.specs.Script.{d, p, t, x, at_index, address, zones, step}
-use Rattle.mps_model_vectors.specs.OneBlock.{prelude, one_block}
+use Rattle.mps_model_vectors.specs.Script.{d, x, address, step}
+use Rattle.mps_model_vectors.specs.OneBlock.{prelude}
 use Rattle.mps_model_vectors.specs.Flipped.{flip_steps, commit_step}
 use Rattle.mps_model_vectors.specs.Incremental.{linked_started, get_step}
+use Rattle.mps_model_vectors.specs.FillingGaps.{one_grain}
+use Rattle.mps_model_vectors.specs.Depending.{depending, block_moved}
 
 -- a history that a step can't follow
 abbrev pub CannotFollow : History → Step → Type 0
@@ -47,17 +47,6 @@ CommitAcrossFlip =
 
 -- ---- refusals for want of room
 
--- an arena of one grain, which holds a block of 4 words and a gap behind it
-abbrev pub one_grain : History
-one_grain =
-    step 1 (call.Arena 1 1) [] reply.Ok
-    ∷ step 2 (call.Table t 1) [] reply.Ok
-    ∷ step 3 (call.Pool p kind.Lo 3) [] reply.Ok
-    ∷ step 4 (call.Point x p rank.Exact) [] reply.Ok
-    ∷ step 5 (call.Reserve x 0x403) (moves.Seg (address 0x1000) 1 0 0 ∷ []) reply.Ok
-    ∷ step 6 (call.Commit x (at_index t 0)) (moves.Commit (address 0x1000) 4 0 ∷ []) reply.Ok
-    ∷ []
-
 abbrev pub limit_beside_gap : Step
 limit_beside_gap = step 7 (call.Reserve x 0x403) [] (reply.Refused (refusal.CommitLimit 1 1 1))
 
@@ -78,14 +67,6 @@ LimitBesideRun =
 
 -- ---- dependencies
 
--- a dependency on a block, before anything moved
-abbrev pub depending : History
-depending =
-    one_block
-    ++ step 9 (call.Dependency d) [] reply.Ok
-    ∷ step 10 (call.DependencyAdd d (at_index t 0)) [] reply.Ok
-    ∷ []
-
 abbrev pub stale : Step
 stale = step 11 (call.DependencyStale d) [] reply.Yes
 
@@ -95,10 +76,7 @@ StaleWithoutFlip = CannotFollow depending stale
 
 -- a dependency on a block that then moved
 abbrev pub moved_on : History
-moved_on =
-    depending
-    ++ step 11 call.Start (moves.Flip (zones 2) 16 0 ∷ moves.Seg (address 0x2000) 1 0 0 ∷ moves.Moved (address 0x1000) (address 0x2000) ∷ []) reply.Ok
-    ∷ []
+moved_on = depending ++ block_moved 11 ∷ []
 
 abbrev pub fresh : Step
 fresh = step 12 (call.DependencyStale d) [] reply.No

@@ -15,6 +15,8 @@ ghost use Rattle.mps_model_vectors.specs.Manual.{ManualIsLegal};
 ghost use Rattle.mps_model_vectors.specs.Reclaiming.{ReclaimingIsLegal};
 ghost use Rattle.mps_model_vectors.specs.Definalized.{DefinalizedIsLegal};
 ghost use Rattle.mps_model_vectors.specs.WeakReading.{WeakReadingIsLegal};
+ghost use Rattle.mps_model_vectors.specs.FillingGaps.{FillingGapsIsLegal};
+ghost use Rattle.mps_model_vectors.specs.Depending.{DependingIsLegal};
 ghost use Rattle.mps_model_vectors.specs.WrongAnswers.{FlippedWithoutFlip, CommitAcrossFlip, LimitBesideGap, LimitBesideRun, StaleWithoutFlip, FreshAfterMove, GetOfOldPlace};
 ghost use Rattle.mps_model_vectors.specs.WrongMoves.{SplatOfReachable, TwoPostsForOne, MoveOfPinned, FreeOfWaiting, StayBesideRoom, MarkedInPlace, UntoldFree, MoveAfterSplat};
 ghost use Rattle.mps_model_vectors.specs.WrongUnits.{CollectWithoutMoves, StartDoesAll, TwoUnitsForOne, ReclaimedDownwards, WeakScannedAsExact, PollWhereClamped};
@@ -241,6 +243,57 @@ pub fn definalized_is_legal()
 /// ```
 pub fn weak_reading_is_legal()
     ensures { WeakReadingIsLegal }
+{}
+
+/// A history in which blocks fill gaps is legal: a `reserve` that fits in no gap is refused by the commit limit, a smaller
+/// one isn't, and a freed block's place is used again. The script, beside `limit_beside_gap`:
+///
+/// ```text
+/// arena 1 1
+/// table t 1
+/// pool p lo leaf
+/// ap x p exact
+/// reserve x l:4
+/// commit x t.0
+/// reserve x l:509
+/// reserve x l:4
+/// commit x t.0
+/// collect
+/// reserve x l:2
+/// commit x t.0
+/// addr t.0
+/// ```
+pub fn filling_gaps_is_legal()
+    ensures { FillingGapsIsLegal }
+{}
+
+/// A history of dependencies is legal: one is fresh before a flip of its zone and stale after it, and so is what it is
+/// merged into, until it is reset. The script, beside `stale_without_flip` and `fresh_after_move`:
+///
+/// ```text
+/// arena 8 8
+/// table t 4
+/// pool p amc front
+/// ap x p exact
+/// reserve x f:3:1
+/// init x 2 7
+/// commit x t.0
+/// num t.0 2
+/// ld d
+/// ldadd d t.0
+/// ldstale d
+/// start
+/// ldstale d
+/// ld q
+/// ldadd q t.0
+/// ldstale q
+/// ldmerge q d
+/// ldstale q
+/// ldreset q
+/// ldstale q
+/// ```
+pub fn depending_is_legal()
+    ensures { DependingIsLegal }
 {}
 
 /// `commit` can't answer `flipped` where no flip came.
