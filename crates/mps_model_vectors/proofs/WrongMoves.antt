@@ -4,8 +4,9 @@ use Rattle.mps_model.proofs.Reaching.{PathLeads-closed}
 use Rattle.mps_model_vectors.specs.OneBlock.{one_block}
 use Rattle.mps_model_vectors.specs.Weak.{weak_pair}
 use Rattle.mps_model_vectors.specs.Incremental.{linked}
+use Rattle.mps_model_vectors.specs.CollectingInOrder.{weak_and_linked}
 use Rattle.mps_model_vectors.specs.WrongMoves as steps
-use Rattle.mps_model_vectors.specs.WrongMoves.{unreachable_world, SplatOfReachable, splat_of_held, one_registration, two_posts, TwoPostsForOne, poked, MoveOfPinned, FreeOfWaiting, StayBesideRoom, MarkedInPlace, unreachable, UntoldFree, weak_and_linked, MoveAfterSplat}
+use Rattle.mps_model_vectors.specs.WrongMoves.{unreachable_world, SplatOfReachable, splat_of_held, one_registration, two_posts, TwoPostsForOne, poked, MoveOfPinned, FreeOfWaiting, StayBesideRoom, MarkedInPlace, unreachable, UntoldFree, MoveAfterSplat}
 use Rattle.mps_model_vectors.proofs.Refusing.{false_is_not_true, cannot_follow, cannot_follow_from}
 use Rattle.mps_model_vectors.proofs.Weak.{held_world, pair_leaves}
 use Rattle.mps_model_vectors.proofs.Finalized.{waiting_world, waiting_leaves}

@@ -14,6 +14,8 @@ pub mod Definalized
 pub mod WeakReading
 pub mod FillingGaps
 pub mod Depending
+pub mod CollectingInOrder
+pub mod Generations
 pub mod WrongAnswers
 pub mod WrongMoves
 pub mod WrongUnits

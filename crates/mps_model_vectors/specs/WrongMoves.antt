@@ -9,11 +9,12 @@ use Rattle.mps_model.specs.declared.reply.Reply.TheVariants as reply
 use Rattle.mps_model.specs.Graph.{HeadCell, NumberCell, Automatic, TableThing, PoolThing, PointThing}
 use Rattle.mps_model.specs.World.{World, Collected, Unclamped, empty_run, empty_world}
 use Rattle.mps_model.specs.Step.{Step, History}
-use Rattle.mps_model_vectors.specs.Script.{a, p, t, w, x, y, at_index, address, zones, step}
+use Rattle.mps_model_vectors.specs.Script.{a, p, t, x, at_index, address, zones, step}
 use Rattle.mps_model_vectors.specs.OneBlock.{one_block}
 use Rattle.mps_model_vectors.specs.Weak.{weak_pair}
 use Rattle.mps_model_vectors.specs.Finalized.{registering, first_message, waiting}
 use Rattle.mps_model_vectors.specs.Incremental.{linked}
+use Rattle.mps_model_vectors.specs.CollectingInOrder.{weak_and_linked, collect_linked}
 use Rattle.mps_model_vectors.specs.WrongAnswers.{CannotFollow}
 
 -- a weak reference is splatted whose target is in a slot
@@ -135,33 +136,16 @@ untold_free = step 8 call.Collect (moves.Flip (zones 0) 16 0 ∷ moves.End ∷ [
 abbrev pub UntoldFree : Type 0
 UntoldFree = CannotFollow unreachable untold_free
 
--- a weak object that refers to an object that nothing holds, and a copied block that refers to another one
-abbrev pub weak_and_linked : History
-weak_and_linked =
-    linked
-    ++ step 11 (call.Pool w kind.Awl 1) [] reply.Ok
-    ∷ step 12 (call.Point y w rank.Weak) [] reply.Ok
-    ∷ step 13 (call.Reserve y 0x201) (moves.Seg (address 0x2000) 1 1 0 ∷ []) reply.Ok
-    ∷ step 14 (call.Commit y (at_index t 1)) (moves.Commit (address 0x2000) 2 1 ∷ []) reply.Ok
-    ∷ step 15 (call.Reserve y 0x100000201) [] reply.Ok
-    ∷ step 16 (call.InitReference y 1 (at_index t 1)) [] reply.Ok
-    ∷ step 17 (call.Commit y (at_index t 2)) (moves.Commit (address 0x2010) 2 1 ∷ []) reply.Ok
-    ∷ step 18 (call.Clear (at_index t 1)) [] reply.Ok
-    ∷ []
-
 -- a block is moved after a splat
 abbrev pub move_after_splat : Step
 move_after_splat =
-    step 19 call.Collect
-    (moves.Flip (zones 2) 16 0
-    ∷ moves.Seg (address 0x3000) 1 0 0
-    ∷ moves.Moved (address 0x1018) (address 0x3000)
-    ∷ moves.Splat (address 0x2010) 1
+    collect_linked
+    (moves.Splat (address 0x2010) 1
     ∷ moves.Moved (address 0x1000) (address 0x3018)
     ∷ moves.Unseg (address 0x1000)
     ∷ moves.Free (address 0x2000)
     ∷ moves.End
-    ∷ []) reply.Ok
+    ∷ [])
 
 abbrev pub MoveAfterSplat : Type 0
 MoveAfterSplat = CannotFollow weak_and_linked move_after_splat

@@ -17,6 +17,8 @@ ghost use Rattle.mps_model_vectors.specs.Definalized.{DefinalizedIsLegal};
 ghost use Rattle.mps_model_vectors.specs.WeakReading.{WeakReadingIsLegal};
 ghost use Rattle.mps_model_vectors.specs.FillingGaps.{FillingGapsIsLegal};
 ghost use Rattle.mps_model_vectors.specs.Depending.{DependingIsLegal};
+ghost use Rattle.mps_model_vectors.specs.CollectingInOrder.{CollectingInOrderIsLegal};
+ghost use Rattle.mps_model_vectors.specs.Generations.{GenerationsIsLegal};
 ghost use Rattle.mps_model_vectors.specs.WrongAnswers.{FlippedWithoutFlip, CommitAcrossFlip, LimitBesideGap, LimitBesideRun, StaleWithoutFlip, FreshAfterMove, GetOfOldPlace};
 ghost use Rattle.mps_model_vectors.specs.WrongMoves.{SplatOfReachable, TwoPostsForOne, MoveOfPinned, FreeOfWaiting, StayBesideRoom, MarkedInPlace, UntoldFree, MoveAfterSplat};
 ghost use Rattle.mps_model_vectors.specs.WrongUnits.{CollectWithoutMoves, StartDoesAll, TwoUnitsForOne, ReclaimedDownwards, WeakScannedAsExact, PollWhereClamped};
@@ -294,6 +296,59 @@ pub fn filling_gaps_is_legal()
 /// ```
 pub fn depending_is_legal()
     ensures { DependingIsLegal }
+{}
+
+/// A history whose collection moves blocks, then splats a weak reference, and then gives back and frees, is legal. The
+/// script, beside `move_after_splat` and `marked_in_place`:
+///
+/// ```text
+/// arena 8 8
+/// table t 4
+/// pool p amc front
+/// ap x p exact
+/// reserve x f:3:1
+/// commit x t.1
+/// reserve x f:3:1
+/// init x 1 t.1
+/// commit x t.0
+/// clear t.1
+/// pool w awl front
+/// ap y w weak
+/// reserve y f:2:0
+/// commit y t.1
+/// reserve y f:2:1
+/// init y 1 t.1
+/// commit y t.2
+/// clear t.1
+/// collect
+/// live
+/// ```
+pub fn collecting_in_order_is_legal()
+    ensures { CollectingInOrderIsLegal }
+{}
+
+/// A history of a chain of two generations is legal: a block moves to the second and then within it, a flip that condemns
+/// nothing ends at once, `park` ends a collection, and `collect` ends one and does another. The script:
+///
+/// ```text
+/// arena 8 8
+/// chain q 1 1
+/// pool p amc leaf q
+/// table t 1
+/// ap x p exact
+/// reserve x l:2
+/// commit x t.0
+/// start q 0
+/// start
+/// park
+/// start q 0
+/// start q 2
+/// start q 1
+/// collect
+/// addr t.0
+/// ```
+pub fn generations_is_legal()
+    ensures { GenerationsIsLegal }
 {}
 
 /// `commit` can't answer `flipped` where no flip came.
