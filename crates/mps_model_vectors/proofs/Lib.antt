@@ -16,6 +16,8 @@ pub mod FillingGaps
 pub mod Depending
 pub mod CollectingInOrder
 pub mod Generations
+pub mod PokedEitherWay
+pub mod PostedInPlace
 pub mod Refusing
 pub mod WrongAnswers
 pub mod WrongMoves

@@ -19,6 +19,8 @@ ghost use Rattle.mps_model_vectors.specs.FillingGaps.{FillingGapsIsLegal};
 ghost use Rattle.mps_model_vectors.specs.Depending.{DependingIsLegal};
 ghost use Rattle.mps_model_vectors.specs.CollectingInOrder.{CollectingInOrderIsLegal};
 ghost use Rattle.mps_model_vectors.specs.Generations.{GenerationsIsLegal};
+ghost use Rattle.mps_model_vectors.specs.PokedEitherWay.{PokedEitherWayIsLegal};
+ghost use Rattle.mps_model_vectors.specs.PostedInPlace.{PostedInPlaceIsLegal};
 ghost use Rattle.mps_model_vectors.specs.WrongAnswers.{FlippedWithoutFlip, CommitAcrossFlip, LimitBesideGap, LimitBesideRun, StaleWithoutFlip, FreshAfterMove, GetOfOldPlace};
 ghost use Rattle.mps_model_vectors.specs.WrongMoves.{SplatOfReachable, TwoPostsForOne, MoveOfPinned, FreeOfWaiting, StayBesideRoom, MarkedInPlace, UntoldFree, MoveAfterSplat};
 ghost use Rattle.mps_model_vectors.specs.WrongUnits.{CollectWithoutMoves, StartDoesAll, TwoUnitsForOne, ReclaimedDownwards, WeakScannedAsExact, PollWhereClamped};
@@ -349,6 +351,51 @@ pub fn collecting_in_order_is_legal()
 /// ```
 pub fn generations_is_legal()
     ensures { GenerationsIsLegal }
+{}
+
+/// Two histories are legal that differ in what `poke` answers, at a block of a marking pool to which something led at the
+/// flip and nothing does any more: `block`, and it is kept, or `number`, and it is freed. The script:
+///
+/// ```text
+/// arena 8 8
+/// table t 2
+/// area a 1
+/// pool p ams front
+/// ap x p exact
+/// reserve x f:3:1
+/// commit x t.1
+/// reserve x f:3:1
+/// init x 1 t.1
+/// commit x t.0
+/// clear t.1
+/// start
+/// put t.0 1 t.1
+/// poke a.0 0x1000
+/// step 100
+/// live
+/// ```
+pub fn poked_either_way_is_legal()
+    ensures { PokedEitherWayIsLegal }
+{}
+
+/// A history in which a registered block of a marking pool is posted where it lies is legal. The script:
+///
+/// ```text
+/// arena 8 8
+/// table t 2
+/// pool p ams front
+/// ap x p exact
+/// reserve x f:2:0
+/// commit x t.0
+/// finalize t.0
+/// clear t.0
+/// collect
+/// message t.0
+/// message t.1
+/// addr t.0
+/// ```
+pub fn posted_in_place_is_legal()
+    ensures { PostedInPlaceIsLegal }
 {}
 
 /// `commit` can't answer `flipped` where no flip came.
