@@ -18,6 +18,7 @@ pub mod CollectingInOrder
 pub mod Generations
 pub mod PokedEitherWay
 pub mod PostedInPlace
+pub mod ReadingOn
 pub mod WrongAnswers
 pub mod WrongMoves
 pub mod WrongUnits

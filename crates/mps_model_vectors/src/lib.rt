@@ -21,6 +21,7 @@ ghost use Rattle.mps_model_vectors.specs.CollectingInOrder.{CollectingInOrderIsL
 ghost use Rattle.mps_model_vectors.specs.Generations.{GenerationsIsLegal};
 ghost use Rattle.mps_model_vectors.specs.PokedEitherWay.{PokedEitherWayIsLegal};
 ghost use Rattle.mps_model_vectors.specs.PostedInPlace.{PostedInPlaceIsLegal};
+ghost use Rattle.mps_model_vectors.specs.ReadingOn.{ReadingOnIsLegal};
 ghost use Rattle.mps_model_vectors.specs.WrongAnswers.{FlippedWithoutFlip, CommitAcrossFlip, LimitBesideGap, LimitBesideRun, StaleWithoutFlip, FreshAfterMove, GetOfOldPlace};
 ghost use Rattle.mps_model_vectors.specs.WrongMoves.{SplatOfReachable, TwoPostsForOne, MoveOfPinned, FreeOfWaiting, StayBesideRoom, MarkedInPlace, UntoldFree, MoveAfterSplat};
 ghost use Rattle.mps_model_vectors.specs.WrongUnits.{CollectWithoutMoves, StartDoesAll, TwoUnitsForOne, ReclaimedDownwards, WeakScannedAsExact, PollWhereClamped};
@@ -396,6 +397,32 @@ pub fn poked_either_way_is_legal()
 /// ```
 pub fn posted_in_place_is_legal()
     ensures { PostedInPlaceIsLegal }
+{}
+
+/// A history in which the read barrier of one `get` moves two blocks is legal: the one that is read, and the one that this
+/// one refers to, since it moved into the segment that is scanned. The script:
+///
+/// ```text
+/// arena 8 8
+/// table t 4
+/// pool p amc front
+/// ap x p exact
+/// reserve x f:3:1
+/// commit x t.1
+/// reserve x f:3:1
+/// init x 1 t.1
+/// commit x t.1
+/// reserve x f:3:1
+/// init x 1 t.1
+/// commit x t.0
+/// clear t.1
+/// start
+/// get t.1 t.0 1
+/// get t.1 t.1 1
+/// addr t.1
+/// ```
+pub fn reading_on_is_legal()
+    ensures { ReadingOnIsLegal }
 {}
 
 /// `commit` can't answer `flipped` where no flip came.
