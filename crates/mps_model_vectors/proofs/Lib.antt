@@ -9,6 +9,7 @@ pub mod Staying
 pub mod Polled
 pub mod Pinned
 pub mod Manual
+pub mod OneSize
 pub mod Reclaiming
 pub mod Definalized
 pub mod WeakReading
@@ -19,6 +20,7 @@ pub mod Generations
 pub mod PokedEitherWay
 pub mod PostedInPlace
 pub mod ReadingOn
+pub mod OtherCommands
 pub mod Refusing
 pub mod WrongAnswers
 pub mod WrongMoves

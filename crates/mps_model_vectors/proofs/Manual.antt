@@ -65,7 +65,10 @@ sharing_is_legal = (
         answered tt refl refl tt refl refl refl refl refl,
         (
           answered tt refl refl tt refl refl refl refl refl,
-          (answered tt refl refl tt refl refl refl refl refl, tt),
+          (
+            answered tt refl refl tt refl refl refl refl refl,
+            (answered tt refl refl tt refl refl refl refl refl, tt),
+          ),
         ),
       ),
     ),

@@ -37,6 +37,7 @@ sharing =
     ∷ step 12 (call.Store (at_index b 3) 1 7) [] reply.Ok
     ∷ step 13 (call.Load (at_index b 3) 1) [] (reply.Number 7)
     ∷ step 14 call.Live [] (reply.Pair 2 514)
+    ∷ step 15 (call.Limit 1) [] (reply.Refused refusal.BelowCommitted)
     ∷ []
 
 abbrev pub manual : History

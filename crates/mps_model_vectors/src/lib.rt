@@ -12,6 +12,7 @@ ghost use Rattle.mps_model_vectors.specs.Staying.{StayingIsLegal};
 ghost use Rattle.mps_model_vectors.specs.Polled.{PolledIsLegal};
 ghost use Rattle.mps_model_vectors.specs.Pinned.{PinnedIsLegal};
 ghost use Rattle.mps_model_vectors.specs.Manual.{ManualIsLegal};
+ghost use Rattle.mps_model_vectors.specs.OneSize.{OneSizeIsLegal};
 ghost use Rattle.mps_model_vectors.specs.Reclaiming.{ReclaimingIsLegal};
 ghost use Rattle.mps_model_vectors.specs.Definalized.{DefinalizedIsLegal};
 ghost use Rattle.mps_model_vectors.specs.WeakReading.{WeakReadingIsLegal};
@@ -22,6 +23,7 @@ ghost use Rattle.mps_model_vectors.specs.Generations.{GenerationsIsLegal};
 ghost use Rattle.mps_model_vectors.specs.PokedEitherWay.{PokedEitherWayIsLegal};
 ghost use Rattle.mps_model_vectors.specs.PostedInPlace.{PostedInPlaceIsLegal};
 ghost use Rattle.mps_model_vectors.specs.ReadingOn.{ReadingOnIsLegal};
+ghost use Rattle.mps_model_vectors.specs.OtherCommands.{OtherCommandsIsLegal};
 ghost use Rattle.mps_model_vectors.specs.WrongAnswers.{FlippedWithoutFlip, CommitAcrossFlip, LimitBesideGap, LimitBesideRun, StaleWithoutFlip, FreshAfterMove, GetOfOldPlace};
 ghost use Rattle.mps_model_vectors.specs.WrongMoves.{SplatOfReachable, TwoPostsForOne, MoveOfPinned, FreeOfWaiting, StayBesideRoom, MarkedInPlace, UntoldFree, MoveAfterSplat};
 ghost use Rattle.mps_model_vectors.specs.WrongUnits.{CollectWithoutMoves, StartDoesAll, TwoUnitsForOne, ReclaimedDownwards, WeakScannedAsExact, PollWhereClamped};
@@ -163,6 +165,7 @@ pub fn pinned_is_legal()
 /// store b.3 1 7
 /// load b.3 1
 /// live
+/// limit 1
 /// ```
 pub fn manual_is_legal()
     ensures { ManualIsLegal }
@@ -423,6 +426,53 @@ pub fn posted_in_place_is_legal()
 /// ```
 pub fn reading_on_is_legal()
     ensures { ReadingOnIsLegal }
+{}
+
+/// A history of other commands is legal: they read and write objects, areas and slots, and drop an area and a point. The
+/// script, with a last line that is in no form that is built:
+///
+/// ```text
+/// arena 8 4
+/// limit 8
+/// table t 2
+/// area a 2
+/// pool p amc mapped
+/// ap x p exact
+/// reserve x m:4:2
+/// commit x t.0
+/// setnum t.0 2 5
+/// put t.0 1 t.0
+/// copy t.1 t.0
+/// same t.1 t.0
+/// head t.1
+/// dump 0x1000
+/// pin a.0 t.1
+/// poke a.1 0x5
+/// peek a.1
+/// droproot a
+/// dropap x
+/// clear t.1
+/// get t.1 t.1 1
+/// later
+/// ```
+pub fn other_commands_is_legal()
+    ensures { OtherCommandsIsLegal }
+{}
+
+/// A history of manual blocks of one size is legal: a freed block's place is used again, and its segment stays. The script:
+///
+/// ```text
+/// arena 8 8
+/// pool v mfs 2
+/// blocks b 2
+/// alloc v 2 b.0
+/// free b.0
+/// alloc v 2 b.1
+/// alloc v 3 b.0
+/// committed
+/// ```
+pub fn one_size_is_legal()
+    ensures { OneSizeIsLegal }
 {}
 
 /// `commit` can't answer `flipped` where no flip came.
