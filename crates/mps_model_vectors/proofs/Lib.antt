@@ -12,7 +12,7 @@ pub mod Manual
 pub mod OneSize
 pub mod Reclaiming
 pub mod Definalized
-pub mod WeakReading
+pub mod WeakReadEitherWay
 pub mod FillingGaps
 pub mod Depending
 pub mod CollectingInOrder

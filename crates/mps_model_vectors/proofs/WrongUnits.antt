@@ -20,7 +20,7 @@ use Rattle.mps_model_vectors.specs.WrongUnits as steps
 use Rattle.mps_model_vectors.specs.WrongUnits.{CollectWithoutMoves, StartDoesAll, TwoUnitsForOne, ReclaimedDownwards, WeakScannedAsExact, PollWhereClamped, upper_first}
 use Rattle.mps_model_vectors.specs.Polled.{clamped}
 use Rattle.mps_model_vectors.specs.Reclaiming.{two_to_reclaim}
-use Rattle.mps_model_vectors.specs.WeakReading.{weakly_held}
+use Rattle.mps_model_vectors.specs.WeakReadEitherWay.{weakly_held}
 use Rattle.mps_model_vectors.proofs.Refusing.{false_is_not_true, cannot_follow}
 
 -- what is appended to isn't empty, where the middle isn't

@@ -9,7 +9,7 @@ use Rattle.mps_model_vectors.specs.OneBlock.{one_block}
 use Rattle.mps_model_vectors.specs.Copying.{copying_moves}
 use Rattle.mps_model_vectors.specs.Polled.{clamped, clamped_reserve}
 use Rattle.mps_model_vectors.specs.Reclaiming.{two_to_reclaim, one_unit}
-use Rattle.mps_model_vectors.specs.WeakReading.{weakly_held}
+use Rattle.mps_model_vectors.specs.WeakReadEitherWay.{weakly_held}
 use Rattle.mps_model_vectors.specs.WrongAnswers.{CannotFollow}
 
 -- `collect` does nothing

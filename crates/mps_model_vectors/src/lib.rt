@@ -15,7 +15,7 @@ ghost use Rattle.mps_model_vectors.specs.Manual.{ManualIsLegal};
 ghost use Rattle.mps_model_vectors.specs.OneSize.{OneSizeIsLegal};
 ghost use Rattle.mps_model_vectors.specs.Reclaiming.{ReclaimingIsLegal};
 ghost use Rattle.mps_model_vectors.specs.Definalized.{DefinalizedIsLegal};
-ghost use Rattle.mps_model_vectors.specs.WeakReading.{WeakReadingIsLegal};
+ghost use Rattle.mps_model_vectors.specs.WeakReadEitherWay.{WeakReadEitherWayIsLegal};
 ghost use Rattle.mps_model_vectors.specs.FillingGaps.{FillingGapsIsLegal};
 ghost use Rattle.mps_model_vectors.specs.Depending.{DependingIsLegal};
 ghost use Rattle.mps_model_vectors.specs.CollectingInOrder.{CollectingInOrderIsLegal};
@@ -29,39 +29,122 @@ ghost use Rattle.mps_model_vectors.specs.WrongMoves.{SplatOfReachable, TwoPostsF
 ghost use Rattle.mps_model_vectors.specs.WrongUnits.{CollectWithoutMoves, StartDoesAll, TwoUnitsForOne, ReclaimedDownwards, WeakScannedAsExact, PollWhereClamped};
 ghost use Rattle.mps_model_vectors.specs.Placing.{PlacementsCompute};
 
-/// The history of a script that commits one block and prints 7 is legal.
+/// The history of a script that commits one block and prints 7 is legal. The script:
+///
+/// ```text
+/// arena 8 8
+/// table t 4
+/// pool p amc front
+/// ap x p exact
+/// reserve x f:3:1
+/// init x 2 7
+/// commit x t.0
+/// num t.0 2
+/// ```
 pub fn one_block_is_legal()
     ensures { OneBlockIsLegal }
 {}
 
-/// The history of a script whose one block a collection copies is legal.
+/// The history of a script whose one block a collection copies is legal. The script:
+///
+/// ```text
+/// arena 8 8
+/// table t 4
+/// pool p amc front
+/// ap x p exact
+/// reserve x f:3:1
+/// init x 2 7
+/// commit x t.0
+/// num t.0 2
+/// addr t.0
+/// collect
+/// addr t.0
+/// committed
+/// dump 0x2000
+/// ```
 pub fn copying_is_legal()
     ensures { CopyingIsLegal }
 {}
 
-/// Its log has 256 bytes, and replaying it gives the live blocks.
+/// The log of that history has 256 bytes, and replaying it gives the live blocks.
 pub fn copying_is_replayed()
     ensures { CopyingIsReplayed }
 {}
 
-/// A history in which a flip ended a reservation, so that `commit` answers `flipped`, is legal.
+/// A history in which a flip ended a reservation, so that `commit` answers `flipped`, is legal. The script:
+///
+/// ```text
+/// arena 8 8
+/// table t 4
+/// pool p amc front
+/// ap x p exact
+/// reserve x f:2:0
+/// collect
+/// init x 1 5
+/// commit x t.0
+/// commit x t.0
+/// committed
+/// ```
 pub fn flipped_is_legal()
     ensures { FlippedIsLegal }
 {}
 
-/// A history in which the second collection splats a weak reference is legal.
+/// A history in which the second collection splats a weak reference is legal. The script:
+///
+/// ```text
+/// arena 8 8
+/// table t 3
+/// pool w awl front
+/// ap x w exact
+/// ap y w weak
+/// reserve x f:2:0
+/// commit x t.0
+/// reserve y f:2:1
+/// init y 1 t.0
+/// commit y t.1
+/// collect
+/// get t.2 t.1 1
+/// same t.2 t.0
+/// clear t.2
+/// clear t.0
+/// collect
+/// get t.2 t.1 1
+/// null t.2
+/// ```
 pub fn weak_is_legal()
     ensures { WeakIsLegal }
 {}
 
-/// A history in which a block that was registered twice is posted twice, and then freed, is legal.
+/// A history in which a block that was registered twice is posted twice, and then freed, is legal. The script:
+///
+/// ```text
+/// arena 8 8
+/// table t 4
+/// pool p amc front
+/// ap x p exact
+/// reserve x f:2:0
+/// commit x t.0
+/// finalize t.0
+/// finalize t.0
+/// clear t.0
+/// collect
+/// message t.0
+/// message t.1
+/// clear t.0
+/// collect
+/// message t.0
+/// clear t.0
+/// collect
+/// message t.0
+/// live
+/// ```
 pub fn finalized_is_legal()
     ensures { FinalizedIsLegal }
 {}
 
 /// A history in which a collection goes on in pieces is legal: `start` moves the block in a slot, the read barrier of a
-/// `get` moves the block that is read, and `step` scans both, gives the old segment back and ends. The script, whose
-/// `get` at another place `get_of_old_place` refuses:
+/// `get` moves the block that is read, and `step` scans both, gives the old segment back and ends. The script, beside
+/// `get_of_old_place`:
 ///
 /// ```text
 /// arena 8 8
@@ -100,9 +183,9 @@ pub fn staying_is_legal()
     ensures { StayingIsLegal }
 {}
 
-/// A history in which a `reserve` polls is legal: not while the arena is clamped, where `poll_where_clamped` begins, but
-/// once it is released, with the flip of the generation that is due; and the next one polls the units that end that
-/// collection. The script:
+/// A history in which a `reserve` polls is legal: not while the arena is clamped, but once it is released, with the
+/// flip of the generation that is due; and the next one polls the units that end that collection. The script, beside
+/// `poll_where_clamped`:
 ///
 /// ```text
 /// arena 8 8
@@ -223,8 +306,8 @@ pub fn definalized_is_legal()
     ensures { DefinalizedIsLegal }
 {}
 
-/// A history in which a weak reference is read while a collection runs is legal: the read barrier moves the target, and in
-/// the next collection it splats the reference. Both are legal where nothing but the reference leads to the target. The
+/// Two histories are legal that differ in what the read barrier does at a weak reference, where nothing else leads to its
+/// target: it moves the target, so that `null` answers `no`, or it splats the reference, so that it answers `yes`. The
 /// script, beside `weak_scanned_as_exact`:
 ///
 /// ```text
@@ -242,15 +325,11 @@ pub fn definalized_is_legal()
 /// clear t.0
 /// start
 /// get t.0 t.1 1
-/// step 100
-/// clear t.0
-/// start
-/// get t.0 t.1 1
 /// null t.0
 /// step 100
 /// ```
-pub fn weak_reading_is_legal()
-    ensures { WeakReadingIsLegal }
+pub fn weak_read_either_way_is_legal()
+    ensures { WeakReadEitherWayIsLegal }
 {}
 
 /// A history in which blocks fill gaps is legal: a `reserve` that fits in no gap is refused by the commit limit, a smaller

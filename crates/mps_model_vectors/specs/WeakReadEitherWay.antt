@@ -1,14 +1,15 @@
--- A weak reference that is read while a collection runs: the read barrier moves its target, or it splats the reference where
--- nothing else leads to the target.
+-- A weak reference that is read while a collection runs, and nothing else leads to its target: the read barrier may move the
+-- target, or splat the reference.
 use Rattle.std.specs.Prelude.{ℕ, true, false, Option, Some, None, List, [], ◌∷◌, ◌++◌}
+use Rattle.mps_base.specs.declared.moves.Move.{Move}
 use Rattle.mps_base.specs.declared.moves.Move.TheVariants as moves
 use Rattle.mps_base.specs.declared.names.Kind.TheVariants as kind
 use Rattle.mps_base.specs.declared.names.Rank.TheVariants as rank
 use Rattle.mps_model.specs.declared.call.Call.TheVariants as call
 use Rattle.mps_model.specs.declared.reply.Reply.TheVariants as reply
-use Rattle.mps_model.specs.Step.{History}
+use Rattle.mps_model.specs.Step.{Step, History}
 use Rattle.mps_model.specs.Graph.{Graph, HeadCell, NumberCell, ReferenceCell, Automatic, TableThing, PoolThing, PointThing}
-use Rattle.mps_model.specs.Collection.{Collection, Phase}
+use Rattle.mps_model.specs.Collection.{Phase}
 use Rattle.mps_model.specs.World.{World, Segment, Tail, Collected, Unclamped, empty_run, empty_world}
 use Rattle.mps_model.specs.History.{IsLegalHistory}
 use Rattle.mps_model_vectors.specs.Script.{t, p, w, x, y, at_index, address, zones, step}
@@ -29,34 +30,29 @@ weakly_held =
     ∷ step 13 call.Start (moves.Flip (zones 2) 16 0 ∷ []) reply.Ok
     ∷ []
 
--- the block is moved as it is read; the collection ends, and the block is dropped again
-abbrev pub target_moved : History
-target_moved =
-    step 14 (call.Get (at_index t 0) (at_index t 1) 1)
-    (moves.Seg (address 0x3000) 1 0 0 ∷ moves.Moved (address 0x1000) (address 0x3000) ∷ []) reply.Ok
+-- the weak reference is read, with these moves of the barrier
+abbrev pub weak_read : List Move → Step
+weak_read made = step 14 (call.Get (at_index t 0) (at_index t 1) 1) made reply.Ok
+
+-- the block is moved as it is read
+abbrev pub read_moving : Step
+read_moving = weak_read (moves.Seg (address 0x3000) 1 0 0 ∷ moves.Moved (address 0x1000) (address 0x3000) ∷ [])
+
+abbrev pub kept : History
+kept =
+    step 15 (call.Null (at_index t 0)) [] reply.No
+    ∷ step 16 (call.Step 100) (moves.Unseg (address 0x1000) ∷ moves.End ∷ []) reply.Idle
     ∷ []
 
-abbrev pub dropped_again : History
-dropped_again =
-    step 15 (call.Step 100) (moves.Unseg (address 0x1000) ∷ moves.End ∷ []) reply.Idle
-    ∷ step 16 (call.Clear (at_index t 0)) [] reply.Ok
-    ∷ []
+-- or the reference is splatted as it is read, and the block goes
+abbrev pub read_splatting : Step
+read_splatting = weak_read (moves.Splat (address 0x2000) 1 ∷ [])
 
--- in the next collection the reference is splatted as it is read, and the block goes
-abbrev pub reference_splatted : History
-reference_splatted =
-    step 17 call.Start (moves.Flip (zones 8) 16 0 ∷ []) reply.Ok
-    ∷ step 18 (call.Get (at_index t 0) (at_index t 1) 1) (moves.Splat (address 0x2000) 1 ∷ []) reply.Ok
+abbrev pub gone : History
+gone =
+    step 15 (call.Null (at_index t 0)) [] reply.Yes
+    ∷ step 16 (call.Step 100) (moves.Free (address 0x1000) ∷ moves.Unseg (address 0x1000) ∷ moves.End ∷ []) reply.Idle
     ∷ []
-
-abbrev pub target_gone : History
-target_gone =
-    step 19 (call.Null (at_index t 0)) [] reply.Yes
-    ∷ step 20 (call.Step 100) (moves.Free (address 0x3000) ∷ moves.Unseg (address 0x3000) ∷ moves.End ∷ []) reply.Idle
-    ∷ []
-
-abbrev pub weak_reading : History
-weak_reading = weakly_held ++ (target_moved ++ (dropped_again ++ (reference_splatted ++ target_gone)))
 
 -- the graph of the block and the weak object, with what slot 0 holds and what the reference refers to
 abbrev pub weakly_graph : (held target : Option ℕ) → Graph
@@ -87,9 +83,10 @@ weakly_graph held target = record {
 abbrev pub weak_segment : Segment
 weak_segment = record { base = 0x2000; grains = 1; pool = 1; generation = 0; rank = rank.Weak }
 
--- the world of a graph of the two, with the block's place, what is at hand, what flips left, and the running collection
-abbrev pub weakly_world : Graph → List Segment → (place : ℕ) → List Tail → (flips : List ℕ) → Option Collection → World
-weakly_world graph segments place tails flips collection = record {
+-- the world of a graph of the two while the collection runs, with the segments held, the block's place, what is at hand, what
+-- was moved and held, and how far the collection is
+abbrev pub weakly_world : Graph → List Segment → (place : ℕ) → List Tail → (placed had : List ℕ) → Phase → World
+weakly_world graph segments place tails placed had phase = record {
   graph = graph;
   grains = 8;
   limit = 8;
@@ -101,28 +98,24 @@ weakly_world graph segments place tails flips collection = record {
   point_places = record { reserved_at = 0x1000; buffer = empty_run } ∷ record { reserved_at = 0x2000; buffer = empty_run } ∷ [];
   tails = tails;
   state = Unclamped;
-  flips = flips;
+  flips = 2 ∷ [];
   dependencies = [];
-  collection = collection;
+  collection = Some (record {
+    condemned_segments = 0x1000 ∷ 0x2000 ∷ [];
+    condemned = 0 ∷ 1 ∷ [];
+    pinned = [];
+    placed = placed;
+    had = had;
+    origins = record { graph = weakly_graph None (Some 0); ids = 1 ∷ [] } ∷ [];
+    registered_before = 0;
+    examined = 0;
+    phase = phase;
+    reclaimed_to = 0;
+    units = 4;
+    spent = 0;
+  });
 }
 
--- the collection of these segments, with what was moved and held and how far it is
-abbrev pub weakly_collection : (segments placed had : List ℕ) → Phase → Collection
-weakly_collection segments placed had phase = record {
-  condemned_segments = segments;
-  condemned = 0 ∷ 1 ∷ [];
-  pinned = [];
-  placed = placed;
-  had = had;
-  origins = record { graph = weakly_graph None (Some 0); ids = 1 ∷ [] } ∷ [];
-  registered_before = 0;
-  examined = 0;
-  phase = phase;
-  reclaimed_to = 0;
-  units = 4;
-  spent = 0;
-}
-
--- the history is legal
-abbrev pub WeakReadingIsLegal : Type 0
-WeakReadingIsLegal = IsLegalHistory weak_reading
+-- both histories are legal
+abbrev pub WeakReadEitherWayIsLegal : Type 0
+WeakReadEitherWayIsLegal = IsLegalHistory (weakly_held ++ (read_moving ∷ kept)) × IsLegalHistory (weakly_held ++ (read_splatting ∷ gone))
