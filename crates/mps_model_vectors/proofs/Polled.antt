@@ -6,40 +6,40 @@ use Rattle.mps_model.specs.Units.{scans, reclaims}
 use Rattle.mps_model.proofs.Appending.{IsLegalFrom-then}
 use Rattle.mps_model.proofs.Reaching.{PathLeads-closed}
 use Rattle.mps_model_vectors.specs.Script.{address, grain_segment, words, tail}
-use Rattle.mps_model_vectors.specs.Polled.{clamped, released, flip_polled, grain_committed, units_polled, grain_of_cells, large_block, small_block, polled_graph, polled_world, polled_collection, PolledIsLegal}
+use Rattle.mps_model_vectors.specs.Polled.{clamped, released, flip_polled, grain_committed, units_polled, grain_of_cells, large_block, grain_block, small_block, large_segment, polled_graph, polled_world, polled_collection, PolledIsLegal}
 use Rattle.mps_model_vectors.proofs.Refusing.{false_is_not_true}
 use Rattle.mps_model_vectors.proofs.Steps.{answered}
 
 -- the arena clamped; unclamped again; with a collection and an open reservation; and with that committed
 abbrev held : World
 held =
-    polled_world (polled_graph (large_block ∷ []) 0 None) (grain_segment 0x1000 0 ∷ []) (Some 0x1000 ∷ [])
-    (record { reserved_at = 0x1000; buffer = words 1024 0 }) [] Clamped [] None
+    polled_world (polled_graph (large_block ∷ []) 0 None) (large_segment ∷ []) (Some 0x1000 ∷ [])
+    (record { reserved_at = 0x1000; buffer = words 1536 0 }) [] Clamped [] None
 
 abbrev unclamped : World
 unclamped =
-    polled_world (polled_graph (large_block ∷ small_block ∷ []) 1 None) (grain_segment 0x1000 0 ∷ grain_segment 0x2000 0 ∷ [])
-    (Some 0x1000 ∷ Some 0x2000 ∷ [])
-    (record { reserved_at = 0x2000; buffer = words 1026 510 }) [] Unclamped [] None
+    polled_world (polled_graph (large_block ∷ small_block ∷ []) 1 None) (large_segment ∷ grain_segment 0x3000 0 ∷ [])
+    (Some 0x1000 ∷ Some 0x3000 ∷ [])
+    (record { reserved_at = 0x3000; buffer = words 1538 510 }) [] Unclamped [] None
 
 abbrev four_segments : List Segment
-four_segments = grain_segment 0x1000 0 ∷ grain_segment 0x2000 0 ∷ grain_segment 0x3000 0 ∷ grain_segment 0x4000 0 ∷ []
+four_segments = large_segment ∷ grain_segment 0x3000 0 ∷ grain_segment 0x4000 0 ∷ grain_segment 0x5000 0 ∷ []
 
 abbrev behind_small : List Tail
-behind_small = tail 1538 510
+behind_small = tail 2050 510
 
 abbrev flipped : World
 flipped =
     polled_world
     (polled_graph (large_block ∷ small_block ∷ []) 1 (Some (record { head = 0x20003; cells = grain_of_cells; is_doomed = false })))
-    four_segments (Some 0x1000 ∷ Some 0x3000 ∷ [])
-    (record { reserved_at = 0x4000; buffer = words 2560 0 }) behind_small Unclamped (6 ∷ []) (Some (polled_collection (1 ∷ [])))
+    four_segments (Some 0x1000 ∷ Some 0x4000 ∷ [])
+    (record { reserved_at = 0x5000; buffer = words 3072 0 }) behind_small Unclamped (14 ∷ []) (Some (polled_collection (1 ∷ [])))
 
 abbrev committed : World
 committed =
-    polled_world (polled_graph (large_block ∷ small_block ∷ large_block ∷ []) 2 None)
-    four_segments (Some 0x1000 ∷ Some 0x3000 ∷ Some 0x4000 ∷ [])
-    (record { reserved_at = 0x4000; buffer = words 2560 0 }) behind_small Unclamped (6 ∷ []) (Some (polled_collection (2 ∷ 1 ∷ [])))
+    polled_world (polled_graph (large_block ∷ small_block ∷ grain_block ∷ []) 2 None)
+    four_segments (Some 0x1000 ∷ Some 0x4000 ∷ Some 0x5000 ∷ [])
+    (record { reserved_at = 0x5000; buffer = words 3072 0 }) behind_small Unclamped (14 ∷ []) (Some (polled_collection (2 ∷ 1 ∷ [])))
 
 clamped_leaves : world_after_steps empty_world clamped ≡ held
 clamped_leaves = refl
@@ -132,7 +132,7 @@ units_are_legal = (
               []
               ∷ []
               ∷ (moves.Free (address 0x1000) ∷ moves.Unseg (address 0x1000) ∷ [])
-              ∷ (moves.Unseg (address 0x2000) ∷ moves.End ∷ [])
+              ∷ (moves.Unseg (address 0x3000) ∷ moves.End ∷ [])
               ∷ [];
           cut = refl;
           row = (
@@ -144,7 +144,7 @@ units_are_legal = (
               (
                 reclaims (record { base = 0x1000; freed = 0x1000 ∷ []; condemned = refl; in_turn = refl; ascending = refl; in_segment = refl; whole = refl }),
                 refl,
-                reclaims (record { base = 0x2000; freed = []; condemned = refl; in_turn = refl; ascending = refl; in_segment = refl; whole = refl }),
+                reclaims (record { base = 0x3000; freed = []; condemned = refl; in_turn = refl; ascending = refl; in_segment = refl; whole = refl }),
               ),
             ),
           );

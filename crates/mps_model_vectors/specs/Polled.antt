@@ -18,12 +18,12 @@ use Rattle.mps_model_vectors.specs.Script.{p, q, t, x, at_index, address, zones,
 abbrev pub clamped : History
 clamped =
     step 1 (call.Arena 8 8) [] reply.Ok
-    ∷ step 2 (call.Chain q 1 (replicate 8 0)) [] reply.Ok
+    ∷ step 2 (call.Chain q 1 (1 ∷ replicate 7 0)) [] reply.Ok
     ∷ step 3 (call.PoolOnChain p kind.Amc 3 q) [] reply.Ok
     ∷ step 4 (call.Table t 1) [] reply.Ok
     ∷ step 5 (call.Point x p rank.Exact) [] reply.Ok
-    ∷ step 6 (call.Reserve x 0x20003) (moves.Seg (address 0x1000) 1 0 0 ∷ []) reply.Ok
-    ∷ step 7 (call.Commit x (at_index t 0)) (moves.Commit (address 0x1000) 512 0 ∷ []) reply.Ok
+    ∷ step 6 (call.Reserve x 0x40003) (moves.Seg (address 0x1000) 2 0 0 ∷ []) reply.Ok
+    ∷ step 7 (call.Commit x (at_index t 0)) (moves.Commit (address 0x1000) 1024 0 ∷ []) reply.Ok
     ∷ step 8 call.Clamp [] reply.Ok
     ∷ []
 
@@ -34,8 +34,8 @@ clamped_reserve made = step 9 (call.Reserve x 0x203) made reply.Ok
 -- it takes a segment and polls nothing
 abbrev pub released : History
 released =
-    clamped_reserve (moves.Seg (address 0x2000) 1 0 0 ∷ [])
-    ∷ step 10 (call.Commit x (at_index t 0)) (moves.Commit (address 0x2000) 2 0 ∷ []) reply.Ok
+    clamped_reserve (moves.Seg (address 0x3000) 1 0 0 ∷ [])
+    ∷ step 10 (call.Commit x (at_index t 0)) (moves.Commit (address 0x3000) 2 0 ∷ []) reply.Ok
     ∷ step 11 call.Release [] reply.Ok
     ∷ []
 
@@ -43,14 +43,14 @@ released =
 abbrev pub flip_polled : Step
 flip_polled =
     step 12 (call.Reserve x 0x20003)
-    (moves.Flip (zones 6) 0 0
-    ∷ moves.Seg (address 0x3000) 1 0 0
-    ∷ moves.Moved (address 0x2000) (address 0x3000)
+    (moves.Flip (zones 14) 0 0
     ∷ moves.Seg (address 0x4000) 1 0 0
+    ∷ moves.Moved (address 0x3000) (address 0x4000)
+    ∷ moves.Seg (address 0x5000) 1 0 0
     ∷ []) reply.Ok
 
 abbrev pub grain_committed : Step
-grain_committed = step 13 (call.Commit x (at_index t 0)) (moves.Commit (address 0x4000) 512 0 ∷ []) reply.Ok
+grain_committed = step 13 (call.Commit x (at_index t 0)) (moves.Commit (address 0x5000) 512 0 ∷ []) reply.Ok
 
 -- the next one polls units: they end the collection, and the lowest grain is free again for its segment
 abbrev pub units_polled : History
@@ -58,7 +58,7 @@ units_polled =
     step 14 (call.Reserve x 0x203)
     (moves.Free (address 0x1000)
     ∷ moves.Unseg (address 0x1000)
-    ∷ moves.Unseg (address 0x2000)
+    ∷ moves.Unseg (address 0x3000)
     ∷ moves.End
     ∷ moves.Seg (address 0x1000) 1 0 0
     ∷ []) reply.Ok
@@ -72,9 +72,12 @@ polled = clamped ++ (released ++ (flip_polled ∷ grain_committed ∷ units_poll
 abbrev pub grain_of_cells : List Cell
 grain_of_cells = HeadCell ∷ replicate 511 (NumberCell 0)
 
--- a block that fills a grain, and one of two words
+-- a block that fills two grains, one that fills a grain, and one of two words
 abbrev pub large_block : Object
-large_block = record { pool = 0; body = Automatic 0x20003 grain_of_cells false }
+large_block = record { pool = 0; body = Automatic 0x40003 (HeadCell ∷ replicate 1023 (NumberCell 0)) false }
+
+abbrev pub grain_block : Object
+grain_block = record { pool = 0; body = Automatic 0x20003 grain_of_cells false }
 
 abbrev pub small_block : Object
 small_block = record { pool = 0; body = Automatic 0x203 (HeadCell ∷ NumberCell 0 ∷ []) false }
@@ -105,7 +108,7 @@ polled_world graph segments places at_point tails state flips collection = recor
   limit = 8;
   formats = empty_world.formats;
   pools = record { kind = Collected kind.Amc; format = 3; chain = Some 0 } ∷ [];
-  chains = (0 ∷ []) ∷ [];
+  chains = (1 ∷ []) ∷ [];
   segments = segments;
   places = places;
   point_places = at_point ∷ [];
@@ -116,10 +119,14 @@ polled_world graph segments places at_point tails state flips collection = recor
   collection = collection;
 }
 
+-- the segment of the two grains
+abbrev pub large_segment : Segment
+large_segment = record { base = 0x1000; grains = 2; pool = 0; generation = 0; rank = rank.Exact }
+
 -- the collection that the poll began, where the client held these since
 abbrev pub polled_collection : (had : List ℕ) → Collection
 polled_collection had = record {
-  condemned_segments = 0x1000 ∷ 0x2000 ∷ [];
+  condemned_segments = 0x1000 ∷ 0x3000 ∷ [];
   condemned = 0 ∷ 1 ∷ [];
   pinned = [];
   placed = 1 ∷ [];

@@ -66,10 +66,10 @@ WeakScannedAsExact = CannotFollow weakly_held weak_scanned
 abbrev pub clamped_poll : Step
 clamped_poll =
     clamped_reserve
-    (moves.Flip (zones 2) 0 0
-    ∷ moves.Seg (address 0x2000) 1 0 0
-    ∷ moves.Moved (address 0x1000) (address 0x2000)
-    ∷ moves.Seg (address 0x3000) 1 0 0
+    (moves.Flip (zones 6) 0 0
+    ∷ moves.Seg (address 0x3000) 2 0 0
+    ∷ moves.Moved (address 0x1000) (address 0x3000)
+    ∷ moves.Seg (address 0x5000) 1 0 0
     ∷ [])
 
 abbrev pub PollWhereClamped : Type 0

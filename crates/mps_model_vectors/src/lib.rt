@@ -85,7 +85,7 @@ pub fn staying_is_legal()
 
 /// A history in which a `reserve` polls is legal: not while the arena is clamped, but once it is released, with the
 /// flip of the generation that is due; and the next one polls the units that end that collection. The script, beside
-/// `poll_where_clamped`: `arena 8 8; chain q 0; pool p amc leaf q; table t 1; ap x p exact; reserve x l:512; commit x
+/// `poll_where_clamped`: `arena 8 8; chain q 1; pool p amc leaf q; table t 1; ap x p exact; reserve x l:1024; commit x
 /// t.0; clamp; reserve x l:2; commit x t.0; release; reserve x l:512; commit x t.0; reserve x l:2; committed`.
 pub fn polled_is_legal()
     ensures { PolledIsLegal }
