@@ -5,13 +5,13 @@ use Rattle.mps_model.proofs.Appending.{IsLegalFrom-then}
 use Rattle.mps_model_vectors.specs.ReadingOn.{three_in_a_row, row_started, row_read, row_world, row_started_world, ReadingOnIsLegal}
 use Rattle.mps_model_vectors.proofs.Steps.{answered}
 
-row_leaves : world_after_steps empty_world three_in_a_row ≡ row_world
+pub row_leaves : world_after_steps empty_world three_in_a_row ≡ row_world
 row_leaves = refl
 
-started_leaves : world_after_steps row_world row_started ≡ row_started_world
+pub started_leaves : world_after_steps row_world row_started ≡ row_started_world
 started_leaves = refl
 
-row_is_legal : IsLegalHistory three_in_a_row
+pub row_is_legal : IsLegalHistory three_in_a_row
 row_is_legal = (
   answered tt refl refl tt refl refl refl refl refl,
   (
@@ -53,7 +53,7 @@ row_is_legal = (
   ),
 )
 
-started_is_legal : IsLegalFrom row_world row_started
+pub started_is_legal : IsLegalFrom row_world row_started
 started_is_legal = (
   answered (
     record { none_runs = refl; of_zones = refl },

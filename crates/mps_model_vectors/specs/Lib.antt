@@ -20,6 +20,7 @@ pub mod Generations
 pub mod PokedEitherWay
 pub mod PostedInPlace
 pub mod ReadingOn
+pub mod Stepping
 pub mod OtherCommands
 pub mod WrongAnswers
 pub mod WrongMoves

@@ -1,5 +1,5 @@
 -- A read barrier that goes on: it scans the block that is read, and then the one that this very scanning moved behind it.
-use Rattle.std.specs.Prelude.{ℕ, false, Option, Some, None, [], ◌∷◌, ◌++◌}
+use Rattle.std.specs.Prelude.{ℕ, false, Option, Some, None, List, [], ◌∷◌, ◌++◌}
 use Rattle.mps_base.specs.declared.moves.Move.TheVariants as moves
 use Rattle.mps_base.specs.declared.names.Kind.TheVariants as kind
 use Rattle.mps_base.specs.declared.names.Rank.TheVariants as rank
@@ -8,7 +8,7 @@ use Rattle.mps_model.specs.declared.reply.Reply.TheVariants as reply
 use Rattle.mps_model.specs.Step.{History}
 use Rattle.mps_model.specs.Graph.{Graph, Object, HeadCell, NumberCell, ReferenceCell, Automatic, TableThing, PoolThing, PointThing}
 use Rattle.mps_model.specs.Collection.{Tracing}
-use Rattle.mps_model.specs.World.{World, Collected, Unclamped, empty_run, empty_world}
+use Rattle.mps_model.specs.World.{World, Tail, Collected, Unclamped, empty_run, empty_world}
 use Rattle.mps_model.specs.History.{IsLegalHistory}
 use Rattle.mps_model_vectors.specs.Script.{p, t, x, at_index, address, zones, step, grain_segment, words, tail}
 use Rattle.mps_model_vectors.specs.OneBlock.{prelude, pair_head}
@@ -84,19 +84,20 @@ row_world = record {
   collection = None;
 }
 
--- the world behind its flip
-abbrev pub row_started_world : World
-row_started_world = record row_world {
+-- the world while the collection runs, with the places of the blocks, what is at hand behind them, which were moved, and the
+-- units asked of it
+abbrev pub row_collected : (places : List (Option ℕ)) → List Tail → (placed : List ℕ) → (spent : ℕ) → World
+row_collected places tails placed spent = record row_world {
   segments = grain_segment 0x1000 0 ∷ grain_segment 0x2000 0 ∷ [];
-  places = Some 0x1000 ∷ Some 0x1018 ∷ Some 0x2000 ∷ [];
+  places = places;
   point_places = record { reserved_at = 0x1030; buffer = empty_run } ∷ [];
-  tails = tail 1027 509;
+  tails = tails;
   flips = 2 ∷ [];
   collection = Some (record {
     condemned_segments = 0x1000 ∷ [];
     condemned = 0 ∷ 1 ∷ 2 ∷ [];
     pinned = [];
-    placed = 2 ∷ [];
+    placed = placed;
     had = 2 ∷ [];
     origins = record { graph = row_graph; ids = 2 ∷ [] } ∷ [];
     registered_before = 0;
@@ -104,9 +105,13 @@ row_started_world = record row_world {
     phase = Tracing;
     reclaimed_to = 0;
     units = 4;
-    spent = 0;
+    spent = spent;
   });
 }
+
+-- the world behind its flip
+abbrev pub row_started_world : World
+row_started_world = row_collected (Some 0x1000 ∷ Some 0x1018 ∷ Some 0x2000 ∷ []) (tail 1027 509) (2 ∷ []) 0
 
 -- the history is legal
 abbrev pub ReadingOnIsLegal : Type 0

@@ -23,6 +23,7 @@ ghost use Rattle.mps_model_vectors.specs.Generations.{GenerationsIsLegal};
 ghost use Rattle.mps_model_vectors.specs.PokedEitherWay.{PokedEitherWayIsLegal};
 ghost use Rattle.mps_model_vectors.specs.PostedInPlace.{PostedInPlaceIsLegal};
 ghost use Rattle.mps_model_vectors.specs.ReadingOn.{ReadingOnIsLegal};
+ghost use Rattle.mps_model_vectors.specs.Stepping.{SteppingIsLegal};
 ghost use Rattle.mps_model_vectors.specs.OtherCommands.{OtherCommandsIsLegal};
 ghost use Rattle.mps_model_vectors.specs.WrongAnswers.{FlippedWithoutFlip, CommitAcrossFlip, LimitBesideGap, LimitBesideRun, StaleWithoutFlip, FreshAfterMove, GetOfOldPlace};
 ghost use Rattle.mps_model_vectors.specs.WrongMoves.{SplatOfReachable, TwoPostsForOne, MoveOfPinned, FreeOfWaiting, StayBesideRoom, MarkedInPlace, UntoldFree, MoveAfterSplat};
@@ -199,6 +200,14 @@ pub fn other_commands_is_legal()
 /// script: `arena 8 8; pool v mfs 2; blocks b 2; alloc v 2 b.0; free b.0; alloc v 2 b.1; alloc v 3 b.0; committed`.
 pub fn one_size_is_legal()
     ensures { OneSizeIsLegal }
+{}
+
+/// A history in which each `step 1` takes one unit, and the collection as many as it may, is legal: three units scan three
+/// blocks, of which two are moved so, and the fourth gives the old segment back and ends. The script: `arena 8 8; table t
+/// 4; pool p amc front; ap x p exact; reserve x f:3:1; commit x t.1; reserve x f:3:1; init x 1 t.1; commit x t.1; reserve
+/// x f:3:1; init x 1 t.1; commit x t.0; clear t.1; start; step 1; step 1; step 1; step 1`.
+pub fn stepping_is_legal()
+    ensures { SteppingIsLegal }
 {}
 
 /// `commit` can't answer `flipped` where no flip came.
