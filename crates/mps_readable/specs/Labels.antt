@@ -82,10 +82,11 @@ abbrev pub after_records : Version → Naming → List Record → Option Naming
 after_records version s [] = Some s
 after_records version s (r ∷ rs) = option_and_then (λ next. after_records version next rs) (after_record version s r)
 
--- whether a record of an event with these fields takes memory: for a name or a label more, or for one that moves along
+-- whether a record of an event with these fields takes memory: for a name or a label more, where it has a meaning, or for a
+-- label that moves along
 abbrev pub takes_memory : Event → (fields : List ℕ) → Naming → Bool
-takes_memory Intern fields s = true
-takes_memory Label fields s = true
+takes_memory Intern fields s = slice_index fields 0 == length s.names
+takes_memory Label fields s = nat_lt (slice_index fields 1) (length s.names)
 takes_memory Move fields s = is_some (id_at s (slice_index fields 0))
 takes_memory Commit fields s = false
 takes_memory Alloc fields s = false
@@ -191,6 +192,15 @@ other_records_keep_names_and_labels = refl
 
 pub a_name_takes_memory : record_takes_memory Two no_names (intern_ring 0) ≡ true
 a_name_takes_memory = refl
+
+pub a_name_out_of_order_takes_none : record_takes_memory Two no_names (intern_ring 1) ≡ false
+a_name_out_of_order_takes_none = refl
+
+pub a_label_takes_memory : record_takes_memory Two example (record { line = 1; code = 97; fields = 0x2000 ∷ 1 ∷ [] }) ≡ true
+a_label_takes_memory = refl
+
+pub a_label_that_no_name_has_takes_none : record_takes_memory Two example (record { line = 1; code = 97; fields = 0x2000 ∷ 2 ∷ [] }) ≡ false
+a_label_that_no_name_has_takes_none = refl
 
 pub a_label_that_moves_takes_memory : record_takes_memory Two example (move_record 0x1000 0x2000) ≡ true
 a_label_that_moves_takes_memory = refl

@@ -78,6 +78,7 @@ impl Labels {
     fn intern(&mut self, id: u64, name: [u8; 16]) -> Result<(), LabelFault>
         ensures taken { OnOk result ((id ≡ length self.old.names) × (self.new ≡ with_name self.old (name_in name))) }
         ensures refused { result ≡ Err LabelFault.BadLine → id ≢ length self.old.names }
+        ensures memory { result ≡ Err LabelFault.OutOfMemory → id ≡ length self.old.names }
     {
         if id != self.names.len() as u64 {
             return Err(LabelFault::BadLine);
@@ -88,6 +89,7 @@ impl Labels {
     fn label(&mut self, at: u64, id: u64) -> Result<(), LabelFault>
         ensures taken { OnOk result ((id < length self.old.names) × (self.new ≡ with_label self.old at id)) }
         ensures refused { result ≡ Err LabelFault.BadLine → length self.old.names ≤ id }
+        ensures memory { result ≡ Err LabelFault.OutOfMemory → id < length self.old.names }
     {
         if id >= self.names.len() as u64 {
             return Err(LabelFault::BadLine);
