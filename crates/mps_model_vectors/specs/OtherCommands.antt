@@ -8,7 +8,7 @@ use Rattle.mps_model.specs.declared.call.Call.TheVariants as call
 use Rattle.mps_model.specs.declared.reply.Reply.TheVariants as reply
 use Rattle.mps_model.specs.Answer.{Dumped}
 use Rattle.mps_model.specs.Step.{Step, History}
-use Rattle.mps_model.specs.Graph.{Cell, PlainWord, HeadCell, NumberCell, ReferenceCell, Automatic, TableThing, AreaThing, PoolThing, PointThing}
+use Rattle.mps_model.specs.Graph.{Cell, AreaWord, HeadCell, NumberCell, ReferenceCell, Automatic, TableThing, AreaThing, PoolThing, PointThing}
 use Rattle.mps_model.specs.World.{World, Collected, Unclamped, empty_world}
 use Rattle.mps_model.specs.History.{IsLegalHistory}
 use Rattle.mps_model_vectors.specs.Script.{a, p, t, x, at_index, address, step, grain_segment, words}
@@ -30,27 +30,37 @@ one_mapped =
     ∷ step 8 (call.Commit x (at_index t 0)) (moves.Commit (address 0x1000) 4 0 ∷ []) reply.Ok
     ∷ []
 
-abbrev pub dump_step : Step
-dump_step = record { line = 14; call = call.Dump 0x1000; moves = []; answer = Dumped (mapped_head ∷ 0x1000 ∷ 5 ∷ 0 ∷ []) }
-
--- it is written and read, and refers to itself
-abbrev pub written_and_read : History
-written_and_read =
+-- it is written, and refers to itself
+abbrev pub written : History
+written =
     step 9 (call.SetNumber (at_index t 0) 2 5) [] reply.Ok
     ∷ step 10 (call.Put (at_index t 0) 1 (at_index t 0)) [] reply.Ok
     ∷ step 11 (call.Copy (at_index t 1) (at_index t 0)) [] reply.Ok
-    ∷ step 12 (call.Same (at_index t 1) (at_index t 0)) [] reply.Yes
+    ∷ []
+
+abbrev pub dump_step : Step
+dump_step = record { line = 14; call = call.Dump 0x1000; moves = []; answer = Dumped (mapped_head ∷ 0x1000 ∷ 5 ∷ 0 ∷ []) }
+
+-- it is read, from the other slot too
+abbrev pub read : History
+read =
+    step 12 (call.Same (at_index t 1) (at_index t 0)) [] reply.Yes
     ∷ step 13 (call.Head (at_index t 1)) [] (reply.Head mapped_head)
     ∷ dump_step
     ∷ []
 
--- area words are written and read, and the area and the point are dropped
-abbrev pub roots_dropped : History
-roots_dropped =
+-- area words are written and read
+abbrev pub area_written : History
+area_written =
     step 15 (call.Pin (at_index a 0) (at_index t 1)) [] reply.Ok
     ∷ step 16 (call.Poke (at_index a 1) 5) [] reply.Plain
     ∷ step 17 (call.Peek (at_index a 1)) [] (reply.Word 5)
-    ∷ step 18 (call.DropRoot a) [] reply.Ok
+    ∷ []
+
+-- the area and the point are dropped
+abbrev pub roots_dropped : History
+roots_dropped =
+    step 18 (call.DropRoot a) [] reply.Ok
     ∷ step 19 (call.DropPoint x) [] reply.Ok
     ∷ step 20 (call.Clear (at_index t 1)) [] reply.Ok
     ∷ step 21 (call.Get (at_index t 1) (at_index t 1) 1) [] (reply.Refused refusal.NullRef)
@@ -58,15 +68,15 @@ roots_dropped =
     ∷ []
 
 abbrev pub other_commands : History
-other_commands = one_mapped ++ (written_and_read ++ roots_dropped)
+other_commands = one_mapped ++ (written ++ (read ++ (area_written ++ roots_dropped)))
 
--- the world of the block, with its cells and what slot 1 holds
-abbrev pub mapped_world : List Cell → (second : Option ℕ) → World
-mapped_world cells second = record {
+-- the world of the block, with its cells, what slot 1 holds, and the words of the area
+abbrev pub mapped_world : List Cell → (second : Option ℕ) → List AreaWord → World
+mapped_world cells second area = record {
   graph = record {
     objects = record { pool = 0; body = Automatic mapped_head cells false } ∷ [];
     tables = Some (Some 0 ∷ second ∷ []) ∷ [];
-    areas = Some (PlainWord 0 ∷ PlainWord 0 ∷ []) ∷ [];
+    areas = Some area ∷ [];
     blocks = [];
     points = Some (record { pool = 0; rank = rank.Exact; reservation = None }) ∷ [];
     registered = [];
