@@ -1,5 +1,5 @@
 -- All lines so far, one after the other.
-use Rattle.std.proofs.Common.{◌≡◌, ℕ, ◌+◌, ◌<◌, true, false, List, [], ◌∷◌, ◌++◌, length, Option, Some, None, Result, Ok, Err, refl, sym, ap, subst, ◌∙◌, append_assoc, arith}
+use Rattle.std.proofs.Common.{◌≡◌, ℕ, ◌+◌, ◌<◌, true, false, List, [], ◌∷◌, ◌++◌, length, Option, Some, None, Result, Ok, Err, refl, sym, ap, subst, ◌∙◌, append_assoc, arith, inl, inr}
 use Rattle.std.specs.Prelude.{◌≢◌, IfSome, unwrap_or, option_and_then, All}
 use Rattle.std.specs.List.{flat_map}
 use Rattle.std.specs.Option.{option_map}
@@ -10,15 +10,17 @@ use Rattle.mps_event.specs.declared.version.Version.{Version}
 use Rattle.mps_event.specs.Grammar.{IsRecord}
 use Rattle.mps_output.specs.declared.stop.Stop.{Stop}
 use Rattle.mps_output.specs.declared.stop.Stop.TheVariants as stop
+use Rattle.mps_reading.specs.Input.{Buffered, IsComplete}
 use Rattle.mps_reading.specs.Left.{LastGives}
 use Rattle.mps_reading.specs.PutOut.{PutsOut}
 use Rattle.mps_reading.specs.RecordLine.{record_line}
+use Rattle.mps_reading.proofs.Left.{nothing_in_front, one_in_front}
 use Rattle.mps_reading.proofs.PutOut.{nothing_put, one_put}
 use Rattle.mps_reading.proofs.Records.{none_yet, all_and_one, flat_one}
 use Rattle.mps_readable.specs.Labels.{Naming, no_names, after_record, after_records}
 use Rattle.mps_readable.specs.Readable.{readable_line, readable_from, readable}
 use Rattle.mps_readable.specs.Text.{closed, IsWrongNext, IsNextToTakeMemory, BreaksOff}
-use Rattle.mps_readable.specs.TextSteps.{NextLine, ShowsFirst, AllLines}
+use Rattle.mps_readable.specs.TextSteps.{IsWholeOrLast, NextLine, ShowsFirst, AllLines}
 use Rattle.mps_readable.proofs.Closed.{closed-some}
 
 -- ---- one record more
@@ -69,41 +71,49 @@ readable_one version s (x ∷ rs) r named t e f =
 
 -- ---- all lines so far
 
-pub record LinesSoFar (version : Version) (count : ℕ) (named : Naming) (left left_behind before after : Option (List ℕ)) : Type 0 where
+pub record LinesSoFar (version : Version) (count : ℕ) (named : Naming) (left left_behind : Option (List ℕ)) (behind : Buffered) (before after : Option (List ℕ)) : Type 0 where
   pub records : List Record
   pub each : All (IsRecord version) records
   pub meaning : after_records version no_names records ≡ Some named
   pub counted : length records ≡ count
   pub front : option_map closed left ≡ option_map (λ rest. flat_map record_line records ++ closed rest) left_behind
+  pub whole : IsWholeOrLast (flat_map record_line records) left left_behind behind
   pub put : PutsOut before after (readable version records)
 
-nothing_in_front : (left : Option (List ℕ)) → option_map closed left ≡ option_map (λ rest. [] ++ closed rest) left
-nothing_in_front None = refl
-nothing_in_front (Some left) = refl
+nothing_closed : (left : Option (List ℕ)) → option_map closed left ≡ option_map (λ rest. [] ++ closed rest) left
+nothing_closed None = refl
+nothing_closed (Some left) = refl
 
-pub at_start : (version : Version) (named : Naming) (left before : Option (List ℕ)) → named ≡ no_names → LinesSoFar version 0 named left left before before
-at_start version named left before is = record {
+pub at_start : (version : Version) (named : Naming) (left : Option (List ℕ)) (behind : Buffered) (before : Option (List ℕ)) → named ≡ no_names
+    → LinesSoFar version 0 named left left behind before before
+at_start version named left behind before is = record {
   records = [];
   each = none_yet version;
   meaning = ap Some (sym is);
   counted = refl;
-  front = nothing_in_front left;
+  front = nothing_closed left;
+  whole = inl (nothing_in_front left);
   put = nothing_put before;
 }
 
-one_in_front : (x y : List ℕ) (a b c : Option (List ℕ)) → option_map closed a ≡ option_map (λ rest. x ++ closed rest) b → option_map closed b ≡ option_map (λ rest. y ++ closed rest) c
+one_closed : (x y : List ℕ) (a b c : Option (List ℕ)) → option_map closed a ≡ option_map (λ rest. x ++ closed rest) b → option_map closed b ≡ option_map (λ rest. y ++ closed rest) c
     → option_map closed a ≡ option_map (λ rest. (x ++ y) ++ closed rest) c
-one_in_front x y a None None e f = e
-one_in_front x y a None (Some rest) e f = absurd (let g : None ≡ Some (y ++ closed rest) = f in cc)
-one_in_front x y a (Some left) None e f = absurd (let g : Some (closed left) ≡ None = f in cc)
-one_in_front x y a (Some left) (Some rest) e f =
+one_closed x y a None None e f = e
+one_closed x y a None (Some rest) e f = absurd (let g : None ≡ Some (y ++ closed rest) = f in cc)
+one_closed x y a (Some left) None e f = absurd (let g : Some (closed left) ≡ None = f in cc)
+one_closed x y a (Some left) (Some rest) e f =
     let g : closed left ≡ y ++ closed rest = (let h : Some (closed left) ≡ Some (y ++ closed rest) = f in cc) in
     e ∙ ap (λ (z : List ℕ). Some (x ++ z)) g ∙ ap Some (sym (append_assoc x y (closed rest)))
 
-pub one_more : (version : Version) (count number : ℕ) (named t : Naming) (left left_behind left_then unread before after put : Option (List ℕ))
-    → LinesSoFar version count named left left_behind before after → NextLine version number named t left_behind left_then unread after put (Ok true)
-    → LinesSoFar version (count + 1) t left left_then before put
-one_more version count number named t left left_behind left_then unread before after put s n =
+whole_and_one : (text line : List ℕ) (a b c : Option (List ℕ)) (x y : Buffered) → (IsComplete x → IsComplete y) → IsWholeOrLast text a b x → IsWholeOrLast line b c y → IsWholeOrLast (text ++ line) a c y
+whole_and_one text line a b c x y stays (inl e) (inl f) = inl (one_in_front text line a b c e f)
+whole_and_one text line a b c x y stays (inl e) (inr h) = inr h
+whole_and_one text line a b c x y stays (inr h) f = inr (stays h)
+
+pub one_more : (version : Version) (count number : ℕ) (named t : Naming) (left left_behind left_then : Option (List ℕ)) (behind then : Buffered) (unread before after put : Option (List ℕ))
+    → LinesSoFar version count named left left_behind behind before after → NextLine version number named t left_behind left_then then unread after put (Ok true)
+    → (IsComplete behind → IsComplete then) → LinesSoFar version (count + 1) t left left_then then before put
+one_more version count number named t left left_behind left_then behind then unread before after put s n stays =
     let lines : flat_map record_line (s.records ++ n.read ∷ []) ≡ flat_map record_line s.records ++ record_line n.read = flat_one record_line s.records n.read in
     let shown : readable version (s.records ++ n.read ∷ []) ≡ readable version s.records ++ readable_line version named t n.read =
     readable_one version no_names s.records n.read named t s.meaning n.meaning in
@@ -113,7 +123,9 @@ one_more version count number named t left left_behind left_then unread before a
       meaning = after_one version no_names s.records n.read named t s.meaning n.meaning;
       counted = length-append s.records (n.read ∷ []) ∙ ap (λ (k : ℕ). k + 1) s.counted;
       front = subst (λ (x : List ℕ). option_map closed left ≡ option_map (λ rest. x ++ closed rest) left_then) (sym lines)
-          (one_in_front (flat_map record_line s.records) (record_line n.read) left left_behind left_then s.front n.front);
+          (one_closed (flat_map record_line s.records) (record_line n.read) left left_behind left_then s.front n.front);
+      whole = subst (λ (x : List ℕ). IsWholeOrLast x left left_then then) (sym lines)
+          (whole_and_one (flat_map record_line s.records) (record_line n.read) left left_behind left_then behind then stays s.whole n.whole);
       put = subst (λ (x : List ℕ). put ≡ option_map (λ all. all ++ x) before) (sym shown)
           (one_put (readable version s.records) (readable_line version named t n.read) before after put s.put n.put);
     }
@@ -126,12 +138,20 @@ left_told x bytes left None e f =
 left_told x bytes left (Some rest) e f =
     (rest, refl, (let g : Some (closed bytes) ≡ Some (x ++ closed rest) = sym (ap (λ (o : Option (List ℕ)). option_map closed o) f) ∙ e in cc))
 
+-- all of them are whole, where a read may still fail
+pub whole_told : (x bytes rest : List ℕ) (left left_behind : Option (List ℕ)) (behind : Buffered) → IsWholeOrLast x left left_behind behind → (IsComplete behind → ⊥)
+    → left ≡ Some bytes → left_behind ≡ Some rest → bytes ≡ x ++ rest
+whole_told x bytes rest left left_behind behind (inl h) may_fail e f =
+    let g : Some bytes ≡ Some (x ++ rest) = sym e ∙ h ∙ ap (λ (o : Option (List ℕ)). option_map (λ rest. x ++ rest) o) f in
+    cc
+whole_told x bytes rest left left_behind behind (inr h) may_fail e f = absurd (may_fail h)
+
 -- ---- the end
 
 -- the lines so far, of a text that is told
-abbrev pub shown_so_far : (version : Version) (count : ℕ) (named : Naming) (left left_behind before after : Option (List ℕ)) (bytes rest : List ℕ) → count < 4294967295
-    → (s : LinesSoFar version count named left left_behind before after) → closed bytes ≡ flat_map record_line s.records ++ closed rest → ShowsFirst version bytes before after
-shown_so_far version count named left left_behind before after bytes rest few s spelled = record {
+abbrev pub shown_so_far : (version : Version) (count : ℕ) (named : Naming) (left left_behind : Option (List ℕ)) (behind : Buffered) (before after : Option (List ℕ)) (bytes rest : List ℕ) → count < 4294967295
+    → (s : LinesSoFar version count named left left_behind behind before after) → closed bytes ≡ flat_map record_line s.records ++ closed rest → ShowsFirst version bytes before after
+shown_so_far version count named left left_behind behind before after bytes rest few s spelled = record {
   records = s.records;
   named = named;
   left = rest;
@@ -155,72 +175,74 @@ shown_later version bytes before after later h e = record {
   put = e ∙ h.put;
 }
 
-pub all_read : (version : Version) (count number : ℕ) (named t : Naming) (left left_behind left_then unread before after put : Option (List ℕ)) (bytes : List ℕ) → count < 4294967294
-    → LinesSoFar version count named left left_behind before after → NextLine version number named t left_behind left_then unread after put (Ok false)
+pub all_read : (version : Version) (count number : ℕ) (named t : Naming) (left left_behind left_then : Option (List ℕ)) (behind then : Buffered) (unread before after put : Option (List ℕ)) (bytes : List ℕ) → count < 4294967294
+    → LinesSoFar version count named left left_behind behind before after → NextLine version number named t left_behind left_then then unread after put (Ok false)
     → left ≡ Some bytes → AllLines {T = Unit {0}} version bytes unread before put (Ok tt)
-all_read version count number named t left left_behind left_then unread before after put bytes few s n e =
+all_read version count number named t left left_behind left_then behind then unread before after put bytes few s n e =
     let g = left_told (flat_map record_line s.records) bytes left left_behind s.front e in
     let none : g.0 ≡ [] = subst (λ (o : Option (List ℕ)). IfSome o (λ bytes. bytes ≡ [])) g.1 n.0 in
     record {
-      shown = shown_later version bytes before after put (shown_so_far version count named left left_behind before after bytes g.0 (omega (arith, few)) s g.2) n.1;
+      shown = shown_later version bytes before after put (shown_so_far version count named left left_behind behind before after bytes g.0 (omega (arith, few)) s g.2) n.1;
       ends_at = ap closed none;
     }
 
-pub all_stop : (version : Version) (count number : ℕ) (named t : Naming) (left left_behind left_then unread before after put : Option (List ℕ)) (bytes : List ℕ) (why : Stop) → count < 4294967294 → number ≡ count + 2
-    → LinesSoFar version count named left left_behind before after → NextLine version number named t left_behind left_then unread after put (Err why)
-    → left ≡ Some bytes → AllLines {T = Unit {0}} version bytes unread before put (Err why)
-all_stop version count number named t left left_behind left_then unread before after put bytes (stop.BadLine line) few is s n e =
+pub all_stop : (version : Version) (count number : ℕ) (named t : Naming) (left left_behind left_then : Option (List ℕ)) (behind then : Buffered) (unread before after put : Option (List ℕ)) (bytes : List ℕ) (why : Stop) → count < 4294967294 → number ≡ count + 2
+    → LinesSoFar version count named left left_behind behind before after → NextLine version number named t left_behind left_then then unread after put (Err why)
+    → (IsComplete behind → why ≡ stop.ReadFailed → ⊥) → left ≡ Some bytes → AllLines {T = Unit {0}} version bytes unread before put (Err why)
+all_stop version count number named t left left_behind left_then behind then unread before after put bytes (stop.BadLine line) few is s n may_fail e =
     let g = left_told (flat_map record_line s.records) bytes left left_behind s.front e in
     let wrong : (0 < length (closed g.0)) × IsWrongNext version named (closed g.0) =
     subst (λ (o : Option (List ℕ)). IfSome o (λ bytes. (0 < length (closed bytes)) × IsWrongNext version named (closed bytes))) g.1 n.1 in
     record {
-      shown = shown_later version bytes before after put (shown_so_far version count named left left_behind before after bytes g.0 (omega (arith, few)) s g.2) n.2;
+      shown = shown_later version bytes before after put (shown_so_far version count named left left_behind behind before after bytes g.0 (omega (arith, few)) s g.2) n.2;
       ends_at = (omega (arith, n.0, is, s.counted), wrong.0, wrong.1, omega (arith, few, s.counted));
     }
-all_stop version count number named t left left_behind left_then unread before after put bytes stop.ReadFailed few is s n e =
+all_stop version count number named t left left_behind left_then behind then unread before after put bytes stop.ReadFailed few is s n may_fail e =
     let g = left_told (flat_map record_line s.records) bytes left left_behind s.front e in
     record {
-      shown = shown_later version bytes before after put (shown_so_far version count named left left_behind before after bytes g.0 (omega (arith, few)) s g.2) n.1;
+      shown = shown_later version bytes before after put (shown_so_far version count named left left_behind behind before after bytes g.0 (omega (arith, few)) s g.2) n.1;
+      whole = whole_told (flat_map record_line s.records) bytes g.0 left left_behind behind s.whole (λ complete. may_fail complete refl) e g.1;
       breaks = subst (λ (o : Option (List ℕ)). IfSome o (λ bytes. BreaksOff bytes unread)) g.1 n.0;
     }
-all_stop version count number named t left left_behind left_then unread before after put bytes stop.WriteFailed few is s n e = tt
-all_stop version count number named t left left_behind left_then unread before after put bytes stop.OutOfMemory few is s n e =
+all_stop version count number named t left left_behind left_then behind then unread before after put bytes stop.WriteFailed few is s n may_fail e = tt
+all_stop version count number named t left left_behind left_then behind then unread before after put bytes stop.OutOfMemory few is s n may_fail e =
     let g = left_told (flat_map record_line s.records) bytes left left_behind s.front e in
     record {
-      shown = shown_later version bytes before after put (shown_so_far version count named left left_behind before after bytes g.0 (omega (arith, few)) s g.2) n.1;
+      shown = shown_later version bytes before after put (shown_so_far version count named left left_behind behind before after bytes g.0 (omega (arith, few)) s g.2) n.1;
       next = subst (λ (o : Option (List ℕ)). IfSome o (λ bytes. IsNextToTakeMemory version named (closed bytes))) g.1 n.0;
     }
-all_stop version count number named t left left_behind left_then unread before after put bytes stop.BadHeader few is s n e = absurd n
-all_stop version count number named t left left_behind left_then unread before after put bytes (stop.BadRecord at fault) few is s n e = absurd n
-all_stop version count number named t left left_behind left_then unread before after put bytes (stop.BadReplay at) few is s n e = absurd n
-all_stop version count number named t left left_behind left_then unread before after put bytes stop.TooLong few is s n e = absurd n
+all_stop version count number named t left left_behind left_then behind then unread before after put bytes stop.BadHeader few is s n may_fail e = absurd n
+all_stop version count number named t left left_behind left_then behind then unread before after put bytes (stop.BadRecord at fault) few is s n may_fail e = absurd n
+all_stop version count number named t left left_behind left_then behind then unread before after put bytes (stop.BadReplay at) few is s n may_fail e = absurd n
+all_stop version count number named t left left_behind left_then behind then unread before after put bytes stop.TooLong few is s n may_fail e = absurd n
 
-pub all_counted : (version : Version) (count : ℕ) (named : Naming) (left left_behind unread before after put : Option (List ℕ)) (bytes : List ℕ) (result : Result (Unit {0}) Stop) → count ≡ 4294967294
-    → LinesSoFar version count named left left_behind before after → LastGives left_behind result → (result ≡ Err stop.ReadFailed → unread ≡ left_behind) → put ≡ after
+pub all_counted : (version : Version) (count : ℕ) (named : Naming) (left left_behind : Option (List ℕ)) (behind : Buffered) (unread before after put : Option (List ℕ)) (bytes : List ℕ) (result : Result (Unit {0}) Stop) → count ≡ 4294967294
+    → LinesSoFar version count named left left_behind behind before after → LastGives left_behind result → (IsComplete behind → result ≡ Err stop.ReadFailed → ⊥) → (result ≡ Err stop.ReadFailed → unread ≡ left_behind) → put ≡ after
     → left ≡ Some bytes → AllLines {T = Unit {0}} version bytes unread before put result
-all_counted version count named left left_behind unread before after put bytes (Ok value) full s n still same e =
+all_counted version count named left left_behind behind unread before after put bytes (Ok value) full s n may_fail still same e =
     let g = left_told (flat_map record_line s.records) bytes left left_behind s.front e in
     let none : g.0 ≡ [] = subst (λ (o : Option (List ℕ)). IfSome o (λ bytes. bytes ≡ [])) g.1 n in
     record {
-      shown = shown_later version bytes before after put (shown_so_far version count named left left_behind before after bytes g.0 (omega (arith, full)) s g.2) same;
+      shown = shown_later version bytes before after put (shown_so_far version count named left left_behind behind before after bytes g.0 (omega (arith, full)) s g.2) same;
       ends_at = ap closed none;
     }
-all_counted version count named left left_behind unread before after put bytes (Err stop.TooLong) full s n still same e =
+all_counted version count named left left_behind behind unread before after put bytes (Err stop.TooLong) full s n may_fail still same e =
     let g = left_told (flat_map record_line s.records) bytes left left_behind s.front e in
     let some : 0 < length g.0 = subst (λ (o : Option (List ℕ)). IfSome o (λ bytes. 0 < length bytes)) g.1 n in
     record {
-      shown = shown_later version bytes before after put (shown_so_far version count named left left_behind before after bytes g.0 (omega (arith, full)) s g.2) same;
+      shown = shown_later version bytes before after put (shown_so_far version count named left left_behind behind before after bytes g.0 (omega (arith, full)) s g.2) same;
       ends_at = (s.counted ∙ full, closed-some g.0 some);
     }
-all_counted version count named left left_behind unread before after put bytes (Err stop.ReadFailed) full s n still same e =
+all_counted version count named left left_behind behind unread before after put bytes (Err stop.ReadFailed) full s n may_fail still same e =
     let g = left_told (flat_map record_line s.records) bytes left left_behind s.front e in
     record {
-      shown = shown_later version bytes before after put (shown_so_far version count named left left_behind before after bytes g.0 (omega (arith, full)) s g.2) same;
+      shown = shown_later version bytes before after put (shown_so_far version count named left left_behind behind before after bytes g.0 (omega (arith, full)) s g.2) same;
+      whole = whole_told (flat_map record_line s.records) bytes g.0 left left_behind behind s.whole (λ complete. may_fail complete refl) e g.1;
       breaks = record { part = []; others = g.0; split = refl; lacks = All-nil (λ byte. byte ≢ 10); short = omega arith; still = still refl ∙ g.1 };
     }
-all_counted version count named left left_behind unread before after put bytes (Err stop.WriteFailed) full s n still same e = absurd n
-all_counted version count named left left_behind unread before after put bytes (Err stop.BadHeader) full s n still same e = absurd n
-all_counted version count named left left_behind unread before after put bytes (Err (stop.BadRecord at fault)) full s n still same e = absurd n
-all_counted version count named left left_behind unread before after put bytes (Err (stop.BadReplay at)) full s n still same e = absurd n
-all_counted version count named left left_behind unread before after put bytes (Err (stop.BadLine line)) full s n still same e = absurd n
-all_counted version count named left left_behind unread before after put bytes (Err stop.OutOfMemory) full s n still same e = absurd n
+all_counted version count named left left_behind behind unread before after put bytes (Err stop.WriteFailed) full s n may_fail still same e = absurd n
+all_counted version count named left left_behind behind unread before after put bytes (Err stop.BadHeader) full s n may_fail still same e = absurd n
+all_counted version count named left left_behind behind unread before after put bytes (Err (stop.BadRecord at fault)) full s n may_fail still same e = absurd n
+all_counted version count named left left_behind behind unread before after put bytes (Err (stop.BadReplay at)) full s n may_fail still same e = absurd n
+all_counted version count named left left_behind behind unread before after put bytes (Err (stop.BadLine line)) full s n may_fail still same e = absurd n
+all_counted version count named left left_behind behind unread before after put bytes (Err stop.OutOfMemory) full s n may_fail still same e = absurd n

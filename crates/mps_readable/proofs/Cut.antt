@@ -40,12 +40,12 @@ part_of_shown version bytes out gathered a b c h grown part = record {
 
 -- ---- a line, or the end
 
-pub lines_cut : (version : Version) (count : ℕ) (named : Naming) (left left_behind : Option (List ℕ)) (a b c : Outside) (out gathered bytes : List ℕ) → count < 4294967295
-    → LinesSoFar version count named left left_behind (put_out a out) (put_out b gathered) → Grows a.printed b.printed → PutsPart b.printed c.printed gathered
+pub lines_cut : (version : Version) (count : ℕ) (named : Naming) (left left_behind : Option (List ℕ)) (behind : Buffered) (a b c : Outside) (out gathered bytes : List ℕ) → count < 4294967295
+    → LinesSoFar version count named left left_behind behind (put_out a out) (put_out b gathered) → Grows a.printed b.printed → PutsPart b.printed c.printed gathered
     → left ≡ Some bytes → ShowsPart version bytes out a.printed c.printed
-lines_cut version count named left left_behind a b c out gathered bytes few s grown part e =
+lines_cut version count named left left_behind behind a b c out gathered bytes few s grown part e =
     let g = left_told (flat_map record_line s.records) bytes left left_behind s.front e in
-    part_of_shown version bytes out gathered a b c (shown_so_far version count named left left_behind (put_out a out) (put_out b gathered) bytes g.0 few s g.2) grown part
+    part_of_shown version bytes out gathered a b c (shown_so_far version count named left left_behind behind (put_out a out) (put_out b gathered) bytes g.0 few s g.2) grown part
 
 -- ---- a text
 

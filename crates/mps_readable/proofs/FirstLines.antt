@@ -18,9 +18,9 @@ use Rattle.mps_reading.proofs.Opening.{untouched}
 use Rattle.mps_readable.specs.Cuts.{Lacks}
 use Rattle.mps_readable.specs.NextLine.{IsFront}
 use Rattle.mps_readable.specs.Text.{closed, HasNoFirstLine, BreaksOff}
-use Rattle.mps_readable.specs.TextSteps.{first_text, HasOtherFront, TakesFirst, TextOpens}
+use Rattle.mps_readable.specs.TextSteps.{first_text, HasOtherFront, TakesFirst, TextOpens, IsWholeOrLast, OpensWhole}
 use Rattle.mps_readable.proofs.NextLine.{broken_left}
-use Rattle.mps_readable.proofs.Fronts.{front_closed, one_line, too_long, long_closed}
+use Rattle.mps_readable.proofs.Fronts.{front_closed, whole_in_front, one_line, too_long, long_closed}
 
 line_of_version : (version : Version) (more : List ℕ) → first_line version ++ more ≡ first_text version ++ 10 ∷ more
 line_of_version One more = refl
@@ -109,3 +109,13 @@ text_opens a b x y z bytes text input (Err (stop.BadRecord at fault)) start give
 text_opens a b x y z bytes text input (Err (stop.BadReplay at)) start given reads enough takes told = absurd takes
 text_opens a b x y z bytes text input (Err stop.TooLong) start given reads enough takes told = absurd takes
 text_opens a b x y z bytes text input (Err stop.OutOfMemory) start given reads enough takes told = absurd takes
+
+-- the first line is taken with its line feed, or it is the last one
+pub opens_whole : (a b : Outside) (x y z : Buffered) (bytes : List ℕ) (text : Option (List ℕ)) (result : Result Version Stop) → x ≡ untouched → a.input ≡ text → ReadsMore a b x y
+    → (y.ended ≡ false → y.failed ≡ false → 4097 ≤ length y.pending) → TakesFirst y z result → text ≡ Some bytes → OpensWhole bytes (left_of b z) z result
+opens_whole a b x y z bytes text (Ok version) start given reads enough takes told =
+    let left : left_of b y ≡ Some bytes = left_same a b x y reads ∙ untouched_left a x start ∙ given ∙ told in
+    subst (λ (o : Option (List ℕ)). IsWholeOrLast (first_line version) o (left_of b z) z) left
+    (subst (λ (behind : Buffered). IsWholeOrLast (first_line version) (left_of b y) (left_of b behind) behind) (sym takes.behind)
+    (whole_in_front y (first_text version) (first_line version) takes.size b.input (line_of_version version) takes.front enough))
+opens_whole a b x y z bytes text (Err why) start given reads enough takes told = tt

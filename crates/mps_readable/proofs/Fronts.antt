@@ -1,19 +1,21 @@
 -- The line at the front of what is pending, and of what is left.
-use Rattle.std.proofs.Common.{◌≡◌, ℕ, ◌<◌, ◌≤◌, Bool, true, false, List, [], ◌∷◌, ◌++◌, length, drop, get_or, Some, refl, sym, ap, subst, ◌∙◌, append_assoc, arith, inl, inr}
+use Rattle.std.proofs.Common.{◌≡◌, ℕ, ◌<◌, ◌≤◌, Bool, true, false, List, [], ◌∷◌, ◌++◌, length, drop, get_or, Option, Some, refl, sym, ap, subst, ◌∙◌, append_assoc, arith, inl, inr}
 use Rattle.std.specs.Prelude.{◌≢◌}
 use Rattle.std.specs.List.{AllByRecursion}
+use Rattle.std.specs.Option.{option_map}
 use Rattle.std.proofs.lemmas.List.{append-nil, length-append, drop_all}
 use Rattle.std.proofs.lemmas.List.Elements.{recursion_from_All}
 use Rattle.mps_base.specs.Record.{Record}
 use Rattle.mps_event.specs.declared.version.Version.{Version}
 use Rattle.mps_reading.specs.Input.{Buffered}
 use Rattle.mps_reading.specs.RecordLine.{record_line}
+use Rattle.mps_reading.proofs.Left.{split_pending}
 use Rattle.mps_readable.specs.Cuts.{Lacks}
 use Rattle.mps_readable.specs.Line.{record_text}
 use Rattle.mps_readable.specs.Labels.{Naming}
 use Rattle.mps_readable.specs.Text.{closed, IsWrongNext, IsNextToTakeMemory}
 use Rattle.mps_readable.specs.NextLine.{IsFront}
-use Rattle.mps_readable.specs.TextSteps.{IsWrong, IsWrongFront, TakesMemory}
+use Rattle.mps_readable.specs.TextSteps.{IsWrong, IsWrongFront, TakesMemory, IsWholeOrLast}
 use Rattle.mps_readable.proofs.OneCut.{one_cut}
 use Rattle.mps_readable.proofs.Closed.{closed-line, closed-last, closed-adds}
 use Rattle.mps_readable.proofs.Spelling.{text_lacks, text_short}
@@ -68,6 +70,15 @@ front_closed b line size more (inr h) end enough =
     let same : length b.pending ≡ length line = ap (λ (x : List ℕ). length x) h.all in
     let ended : b.ended ≡ true = last_ended b.ended b.failed (length b.pending) h.whole enough (omega (arith, same, h.short)) in
     last_in_front line b.pending more size h.lacks h.all h.sized h.some (end ended)
+
+-- a line at the front is taken with its line feed, or it is the last one, and all was read
+pub whole_in_front : (b : Buffered) (text line : List ℕ) (size : ℕ) (input : Option (List ℕ)) → ((more : List ℕ) → line ++ more ≡ text ++ 10 ∷ more) → IsFront b text size
+    → (b.ended ≡ false → b.failed ≡ false → 4097 ≤ length b.pending)
+    → IsWholeOrLast line (option_map (λ rest. b.pending ++ rest) input) (option_map (λ rest. drop size b.pending ++ rest) input) b
+whole_in_front b text line size input ends (inl h) enough = inl (split_pending line b.pending (drop size b.pending) input (h.front ∙ sym (ends (drop size b.pending))))
+whole_in_front b text line size input ends (inr h) enough =
+    let same : length b.pending ≡ length text = ap (λ (x : List ℕ). length x) h.all in
+    inr (last_ended b.ended b.failed (length b.pending) h.whole enough (omega (arith, same, h.short)), h.whole)
 
 lacks_of_front : (b : Buffered) (line : List ℕ) (size : ℕ) → IsFront b line size → Lacks 10 line
 lacks_of_front b line size (inl h) = h.lacks

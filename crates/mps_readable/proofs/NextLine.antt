@@ -18,8 +18,8 @@ use Rattle.mps_readable.specs.Line.{record_text}
 use Rattle.mps_readable.specs.Labels.{Naming}
 use Rattle.mps_readable.specs.Readable.{readable_line}
 use Rattle.mps_readable.specs.Text.{closed, IsWrongNext, IsNextToTakeMemory, BreaksOff}
-use Rattle.mps_readable.specs.TextSteps.{PendingLine, NextLine}
-use Rattle.mps_readable.proofs.Fronts.{front_closed, line_feed_behind, wrong_front, memory_front}
+use Rattle.mps_readable.specs.TextSteps.{PendingLine, IsWholeOrLast, NextLine}
+use Rattle.mps_readable.proofs.Fronts.{front_closed, line_feed_behind, whole_in_front, wrong_front, memory_front}
 
 -- before something was put out
 put_before : (a b c : Outside) (p q : List ℕ) → b.printed ≡ a.printed → Kept b c p q → put_out c q ≡ put_out a p
@@ -54,7 +54,7 @@ broken_left pending input unread lacks short same =
 pub next_line : (version : Version) (number : ℕ) (s t : Naming) (a b c : Outside) (x y : Buffered) (p q r : List ℕ) (size : Option ℕ)
     → IsAtEnd a x → ReadsMore a b x y → (y.ended ≡ false → y.failed ≡ false → 4097 ≤ length y.pending) → Kept b c p q → c.input ≡ b.input
     → PendingLine version number s t y q r (Ok size)
-    → NextLine version number s t (left_of a x) (left_of c (record y { pending = drop (unwrap_or size 0) y.pending })) c.input (put_out a p) (put_out c r) (Ok (is_some size))
+    → NextLine version number s t (left_of a x) (left_of c (record y { pending = drop (unwrap_or size 0) y.pending })) (record y { pending = drop (unwrap_or size 0) y.pending }) c.input (put_out a p) (put_out c r) (Ok (is_some size))
 next_line version number s t a b c x y p q r None at_end reads enough kept same gives =
     let left : left_of b y ≡ left_of a x = left_same a b x y reads in (
       subst (λ (o : Option (List ℕ)). IfSome o (λ bytes. bytes ≡ [])) left (nothing_pending y.ended y.failed y.pending b.input gives.0 gives.1 enough (reads.end at_end)),
@@ -63,6 +63,7 @@ next_line version number s t a b c x y p q r None at_end reads enough kept same 
 next_line version number s t a b c x y p q r (Some size) at_end reads enough kept same gives =
     let left : left_of b y ≡ left_of a x = left_same a b x y reads in
     let line = readable_line version s t gives.read in
+    let behind : Buffered = record y { pending = drop size y.pending } in
     record {
       read = gives.read;
       grammar = gives.grammar;
@@ -71,14 +72,17 @@ next_line version number s t a b c x y p q r (Some size) at_end reads enough kep
           ∙ front_left (record_text gives.read) (record_line gives.read) y.pending (drop size y.pending) b.input (line_feed_behind gives.read)
           (λ more told. front_closed y (record_text gives.read) size more gives.front (end_told y.ended b.input more told (reads.end at_end)) enough)
           ∙ ap (λ (o : Option (List ℕ)). option_map (λ rest. record_line gives.read ++ closed rest) (option_map (λ rest. drop size y.pending ++ rest) o)) (sym same);
+      whole = subst (λ (o : Option (List ℕ)). IsWholeOrLast (record_line gives.read) o (left_of c behind) behind) left
+          (subst (λ (o : Option (List ℕ)). IsWholeOrLast (record_line gives.read) (left_of b y) (option_map (λ rest. drop size y.pending ++ rest) o) behind) (sym same)
+          (whole_in_front y (record_text gives.read) (record_line gives.read) size b.input (line_feed_behind gives.read) gives.front enough));
       put = ap (put_out c) gives.put ∙ put_more q line c.printed ∙ ap (λ (o : Option (List ℕ)). option_map (λ all. all ++ line) o) (put_before a b c p q reads.others.printed kept);
     }
 
-pub next_stops : (version : Version) (number : ℕ) (s t : Naming) (a b c : Outside) (x y : Buffered) (left_behind : Option (List ℕ)) (p q r : List ℕ) (why : Stop)
+pub next_stops : (version : Version) (number : ℕ) (s t : Naming) (a b c : Outside) (x y behind : Buffered) (left_behind : Option (List ℕ)) (p q r : List ℕ) (why : Stop)
     → IsAtEnd a x → ReadsMore a b x y → (y.ended ≡ false → y.failed ≡ false → 4097 ≤ length y.pending) → Kept b c p q → c.input ≡ b.input
     → PendingLine version number s t y q r (Err why)
-    → NextLine version number s t (left_of a x) left_behind c.input (put_out a p) (put_out c r) (Err why)
-next_stops version number s t a b c x y left_behind p q r (stop.BadLine line) at_end reads enough kept same gives =
+    → NextLine version number s t (left_of a x) left_behind behind c.input (put_out a p) (put_out c r) (Err why)
+next_stops version number s t a b c x y behind left_behind p q r (stop.BadLine line) at_end reads enough kept same gives =
     let left : left_of b y ≡ left_of a x = left_same a b x y reads in (
       gives.0,
       subst (λ (o : Option (List ℕ)). IfSome o (λ bytes. (0 < length (closed bytes)) × IsWrongNext version s (closed bytes))) left
@@ -86,26 +90,26 @@ next_stops version number s t a b c x y left_behind p q r (stop.BadLine line) at
           (λ more told. let g = wrong_front version s y more gives.1 (end_told y.ended b.input more told (reads.end at_end)) enough in (g.some, g.wrong))),
       ap (put_out c) gives.2 ∙ put_before a b c p q reads.others.printed kept,
     )
-next_stops version number s t a b c x y left_behind p q r stop.ReadFailed at_end reads enough kept same gives =
+next_stops version number s t a b c x y behind left_behind p q r stop.ReadFailed at_end reads enough kept same gives =
     let left : left_of b y ≡ left_of a x = left_same a b x y reads in (
       subst (λ (o : Option (List ℕ)). IfSome o (λ bytes. BreaksOff bytes c.input)) left (broken_left y.pending b.input c.input gives.0 gives.1 same),
       ap (put_out c) gives.2 ∙ put_before a b c p q reads.others.printed kept,
     )
-next_stops version number s t a b c x y left_behind p q r stop.OutOfMemory at_end reads enough kept same gives =
+next_stops version number s t a b c x y behind left_behind p q r stop.OutOfMemory at_end reads enough kept same gives =
     let left : left_of b y ≡ left_of a x = left_same a b x y reads in (
       subst (λ (o : Option (List ℕ)). IfSome o (λ bytes. IsNextToTakeMemory version s (closed bytes))) left
           (of_left (λ bytes. IsNextToTakeMemory version s (closed bytes)) y.pending b.input
           (λ more told. memory_front version s y more gives.0 (end_told y.ended b.input more told (reads.end at_end)) enough)),
       ap (put_out c) gives.1 ∙ put_before a b c p q reads.others.printed kept,
     )
-next_stops version number s t a b c x y left_behind p q r stop.WriteFailed at_end reads enough kept same gives = absurd gives
-next_stops version number s t a b c x y left_behind p q r stop.BadHeader at_end reads enough kept same gives = absurd gives
-next_stops version number s t a b c x y left_behind p q r (stop.BadRecord at fault) at_end reads enough kept same gives = absurd gives
-next_stops version number s t a b c x y left_behind p q r (stop.BadReplay at) at_end reads enough kept same gives = absurd gives
-next_stops version number s t a b c x y left_behind p q r stop.TooLong at_end reads enough kept same gives = absurd gives
+next_stops version number s t a b c x y behind left_behind p q r stop.WriteFailed at_end reads enough kept same gives = absurd gives
+next_stops version number s t a b c x y behind left_behind p q r stop.BadHeader at_end reads enough kept same gives = absurd gives
+next_stops version number s t a b c x y behind left_behind p q r (stop.BadRecord at fault) at_end reads enough kept same gives = absurd gives
+next_stops version number s t a b c x y behind left_behind p q r (stop.BadReplay at) at_end reads enough kept same gives = absurd gives
+next_stops version number s t a b c x y behind left_behind p q r stop.TooLong at_end reads enough kept same gives = absurd gives
 
-pub room_fails : (version : Version) (number : ℕ) (s t : Naming) (left left_behind unread before after : Option (List ℕ)) (result : Result (Unit {0}) Stop) (why : Stop)
-    → result ≡ Err stop.WriteFailed → result ≡ Err why → NextLine version number s t left left_behind unread before after (Err why)
-room_fails version number s t left left_behind unread before after result why e f =
+pub room_fails : (version : Version) (number : ℕ) (s t : Naming) (left left_behind : Option (List ℕ)) (behind : Buffered) (unread before after : Option (List ℕ)) (result : Result (Unit {0}) Stop) (why : Stop)
+    → result ≡ Err stop.WriteFailed → result ≡ Err why → NextLine version number s t left left_behind behind unread before after (Err why)
+room_fails version number s t left left_behind behind unread before after result why e f =
     let g : why ≡ stop.WriteFailed = cc in
     rw g tt

@@ -9,7 +9,7 @@ use Rattle.mps_output.specs.declared.stop.Stop.{Stop}
 use Rattle.mps_output.specs.declared.stop.Stop.TheVariants as stop
 use Rattle.mps_output.specs.Reports.{status_of, report_of}
 use Rattle.mps_output.specs.Streams.{Reports}
-use Rattle.mps_reading.specs.Input.{Buffered}
+use Rattle.mps_reading.specs.Input.{Buffered, IsComplete}
 use Rattle.mps_reading.specs.Left.{left_of}
 use Rattle.mps_reading.specs.PutOut.{put_out, Grows, PrintsAsFar, IsToFlush}
 use Rattle.mps_reading.specs.Opening.{first_line}
@@ -19,7 +19,8 @@ use Rattle.mps_reading.proofs.PartPut.{as_far_of_text, as_far_later}
 use Rattle.mps_output.proofs.Outside.{reports_only-same, reports_only-then}
 use Rattle.mps_readable.specs.Readable.{readable}
 use Rattle.mps_readable.specs.Text.{closed, readable_text, BeginsWith, Reads, FirstLines, BreaksOff, FailsBefore, FailsBehind, WantsMemory, HasRead, ReadWith}
-use Rattle.mps_readable.specs.TextSteps.{ShowsFirst, ShowsAll, ShowsCome, ShowsBeforeMemory, AllLines, TextOpens}
+use Rattle.mps_readable.specs.TextSteps.{ShowsFirst, ShowsAll, ShowsCome, ShowsBeforeMemory, AllLines, TextOpens, IsWholeOrLast}
+use Rattle.mps_readable.proofs.AllLines.{whole_told}
 use Rattle.mps_readable.proofs.FirstVersion.{is_second}
 
 printed_all : (line text : List ℕ) (o : Option (List ℕ)) → option_map (λ all. all ++ text) (option_map (λ printed. printed ++ line) o) ≡ option_map (λ before. before ++ (line ++ text)) o
@@ -70,11 +71,12 @@ first_lines version bytes left before after is h = record {
   begins = begins version bytes left before after is h;
 }
 
-fails_behind : (version : Version) (bytes left out gathered : List ℕ) (a b c d : Outside) → closed bytes ≡ first_line version ++ closed left → b.printed ≡ a.printed
+fails_behind : (version : Version) (bytes left out gathered : List ℕ) (a b c d : Outside) → closed bytes ≡ first_line version ++ closed left → bytes ≡ first_line version ++ left → b.printed ≡ a.printed
     → out ≡ first_line version → d.input ≡ c.input → Grows b.printed c.printed → a.out_faults ≤ c.out_faults
     → ShowsCome version left c.input (put_out b out) (put_out c gathered) → PrintsAsFar c d gathered → FailsBehind bytes a d
-fails_behind version bytes left out gathered a b c d is same line unread grown counted h far = record {
+fails_behind version bytes left out gathered a b c d is whole same line unread grown counted h far = record {
   front = first_lines version bytes left (put_out b out) (put_out c gathered) is h.shown;
+  whole = whole ∙ ap (λ (x : List ℕ). first_line version ++ x) h.whole ∙ sym (append_assoc (first_line version) (flat_map record_line h.shown.records) h.shown.left);
   breaks = subst (λ (o : Option (List ℕ)). BreaksOff h.shown.left o) (sym unread) h.breaks;
   printed = as_far_of_text out (first_line version) (readable version h.shown.records) gathered a b c d same line h.shown.put grown counted far;
 }
@@ -89,23 +91,23 @@ wants_memory version bytes left out a b d after is same line h printed = record 
 }
 
 reads_ending : (version : Version) (bytes left out gathered : List ℕ) (a b c d : Outside) (ending : Result (Unit {0}) Stop)
-    → closed bytes ≡ first_line version ++ closed left → b.printed ≡ a.printed → out ≡ first_line version → d.input ≡ c.input → Grows b.printed c.printed → a.out_faults ≤ c.out_faults
+    → closed bytes ≡ first_line version ++ closed left → (ending ≡ Err stop.ReadFailed → bytes ≡ first_line version ++ left) → b.printed ≡ a.printed → out ≡ first_line version → d.input ≡ c.input → Grows b.printed c.printed → a.out_faults ≤ c.out_faults
     → AllLines version left c.input (put_out b out) (put_out c gathered) ending → (IsToFlush ending → d.printed ≡ put_out c gathered)
     → (ending ≡ Err stop.ReadFailed → PrintsAsFar c d gathered) → HasRead bytes ending a d
-reads_ending version bytes left out gathered a b c d (Ok value) is same line unread grown counted all printed far =
+reads_ending version bytes left out gathered a b c d (Ok value) is whole same line unread grown counted all printed far =
     reads (Unit {0}) version bytes left out a b d (put_out c gathered) (Ok value) is same line all (printed tt)
-reads_ending version bytes left out gathered a b c d (Err (stop.BadLine number)) is same line unread grown counted all printed far =
+reads_ending version bytes left out gathered a b c d (Err (stop.BadLine number)) is whole same line unread grown counted all printed far =
     inr (reads (Unit {0}) version bytes left out a b d (put_out c gathered) (Err (stop.BadLine number)) is same line all (printed tt))
-reads_ending version bytes left out gathered a b c d (Err stop.TooLong) is same line unread grown counted all printed far =
+reads_ending version bytes left out gathered a b c d (Err stop.TooLong) is whole same line unread grown counted all printed far =
     reads (Unit {0}) version bytes left out a b d (put_out c gathered) (Err stop.TooLong) is same line all (printed tt)
-reads_ending version bytes left out gathered a b c d (Err stop.ReadFailed) is same line unread grown counted all printed far =
-    inr (fails_behind version bytes left out gathered a b c d is same line unread grown counted all (far refl))
-reads_ending version bytes left out gathered a b c d (Err stop.OutOfMemory) is same line unread grown counted all printed far =
+reads_ending version bytes left out gathered a b c d (Err stop.ReadFailed) is whole same line unread grown counted all printed far =
+    inr (fails_behind version bytes left out gathered a b c d is (whole refl) same line unread grown counted all (far refl))
+reads_ending version bytes left out gathered a b c d (Err stop.OutOfMemory) is whole same line unread grown counted all printed far =
     inr (wants_memory version bytes left out a b d (put_out c gathered) is same line all (printed tt))
-reads_ending version bytes left out gathered a b c d (Err stop.WriteFailed) is same line unread grown counted all printed far = tt
-reads_ending version bytes left out gathered a b c d (Err stop.BadHeader) is same line unread grown counted all printed far = absurd all
-reads_ending version bytes left out gathered a b c d (Err (stop.BadRecord at fault)) is same line unread grown counted all printed far = absurd all
-reads_ending version bytes left out gathered a b c d (Err (stop.BadReplay at)) is same line unread grown counted all printed far = absurd all
+reads_ending version bytes left out gathered a b c d (Err stop.WriteFailed) is whole same line unread grown counted all printed far = tt
+reads_ending version bytes left out gathered a b c d (Err stop.BadHeader) is whole same line unread grown counted all printed far = absurd all
+reads_ending version bytes left out gathered a b c d (Err (stop.BadRecord at fault)) is whole same line unread grown counted all printed far = absurd all
+reads_ending version bytes left out gathered a b c d (Err (stop.BadReplay at)) is whole same line unread grown counted all printed far = absurd all
 
 flushed : (R : Type 0) (bytes gathered : List ℕ) (a c d : Outside) (ending result : Result (Unit {0}) Stop)
     → (result ≡ ending) ⊎ ((result ≡ Err stop.WriteFailed) × R) → (IsToFlush result → d.printed ≡ put_out c gathered) → (result ≡ Err stop.ReadFailed → PrintsAsFar c d gathered)
@@ -122,15 +124,17 @@ told_left version bytes None e = absurd (let f : Some (closed bytes) ≡ None = 
 told_left version bytes (Some rest) e = (rest, refl, (let f : Some (closed bytes) ≡ Some (first_line version ++ closed rest) = e in cc))
 
 pub reads_text : (R : Type 0) (version : Version) (bytes out gathered : List ℕ) (a b c d : Outside) (x : Buffered) (ending result : Result (Unit {0}) Stop)
-    → Some (closed bytes) ≡ option_map (λ rest. first_line version ++ closed rest) (left_of b x) → b.printed ≡ a.printed → out ≡ first_line version → d.input ≡ c.input
+    → Some (closed bytes) ≡ option_map (λ rest. first_line version ++ closed rest) (left_of b x) → IsWholeOrLast (first_line version) (Some bytes) (left_of b x) x
+    → (IsComplete x → ending ≡ Err stop.ReadFailed → ⊥) → b.printed ≡ a.printed → out ≡ first_line version → d.input ≡ c.input
     → Grows b.printed c.printed → a.out_faults ≤ c.out_faults
     → ((left : List ℕ) → left_of b x ≡ Some left → AllLines version left c.input (put_out b out) (put_out c gathered) ending)
     → (result ≡ ending) ⊎ ((result ≡ Err stop.WriteFailed) × R) → (IsToFlush result → d.printed ≡ put_out c gathered)
     → (result ≡ Err stop.ReadFailed → PrintsAsFar c d gathered) → HasRead bytes result a d
-reads_text R version bytes out gathered a b c d x ending result opened same line unread grown counted all first printed far =
+reads_text R version bytes out gathered a b c d x ending result opened whole may_fail same line unread grown counted all first printed far =
     let g = told_left version bytes (left_of b x) opened in
     flushed R bytes gathered a c d ending result first printed far
-    (λ p q. reads_ending version bytes g.0 out gathered a b c d ending g.2 same line unread grown counted (all g.0 g.1) p q)
+    (λ p q. reads_ending version bytes g.0 out gathered a b c d ending g.2
+    (λ failed. whole_told (first_line version) bytes g.0 (Some bytes) (left_of b x) x whole (λ complete. may_fail complete failed) refl g.1) same line unread grown counted (all g.0 g.1) p q)
 
 -- ---- the report changes nothing of what was printed
 
@@ -153,6 +157,7 @@ failed_later : (bytes : List ℕ) (a b c : Outside) → OnlyReports b c → Fail
 failed_later bytes a b c o (inl h) = inl (record { breaks = before_later bytes a b c o.input h.breaks; printed = o.printed ∙ h.printed })
 failed_later bytes a b c o (inr h) = inr (record {
   front = h.front;
+  whole = h.whole;
   breaks = subst (λ (o : Option (List ℕ)). BreaksOff h.front.left o) (sym o.input) h.breaks;
   printed = as_far_later (readable_text h.front.version h.front.records) a b c h.printed o.printed o.out_faults;
 })

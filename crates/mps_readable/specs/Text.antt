@@ -97,10 +97,11 @@ pub record FailsBefore (bytes : List ℕ) (old new : Outside) : Type 0 where
   pub breaks : (new.input ≡ old.input) ⊎ BreaksOff bytes new.input
   pub printed : new.printed ≡ old.printed
 
--- a read failed behind the whole lines that had come, and the readable text of these was printed; where a write failed too,
--- the front of it
+-- a read failed behind the lines that had come whole, each with its line feed, and the readable text of these was printed;
+-- where a write failed too, the front of it
 pub record FailsBehind (bytes : List ℕ) (old new : Outside) : Type 0 where
   pub front : FirstLines bytes
+  pub whole : bytes ≡ portable_text front.version front.records ++ front.left
   pub breaks : BreaksOff front.left new.input
   pub printed : PrintsAsFar old new (readable_text front.version front.records)
 

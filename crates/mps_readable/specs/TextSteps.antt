@@ -8,7 +8,7 @@ use Rattle.mps_event.specs.declared.version.Version.TheVariants.{One, Two}
 use Rattle.mps_event.specs.Grammar.{IsRecord}
 use Rattle.mps_output.specs.declared.stop.Stop.{Stop}
 use Rattle.mps_output.specs.declared.stop.Stop.TheVariants as stop
-use Rattle.mps_reading.specs.Input.{Buffered}
+use Rattle.mps_reading.specs.Input.{Buffered, IsComplete}
 use Rattle.mps_reading.specs.Opening.{first_line}
 use Rattle.mps_reading.specs.PutOut.{PutsOut, PutsPart}
 use Rattle.mps_reading.specs.RecordLine.{record_line}
@@ -60,29 +60,37 @@ PendingLine version number s t b before after (Err stop.TooLong) = ⊥
 
 -- ---- the next line of what is left
 
+-- lines of this text were taken, each with its line feed; or all was read, and the last one may lack it, but no read can fail
+-- any more
+abbrev pub IsWholeOrLast : (text : List ℕ) → (left left_behind : Option (List ℕ)) → (behind : Buffered) → Type 0
+IsWholeOrLast text left left_behind behind = (left ≡ option_map (λ rest. text ++ rest) left_behind) ⊎ IsComplete behind
+
 -- the next line, of a record, was put out in readable text
-pub record ShowsNext (version : Version) (s t : Naming) (left left_behind before after : Option (List ℕ)) : Type 0 where
+pub record ShowsNext (version : Version) (s t : Naming) (left left_behind : Option (List ℕ)) (behind : Buffered)
+    (before after : Option (List ℕ)) : Type 0 where
   pub read : Record
   pub grammar : IsRecord version read
   pub meaning : after_record version s read ≡ Some t
   pub front : option_map closed left ≡ option_map (λ rest. record_line read ++ closed rest) left_behind
+  pub whole : IsWholeOrLast (record_line read) left left_behind behind
   pub put : PutsOut before after (readable_line version s t read)
 
--- what the next line gave, of what was left, where this is unread then; false at the end
-abbrev pub NextLine : Version → (number : ℕ) → (s t : Naming) → (left left_behind unread before after : Option (List ℕ)) → Result Bool Stop → Type 0
-NextLine version number s t left left_behind unread before after (Ok true) = ShowsNext version s t left left_behind before after
-NextLine version number s t left left_behind unread before after (Ok false) = IfSome left (λ bytes. bytes ≡ []) × (after ≡ before)
-NextLine version number s t left left_behind unread before after (Err (stop.BadLine line)) =
+-- what the next line gave, of what was left, where this is read and not taken then, and this unread; false at the end
+abbrev pub NextLine : Version → (number : ℕ) → (s t : Naming) → (left left_behind : Option (List ℕ)) → (behind : Buffered)
+    → (unread before after : Option (List ℕ)) → Result Bool Stop → Type 0
+NextLine version number s t left left_behind behind unread before after (Ok true) = ShowsNext version s t left left_behind behind before after
+NextLine version number s t left left_behind behind unread before after (Ok false) = IfSome left (λ bytes. bytes ≡ []) × (after ≡ before)
+NextLine version number s t left left_behind behind unread before after (Err (stop.BadLine line)) =
     (line ≡ number) × IfSome left (λ bytes. (0 < length (closed bytes)) × IsWrongNext version s (closed bytes)) × (after ≡ before)
-NextLine version number s t left left_behind unread before after (Err stop.ReadFailed) =
+NextLine version number s t left left_behind behind unread before after (Err stop.ReadFailed) =
     IfSome left (λ bytes. BreaksOff bytes unread) × (after ≡ before)
-NextLine version number s t left left_behind unread before after (Err stop.WriteFailed) = Unit {0}
-NextLine version number s t left left_behind unread before after (Err stop.OutOfMemory) =
+NextLine version number s t left left_behind behind unread before after (Err stop.WriteFailed) = Unit {0}
+NextLine version number s t left left_behind behind unread before after (Err stop.OutOfMemory) =
     IfSome left (λ bytes. IsNextToTakeMemory version s (closed bytes)) × (after ≡ before)
-NextLine version number s t left left_behind unread before after (Err stop.BadHeader) = ⊥
-NextLine version number s t left left_behind unread before after (Err (stop.BadRecord at fault)) = ⊥
-NextLine version number s t left left_behind unread before after (Err (stop.BadReplay at)) = ⊥
-NextLine version number s t left left_behind unread before after (Err stop.TooLong) = ⊥
+NextLine version number s t left left_behind behind unread before after (Err stop.BadHeader) = ⊥
+NextLine version number s t left left_behind behind unread before after (Err (stop.BadRecord at fault)) = ⊥
+NextLine version number s t left left_behind behind unread before after (Err (stop.BadReplay at)) = ⊥
+NextLine version number s t left left_behind behind unread before after (Err stop.TooLong) = ⊥
 
 -- ---- all lines
 
@@ -102,9 +110,10 @@ pub record ShowsAll {T : Type 0} (version : Version) (bytes : List ℕ) (before 
   pub shown : ShowsFirst version bytes before after
   pub ends_at : TextEndsAt version shown.named ending (length shown.records) (closed shown.left)
 
--- the whole lines that had come were read and put out
+-- the lines that had come whole were read and put out
 pub record ShowsCome (version : Version) (bytes : List ℕ) (unread before after : Option (List ℕ)) : Type 0 where
   pub shown : ShowsFirst version bytes before after
+  pub whole : bytes ≡ flat_map record_line shown.records ++ shown.left
   pub breaks : BreaksOff shown.left unread
 
 -- lines were read and put out up to one that takes memory
@@ -190,3 +199,8 @@ TextOpens bytes left input unread (Err (stop.BadRecord at fault)) = ⊥
 TextOpens bytes left input unread (Err (stop.BadReplay at)) = ⊥
 TextOpens bytes left input unread (Err stop.TooLong) = ⊥
 TextOpens bytes left input unread (Err stop.OutOfMemory) = ⊥
+
+-- the first line was taken with its line feed, or all was read
+abbrev pub OpensWhole : (bytes : List ℕ) → (left : Option (List ℕ)) → (behind : Buffered) → Result Version Stop → Type 0
+OpensWhole bytes left behind (Ok version) = IsWholeOrLast (first_line version) (Some bytes) left behind
+OpensWhole bytes left behind (Err why) = Unit {0}

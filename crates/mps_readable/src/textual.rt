@@ -7,7 +7,7 @@ ghost use Rattle.mps_event.specs.declared.version.Version.{Version};
 ghost use Rattle.mps_reading.specs.Causes.{IsCaused, IsTold, Works, Answers};
 ghost use Rattle.mps_reading.specs.Ending.{is_whole_status, IsUnopened, ReportsStatus};
 ghost use Rattle.mps_reading.specs.Opening.{OpensNothing};
-ghost use Rattle.mps_reading.specs.Input.{IsAtEnd};
+ghost use Rattle.mps_reading.specs.Input.{IsAtEnd, IsComplete};
 ghost use Rattle.mps_reading.specs.Left.{left_of};
 ghost use Rattle.mps_reading.specs.PutOut.{put_out, Grows, PutsPart};
 ghost use Rattle.mps_output.specs.Streams.{Runs};
@@ -15,7 +15,7 @@ ghost use Rattle.mps_readable.specs.Labels.{no_names, after_record, record_takes
 ghost use Rattle.mps_readable.specs.Line.{Spells};
 ghost use Rattle.mps_readable.specs.NextLine.{IsFront, HasNoLine, PutsLine};
 ghost use Rattle.mps_readable.specs.Text.{HasRead, ReadWith, IsCutShort, IsOnlyReading};
-ghost use Rattle.mps_readable.specs.TextSteps.{PendingLine, NextLine, AllLines, ShowsPart, first_text, FindsFirst, TakesFirst, TextOpens};
+ghost use Rattle.mps_readable.specs.TextSteps.{PendingLine, NextLine, AllLines, ShowsPart, first_text, FindsFirst, TakesFirst, TextOpens, OpensWhole};
 
 use crate::cuts::place_of;
 use crate::labels::{LabelFault, Labels};
@@ -35,9 +35,9 @@ const LONGEST_LINE: usize = 4096;
 /// begins, 8 for want of memory.
 pub fn txt<D: Desk>(alloc: Global, text: &str, desk: &mut D) -> u8
     ensures answers { Answers (D.outside desk.old) (D.outside desk.new) result }
-    // Where the opened file is told: this was read, printed and reported. After a failed read the whole lines that had come are
-    // printed, and the front of that, where a write failed too. Memory is wanting before the desk is called, or at a line that
-    // names a label, sets one or moves one along, and then the lines before it are printed.
+    // Where the opened file is told: this was read, printed and reported. After a failed read the lines that had come whole,
+    // each with its line feed, are printed, and the front of that, where a write failed too. Memory is wanting before the desk
+    // is called, or at a line that names a label, sets one or moves one along, and then the lines before it are printed.
     ensures readable { (bytes : List ℕ) → (D.outside desk.old).text text.now ≡ Some bytes
         → ReadWith bytes result (D.outside desk.old) (D.outside desk.new) }
     // And nothing else, where the status is none of a fault or for want of memory: a whole text gives 0 and all of its
@@ -88,6 +88,8 @@ fn open_text<D: Desk>(text: &str, input: &mut Input, desk: &mut D) -> Result<Ver
     requires { input.old ≡ record { pending = []; ended = false; failed = false } }
     ensures opened { (bytes : List ℕ) → (D.outside desk.old).text text.now ≡ Some bytes → TextOpens bytes (left_of (D.outside desk.new) input.new)
         (D.outside desk.old).input (D.outside desk.new).input result }
+    ensures whole { (bytes : List ℕ) → (D.outside desk.old).text text.now ≡ Some bytes
+        → OpensWhole bytes (left_of (D.outside desk.new) input.new) input.new result }
     ensures reported { (D.outside desk.new).reported ≡ (D.outside desk.old).reported }
     ensures err_faults { (D.outside desk.new).err_faults ≡ (D.outside desk.old).err_faults }
     ensures missing { OpensNothing (D.outside desk.old) text.now → result ≡ Err Stop.ReadFailed }
@@ -174,6 +176,8 @@ fn read_lines<D: Desk>(
     ensures err_faults { (D.outside desk.new).err_faults ≡ (D.outside desk.old).err_faults }
     ensures all { (bytes : List ℕ) → left_of (D.outside desk.old) input.old ≡ Some bytes
         → AllLines version bytes (D.outside desk.new).input (put_out (D.outside desk.old) output.old) (put_out (D.outside desk.new) output.new) result }
+    // Where all had been read, no read fails.
+    ensures complete { IsComplete input.old → result ≢ Err Stop.ReadFailed }
     ensures grows { Grows (D.outside desk.old).printed (D.outside desk.new).printed }
     ensures cut { result ≡ Err Stop.WriteFailed → (bytes : List ℕ) → left_of (D.outside desk.old) input.old ≡ Some bytes
         → ShowsPart version bytes output.old (D.outside desk.old).printed (D.outside desk.new).printed }
@@ -198,7 +202,10 @@ fn read_next<D: Desk>(
     requires { IsAtEnd (D.outside desk.old) input.old }
     ensures works { Works (D.outside desk.old) (D.outside desk.new) input.old input.new result }
     ensures gives { NextLine version number labels.old labels.new (left_of (D.outside desk.old) input.old) (left_of (D.outside desk.new) input.new)
-        (D.outside desk.new).input (put_out (D.outside desk.old) output.old) (put_out (D.outside desk.new) output.new) result }
+        input.new (D.outside desk.new).input (put_out (D.outside desk.old) output.old) (put_out (D.outside desk.new) output.new) result }
+    // Where all had been read, it stays so, and no read fails.
+    ensures stays { IsComplete input.old → IsComplete input.new }
+    ensures complete { IsComplete input.old → result ≢ Err Stop.ReadFailed }
     ensures grows { Grows (D.outside desk.old).printed (D.outside desk.new).printed }
     ensures cut { result ≡ Err Stop.WriteFailed → PutsPart (D.outside desk.old).printed (D.outside desk.new).printed output.old }
     ensures at_end { IsAtEnd (D.outside desk.new) input.new }

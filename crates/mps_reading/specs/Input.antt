@@ -17,6 +17,10 @@ IsAtEnd o b = b.ended ≡ true → IfSome o.input (λ left. left ≡ [])
 abbrev pub IsReadable : Buffered → Type 0
 IsReadable b = (b.ended ≡ false) × (b.failed ≡ false)
 
+-- all was read, and no read failed; so none can fail any more
+abbrev pub IsComplete : Buffered → Type 0
+IsComplete b = (b.ended ≡ true) × (b.failed ≡ false)
+
 -- more was read
 pub record ReadsMore (old new : Outside) (before after : Buffered) : Type 0 where
   pub read : List ℕ

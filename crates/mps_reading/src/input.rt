@@ -84,6 +84,8 @@ impl Input {
         requires { count ≤ 65536 }
         ensures read { ReadsMore (D.outside desk.old) (D.outside desk.new) self.old self.new }
         ensures enough { self.new.ended ≡ false → self.new.failed ≡ false → count ≤ length self.new.pending }
+        // Where all had been read, it stays so, and no read fails.
+        ensures still { self.old.ended ≡ true → self.new ≡ self.old }
     {
         while self.needs(count) {
             self.read_once(desk);

@@ -4,7 +4,7 @@ ghost use Rattle.std.specs.Prelude.{◌≡◌, ◌≢◌, ◌≤◌, ◌+◌, �
 ghost use Rattle.mps_base.specs.Desk.{HasRisen};
 ghost use Rattle.mps_reading.specs.Causes.{IsCaused, IsTold, Works};
 ghost use Rattle.mps_output.specs.Streams.{Runs, Kept, PrintsPart};
-ghost use Rattle.mps_reading.specs.Input.{IsAtEnd};
+ghost use Rattle.mps_reading.specs.Input.{IsAtEnd, IsComplete};
 ghost use Rattle.mps_reading.specs.Left.{left_of, LastGives, EndGives};
 ghost use Rattle.mps_reading.specs.PutOut.{put_out, IsToFlush, PrintsAsFar};
 ghost use Rattle.mps_reading.specs.Opening.{OpensNothing, first_line, IsCutHeader, OpensWith, TakesHeader};
@@ -96,6 +96,8 @@ pub fn after_the_last<D: Desk>(input: &mut Input, desk: &mut D) -> Result<(), St
     ensures gives { IsAtEnd (D.outside desk.old) input.old → LastGives (left_of (D.outside desk.old) input.old) result }
     // Where a read fails, nothing more had come.
     ensures unread { result ≡ Err Stop.ReadFailed → (D.outside desk.new).input ≡ left_of (D.outside desk.old) input.old }
+    // Where all had been read, no read fails.
+    ensures complete { IsComplete input.old → result ≢ Err Stop.ReadFailed }
     ensures printed { (D.outside desk.new).printed ≡ (D.outside desk.old).printed }
     ensures reported { (D.outside desk.new).reported ≡ (D.outside desk.old).reported }
     ensures err_faults { (D.outside desk.new).err_faults ≡ (D.outside desk.old).err_faults }

@@ -6,7 +6,7 @@ use Rattle.mps_reading.specs.Left.{left_of}
 use Rattle.mps_reading.specs.PutOut.{put_out}
 use Rattle.mps_reading.proofs.Causes.{works-then}
 use Rattle.mps_reading.proofs.PartPut.{grows_none, grows_then}
-use Rattle.mps_reading.proofs.Stops.{not_at_the_end, handed_on}
+use Rattle.mps_reading.proofs.Stops.{stopped, not_at_the_end, handed_on}
 use Rattle.mps_readable.specs.TextSteps.{NextLine}
 use Rattle.mps_readable.proofs.AllLines.{one_more, all_read, all_stop, all_counted}
 use Rattle.mps_readable.proofs.Cut.{lines_cut}
@@ -17,30 +17,31 @@ returns-in_err-read_next-clause-all g c bytes told =
     let p = err_from_is_err_and c.from_residual.result c.from_residual.ensures.1 in
     rw (p.1, p.2)
     (all_stop c.args.version c.loop-behind.behind (c.from.result + 2) c.loop-behind.labels c.read_next.new.labels
-    (left_of (g.D.Desk.outside c.args.desk.now) c.args.input.now) (left_of (g.D.Desk.outside c.loop-behind.desk) c.loop-behind.input) (left_of (g.D.Desk.outside c.read_next.new.desk) c.read_next.new.input) (g.D.Desk.outside c.read_next.new.desk).input
+    (left_of (g.D.Desk.outside c.args.desk.now) c.args.input.now) (left_of (g.D.Desk.outside c.loop-behind.desk) c.loop-behind.input) (left_of (g.D.Desk.outside c.read_next.new.desk) c.read_next.new.input) c.loop-behind.input c.read_next.new.input (g.D.Desk.outside c.read_next.new.desk).input
     (put_out (g.D.Desk.outside c.args.desk.now) c.args.output.now) (put_out (g.D.Desk.outside c.loop-behind.desk) c.loop-behind.output) (put_out (g.D.Desk.outside c.read_next.new.desk) c.read_next.new.output)
-    bytes _ (omega arith) (omega arith) c.loop-behind.invariant.so_far c.in_err-read_next.ensures.gives told)
+    bytes _ (omega arith) (omega arith) c.loop-behind.invariant.so_far c.in_err-read_next.ensures.gives
+    (λ complete failed. c.in_err-read_next.ensures.complete complete (ap (stopped Bool) failed)) told)
 
 pub returns-then-not-branch-clause-all : goal.returns-then-not-branch-clause-all
 returns-then-not-branch-clause-all g c bytes told =
     let next : NextLine c.args.version (c.from.result + 2) c.loop-behind.labels c.read_next.new.labels
-    (left_of (g.D.Desk.outside c.loop-behind.desk) c.loop-behind.input) (left_of (g.D.Desk.outside c.read_next.new.desk) c.read_next.new.input) (g.D.Desk.outside c.read_next.new.desk).input
+    (left_of (g.D.Desk.outside c.loop-behind.desk) c.loop-behind.input) (left_of (g.D.Desk.outside c.read_next.new.desk) c.read_next.new.input) c.read_next.new.input (g.D.Desk.outside c.read_next.new.desk).input
     (put_out (g.D.Desk.outside c.loop-behind.desk) c.loop-behind.output) (put_out (g.D.Desk.outside c.read_next.new.desk) c.read_next.new.output) (Ok false) =
     subst (λ (b : Bool). NextLine c.args.version (c.from.result + 2) c.loop-behind.labels c.read_next.new.labels
-    (left_of (g.D.Desk.outside c.loop-behind.desk) c.loop-behind.input) (left_of (g.D.Desk.outside c.read_next.new.desk) c.read_next.new.input) (g.D.Desk.outside c.read_next.new.desk).input
+    (left_of (g.D.Desk.outside c.loop-behind.desk) c.loop-behind.input) (left_of (g.D.Desk.outside c.read_next.new.desk) c.read_next.new.input) c.read_next.new.input (g.D.Desk.outside c.read_next.new.desk).input
     (put_out (g.D.Desk.outside c.loop-behind.desk) c.loop-behind.output) (put_out (g.D.Desk.outside c.read_next.new.desk) c.read_next.new.output) (Ok b))
     c.if-not-branch.true c.in_ok-read_next.ensures.gives in
     all_read c.args.version c.loop-behind.behind (c.from.result + 2) c.loop-behind.labels c.read_next.new.labels
-    (left_of (g.D.Desk.outside c.args.desk.now) c.args.input.now) (left_of (g.D.Desk.outside c.loop-behind.desk) c.loop-behind.input) (left_of (g.D.Desk.outside c.read_next.new.desk) c.read_next.new.input) (g.D.Desk.outside c.read_next.new.desk).input
+    (left_of (g.D.Desk.outside c.args.desk.now) c.args.input.now) (left_of (g.D.Desk.outside c.loop-behind.desk) c.loop-behind.input) (left_of (g.D.Desk.outside c.read_next.new.desk) c.read_next.new.input) c.loop-behind.input c.read_next.new.input (g.D.Desk.outside c.read_next.new.desk).input
     (put_out (g.D.Desk.outside c.args.desk.now) c.args.output.now) (put_out (g.D.Desk.outside c.loop-behind.desk) c.loop-behind.output) (put_out (g.D.Desk.outside c.read_next.new.desk) c.read_next.new.output)
     bytes (omega arith) c.loop-behind.invariant.so_far next told
 
 pub returns-clause-all : goal.returns-clause-all
 returns-clause-all g c bytes told =
     all_counted c.args.version c.loop-behind.behind c.loop-behind.labels
-    (left_of (g.D.Desk.outside c.args.desk.now) c.args.input.now) (left_of (g.D.Desk.outside c.loop-behind.desk) c.loop-behind.input) (g.D.Desk.outside c.after_the_last.new.desk).input
+    (left_of (g.D.Desk.outside c.args.desk.now) c.args.input.now) (left_of (g.D.Desk.outside c.loop-behind.desk) c.loop-behind.input) c.loop-behind.input (g.D.Desk.outside c.after_the_last.new.desk).input
     (put_out (g.D.Desk.outside c.args.desk.now) c.args.output.now) (put_out (g.D.Desk.outside c.loop-behind.desk) c.loop-behind.output) (put_out (g.D.Desk.outside c.after_the_last.new.desk) c.loop-behind.output)
-    bytes c.after_the_last.result (omega arith) c.loop-behind.invariant.so_far (c.after_the_last.ensures.gives c.loop-behind.invariant.at_end) c.after_the_last.ensures.unread
+    bytes c.after_the_last.result (omega arith) c.loop-behind.invariant.so_far (c.after_the_last.ensures.gives c.loop-behind.invariant.at_end) c.after_the_last.ensures.complete c.after_the_last.ensures.unread
     (ap (λ (o : Option (List ℕ)). option_map (λ printed. printed ++ c.loop-behind.output) o) c.after_the_last.ensures.printed) told
 
 pub returns-in_err-read_next-clause-grows : goal.returns-in_err-read_next-clause-grows
@@ -60,7 +61,7 @@ pub returns-in_err-read_next-clause-cut : goal.returns-in_err-read_next-clause-c
 returns-in_err-read_next-clause-cut g c failed bytes told =
     let p = err_from_is_err_and c.from_residual.result c.from_residual.ensures.1 in
     lines_cut c.args.version c.loop-behind.behind c.loop-behind.labels
-    (left_of (g.D.Desk.outside c.args.desk.now) c.args.input.now) (left_of (g.D.Desk.outside c.loop-behind.desk) c.loop-behind.input)
+    (left_of (g.D.Desk.outside c.args.desk.now) c.args.input.now) (left_of (g.D.Desk.outside c.loop-behind.desk) c.loop-behind.input) c.loop-behind.input
     (g.D.Desk.outside c.args.desk.now) (g.D.Desk.outside c.loop-behind.desk) (g.D.Desk.outside c.read_next.new.desk) c.args.output.now c.loop-behind.output bytes
     (omega arith) c.loop-behind.invariant.so_far c.loop-behind.invariant.grows (c.in_err-read_next.ensures.cut (handed_on _ _ c.from_residual.result p.0 _ _ p.1 p.2 failed)) told
 
@@ -73,10 +74,10 @@ loop-behind-preserved g c =
     let works : Works {T = Unit {0}} (g.D.Desk.outside c.args.desk.now) (g.D.Desk.outside c.loop-behind.desk) c.args.input.now c.loop-behind.input (Ok tt) = c.loop-behind.invariant.works in
     let step = c.in_ok-read_next.ensures.works in
     let next : NextLine c.args.version (c.from.result + 2) c.loop-behind.labels c.read_next.new.labels
-    (left_of (g.D.Desk.outside c.loop-behind.desk) c.loop-behind.input) (left_of (g.D.Desk.outside c.read_next.new.desk) c.read_next.new.input) (g.D.Desk.outside c.read_next.new.desk).input
+    (left_of (g.D.Desk.outside c.loop-behind.desk) c.loop-behind.input) (left_of (g.D.Desk.outside c.read_next.new.desk) c.read_next.new.input) c.read_next.new.input (g.D.Desk.outside c.read_next.new.desk).input
     (put_out (g.D.Desk.outside c.loop-behind.desk) c.loop-behind.output) (put_out (g.D.Desk.outside c.read_next.new.desk) c.read_next.new.output) (Ok true) =
     subst (λ (b : Bool). NextLine c.args.version (c.from.result + 2) c.loop-behind.labels c.read_next.new.labels
-    (left_of (g.D.Desk.outside c.loop-behind.desk) c.loop-behind.input) (left_of (g.D.Desk.outside c.read_next.new.desk) c.read_next.new.input) (g.D.Desk.outside c.read_next.new.desk).input
+    (left_of (g.D.Desk.outside c.loop-behind.desk) c.loop-behind.input) (left_of (g.D.Desk.outside c.read_next.new.desk) c.read_next.new.input) c.read_next.new.input (g.D.Desk.outside c.read_next.new.desk).input
     (put_out (g.D.Desk.outside c.loop-behind.desk) c.loop-behind.output) (put_out (g.D.Desk.outside c.read_next.new.desk) c.read_next.new.output) (Ok b))
     c.if-not-branch.false c.in_ok-read_next.ensures.gives in
     record {
@@ -84,9 +85,10 @@ loop-behind-preserved g c =
       reported = c.in_ok-read_next.ensures.reported ∙ c.loop-behind.invariant.reported;
       err_faults = c.in_ok-read_next.ensures.err_faults ∙ c.loop-behind.invariant.err_faults;
       at_end = c.in_ok-read_next.ensures.at_end;
+      complete = λ complete. c.in_ok-read_next.ensures.stays (c.loop-behind.invariant.complete complete);
       grows = grows_then (g.D.Desk.outside c.args.desk.now).printed (g.D.Desk.outside c.loop-behind.desk).printed (g.D.Desk.outside c.read_next.new.desk).printed c.loop-behind.invariant.grows c.read_next.ensures.grows;
       so_far = one_more c.args.version c.loop-behind.behind (c.from.result + 2) c.loop-behind.labels c.read_next.new.labels
-          (left_of (g.D.Desk.outside c.args.desk.now) c.args.input.now) (left_of (g.D.Desk.outside c.loop-behind.desk) c.loop-behind.input) (left_of (g.D.Desk.outside c.read_next.new.desk) c.read_next.new.input) (g.D.Desk.outside c.read_next.new.desk).input
+          (left_of (g.D.Desk.outside c.args.desk.now) c.args.input.now) (left_of (g.D.Desk.outside c.loop-behind.desk) c.loop-behind.input) (left_of (g.D.Desk.outside c.read_next.new.desk) c.read_next.new.input) c.loop-behind.input c.read_next.new.input (g.D.Desk.outside c.read_next.new.desk).input
           (put_out (g.D.Desk.outside c.args.desk.now) c.args.output.now) (put_out (g.D.Desk.outside c.loop-behind.desk) c.loop-behind.output) (put_out (g.D.Desk.outside c.read_next.new.desk) c.read_next.new.output)
-          c.loop-behind.invariant.so_far next;
+          c.loop-behind.invariant.so_far next c.in_ok-read_next.ensures.stays;
     }

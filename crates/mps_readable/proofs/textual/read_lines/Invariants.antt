@@ -1,6 +1,6 @@
 use Rattle.std.proofs.Common.{◌≡◌, Ok}
 use Rattle.mps_reading.specs.Causes.{Works}
-use Rattle.mps_reading.specs.Input.{IsAtEnd}
+use Rattle.mps_reading.specs.Input.{IsAtEnd, IsComplete}
 use Rattle.mps_reading.specs.Left.{left_of}
 use Rattle.mps_reading.specs.PutOut.{put_out, Grows}
 use Rattle.mps_readable.proofs.AllLines.{LinesSoFar}
@@ -12,7 +12,8 @@ invariant-loop-behind g l = record {
   reported : (g.D.Desk.outside l.desk).reported ≡ (g.D.Desk.outside l.initial.desk).reported;
   err_faults : (g.D.Desk.outside l.desk).err_faults ≡ (g.D.Desk.outside l.initial.desk).err_faults;
   at_end : IsAtEnd (g.D.Desk.outside l.desk) l.input;
+  complete : IsComplete l.initial.input → IsComplete l.input;
   grows : Grows (g.D.Desk.outside l.initial.desk).printed (g.D.Desk.outside l.desk).printed;
-  so_far : LinesSoFar l.version l.behind l.labels (left_of (g.D.Desk.outside l.initial.desk) l.initial.input) (left_of (g.D.Desk.outside l.desk) l.input)
+  so_far : LinesSoFar l.version l.behind l.labels (left_of (g.D.Desk.outside l.initial.desk) l.initial.input) (left_of (g.D.Desk.outside l.desk) l.input) l.input
       (put_out (g.D.Desk.outside l.initial.desk) l.initial.output) (put_out (g.D.Desk.outside l.desk) l.output);
 }

@@ -14,7 +14,7 @@ returns-in_err-size-clause-gives g c =
     let p = err_from_is_err_and c.from_residual-in_err-size.result c.from_residual-in_err-size.ensures.1 in
     rw (p.1, p.2)
     (next_stops c.args.version c.args.number c.args.labels.now c.read_line.new.labels (g.D.Desk.outside c.args.desk.now) (g.D.Desk.outside c.fill.new.desk) (g.D.Desk.outside c.make_room.new.desk)
-    c.args.input.now c.fill.new.self (left_of (g.D.Desk.outside c.make_room.new.desk) c.fill.new.self) c.args.output.now c.make_room.new.output c.read_line.new.output _
+    c.args.input.now c.fill.new.self c.fill.new.self (left_of (g.D.Desk.outside c.make_room.new.desk) c.fill.new.self) c.args.output.now c.make_room.new.output c.read_line.new.output _
     c.requires c.fill.ensures.read c.fill.ensures.enough c.in_ok-make_room.ensures.kept c.make_room.ensures.input c.in_err-size.ensures.gives)
 
 pub returns-clause-gives : goal.returns-clause-gives
@@ -24,10 +24,10 @@ returns-clause-gives g c =
     let left = left_of (g.D.Desk.outside c.args.desk.now) c.args.input.now in
     let before = put_out (g.D.Desk.outside c.args.desk.now) c.args.output.now in
     let put = put_out (g.D.Desk.outside c.make_room.new.desk) c.read_line.new.output in
-    subst (λ (b : Buffered). NextLine c.args.version c.args.number c.args.labels.now c.read_line.new.labels left (left_of (g.D.Desk.outside c.make_room.new.desk) b) (g.D.Desk.outside c.make_room.new.desk).input before put (Ok c.is_some.result))
+    subst (λ (b : Buffered). NextLine c.args.version c.args.number c.args.labels.now c.read_line.new.labels left (left_of (g.D.Desk.outside c.make_room.new.desk) b) b (g.D.Desk.outside c.make_room.new.desk).input before put (Ok c.is_some.result))
     (sym after)
     (subst (λ (some : Bool). NextLine c.args.version c.args.number c.args.labels.now c.read_line.new.labels left
-    (left_of (g.D.Desk.outside c.make_room.new.desk) (record c.fill.new.self { pending = drop (unwrap_or c.in_ok-size.size 0) c.fill.new.self.pending })) (g.D.Desk.outside c.make_room.new.desk).input before put (Ok some))
+    (left_of (g.D.Desk.outside c.make_room.new.desk) (record c.fill.new.self { pending = drop (unwrap_or c.in_ok-size.size 0) c.fill.new.self.pending })) (record c.fill.new.self { pending = drop (unwrap_or c.in_ok-size.size 0) c.fill.new.self.pending }) (g.D.Desk.outside c.make_room.new.desk).input before put (Ok some))
     (sym c.is_some.ensures)
     (next_line c.args.version c.args.number c.args.labels.now c.read_line.new.labels (g.D.Desk.outside c.args.desk.now) (g.D.Desk.outside c.fill.new.desk) (g.D.Desk.outside c.make_room.new.desk)
     c.args.input.now c.fill.new.self c.args.output.now c.make_room.new.output c.read_line.new.output c.in_ok-size.size

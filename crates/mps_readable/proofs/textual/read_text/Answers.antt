@@ -11,7 +11,7 @@ returns-clause-read g c bytes told =
     reads_text _ c.in_ok-version.version bytes c.put_first_line.new.output c.read_lines-ending.new.output
     (g.D.Desk.outside c.args.desk.now) (g.D.Desk.outside c.open_text.new.desk) (g.D.Desk.outside c.read_lines-ending.new.desk) (g.D.Desk.outside c.flush_after.new.desk)
     c.open_text.new.input c.read_lines-ending.result c.flush_after.result
-    opened c.open_text.ensures.printed line c.flush_after.ensures.input c.read_lines-ending.ensures.grows
+    opened (c.in_ok-version.ensures.whole bytes told) c.read_lines-ending.ensures.complete c.open_text.ensures.printed line c.flush_after.ensures.input c.read_lines-ending.ensures.grows
     (omega (arith, c.open_text.ensures.runs.out_counted, c.read_lines-ending.ensures.works.runs.out_counted))
     c.read_lines-ending.ensures.all c.flush_after.ensures.first c.flush_after.ensures.printed c.flush_after.ensures.front
 

@@ -1,9 +1,12 @@
-use Rattle.std.proofs.Common.{◌+◌, ◌-◌, length, cond, ◌||◌}
+use Rattle.std.proofs.Common.{◌≡◌, ◌+◌, ◌-◌, true, length, cond, ◌||◌}
 use Rattle.mps_reading.specs.Input.{ReadsMore}
 use Rattle.mps_reading.proofs.input.Input.fill.Given as goal
 
 abbrev pub invariant-loop-self : goal.invariant-loop-self
-invariant-loop-self g l = ReadsMore (g.D.Desk.outside l.initial.desk) (g.D.Desk.outside l.desk) l.initial.self l.self
+invariant-loop-self g l = record {
+  read : ReadsMore (g.D.Desk.outside l.initial.desk) (g.D.Desk.outside l.desk) l.initial.self l.self;
+  still : l.initial.self.ended ≡ true → l.self ≡ l.initial.self;
+}
 
 abbrev pub decreases-loop-self : goal.decreases-loop-self
 decreases-loop-self g l = cond (l.self.ended || l.self.failed) 0 (1 + (l.count - length l.self.pending))
