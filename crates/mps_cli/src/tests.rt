@@ -222,7 +222,13 @@ fn an_allocation_may_fail(rt: HostRuntime) -> Result<(), Fail> {
 #[test]
 fn a_line_of_4096_bytes_is_the_longest(rt: HostRuntime) -> Result<(), Fail> {
     for (length, failing, status, printed, reported) in [
-        (4096, 2, 0, b"ok\nunsupported\nok\n".as_slice(), b"".as_slice()),
+        (
+            4096,
+            2,
+            0,
+            b"ok\nunsupported\nok\n".as_slice(),
+            b"".as_slice(),
+        ),
         (4097, 2, 6, b"ok\n", b"mps: script line 2: bad line\n"),
         (4097, 1, 6, b"ok\n", b""),
     ] {

@@ -20,7 +20,7 @@ use Rattle.mps_readable.specs.NextLine.{IsFront}
 use Rattle.mps_readable.specs.Text.{closed, HasNoFirstLine, BreaksOff}
 use Rattle.mps_readable.specs.TextSteps.{first_text, HasOtherFront, TakesFirst, TextOpens, IsWholeOrLast, OpensWhole}
 use Rattle.mps_readable.proofs.NextLine.{broken_left}
-use Rattle.mps_readable.proofs.Fronts.{front_closed, whole_in_front, one_line, too_long, long_closed}
+use Rattle.mps_readable.proofs.Fronts.{front_closed, whole_in_front, one_line, too_long, long_closed, lacks_of_front}
 
 line_of_version : (version : Version) (more : List ℕ) → first_line version ++ more ≡ first_text version ++ 10 ∷ more
 line_of_version One more = refl
@@ -52,10 +52,6 @@ long_first : (front rest bytes : List ℕ) → Lacks 10 front → 4096 < length 
 long_first front rest bytes lacks long is = λ version more e.
     too_long front (first_text version) rest more (recursion_from_All (λ byte. byte ≢ 10) front lacks) (omega (arith, long, first_short version)) (sym is ∙ e ∙ line_of_version version more)
 
-lacks_front : (b : Buffered) (line : List ℕ) (size : ℕ) → IsFront b line size → Lacks 10 line
-lacks_front b line size (inl h) = h.lacks
-lacks_front b line size (inr h) = h.lacks
-
 no_more : (ended failed : Bool) (pending more : List ℕ) → pending ≡ [] → failed ≡ false → (ended ≡ true → more ≡ []) → (ended ≡ false → failed ≡ false → 4097 ≤ length pending) → pending ++ more ≡ []
 no_more true failed pending more none whole end enough = ap (λ (x : List ℕ). pending ++ x) (end refl) ∙ append-nil pending ∙ none
 no_more false failed pending more none whole end enough =
@@ -64,7 +60,7 @@ no_more false failed pending more none whole end enough =
 no_first : (b : Buffered) (more : List ℕ) → HasOtherFront b → (b.ended ≡ true → more ≡ []) → (b.ended ≡ false → b.failed ≡ false → 4097 ≤ length b.pending) → HasNoFirstLine (b.pending ++ more)
 no_first b more (inl h) end enough = nothing_first (b.pending ++ more) (no_more b.ended b.failed b.pending more h.0 h.1 end enough)
 no_first b more (inr (inl h)) end enough =
-    other_first h.0 (closed (drop h.1 b.pending ++ more)) (b.pending ++ more) (lacks_front b h.0 h.1 h.2) (front_closed b h.0 h.1 more h.2 end enough) h.3
+    other_first h.0 (closed (drop h.1 b.pending ++ more)) (b.pending ++ more) (lacks_of_front b h.0 h.1 h.2) (front_closed b h.0 h.1 more h.2 end enough) h.3
 no_first b more (inr (inr h)) end enough =
     let g = long_closed h.front h.others b.pending more h.pending in
     long_first h.front g.0 (b.pending ++ more) h.lacks h.long g.1

@@ -80,7 +80,7 @@ whole_in_front b text line size input ends (inr h) enough =
     let same : length b.pending ≡ length text = ap (λ (x : List ℕ). length x) h.all in
     inr (last_ended b.ended b.failed (length b.pending) h.whole enough (omega (arith, same, h.short)), h.whole)
 
-lacks_of_front : (b : Buffered) (line : List ℕ) (size : ℕ) → IsFront b line size → Lacks 10 line
+pub lacks_of_front : (b : Buffered) (line : List ℕ) (size : ℕ) → IsFront b line size → Lacks 10 line
 lacks_of_front b line size (inl h) = h.lacks
 lacks_of_front b line size (inr h) = h.lacks
 
