@@ -86,7 +86,7 @@ scan_found table need grain low most some scan within none fits =
       free,
     )
 
--- the runs behind a run
+-- the runs after a run
 run_step : (table : List ℕ) (grain : ℕ) → IsAscending grain (length table) (rest table grain) → grain < length table → 0 < get_or table grain 0
     → (rest table grain ≡ record { from = grain; count = get_or table grain 0 } ∷ rest table (grain + get_or table grain 0))
     × IsAscending (grain + get_or table grain 0) (length table) (rest table (grain + get_or table grain 0))
@@ -113,7 +113,7 @@ pub scan_run : (table : List ℕ) (need grain low most : ℕ) → 0 < need → S
 scan_run table need grain low most some scan within run =
     let count = get_or table grain 0 in
     let step = run_step table grain scan.ascending within run in
-    let behind = gaps (grain + count) (length table) (rest table (grain + count)) in
+    let after = gaps (grain + count) (length table) (rest table (grain + count)) in
     record {
       begun = omega (arith, scan.begun);
       ordered = omega arith;
@@ -122,10 +122,10 @@ scan_run table need grain low most some scan within run =
       free = λ i above below. absurd (omega arith);
       ascending = step.1;
       lowest =
-          sym (lowest_fitting_later need low grain behind some (omega (arith, scan.short, scan.ordered)))
+          sym (lowest_fitting_later need low grain after some (omega (arith, scan.short, scan.ordered)))
           ∙ ap (λ (rs : List Run). lowest_fitting need (gaps low (length table) rs)) (sym step.0) ∙ scan.lowest;
       longest_is =
-          omega (arith, longest_front low grain behind, scan.longest_is, ap (λ (rs : List Run). longest (gaps low (length table) rs)) step.0);
+          omega (arith, longest_front low grain after, scan.longest_is, ap (λ (rs : List Run). longest (gaps low (length table) rs)) step.0);
     }
 
 pub scan_end : (table : List ℕ) (need grain low most : ℕ) → 0 < need → Scan table need grain low most → length table ≤ grain

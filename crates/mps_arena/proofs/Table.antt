@@ -54,7 +54,7 @@ runs_later (suc n) table grain low high ascending after within =
     cases_zero zero = inl refl
     cases_zero (suc n) = inr (omega arith)
 
--- all runs of a table begin at or behind its first grain
+-- all runs of a table begin at or after its first grain
 pub after_all : (grain : ℕ) (counts : List ℕ) (r : Run) → r.from < grain → with_run r (runs_from grain counts) ≡ r ∷ runs_from grain counts
 unfolding runs_from
 after_all grain [] r before = refl

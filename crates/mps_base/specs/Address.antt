@@ -14,7 +14,7 @@ grain_of at = at / 4096
 abbrev pub zone_of : ℕ → ℕ
 zone_of at = grain_of at % 64
 
--- the grains that a block of so many words needs
+-- the grains that a block of n words needs
 abbrev pub grains_needed : ℕ → ℕ
 grains_needed words = (words + 511) / 512
 

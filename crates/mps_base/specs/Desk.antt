@@ -47,7 +47,7 @@ with_file [] name bytes = record { name = name; bytes = bytes } ∷ []
 with_file (f ∷ fs) name bytes =
     if bytes_eq f.name name then record { name = f.name; bytes = bytes } ∷ fs else f ∷ with_file fs name bytes
 
--- the files with these bytes behind those of the file of this name
+-- the files with these bytes after those of the file of this name
 abbrev pub with_more : List File → List ℕ → List ℕ → List File
 with_more [] name bytes = []
 with_more (f ∷ fs) name bytes =
@@ -57,7 +57,7 @@ with_more (f ∷ fs) name bytes =
 abbrev pub made_for_log : List ℕ → Files → Files
 made_for_log name files = record { all = with_file files.all name []; log = Some name }
 
--- the files with these bytes behind those of the file that the log goes to: in none of them before one was made for it
+-- the files with these bytes after those of the file that the log goes to: in none of them before one was made for it
 abbrev pub with_logged : List File → Option (List ℕ) → List ℕ → List File
 with_logged files None bytes = files
 with_logged files (Some name) bytes = with_more files name bytes
@@ -71,9 +71,9 @@ abbrev pub text_in : List File → List ℕ → Option (List ℕ)
 text_in files name =
     if bytes_eq name standard_input then Some (unwrap_or (file_named files name) []) else file_named files name
 
--- the bytes told, and the first n of a piece behind them
+-- the bytes told, and the first n of a piece after them
 abbrev pub added : Option (List ℕ) → List ℕ → ℕ → Option (List ℕ)
-added told piece n = option_map (λ before. before ++ take n piece) told
+added known_there piece n = option_map (λ before. before ++ take n piece) known_there
 
 -- the last value of a count, which a u64 holds
 abbrev pub last_count : ℕ
@@ -150,10 +150,10 @@ a_file_takes_the_place = refl
 pub the_others_stay : file_named (with_file two_files (97 ∷ []) []) (98 ∷ []) ≡ Some (2 ∷ [])
 the_others_stay = refl
 
-pub the_log_goes_behind_its_file :
+pub the_log_goes_after_its_file :
     after_log (3 ∷ []) (record { all = two_files; log = Some (98 ∷ []) })
     ≡ record { all = record { name = 97 ∷ []; bytes = 1 ∷ [] } ∷ record { name = 98 ∷ []; bytes = 2 ∷ 3 ∷ [] } ∷ []; log = Some (98 ∷ []) }
-the_log_goes_behind_its_file = refl
+the_log_goes_after_its_file = refl
 
 pub without_a_file_the_log_goes_nowhere :
     after_log (3 ∷ []) (record { all = two_files; log = None }) ≡ record { all = two_files; log = None }

@@ -6,7 +6,7 @@ pub record Load : Type 0 where
   pub capacities : List ℕ
   pub held : List ℕ
 
--- the generation to which a block of this generation moves, on a chain of so many generations
+-- the generation to which a block of this generation moves, on a chain of n generations
 abbrev pub target_on_chain : (generations generation : ℕ) → ℕ
 target_on_chain generations generation = min (generation + 1) (generations - 1)
 

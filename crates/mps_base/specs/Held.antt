@@ -12,13 +12,13 @@ pub record Waiting : Type 0 where
 abbrev pub most_held : ℕ
 most_held = 65536
 
--- so many bytes more need no memory and aren't too many, and no write failed
+-- n bytes more need no memory and aren't too many, and no write failed
 pub record HasRoom (before : Waiting) (count : ℕ) : Type 0 where
   pub going : before.failed ≡ false
   pub memory : length before.bytes + count ≤ before.room
   pub most : length before.bytes + count ≤ most_held
 
--- What a writer has, and the bytes that wait behind it, are those of before and then the piece. Of a writer that
+-- What a writer has, and the bytes that wait after it, are those of before and then the piece. Of a writer that
 -- doesn't tell what it has nothing is said.
 abbrev pub IsCarriedOn : Option (List ℕ) → List ℕ → List ℕ → Option (List ℕ) → List ℕ → Type 0
 IsCarriedOn None waiting piece now left = Unit {0}

@@ -80,7 +80,7 @@ outside_of d = record {
   err_faults = d.err_faults;
 }
 
--- the place of the first file of this name, or behind the last where there is none
+-- the place of the first file of this name, or after the last where there is none
 abbrev pub place_of : List File → List ℕ → ℕ
 place_of [] name = 0
 place_of (f ∷ fs) name = if bytes_eq f.name name then 0 else place_of fs name + 1

@@ -1,11 +1,11 @@
--- Where something new is placed: the answer to 'so many words, please', with the numbers of each refusal.
+-- Where something new is placed: the answer to 'n words, please', with the numbers of each refusal.
 use Rattle.std.specs.Prelude.{ℕ, ◌≡◌, ◌+◌, nat_lt, if◌then◌else◌, Option, Some, None, List, [], ◌∷◌, refl}
 use Rattle.mps_base.specs.Run.{Run, gaps, lowest_fitting, longest, total}
 
 pub data Placement : Type 0 where
   -- in what is held already, from this word on
   Place : (word : ℕ) → Placement
-  -- at the base of a new segment, of so many grains from this grain on
+  -- at the base of a new segment, of n grains from this grain on
   NewSegment : (grain grains : ℕ) → Placement
   -- more grains than the commit limit allows: the grains held, those needed, and the limit
   OverLimit : (committed need limit : ℕ) → Placement
@@ -29,8 +29,8 @@ run_placement grains limit held need =
 abbrev two_held : List Run
 two_held = record { from = 1; count = 2 } ∷ []
 
-pub the_lowest_run_behind : run_placement 4 4 two_held 2 ≡ NewSegment 3 2
-the_lowest_run_behind = refl
+pub the_lowest_run_after : run_placement 4 4 two_held 2 ≡ NewSegment 3 2
+the_lowest_run_after = refl
 
 pub the_limit_comes_before_the_room : run_placement 4 4 two_held 3 ≡ OverLimit 2 3 4
 the_limit_comes_before_the_room = refl

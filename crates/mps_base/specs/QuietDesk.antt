@@ -1,4 +1,4 @@
--- A desk over one lent text.
+-- A desk over one borrowed text.
 use Rattle.std.specs.Prelude.{ℕ, List}
 
 pub record LentText : Type 0 where

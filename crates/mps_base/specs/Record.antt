@@ -77,7 +77,7 @@ intern_code = 96
 abbrev pub label_code : ℕ
 label_code = 97
 
--- a number in so many bytes, the lowest first
+-- a number in n bytes, the lowest first
 abbrev pub number_bytes : (count number : ℕ) → List ℕ
 number_bytes count number = bytes_low_first 0 count number
 

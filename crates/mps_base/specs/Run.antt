@@ -7,7 +7,7 @@ pub record Run : Type 0 where
   pub from : ℕ
   pub count : ℕ
 
--- the first number behind a run
+-- the first number after a run
 abbrev pub end_of : Run → ℕ
 end_of r = r.from + r.count
 
@@ -57,9 +57,9 @@ without_run from (r ∷ rs) = if from == r.from then rs else r ∷ without_run f
 abbrev example : List Run
 example = record { from = 1; count = 2 } ∷ record { from = 5; count = 1 } ∷ []
 
-pub gaps_lie_between_and_behind :
+pub gaps_lie_between_and_after :
     gaps 1 9 example ≡ record { from = 3; count = 2 } ∷ record { from = 6; count = 3 } ∷ []
-gaps_lie_between_and_behind = refl
+gaps_lie_between_and_after = refl
 
 pub a_gap_one_short_does_not_fit : lowest_fitting 3 (gaps 1 9 example) ≡ Some 6
 a_gap_one_short_does_not_fit = refl

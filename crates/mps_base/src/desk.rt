@@ -21,13 +21,13 @@ pub trait Desk {
     /// Opens a file as the input, in place of an earlier one. The name `-` is standard input.
     fn open(&mut self, name: &str) -> Result<(), Failed>
         ensures input { OnOk result ((outside self.new).input ≡ (outside self.old).text name.now) }
-        ensures told { IsSome (outside self.new).input ↔ IsSome (outside self.old).input }
+        ensures known_there { IsSome (outside self.new).input ↔ IsSome (outside self.old).input }
         ensures failed { OnErr result ((outside self.new).input ≡ (outside self.old).input) }
         ensures counted { (outside self.old).in_faults ≤ (outside self.new).in_faults }
         ensures cause { OnErr result (HasRisen (outside self.old).in_faults (outside self.new).in_faults) }
         ensures others { OnlyReads (outside self.old) (outside self.new) };
 
-    /// Reads some bytes of the input into the front of the buffer. What the buffer holds behind them is left open,
+    /// Reads some bytes of the input into a prefix of the buffer. What the buffer holds after them is left open,
     /// and so is the whole buffer where the call fails. At a buffer that isn't empty, 0 is the end of the input.
     fn read(&mut self, buf: &mut [u8]) -> Result<usize, Failed>
         ensures within { IfOk result (λ n. n ≤ length buf.new) }
@@ -52,8 +52,8 @@ pub trait Desk {
         ensures cause { OnErr result (HasRisen (outside self.old).log_faults (outside self.new).log_faults) }
         ensures others { OnlyLogs (outside self.old) (outside self.new) };
 
-    /// Writes to the log: answers how many bytes at the front of the piece it took, at least one where there is one. They
-    /// go behind what the log's file holds, and no other file changes.
+    /// Writes to the log: answers how many bytes at a prefix of the piece it took, at least one where there is one. They
+    /// go after what the log's file holds, and no other file changes.
     fn log(&mut self, bytes: &[u8]) -> Result<usize, Failed>
         ensures within { IfOk result (λ n. n ≤ length bytes.now) }
         ensures some { IfOk result (λ n. 0 < length bytes.now → 0 < n) }
@@ -66,7 +66,7 @@ pub trait Desk {
         ensures cause { OnErr result (HasRisen (outside self.old).log_faults (outside self.new).log_faults) }
         ensures others { OnlyLogs (outside self.old) (outside self.new) };
 
-    /// Prints: answers how many bytes at the front of the piece it took, at least one where there is one.
+    /// Prints: answers how many bytes at a prefix of the piece it took, at least one where there is one.
     fn out(&mut self, bytes: &[u8]) -> Result<usize, Failed>
         ensures within { IfOk result (λ n. n ≤ length bytes.now) }
         ensures some { IfOk result (λ n. 0 < length bytes.now → 0 < n) }
@@ -76,7 +76,7 @@ pub trait Desk {
         ensures cause { OnErr result (HasRisen (outside self.old).out_faults (outside self.new).out_faults) }
         ensures others { OnlyPrints (outside self.old) (outside self.new) };
 
-    /// Reports: answers how many bytes at the front of the piece it took, at least one where there is one.
+    /// Reports: answers how many bytes at a prefix of the piece it took, at least one where there is one.
     fn err(&mut self, bytes: &[u8]) -> Result<usize, Failed>
         ensures within { IfOk result (λ n. n ≤ length bytes.now) }
         ensures some { IfOk result (λ n. 0 < length bytes.now → 0 < n) }

@@ -130,7 +130,7 @@ impl MemDesk {
         }
     }
 
-    /// From now on each read and each write handles at most so many bytes.
+    /// From now on each read and each write handles at most n bytes.
     pub fn pieces(&mut self, most: usize)
         requires { 0 < most }
         ensures { self.new ≡ record self.old { most = most } }
@@ -312,7 +312,7 @@ fn find_text<'a>(files: &'a [StoredFile], name: &str) -> Option<&'a [u8]>
     }
 }
 
-// Copies as much as both hold to the front of the buffer.
+// Copies as much as both hold to a prefix of the buffer.
 fn copy_front(left: &[u8], buf: &mut [u8]) -> usize
     ensures count { result ≡ min (length buf.new) (length left.now) }
     ensures front { take result buf.new ≡ take result left.now }

@@ -1,11 +1,11 @@
-// A desk that reads a lent text and forgets what is written.
+// A desk that reads a borrowed text and forgets what is written.
 ghost use Rattle.std.specs.Prelude.{◌≡◌, [], None, Some};
 ghost use Rattle.mps_base.specs.Desk.{Outside};
 
 use crate::{Desk, Failed};
 use std::marker::Model;
 
-/// A desk that opens every name as one lent text, takes all that is written and forgets it. Nothing ever fails.
+/// A desk that opens every name as one borrowed text, takes all that is written and forgets it. Nothing ever fails.
 #[derive(Drop)]
 pub struct QuietDesk<'a> {
     text: &'a [u8],

@@ -60,7 +60,7 @@ impl StoredFile {
     }
 }
 
-/// The place of the first file of this name, or behind the last where there is none.
+/// The place of the first file of this name, or after the last where there is none.
 pub fn find_place(files: &[StoredFile], name: &str) -> usize
     ensures { result ≡ place_of files.now name.now }
 {

@@ -30,7 +30,7 @@ impl Model for Trail {
 impl Trail {
     ghost use Rattle.mps_base.specs.Trail.{with_move, emptied};
 
-    /// An empty trail with room for so many moves. A move takes at most 32 bytes.
+    /// An empty trail with room for n moves. A move takes at most 32 bytes.
     pub fn new(alloc: Global, room: u32) -> Result<Trail, AllocError>
         ensures { IfOk result (λ trail. trail ≡ record { moves = []; spare = room }) }
     {

@@ -19,7 +19,7 @@ between_rest s e m from xs h at =
     ∙ (ap (take (e - (s + m))) (sym (drop-drop m s xs))
     ∙ (sym (drop-take m (e - (s + m)) (drop s xs)) ∙ ap (λ k. drop m (take k (drop s xs))) (sym a)))
 
--- the front of a list has the parts that end within it
+-- a prefix of a list has the parts that end within it
 pub between_take : (from to n : ℕ) (xs : List ℕ) → from ≤ to → to ≤ n → bytes_between from to (take n xs) ≡ bytes_between from to xs
 between_take from to n xs h k =
     let a : n ≡ from + (n - from) = omega arith in
@@ -27,10 +27,10 @@ between_take from to n xs h k =
     ap (λ m. bytes_between from to (take m xs)) a
     ∙ (ap (take (to - from)) (drop-take from (n - from) xs) ∙ take-take (to - from) (n - from) (drop from xs) b)
 
--- what stands behind a part
-pub between_behind : (bytes rest : List ℕ) (s e n : ℕ) → s ≤ e → e ≤ length bytes
+-- what stands after a part
+pub between_after : (bytes rest : List ℕ) (s e n : ℕ) → s ≤ e → e ≤ length bytes
     → bytes_between s (e + n) (take e bytes ++ rest) ≡ bytes_between s e bytes ++ take n rest
-between_behind bytes rest s e n h k =
+between_after bytes rest s e n h k =
     let a : e ≡ s + (e - s) = omega arith in
     let long : length (take e bytes) ≡ e = length-take-le e bytes k in
     let short : s ≤ length (take e bytes) = omega arith in
@@ -43,13 +43,13 @@ between_behind bytes rest s e n h k =
     rw (length-take-le (e - s) (drop s bytes) room) (omega arith) in
     rw (dropped, ← size) (take-append-add (take (e - s) (drop s bytes)) rest n)
 
--- what was read into the buffer behind a part
-pub between_grown : (bytes buf tail behind : List ℕ) (s e n room : ℕ) → s ≤ e → e ≤ length bytes → n ≤ length buf → e + n ≤ room
-    → bytes_between s (e + n) (take room ((take e bytes ++ (buf ++ tail)) ++ behind)) ≡ bytes_between s e bytes ++ take n buf
-between_grown bytes buf tail behind s e n room h k m r =
+-- what was read into the buffer after a part
+pub between_grown : (bytes buf tail later : List ℕ) (s e n room : ℕ) → s ≤ e → e ≤ length bytes → n ≤ length buf → e + n ≤ room
+    → bytes_between s (e + n) (take room ((take e bytes ++ (buf ++ tail)) ++ later)) ≡ bytes_between s e bytes ++ take n buf
+between_grown bytes buf tail later s e n room h k m r =
     let a : s ≤ e + n = omega arith in
-    let front : take n ((buf ++ tail) ++ behind) ≡ take n buf =
-    ap (take n) (append_assoc buf tail behind) ∙ take-append-le n buf (tail ++ behind) m in
-    between_take s (e + n) room ((take e bytes ++ (buf ++ tail)) ++ behind) a r
-    ∙ (ap (bytes_between s (e + n)) (append_assoc (take e bytes) (buf ++ tail) behind)
-    ∙ (between_behind bytes ((buf ++ tail) ++ behind) s e n h k ∙ ap (λ p. bytes_between s e bytes ++ p) front))
+    let front : take n ((buf ++ tail) ++ later) ≡ take n buf =
+    ap (take n) (append_assoc buf tail later) ∙ take-append-le n buf (tail ++ later) m in
+    between_take s (e + n) room ((take e bytes ++ (buf ++ tail)) ++ later) a r
+    ∙ (ap (bytes_between s (e + n)) (append_assoc (take e bytes) (buf ++ tail) later)
+    ∙ (between_after bytes ((buf ++ tail) ++ later) s e n h k ∙ ap (λ p. bytes_between s e bytes ++ p) front))

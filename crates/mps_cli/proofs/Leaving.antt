@@ -16,16 +16,16 @@ use Rattle.mps_first_heap.specs.Unsupported.{is_unsupported_call}
 use Rattle.mps_script.specs.declared.line.BadLine.{BadLine}
 use Rattle.mps_script.specs.Line.{lines_of, call_of_line}
 use Rattle.mps_script.specs.Text.{text_of}
-use Rattle.mps_reading.specs.PutOut.{PutsPart}
+use Rattle.mps_log_reader.specs.PutOut.{PutsPart}
 use Rattle.mps_cli.specs.Write.{appended}
 use Rattle.mps_cli.specs.Buffer.{ComesNextOf, length_of_line}
 use Rattle.mps_cli.specs.Records.{records_of_done}
 use Rattle.mps_cli.specs.Script.{Command, answers_of, text_of_answer, command_of_step, commands_of_call, commands_from, is_grammatical}
-use Rattle.mps_cli.specs.Leaving.{IsUnbegun, LeavesWhole, NeedsMemory, Begins, LogsPart, PrintsPart, Leaves, LeavesHeader, LeavesRun, IsBegun, StopsLogging, StopsPrinting, Stops, records_behind}
+use Rattle.mps_cli.specs.Leaving.{IsUnbegun, LeavesWhole, NeedsMemory, Begins, LogsPart, PrintsPart, Leaves, LeavesHeader, LeavesRun, IsBegun, StopsLogging, StopsPrinting, Stops, records_after}
 use Rattle.mps_cli.specs.declared.ending.Ending.{Ending}
 use Rattle.mps_cli.specs.declared.ending.Ending.TheVariants as ending
 use Rattle.mps_cli.specs.declared.next.Next.TheVariants.{Line}
-use Rattle.mps_output.proofs.Outside.{reports_only-then}
+use Rattle.mps_report.proofs.Outside.{reports_only-then}
 use Rattle.mps_cli.proofs.Outsides.{appended_empty, appended_twice}
 use Rattle.mps_cli.proofs.Steps.{said_unsupported}
 use Rattle.mps_cli.proofs.LineByLine.{first_line}
@@ -80,7 +80,7 @@ good_line : (line : ℕ) (command : Command) (r : Result (Option Call) BadLine) 
 good_line line command (Ok call) e = refl
 good_line line command (Err bad) e = absurd (let none : command ∷ [] ≡ [] = e in cc)
 
--- behind the lines that were run a command was begun
+-- after the lines that were run a command was begun
 begins : (kept : Kept) (n pools : ℕ) (old now : Outside) (script rest line : List ℕ) (left2 : Option (List ℕ)) (step : Step)
     (f : SoFar kept n pools old now (Some script) (Some rest)) → ComesNextOf Line (Some rest) line left2
     → IsBegun (commands_of_call (n + 1) (call_of_line line)) kept step → Begins script n f.history step
@@ -114,7 +114,7 @@ leaves_part kept n pools old o1 o2 o3 script rest line left2 f reads next s = re
   printed = s.printed ∙ (reads.printed ∙ f.printed);
   count = s.count;
   logged = subst (λ p. o3.logged ≡ appended o2.logged (take s.count (records_bytes (records_of_step p s.step)))) f.made s.logged
-      ∙ (ap (λ told. appended told (take s.count (records_bytes (records_of_step (pools_made f.history) s.step)))) (reads.logged ∙ f.logged)
+      ∙ (ap (λ known_there. appended known_there (take s.count (records_bytes (records_of_step (pools_made f.history) s.step)))) (reads.logged ∙ f.logged)
       ∙ appended_twice old.logged (records_bytes (log_of f.history)) (take s.count (records_bytes (records_of_step (pools_made f.history) s.step))));
 }
 
@@ -127,11 +127,11 @@ leaves_answer kept n pools old o1 o2 o3 script rest line left2 f reads next s = 
   step = s.step;
   begun = begins kept n pools old o1 script rest line left2 s.step f next s.begun;
   logged = subst (λ p. o3.logged ≡ appended o2.logged (records_bytes (records_of_step p s.step))) f.made s.logged
-      ∙ (ap (λ told. appended told (records_bytes (records_of_step (pools_made f.history) s.step))) (reads.logged ∙ f.logged)
+      ∙ (ap (λ known_there. appended known_there (records_bytes (records_of_step (pools_made f.history) s.step))) (reads.logged ∙ f.logged)
       ∙ appended_twice old.logged (records_bytes (log_of f.history)) (records_bytes (records_of_step (pools_made f.history) s.step)));
   count = s.count;
   printed = s.printed
-      ∙ (ap (λ told. appended told (take s.count (text_of_answer s.step.answer))) (reads.printed ∙ f.printed)
+      ∙ (ap (λ known_there. appended known_there (take s.count (text_of_answer s.step.answer))) (reads.printed ∙ f.printed)
       ∙ appended_twice old.printed (answers_of f.history) (take s.count (text_of_answer s.step.answer)));
 }
 
@@ -139,29 +139,29 @@ leaves_answer kept n pools old o1 o2 o3 script rest line left2 f reads next s = 
 next_commands : (n : ℕ) (script rest line : List ℕ) → drop n (lines_of script) ≡ lines_of rest → 0 < length rest
     → line ≡ take (length_of_line rest) rest
     → commands_from (n + 1) (take 1 (drop n (lines_of script))) ≡ commands_of_call (n + 1) (call_of_line line)
-next_commands n script rest line behind pos at =
-    ap (λ (ls : List (List ℕ)). commands_from (n + 1) (take 1 ls)) (behind ∙ first_line rest pos)
+next_commands n script rest line later pos at =
+    ap (λ (ls : List (List ℕ)). commands_from (n + 1) (take 1 ls)) (later ∙ first_line rest pos)
     ∙ (append-nil (commands_of_call (n + 1) (call_of_line (take (length_of_line rest) rest)))
     ∙ ap (λ l. commands_of_call (n + 1) (call_of_line l)) (sym at))
 
-leaves_told : (ends : Ending) (kept : Kept) (n pools : ℕ) (old o1 o2 o3 : Outside) (script rest line : List ℕ) (left2 : Option (List ℕ))
+leaves_known : (ends : Ending) (kept : Kept) (n pools : ℕ) (old o1 o2 o3 : Outside) (script rest line : List ℕ) (left2 : Option (List ℕ))
     → SoFar kept n pools old o1 (Some script) (Some rest) → OnlyReads o1 o2 → ComesNextOf Line (Some rest) line left2
     → Stops ends (commands_of_call (n + 1) (call_of_line line)) kept pools o2 o3 → Leaves ends [] script old o3
 unfolding leaves_whole
-leaves_told ending.LogFailed kept n pools old o1 o2 o3 script rest line left2 f reads next s =
+leaves_known ending.LogFailed kept n pools old o1 o2 o3 script rest line left2 f reads next s =
     leaves_part kept n pools old o1 o2 o3 script rest line left2 f reads next s
-leaves_told ending.WriteFailed kept n pools old o1 o2 o3 script rest line left2 f reads next s =
+leaves_known ending.WriteFailed kept n pools old o1 o2 o3 script rest line left2 f reads next s =
     leaves_answer kept n pools old o1 o2 o3 script rest line left2 f reads next s
-leaves_told ending.OutOfMemory kept n pools old o1 o2 o3 script rest line left2 f reads next s = record {
+leaves_known ending.OutOfMemory kept n pools old o1 o2 o3 script rest line left2 f reads next s = record {
   whole = leaves_whole kept n pools old o1 o2 o3 script rest f reads s.0;
-  next = subst NeedsMemory (sym (next_commands n script rest line f.read.behind next.0 next.1)) s.1;
+  next = subst NeedsMemory (sym (next_commands n script rest line f.read.later next.0 next.1)) s.1;
 }
-leaves_told (ending.BadLine number) kept n pools old o1 o2 o3 script rest line left2 f reads next s =
+leaves_known (ending.BadLine number) kept n pools old o1 o2 o3 script rest line left2 f reads next s =
     leaves_whole kept n pools old o1 o2 o3 script rest f reads s
-leaves_told ending.Done kept n pools old o1 o2 o3 script rest line left2 f reads next s = absurd s
-leaves_told ending.TooLong kept n pools old o1 o2 o3 script rest line left2 f reads next s = absurd s
-leaves_told ending.ReadFailed kept n pools old o1 o2 o3 script rest line left2 f reads next s = absurd s
-leaves_told ending.NoMeaning kept n pools old o1 o2 o3 script rest line left2 f reads next s = absurd s
+leaves_known ending.Done kept n pools old o1 o2 o3 script rest line left2 f reads next s = absurd s
+leaves_known ending.TooLong kept n pools old o1 o2 o3 script rest line left2 f reads next s = absurd s
+leaves_known ending.ReadFailed kept n pools old o1 o2 o3 script rest line left2 f reads next s = absurd s
+leaves_known ending.NoMeaning kept n pools old o1 o2 o3 script rest line left2 f reads next s = absurd s
 
 -- a line that ends the run
 pub leaves_line : (ends : Ending) (kept : Kept) (n pools : ℕ) (old o1 o2 o3 : Outside) (script : List ℕ) (left : Option (List ℕ)) (line : List ℕ)
@@ -169,55 +169,55 @@ pub leaves_line : (ends : Ending) (kept : Kept) (n pools : ℕ) (old o1 o2 o3 : 
     → Stops ends (commands_of_call (n + 1) (call_of_line line)) kept pools o2 o3 → Leaves ends [] script old o3
 leaves_line ends kept n pools old o1 o2 o3 script None line left2 f reads next s = absurd f.read
 leaves_line ends kept n pools old o1 o2 o3 script (Some rest) line left2 f reads next s =
-    leaves_told ends kept n pools old o1 o2 o3 script rest line left2 f reads next s
+    leaves_known ends kept n pools old o1 o2 o3 script rest line left2 f reads next s
 
 -- ---- the whole run
 
--- what was logged behind the header
-logged_behind : (header bytes : List ℕ) (old start new : Outside) → start.logged ≡ appended old.logged header
+-- what was logged after the header
+logged_after : (header bytes : List ℕ) (old start new : Outside) → start.logged ≡ appended old.logged header
     → new.logged ≡ appended start.logged bytes → new.logged ≡ appended old.logged (header ++ bytes)
-logged_behind header bytes old start new before behind =
-    behind ∙ (ap (λ told. appended told bytes) before ∙ appended_twice old.logged header bytes)
+logged_after header bytes old start new before later =
+    later ∙ (ap (λ known_there. appended known_there bytes) before ∙ appended_twice old.logged header bytes)
 
-whole_behind : (header script : List ℕ) (old start new : Outside) → start.printed ≡ old.printed
+whole_after : (header script : List ℕ) (old start new : Outside) → start.printed ≡ old.printed
     → start.logged ≡ appended old.logged header → LeavesWhole [] script start new → LeavesWhole header script old new
-whole_behind header script old start new p l r = record {
+whole_after header script old start new p l r = record {
   history = r.history;
   lines = r.lines;
   run = r.run;
-  printed = r.printed ∙ ap (λ told. appended told (answers_of r.history)) p;
-  logged = logged_behind header (records_bytes (log_of r.history)) old start new l r.logged;
+  printed = r.printed ∙ ap (λ known_there. appended known_there (answers_of r.history)) p;
+  logged = logged_after header (records_bytes (log_of r.history)) old start new l r.logged;
 }
 
--- the same behind the header of the log
-behind_header : (ends : Ending) (header script : List ℕ) (old start new : Outside) → start.printed ≡ old.printed
+-- the same after the header of the log
+after_header : (ends : Ending) (header script : List ℕ) (old start new : Outside) → start.printed ≡ old.printed
     → start.logged ≡ appended old.logged header → Leaves ends [] script start new → Leaves ends header script old new
-unfolding whole_behind
-behind_header ending.Done header script old start new p l r = whole_behind header script old start new p l r
-behind_header (ending.BadLine line) header script old start new p l r = whole_behind header script old start new p l r
-behind_header ending.TooLong header script old start new p l r = whole_behind header script old start new p l r
-behind_header ending.ReadFailed header script old start new p l r = whole_behind header script old start new p l r
-behind_header ending.OutOfMemory header script old start new p l r =
-    record { whole = whole_behind header script old start new p l r.whole; next = r.next }
-behind_header ending.LogFailed header script old start new p l r = record {
+unfolding whole_after
+after_header ending.Done header script old start new p l r = whole_after header script old start new p l r
+after_header (ending.BadLine line) header script old start new p l r = whole_after header script old start new p l r
+after_header ending.TooLong header script old start new p l r = whole_after header script old start new p l r
+after_header ending.ReadFailed header script old start new p l r = whole_after header script old start new p l r
+after_header ending.OutOfMemory header script old start new p l r =
+    record { whole = whole_after header script old start new p l r.whole; next = r.next }
+after_header ending.LogFailed header script old start new p l r = record {
   history = r.history;
   lines = r.lines;
   step = r.step;
   begun = r.begun;
-  printed = r.printed ∙ ap (λ told. appended told (answers_of r.history)) p;
+  printed = r.printed ∙ ap (λ known_there. appended known_there (answers_of r.history)) p;
   count = r.count;
-  logged = logged_behind header (records_bytes (log_of r.history) ++ take r.count (records_behind r.history r.step)) old start new l r.logged;
+  logged = logged_after header (records_bytes (log_of r.history) ++ take r.count (records_after r.history r.step)) old start new l r.logged;
 }
-behind_header ending.WriteFailed header script old start new p l r = record {
+after_header ending.WriteFailed header script old start new p l r = record {
   history = r.history;
   lines = r.lines;
   step = r.step;
   begun = r.begun;
-  logged = logged_behind header (records_bytes (log_of r.history) ++ records_behind r.history r.step) old start new l r.logged;
+  logged = logged_after header (records_bytes (log_of r.history) ++ records_after r.history r.step) old start new l r.logged;
   count = r.count;
-  printed = r.printed ∙ ap (λ told. appended told (answers_of r.history ++ take r.count (text_of_answer r.step.answer))) p;
+  printed = r.printed ∙ ap (λ known_there. appended known_there (answers_of r.history ++ take r.count (text_of_answer r.step.answer))) p;
 }
-behind_header ending.NoMeaning header script old start new p l r = r
+after_header ending.NoMeaning header script old start new p l r = r
 
 -- and of the whole run
 of_run : (ends : Ending) (script : List ℕ) (old new : Outside) → Leaves ends (header_bytes 1) script old new → LeavesRun ends script old new
@@ -230,9 +230,9 @@ of_run ending.LogFailed script old new r = inr r
 of_run ending.WriteFailed script old new r = r
 of_run ending.NoMeaning script old new r = r
 
-pub leaves_behind_header : (ends : Ending) (script : List ℕ) (old start new : Outside) → start.printed ≡ old.printed
+pub leaves_after_header : (ends : Ending) (script : List ℕ) (old start new : Outside) → start.printed ≡ old.printed
     → start.logged ≡ appended old.logged (header_bytes 1) → Leaves ends [] script start new → LeavesRun ends script old new
-leaves_behind_header ends script old start new p l r = of_run ends script old new (behind_header ends (header_bytes 1) script old start new p l r)
+leaves_after_header ends script old start new p l r = of_run ends script old new (after_header ends (header_bytes 1) script old start new p l r)
 
 -- the script can't be opened, or the log can't be made
 pub leaves_unbegun : (ends : Ending) (script : List ℕ) (old new : Outside) → (ends ≡ ending.ReadFailed) ⊎ (ends ≡ ending.LogFailed)

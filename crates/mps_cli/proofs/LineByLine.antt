@@ -58,7 +58,7 @@ first_at bytes (y ∷ ys) h e =
     ap without_empty_last (split_front bytes ∙ ap (λ r. take (length_of_line bytes) bytes ∷ rest_parts r) e)
     ∙ kept_before (take (length_of_line bytes) bytes) ys
 
--- the first line of what is left, and the lines behind it
+-- the first line of what is left, and the lines after it
 pub first_line : (bytes : List ℕ) → 0 < length bytes
     → lines_of bytes ≡ take (length_of_line bytes) bytes ∷ lines_of (drop (length_of_line bytes + 1) bytes)
 first_line bytes h =
@@ -67,22 +67,22 @@ first_line bytes h =
 
 -- ---- one line more
 
-none_behind : (n : ℕ) (l : List ℕ) (behind : List (List ℕ)) → drop n [] ≡ l ∷ behind → ⊥
-none_behind zero l behind e = cc
-none_behind (suc n) l behind e = cc
+none_after : (n : ℕ) (l : List ℕ) (later : List (List ℕ)) → drop n [] ≡ l ∷ later → ⊥
+none_after zero l later e = cc
+none_after (suc n) l later e = cc
 
-one_more : (n : ℕ) (ls : List (List ℕ)) (l : List ℕ) (behind : List (List ℕ)) → drop n ls ≡ l ∷ behind
-    → (take (suc n) ls ≡ take n ls ++ l ∷ []) × (drop (suc n) ls ≡ behind) × (n < length ls)
-one_more n [] l behind e = absurd (none_behind n l behind e)
-one_more zero (x ∷ xs) l behind e = (let a : x ≡ l = cc in ap (λ y. y ∷ []) a, (let b : xs ≡ behind = cc in b), omega arith)
-one_more (suc n) (x ∷ xs) l behind e =
-    let ih = one_more n xs l behind e in
+one_more : (n : ℕ) (ls : List (List ℕ)) (l : List ℕ) (later : List (List ℕ)) → drop n ls ≡ l ∷ later
+    → (take (suc n) ls ≡ take n ls ++ l ∷ []) × (drop (suc n) ls ≡ later) × (n < length ls)
+one_more n [] l later e = absurd (none_after n l later e)
+one_more zero (x ∷ xs) l later e = (let a : x ≡ l = cc in ap (λ y. y ∷ []) a, (let b : xs ≡ later = cc in b), omega arith)
+one_more (suc n) (x ∷ xs) l later e =
+    let ih = one_more n xs l later e in
     (ap (λ r. x ∷ r) ih.0, ih.1, omega (arith, ih.2))
 
-pub take_one_more : (n : ℕ) (ls : List (List ℕ)) (l : List ℕ) (behind : List (List ℕ)) → drop n ls ≡ l ∷ behind
-    → (take (n + 1) ls ≡ take n ls ++ l ∷ []) × (drop (n + 1) ls ≡ behind) × (n < length ls)
-take_one_more n ls l behind e =
-    let m = one_more n ls l behind e in
+pub take_one_more : (n : ℕ) (ls : List (List ℕ)) (l : List ℕ) (later : List (List ℕ)) → drop n ls ≡ l ∷ later
+    → (take (n + 1) ls ≡ take n ls ++ l ∷ []) × (drop (n + 1) ls ≡ later) × (n < length ls)
+take_one_more n ls l later e =
+    let m = one_more n ls l later e in
     (ap (λ k. take k ls) (add-one n) ∙ m.0, ap (λ k. drop k ls) (add-one n) ∙ m.1, m.2)
 
 pub good_append : (xs ys : List (List ℕ)) → list_all is_good xs ≡ true → list_all is_good ys ≡ true → list_all is_good (xs ++ ys) ≡ true

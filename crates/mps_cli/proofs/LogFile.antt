@@ -1,4 +1,4 @@
--- The file of the log: one piece behind another.
+-- The file of the log: one piece after another.
 use Rattle.std.proofs.Common.{◌≡◌, ◌⊎◌, ℕ, Option, Some, None, List, [], ◌∷◌, ◌++◌, refl, sym, ◌∙◌, ap, arith, append_assoc, append-nil, true, inl, inr}
 use Rattle.std.specs.Option.{option_map}
 use Rattle.std.proofs.lemmas.List.{append_cancel_left}
@@ -6,7 +6,7 @@ use Rattle.std.proofs.lemmas.Slice.Eq.{bytes_eq-Decides}
 use Rattle.mps_base.specs.Desk.{Outside, File, Files, OnlyReads, OnlyReports, file_named, with_file, with_more, with_logged, made_for_log, after_log}
 use Rattle.mps_base.proofs.Files.{file_named-with_file_other}
 use Rattle.mps_model.specs.Log.{log_bytes}
-use Rattle.mps_reading.specs.Ending.{is_whole_status, IsUnopened}
+use Rattle.mps_log_reader.specs.Ending.{is_whole_status, IsUnopened}
 use Rattle.mps_cli.specs.Write.{appended, LogTakes}
 use Rattle.mps_cli.specs.Ending.{status_of}
 use Rattle.mps_cli.specs.Asked.{RunsScript}
@@ -39,23 +39,23 @@ with_logged-twice : (fs : List File) (log : Option (List ℕ)) (first second : L
 with_logged-twice fs None first second = refl
 with_logged-twice fs (Some name) first second = with_more-twice fs name first second
 
--- nothing behind what the log's file holds
-filed_nothing : (told : Option Files) → told ≡ option_map (after_log []) told
+-- nothing after what the log's file holds
+filed_nothing : (known_there : Option Files) → known_there ≡ option_map (after_log []) known_there
 filed_nothing None = refl
 filed_nothing (Some files) = ap (λ (all : List File). Some (record files { all = all })) (sym (with_logged-nothing files.all files.log))
 
--- a piece behind another
-filed_twice : (told : Option Files) (first second : List ℕ)
-    → option_map (after_log second) (option_map (after_log first) told) ≡ option_map (after_log (first ++ second)) told
+-- a piece after another
+filed_twice : (known_there : Option Files) (first second : List ℕ)
+    → option_map (after_log second) (option_map (after_log first) known_there) ≡ option_map (after_log (first ++ second)) known_there
 filed_twice None first second = refl
 filed_twice (Some files) first second =
     ap (λ (all : List File). Some (record files { all = all })) (with_logged-twice files.all files.log first second)
 
--- what is logged behind a file that was made for the log
-filed_behind_made : (told : Option Files) (name bytes : List ℕ)
-    → option_map (after_log bytes) (option_map (made_for_log name) told) ≡ option_map (with_log name bytes) told
-filed_behind_made None name bytes = refl
-filed_behind_made (Some files) name bytes =
+-- what is logged after a file that was made for the log
+filed_after_made : (known_there : Option Files) (name bytes : List ℕ)
+    → option_map (after_log bytes) (option_map (made_for_log name) known_there) ≡ option_map (with_log name bytes) known_there
+filed_after_made None name bytes = refl
+filed_after_made (Some files) name bytes =
     ap (λ (all : List File). Some (record { all = all; log = Some name })) (with_more-with_file files.all name [] bytes)
 
 -- neither the log nor the files changed
@@ -72,21 +72,21 @@ takes_self a = takes_nothing a a refl refl
 pub takes_then : (a b c : Outside) → LogTakes a b → LogTakes b c → LogTakes a c
 takes_then a b c f g = record {
   bytes = f.bytes ++ g.bytes;
-  logged = g.logged ∙ (ap (λ told. appended told g.bytes) f.logged ∙ appended_twice a.logged f.bytes g.bytes);
-  filed = g.filed ∙ (ap (λ told. option_map (after_log g.bytes) told) f.filed ∙ filed_twice a.files f.bytes g.bytes);
+  logged = g.logged ∙ (ap (λ known_there. appended known_there g.bytes) f.logged ∙ appended_twice a.logged f.bytes g.bytes);
+  filed = g.filed ∙ (ap (λ known_there. option_map (after_log g.bytes) known_there) f.filed ∙ filed_twice a.files f.bytes g.bytes);
 }
 
 -- a line was read, and then the log took some bytes
-pub takes_behind_reading : (a b c d : Outside) → LogTakes a b → OnlyReads b c → LogTakes c d → LogTakes a d
-takes_behind_reading a b c d f reads g = takes_then a b d f (takes_then b c d (takes_nothing b c reads.logged reads.files) g)
+pub takes_after_reading : (a b c d : Outside) → LogTakes a b → OnlyReads b c → LogTakes c d → LogTakes a d
+takes_after_reading a b c d f reads g = takes_then a b d f (takes_then b c d (takes_nothing b c reads.logged reads.files) g)
 
--- all that was logged behind a file that was made for the log
+-- all that was logged after a file that was made for the log
 pub in_file : (name : List ℕ) (old made new : Outside) → made.logged ≡ old.logged → made.files ≡ option_map (made_for_log name) old.files
     → LogTakes made new → IsInFile name old new
 in_file name old made new logged files takes = record {
   bytes = takes.bytes;
-  logged = takes.logged ∙ ap (λ told. appended told takes.bytes) logged;
-  files = takes.filed ∙ (ap (λ told. option_map (after_log takes.bytes) told) files ∙ filed_behind_made old.files name takes.bytes);
+  logged = takes.logged ∙ ap (λ known_there. appended known_there takes.bytes) logged;
+  files = takes.filed ∙ (ap (λ known_there. option_map (after_log takes.bytes) known_there) files ∙ filed_after_made old.files name takes.bytes);
 }
 
 -- the same after a report
@@ -113,7 +113,7 @@ file_named-with_file : (fs : List File) (name bytes : List ℕ) → file_named (
 file_named-with_file [] name bytes = grind (arith, bytes_eq-Decides name name)
 file_named-with_file (f ∷ fs) name bytes = grind (arith, file_named-with_file fs name bytes)
 
--- two pieces behind the same bytes are the same
+-- two pieces after the same bytes are the same
 same_piece : (before first second : List ℕ) → appended (Some before) first ≡ appended (Some before) second → first ≡ second
 same_piece before first second e = append_cancel_left before first second (let same : before ++ first ≡ before ++ second = cc in same)
 
@@ -121,7 +121,7 @@ same_piece before first second e = append_cancel_left before first second (let s
 pub log_in_its_file : (log script : List ℕ) (status : ℕ) (old new : Outside) → RunsScript log script status old new
     → is_whole_status status ≡ true → (files : Files) → old.files ≡ Some files → (before : List ℕ) → old.logged ≡ Some before
     → (bytes : List ℕ) → old.text script ≡ Some bytes → HoldsLog log bytes files new
-log_in_its_file log script status old new r whole files told before logged bytes e =
+log_in_its_file log script status old new r whole files known_there before logged bytes e =
     let ran = (r.ran whole bytes e).ran in
     let filed = r.in_file whole in
     let same : filed.bytes ≡ log_bytes ran.history = same_piece before filed.bytes (log_bytes ran.history)
@@ -131,7 +131,7 @@ log_in_its_file log script status old new r whole files told before logged bytes
       lines = ran.lines;
       run = ran.run;
       now = with_log log (log_bytes ran.history) files;
-      told = filed.files ∙ (ap (λ bs. option_map (with_log log bs) old.files) same ∙ ap (λ o. option_map (with_log log (log_bytes ran.history)) o) told);
+      known_there = filed.files ∙ (ap (λ bs. option_map (with_log log bs) old.files) same ∙ ap (λ o. option_map (with_log log (log_bytes ran.history)) o) known_there);
       log = file_named-with_file files.all log (log_bytes ran.history);
       others = λ other differ. file_named-with_file_other files.all log other (log_bytes ran.history) differ;
     }

@@ -30,11 +30,11 @@ held_comes old new (Some rest) Line h =
     let same : length_of_line (old.waiting ++ rest) ≡ length_of_line old.waiting = line_same old.waiting rest h.0 in
     let size : length (old.waiting ++ rest) ≡ length old.waiting + length rest = length-append old.waiting rest in
     let within : length_of_line old.waiting ≤ length old.waiting = line_bound old.waiting in
-    let behind : length_of_line old.waiting + 1 ≤ length old.waiting = omega (arith, h.0) in (
+    let later : length_of_line old.waiting + 1 ≤ length old.waiting = omega (arith, h.0) in (
       omega (arith, h.0),
       h.1 ∙ (sym (take-append-le (length_of_line old.waiting) old.waiting rest within) ∙ ap (λ n. take n (old.waiting ++ rest)) (sym same)),
       ap Some (ap (λ w. w ++ rest) h.2
-          ∙ (sym (drop-append-le (length_of_line old.waiting + 1) old.waiting rest behind)
+          ∙ (sym (drop-append-le (length_of_line old.waiting + 1) old.waiting rest later)
           ∙ ap (λ n. drop (n + 1) (old.waiting ++ rest)) (sym same))),
     )
 held_comes old new (Some rest) TooLong h = let grows = line_grows old.waiting rest in omega (arith, h, line_grows old.waiting rest)

@@ -1,9 +1,9 @@
--- A record at the front of a buffer.
+-- A record at a prefix of a buffer.
 use Rattle.std.proofs.Common.{◌≡◌, ℕ, ◌+◌, ◌-◌, ◌≤◌, List, ◌++◌, length, take, drop, ap, ◌∙◌, arith, length-append, length-drop}
 use Rattle.std.proofs.lemmas.List.{take_at}
 use Rattle.mps_base.specs.Record.{Record, record_bytes}
 
--- where a record was written over the front of a buffer, so many bytes are the record
+-- where a record was written over a prefix of a buffer, n bytes are the record
 pub front_of_bytes : (bytes : List ℕ) (size : ℕ) (new old : List ℕ) → length new ≡ length old → size ≤ length old
     → new ≡ bytes ++ drop size old → take size new ≡ bytes
 front_of_bytes bytes size new old same within e =

@@ -15,7 +15,7 @@ use Rattle.mps_model.proofs.Appending.{log_from-append, IsLegalFrom-append, worl
 use Rattle.mps_first_heap.specs.Kept.{Kept}
 use Rattle.mps_first_heap.specs.StandsFor.{StandsFor}
 use Rattle.mps_script.specs.Line.{lines_of, call_of_line, longest_line, is_line_feed}
-use Rattle.mps_reading.specs.Ending.{is_whole_status}
+use Rattle.mps_log_reader.specs.Ending.{is_whole_status}
 use Rattle.mps_cli.specs.Write.{appended}
 use Rattle.mps_cli.specs.Ending.{CountsGrow, HasCause, IsQuiet, Reports, report_of, status_of}
 use Rattle.mps_cli.specs.Buffer.{ComesNextOf, length_of_line}
@@ -27,11 +27,11 @@ use Rattle.mps_cli.specs.declared.next.Next.TheVariants.{Line, TooLong, End}
 use Rattle.mps_cli.proofs.Outsides.{appended_empty, appended_twice}
 use Rattle.mps_cli.proofs.LineByLine.{first_line, take_one_more, good_append, commands_append}
 
--- so many lines of a script were run, and these bytes are left of it
+-- n lines of a script were run, and these bytes are left of it
 pub record ReadUpTo (lines : ℕ) (history : History) (script rest : List ℕ) : Type 0 where
   pub grammatical : list_all is_good (take lines (lines_of script)) ≡ true
   pub commands : commands_of history ≡ commands_from 1 (take lines (lines_of script))
-  pub behind : drop lines (lines_of script) ≡ lines_of rest
+  pub later : drop lines (lines_of script) ≡ lines_of rest
 
 -- the same, where the script is told
 abbrev pub ReadSoFar : (lines : ℕ) → History → (script left : Option (List ℕ)) → Type 0
@@ -53,7 +53,7 @@ pub record SoFar (kept : Kept) (lines pools : ℕ) (old now : Outside) (script l
 
 read_nothing : (left : Option (List ℕ)) → ReadSoFar 0 [] left left
 read_nothing None = refl
-read_nothing (Some script) = record { grammatical = refl; commands = refl; behind = refl }
+read_nothing (Some script) = record { grammatical = refl; commands = refl; later = refl }
 
 -- before the first line
 pub at_start : (kept : Kept) (o : Outside) (left : Option (List ℕ)) → StandsFor kept empty_world → SoFar kept 0 0 o o left left
@@ -74,9 +74,9 @@ pub read_more : (n : ℕ) (h steps : History) (script rest line rest2 : List ℕ
     → 0 < length rest → line ≡ take (length_of_line rest) rest → rest2 ≡ drop (length_of_line rest + 1) rest
     → is_good line ≡ true → commands_of steps ≡ commands_of_call (n + 1) (call_of_line line)
     → ReadUpTo (n + 1) (h ++ steps) script rest2
-read_more n h steps script rest line rest2 r pos at behind good answers =
-    let first : lines_of rest ≡ line ∷ lines_of rest2 = rw (at, behind) (first_line rest pos) in
-    let more = take_one_more n (lines_of script) line (lines_of rest2) (r.behind ∙ first) in
+read_more n h steps script rest line rest2 r pos at later good answers =
+    let first : lines_of rest ≡ line ∷ lines_of rest2 = rw (at, later) (first_line rest pos) in
+    let more = take_one_more n (lines_of script) line (lines_of rest2) (r.later ∙ first) in
     let long : length (take n (lines_of script)) ≡ n = length-take-le n (lines_of script) (omega (arith, more.2)) in
     let one : list_all is_good (line ∷ []) ≡ true = grind (arith, common_steps) in
     let last : commands_from (1 + length (take n (lines_of script))) (line ∷ []) ≡ commands_of_call (n + 1) (call_of_line line) =
@@ -88,7 +88,7 @@ read_more n h steps script rest line rest2 r pos at behind good answers =
           ∙ (ap (λ cs. cs ++ commands_of steps) r.commands
           ∙ (ap (λ cs. commands_from 1 (take n (lines_of script)) ++ cs) (answers ∙ sym last)
           ∙ sym (commands_append 1 (take n (lines_of script)) (line ∷ [])))));
-      behind = more.1;
+      later = more.1;
     }
 
 read_next : (n : ℕ) (h steps : History) (script left : Option (List ℕ)) (line : List ℕ) (left2 : Option (List ℕ))
@@ -102,25 +102,25 @@ read_next n h steps (Some script) (Some rest) line None r next good answers = ab
 read_next n h steps (Some script) (Some rest) line (Some rest2) r next good answers =
     read_more n h steps script rest line rest2 r next.0 next.1 (let e : Some rest2 ≡ Some (drop (length_of_line rest + 1) rest) = next.2 in cc) good answers
 
--- replaying records behind others
-replay_step : (next : Option Store) (middle : Store) (rs behind : List Record)
-    → ((store : Store) → replay_from store rs ≡ Some middle → replay_from store (rs ++ behind) ≡ replay_from middle behind)
+-- replaying records after others
+replay_step : (next : Option Store) (middle : Store) (rs later : List Record)
+    → ((store : Store) → replay_from store rs ≡ Some middle → replay_from store (rs ++ later) ≡ replay_from middle later)
     → option_and_then (λ after. replay_from after rs) next ≡ Some middle
-    → option_and_then (λ after. replay_from after (rs ++ behind)) next ≡ replay_from middle behind
-replay_step None middle rs behind ih e = absurd (let a : None ≡ Some middle = e in cc)
-replay_step (Some store) middle rs behind ih e = ih store e
+    → option_and_then (λ after. replay_from after (rs ++ later)) next ≡ replay_from middle later
+replay_step None middle rs later ih e = absurd (let a : None ≡ Some middle = e in cc)
+replay_step (Some store) middle rs later ih e = ih store e
 
-replay_behind : (store middle : Store) (front behind : List Record) → replay_from store front ≡ Some middle
-    → replay_from store (front ++ behind) ≡ replay_from middle behind
-replay_behind store middle [] behind e = ap (λ s. replay_from s behind) (let a : store ≡ middle = cc in a)
-replay_behind store middle (r ∷ rs) behind e =
-    replay_step (store_after store r) middle rs behind (λ s h. replay_behind s middle rs behind h) e
+replay_after : (store middle : Store) (front later : List Record) → replay_from store front ≡ Some middle
+    → replay_from store (front ++ later) ≡ replay_from middle later
+replay_after store middle [] later e = ap (λ s. replay_from s later) (let a : store ≡ middle = cc in a)
+replay_after store middle (r ∷ rs) later e =
+    replay_step (store_after store r) middle rs later (λ s h. replay_after s middle rs later h) e
 
--- steps behind others
+-- steps after others
 pub unsupported-append : (w : World) (h steps : History) → AreUnsupportedWhereDue w h → AreUnsupportedWhereDue (world_after_steps w h) steps
     → AreUnsupportedWhereDue w (h ++ steps)
-unsupported-append w [] steps before behind = behind
-unsupported-append w (s ∷ ss) steps before behind = (before.0, unsupported-append (world_after w s) ss steps before.1 behind)
+unsupported-append w [] steps before later = later
+unsupported-append w (s ∷ ss) steps before later = (before.0, unsupported-append (world_after w s) ss steps before.1 later)
 
 -- one line more
 pub one_line_more : (kept kept2 : Kept) (n pools pools2 : ℕ) (old o1 o2 o3 : Outside) (script left left2 : Option (List ℕ)) (line : List ℕ)
@@ -131,11 +131,11 @@ one_line_more kept kept2 n pools pools2 old o1 o2 o3 script left left2 line f re
   history = f.history ++ s.steps;
   made = s.pools ∙ (ap (λ p. p + pools_made s.steps) f.made ∙ sym (pools_made-append f.history s.steps));
   printed = s.printed
-      ∙ (ap (λ told. appended told (answers_of s.steps)) (reads.printed ∙ f.printed)
+      ∙ (ap (λ known_there. appended known_there (answers_of s.steps)) (reads.printed ∙ f.printed)
       ∙ (appended_twice old.printed (answers_of f.history) (answers_of s.steps)
       ∙ ap (appended old.printed) (sym (flat_map-append (λ (t : Step). text_of_answer t.answer) f.history s.steps))));
   logged = s.logged
-      ∙ (ap (λ told. appended told (records_bytes (log_from pools s.steps))) (reads.logged ∙ f.logged)
+      ∙ (ap (λ known_there. appended known_there (records_bytes (log_from pools s.steps))) (reads.logged ∙ f.logged)
       ∙ (appended_twice old.logged (records_bytes (log_of f.history)) (records_bytes (log_from pools s.steps))
       ∙ ap (appended old.logged)
       (sym (flat_map-append record_bytes (log_of f.history) (log_from pools s.steps))
@@ -146,7 +146,7 @@ one_line_more kept kept2 n pools pools2 old o1 o2 o3 script left left2 line f re
   unsupported = unsupported-append empty_world f.history s.steps f.unsupported (s.unsupported (world_after_history f.history) f.stands);
   stands = subst (StandsFor kept2) (sym (world_after_steps-append empty_world f.history s.steps)) (s.stands (world_after_history f.history) f.stands);
   replayed = ap replay (log_from-append 0 f.history s.steps)
-      ∙ (replay_behind [] (live_blocks (world_after_history f.history)) (log_of f.history) (log_from (0 + pools_made f.history) s.steps) f.replayed
+      ∙ (replay_after [] (live_blocks (world_after_history f.history)) (log_of f.history) (log_from (0 + pools_made f.history) s.steps) f.replayed
       ∙ (s.replayed (world_after_history f.history) (0 + pools_made f.history) f.stands
       ∙ ap (λ w. Some (live_blocks w)) (sym (world_after_steps-append empty_world f.history s.steps))));
 }
@@ -166,7 +166,7 @@ ends_with kept n pools old o1 o2 script rest ends f reads at = record {
   run = record { grammatical = f.read.grammatical; commands = f.read.commands; legal = f.legal; unsupported = f.unsupported; replayed = f.replayed };
   printed = reads.printed ∙ f.printed;
   logged = reads.logged ∙ f.logged;
-  ends_at = subst (EndsAt ends n) (sym f.read.behind) at;
+  ends_at = subst (EndsAt ends n) (sym f.read.later) at;
 }
 
 -- at the end of the input
@@ -227,7 +227,7 @@ ends_bad_line kept n pools old o1 o2 o3 script (Some rest) left2 line ends f rea
   printed = bad.printed ∙ (reads.printed ∙ f.printed);
   logged = bad.logged ∙ (reads.logged ∙ f.logged);
   ends_at = subst (λ e. EndsAt e n (drop n (lines_of script))) (sym bad.is_end)
-      (subst (EndsAt (ending.BadLine (n + 1)) n) (sym f.read.behind) (refl, first_is_bad rest line comes.0 comes.1 bad.bad));
+      (subst (EndsAt (ending.BadLine (n + 1)) n) (sym f.read.later) (refl, first_is_bad rest line comes.0 comes.1 bad.bad));
 }
 
 -- ---- what was printed in any case
@@ -255,11 +255,11 @@ answered_nothing script old new same = record {
 -- the same where nothing was printed before or after
 pub answered_between : (script : List ℕ) (old start end new : Outside) → start.printed ≡ old.printed → Answered script start end
     → new.printed ≡ end.printed → Answered script old new
-answered_between script old start end new before a behind = record {
+answered_between script old start end new before a later = record {
   history = a.history;
   lines = a.lines;
   run = a.run;
-  printed = behind ∙ (a.printed ∙ ap (λ told. appended told (answers_of a.history)) before);
+  printed = later ∙ (a.printed ∙ ap (λ known_there. appended known_there (answers_of a.history)) before);
 }
 
 -- ---- counts
@@ -284,21 +284,21 @@ quiet_line a b c d f reads g = record {
 pub reported_after : (ends : Ending) (old mid new : Outside) → IsQuiet old mid → Reports ends mid new → Reports ends old new
 reported_after ends old mid new quiet reports unrisen =
     reports (λ risen. unrisen (subst (λ n. HasRisen n new.err_faults) quiet.err_faults risen))
-    ∙ ap (λ told. appended told (report_of ends)) quiet.reported
+    ∙ ap (λ known_there. appended known_there (report_of ends)) quiet.reported
 
 -- ---- a whole run
 
--- the lines of a script were run behind the header of the log
-pub ran_behind_header : (ends : Ending) (script : List ℕ) (old start new : Outside) (header : List ℕ)
+-- the lines of a script were run after the header of the log
+pub ran_after_header : (ends : Ending) (script : List ℕ) (old start new : Outside) (header : List ℕ)
     → header ≡ header_bytes 1 → start.printed ≡ old.printed → start.logged ≡ appended old.logged header
     → RanLines ends script start new → RanTo ends script old new
-ran_behind_header ends script old start new header is printed logged r = record {
+ran_after_header ends script old start new header is printed logged r = record {
   history = r.history;
   lines = r.lines;
   run = r.run;
-  printed = r.printed ∙ ap (λ told. appended told (answers_of r.history)) printed;
+  printed = r.printed ∙ ap (λ known_there. appended known_there (answers_of r.history)) printed;
   logged = r.logged
-      ∙ (ap (λ told. appended told (records_bytes (log_of r.history))) logged
+      ∙ (ap (λ known_there. appended known_there (records_bytes (log_of r.history))) logged
       ∙ (appended_twice old.logged header (records_bytes (log_of r.history))
       ∙ ap (λ h. appended old.logged (h ++ records_bytes (log_of r.history))) is));
   ends_at = r.ends_at;

@@ -2,19 +2,19 @@
 -- found by their names; `-` is standard input.
 use Rattle.std.specs.Prelude.{ℕ, ◌≡◌, ◌≢◌, ◌⊎◌, true, codes, Option, Some, None, List, [], ◌∷◌, refl}
 use Rattle.mps_base.specs.Desk.{Outside, OnlyReports}
-use Rattle.mps_output.specs.declared.stop.Stop.TheVariants as stop
-use Rattle.mps_output.specs.Reports.{report_of}
-use Rattle.mps_output.specs.Streams.{Prints, Reports as ReportsText}
-use Rattle.mps_reading.specs.Causes.{Answers}
-use Rattle.mps_reading.specs.Ending.{ReportsStatus, IsUnopened, is_whole_status}
-use Rattle.mps_reading.specs.Opening.{OpensNothing}
-use Rattle.mps_live_blocks.specs.Listed.{ListedWith, IsOnly as IsOnlyList, ListsPart}
-use Rattle.mps_readable.specs.Text.{ReadWith, IsCutShort as IsCutShortText, IsOnlyReading}
-use Rattle.mps_tools.specs.Converted.{ConvertedWith, Fails, IsCutShort, IsOnly}
-use Rattle.mps_generator.specs.Ending.{FailsWithin}
-use Rattle.mps_generator.specs.Script.{script as generated_script}
-use Rattle.mps_words.specs.Meaning.{Meaning, Runs, Converts, Reads, Lists, Generates}
-use Rattle.mps_words.specs.Words.{meaning}
+use Rattle.mps_report.specs.declared.stop.Stop.TheVariants as stop
+use Rattle.mps_report.specs.Reports.{report_of}
+use Rattle.mps_report.specs.Streams.{Prints, Reports as ReportsText}
+use Rattle.mps_log_reader.specs.Causes.{Answers}
+use Rattle.mps_log_reader.specs.Ending.{ReportsStatus, IsUnopened, is_whole_status}
+use Rattle.mps_log_reader.specs.Opening.{OpensNothing}
+use Rattle.mps_blocks.specs.Listed.{ListedWith, IsOnly as IsOnlyList, ListsPart}
+use Rattle.mps_txt.specs.Text.{ReadWith, IsCutShort as IsCutShortText, IsOnlyReading}
+use Rattle.mps_cnv.specs.Converted.{ConvertedWith, Fails, IsCutShort, IsOnly}
+use Rattle.mps_workload.specs.Ending.{FailsWithin}
+use Rattle.mps_workload.specs.Script.{script as generated_script}
+use Rattle.mps_args.specs.Meaning.{Meaning, Runs, Converts, Reads, Lists, Generates}
+use Rattle.mps_args.specs.Words.{meaning}
 use Rattle.mps_cli.specs.Ending.{IsReported, Reports}
 use Rattle.mps_cli.specs.Leaving.{LeavesWith}
 use Rattle.mps_cli.specs.LogFile.{IsInFile, IsUnlogged, LogsInto}
@@ -39,7 +39,7 @@ pub record RunsScript (log script : List ℕ) (status : ℕ) (old new : Outside)
   -- lines, and nothing else.
   pub answered : status ≢ 4 → (bytes : List ℕ) → old.text script ≡ Some bytes → Answered bytes old new
   -- With any status: what was printed and logged is that of the first lines, whose commands were answered. Where the log or
-  -- printing failed, there may be a part of the next command behind them: the front of its records, or all of them and the
+  -- printing failed, there may be a part of the next command after them: a prefix of its records, or all of them and the
   -- front of its answer.
   pub leaves : (bytes : List ℕ) → old.text script ≡ Some bytes → LeavesWith status bytes old new
   -- what was logged is exactly what the log's file holds, and no other file has changed
@@ -57,11 +57,11 @@ pub record ConvertsLog (log : List ℕ) (kinds : ℕ) (status : ℕ) (old new : 
   pub converted : is_whole_status status ≡ true → (bytes : List ℕ) → old.text log ≡ Some bytes → ConvertedWith kinds bytes status old new
   -- and nothing else
   pub only : is_whole_status status ≡ true → (bytes : List ℕ) → old.text log ≡ Some bytes → IsOnly kinds bytes status old new
-  -- where a read failed, the text of the whole records that had come was printed; the front of that, where a write failed too
+  -- where a read failed, the text of the whole records that had come was printed; a prefix of that, where a write failed too
   pub broken : status ≡ 3 → (bytes : List ℕ) → old.text log ≡ Some bytes → Fails kinds bytes old new
   -- a log that is not there is not read, and nothing is printed
   pub missing : OpensNothing old log → IsUnopened status old new
-  -- memory is wanting only before anything else happens
+  -- memory runs out only before anything else happens
   pub no_memory : status ≡ 8 → ReportsText old new (report_of stop.OutOfMemory)
   -- where a write failed, a front of the text was printed
   pub cut : status ≡ 4 → (bytes : List ℕ) → old.text log ≡ Some bytes → IsCutShort kinds bytes old new
@@ -75,7 +75,7 @@ pub record ReadsText (text : List ℕ) (status : ℕ) (old new : Outside) : Type
   pub readable : (bytes : List ℕ) → old.text text ≡ Some bytes → ReadWith bytes status old new
   -- and nothing else
   pub only : is_whole_status status ≡ true → (bytes : List ℕ) → old.text text ≡ Some bytes → IsOnlyReading bytes status old new
-  -- where a write failed, the front of the readable text of some lines at the front of the text was printed
+  -- where a write failed, a prefix of the readable text of some lines at a prefix of the text was printed
   pub cut : status ≡ 4 → (bytes : List ℕ) → old.text text ≡ Some bytes → IsCutShortText bytes old new
   -- a text that is not there is not read, and nothing is printed
   pub missing : OpensNothing old text → IsUnopened status old new
@@ -91,7 +91,7 @@ pub record ListsBlocks (log : List ℕ) (status : ℕ) (old new : Outside) : Typ
   pub only : is_whole_status status ≡ true → (bytes : List ℕ) → old.text log ≡ Some bytes → IsOnlyList bytes status old new
   -- nothing is printed before all was read and replayed
   pub silent : status ≢ 0 → status ≢ 4 → new.printed ≡ old.printed
-  -- where a write failed, the front of the list was printed
+  -- where a write failed, a prefix of the list was printed
   pub cut : status ≡ 4 → (bytes : List ℕ) → old.text log ≡ Some bytes → ListsPart bytes old new
   -- a log that is not there is not read, and nothing is printed
   pub missing : OpensNothing old log → IsUnopened status old new
@@ -103,9 +103,9 @@ pub record GeneratesScript (seed count : ℕ) (status : ℕ) (old new : Outside)
   pub known : (status ≡ 0) ⊎ (status ≡ 4) ⊎ (status ≡ 8)
   -- all of the script was printed, and nothing else happened
   pub whole : status ≡ 0 → Prints old new (generated_script seed count)
-  -- the front of the script was printed, a write failed, and that was reported
+  -- a prefix of the script was printed, a write failed, and that was reported
   pub failed : status ≡ 4 → FailsWithin old new (generated_script seed count)
-  -- only the want of memory was reported
+  -- only the out of memory was reported
   pub no_memory : status ≡ 8 → ReportsText old new (report_of stop.OutOfMemory)
 
 -- what is done with a status, by what the words ask for
@@ -127,11 +127,11 @@ a_log_by_its_name old new does = does.in_file refl
 
 pub a_script_by_its_name : (old new : Outside) (bytes : List ℕ) → DoesAsAsked (meaning (codes "run" ∷ codes "-o" ∷ codes "a" ∷ codes "s" ∷ [])) 0 old new
     → old.text (codes "s") ≡ Some bytes → RanWith 0 bytes old new
-a_script_by_its_name old new bytes does told = does.ran refl bytes told
+a_script_by_its_name old new bytes does known_there = does.ran refl bytes known_there
 
 pub a_log_is_converted_whole : (old new : Outside) (bytes : List ℕ) → DoesAsAsked (meaning (codes "cnv" ∷ codes "-k" ∷ codes "seg,object" ∷ [])) 0 old new
     → old.text (codes "mpsio.log") ≡ Some bytes → ConvertedWith 40 bytes 0 old new
-a_log_is_converted_whole old new bytes does told = does.converted refl bytes told
+a_log_is_converted_whole old new bytes does known_there = does.converted refl bytes known_there
 
 pub a_missing_text_prints_nothing : (status : ℕ) (old new : Outside) → DoesAsAsked (meaning (codes "txt" ∷ codes "-l" ∷ codes "a" ∷ [])) status old new
     → OpensNothing old (codes "a") → new.printed ≡ old.printed

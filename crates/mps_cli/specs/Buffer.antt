@@ -6,11 +6,11 @@ use Rattle.mps_script.specs.Line.{is_line_feed, longest_line}
 use Rattle.mps_cli.specs.declared.next.Next.{Next}
 use Rattle.mps_cli.specs.declared.next.Next.TheVariants.{Line, TooLong, End}
 
--- the line that was given last, and the bytes that were read and wait behind it
+-- the line that was given last, and the bytes that were read and wait after it
 pub record Waiting : Type 0 where
   pub line : List ℕ
   pub waiting : List ℕ
-  -- how many more bytes may be read behind them
+  -- how many more bytes may be read after them
   pub room : ℕ
 
 -- nothing was given, and nothing waits
@@ -25,7 +25,7 @@ bytes_between from to bytes = take (to - from) (drop from bytes)
 abbrev pub length_of_line : List ℕ → ℕ
 length_of_line bytes = position_or_len is_line_feed bytes
 
--- what is left: what waits, and behind it the input that is left to read
+-- what is left: what waits, and after it the input that is left to read
 abbrev pub left_of : Waiting → Option (List ℕ) → Option (List ℕ)
 left_of w input = option_map (λ rest. w.waiting ++ rest) input
 
@@ -39,7 +39,7 @@ HeldGives old new (Some Line) =
 HeldGives old new (Some TooLong) = longest_line < length_of_line old.waiting
 HeldGives old new (Some End) = ⊥
 
--- a read put so many bytes of the input behind what waits
+-- a read put n bytes of the input after what waits
 pub record TakesIn (old new : Waiting) (before after : Option (List ℕ)) (count : ℕ) : Type 0 where
   pub chunk : List ℕ
   pub counted : length chunk ≡ count
@@ -47,16 +47,16 @@ pub record TakesIn (old new : Waiting) (before after : Option (List ℕ)) (count
   pub from : before ≡ option_map (λ rest. chunk ++ rest) after
 
 -- what comes next of the bytes that are left
-abbrev pub ComesNext : Next → (left line : List ℕ) → (left_behind : Option (List ℕ)) → Type 0
-ComesNext Line left line left_behind =
-    (0 < length left) × (line ≡ take (length_of_line left) left) × (left_behind ≡ Some (drop (length_of_line left + 1) left))
-ComesNext TooLong left line left_behind = longest_line < length_of_line left
-ComesNext End left line left_behind = left ≡ []
+abbrev pub ComesNext : Next → (left line : List ℕ) → (left_after : Option (List ℕ)) → Type 0
+ComesNext Line left line left_after =
+    (0 < length left) × (line ≡ take (length_of_line left) left) × (left_after ≡ Some (drop (length_of_line left + 1) left))
+ComesNext TooLong left line left_after = longest_line < length_of_line left
+ComesNext End left line left_after = left ≡ []
 
 -- the same, where what is left is told
-abbrev pub ComesNextOf : Next → (left : Option (List ℕ)) → (line : List ℕ) → (left_behind : Option (List ℕ)) → Type 0
-ComesNextOf next None line left_behind = left_behind ≡ None
-ComesNextOf next (Some left) line left_behind = ComesNext next left line left_behind
+abbrev pub ComesNextOf : Next → (left : Option (List ℕ)) → (line : List ℕ) → (left_after : Option (List ℕ)) → Type 0
+ComesNextOf next None line left_after = left_after ≡ None
+ComesNextOf next (Some left) line left_after = ComesNext next left line left_after
 
 -- at the end of the input: the last line, which has no line feed, or nothing
 abbrev pub IsLast : Waiting → Waiting → Next → Type 0

@@ -61,6 +61,6 @@ pub record IsReported (status : ℕ) (old new : Outside) : Type 0 where
   pub status_is : status ≡ status_of ends
   pub reported : Reports ends old new
 
-pub a_bad_line_is_told : report_of (BadLine 12) ≡ codes "mps: script line 12: bad line\n"
+pub a_bad_line_is_known : report_of (BadLine 12) ≡ codes "mps: script line 12: bad line\n"
 unfolding digits
-a_bad_line_is_told = refl
+a_bad_line_is_known = refl

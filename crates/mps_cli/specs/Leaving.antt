@@ -24,7 +24,7 @@ pub record IsUnbegun (old new : Outside) : Type 0 where
   pub printed : new.printed ≡ old.printed
   pub logged : new.logged ≡ old.logged
 
--- ---- behind the header of the log, or behind nothing
+-- ---- after the header of the log, or after nothing
 
 -- the commands of the first lines were answered, and of others nothing was printed or logged
 pub record LeavesWhole (header script : List ℕ) (old new : Outside) : Type 0 where
@@ -46,18 +46,18 @@ pub record FindsNoMemory (header script : List ℕ) (old new : Outside) : Type 0
   pub next : NeedsMemory (commands_from (whole.lines + 1) (take 1 (drop whole.lines (lines_of script))))
 
 -- The commands of the first lines were answered, and that of the next line was begun: there is a step of it that is legal
--- behind theirs, and `unsupported` exactly where that is due.
+-- after theirs, and `unsupported` exactly where that is due.
 pub record Begins (script : List ℕ) (lines : ℕ) (history : History) (step : Step) : Type 0 where
   pub run : HasRun script lines history
   pub commands : commands_of (history ++ step ∷ []) ≡ commands_from 1 (take (lines + 1) (lines_of script))
   pub legal : IsLegalHistory (history ++ step ∷ [])
   pub unsupported : AreUnsupportedWhereDue empty_world (history ++ step ∷ [])
 
--- the records of a step behind a history
-abbrev pub records_behind : History → Step → List ℕ
-records_behind history step = records_bytes (records_of_step (pools_made history) step)
+-- the records of a step after a history
+abbrev pub records_after : History → Step → List ℕ
+records_after history step = records_bytes (records_of_step (pools_made history) step)
 
--- of the command that was begun the front of its records was logged, and nothing of its answer was printed
+-- of the command that was begun a prefix of its records was logged, and nothing of its answer was printed
 pub record LogsPart (header script : List ℕ) (old new : Outside) : Type 0 where
   pub history : History
   pub lines : ℕ
@@ -65,15 +65,15 @@ pub record LogsPart (header script : List ℕ) (old new : Outside) : Type 0 wher
   pub begun : Begins script lines history step
   pub printed : new.printed ≡ appended old.printed (answers_of history)
   pub count : ℕ
-  pub logged : new.logged ≡ appended old.logged (header ++ (records_bytes (log_of history) ++ take count (records_behind history step)))
+  pub logged : new.logged ≡ appended old.logged (header ++ (records_bytes (log_of history) ++ take count (records_after history step)))
 
--- of the command that was begun all records were logged, and the front of its answer was printed
+-- of the command that was begun all records were logged, and a prefix of its answer was printed
 pub record PrintsPart (header script : List ℕ) (old new : Outside) : Type 0 where
   pub history : History
   pub lines : ℕ
   pub step : Step
   pub begun : Begins script lines history step
-  pub logged : new.logged ≡ appended old.logged (header ++ (records_bytes (log_of history) ++ records_behind history step))
+  pub logged : new.logged ≡ appended old.logged (header ++ (records_bytes (log_of history) ++ records_after history step))
   pub count : ℕ
   pub printed : new.printed ≡ appended old.printed (answers_of history ++ take count (text_of_answer step.answer))
 
@@ -90,14 +90,14 @@ Leaves ending.NoMeaning header script old new = ⊥
 
 -- ---- a whole run
 
--- nothing was printed, and the front of the header was logged, or nothing
+-- nothing was printed, and a prefix of the header was logged, or nothing
 pub record LeavesHeader (old new : Outside) : Type 0 where
   pub printed : new.printed ≡ old.printed
   pub count : ℕ
   pub logged : new.logged ≡ appended old.logged (take count (header_bytes 1))
 
--- By the ending: it may come before the log has its header, where memory is wanting (before anything else happens), the
--- script can't be opened, or the log can't be made and begun. Else it is as behind the header.
+-- By the ending: it may come before the log has its header, where memory runs out (before anything else happens), the
+-- script can't be opened, or the log can't be made and begun. Else it is as after the header.
 abbrev pub LeavesRun : Ending → (script : List ℕ) → (old new : Outside) → Type 0
 LeavesRun ending.Done script old new = Leaves ending.Done (header_bytes 1) script old new
 LeavesRun (ending.BadLine line) script old new = Leaves (ending.BadLine line) (header_bytes 1) script old new
@@ -122,7 +122,7 @@ pub record IsBegun (commands : List Command) (before : Kept) (step : Step) : Typ
   pub legal : (w : World) → StandsFor before w → IsLegalFrom w (step ∷ [])
   pub unsupported : (w : World) → StandsFor before w → AreUnsupportedWhereDue w (step ∷ [])
 
--- the front of its records was logged, and nothing was printed
+-- a prefix of its records was logged, and nothing was printed
 pub record StopsLogging (commands : List Command) (before : Kept) (pools : ℕ) (old new : Outside) : Type 0 where
   pub step : Step
   pub begun : IsBegun commands before step
@@ -130,7 +130,7 @@ pub record StopsLogging (commands : List Command) (before : Kept) (pools : ℕ) 
   pub count : ℕ
   pub logged : new.logged ≡ appended old.logged (take count (records_bytes (records_of_step pools step)))
 
--- all its records were logged, and the front of its answer was printed
+-- all its records were logged, and a prefix of its answer was printed
 pub record StopsPrinting (commands : List Command) (before : Kept) (pools : ℕ) (old new : Outside) : Type 0 where
   pub step : Step
   pub begun : IsBegun commands before step
@@ -153,6 +153,6 @@ pub an_arena_takes_memory : NeedsMemory (commands_from 1 (codes "arena 8 8" ∷ 
 an_arena_takes_memory = record { command = record { line = 1; call = call.Arena 8 8 }; is = refl; takes = refl }
 
 pub a_limit_has_one_record :
-    records_behind [] (record { line = 3; call = call.Limit 8; moves = []; answer = Said reply.Ok })
+    records_after [] (record { line = 3; call = call.Limit 8; moves = []; answer = Said reply.Ok })
     ≡ record_bytes (record { line = 3; code = limit_set_code; fields = 8 ∷ [] })
 a_limit_has_one_record = refl

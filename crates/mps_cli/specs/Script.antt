@@ -73,16 +73,16 @@ abbrev pub AreUnsupportedWhereDue : World → History → Type 0
 AreUnsupportedWhereDue w [] = Unit {0}
 AreUnsupportedWhereDue w (s ∷ ss) = IsUnsupportedWhereDue w s × AreUnsupportedWhereDue (world_after w s) ss
 
--- where the run ends, after so many lines and with these behind them
-abbrev pub EndsAt : Ending → (lines : ℕ) → (behind : List (List ℕ)) → Type 0
-EndsAt ending.Done lines behind = behind ≡ []
-EndsAt (ending.BadLine line) lines behind = (line ≡ lines + 1) × (list_all is_good (take 1 behind) ≡ false)
-EndsAt ending.TooLong lines behind = (lines ≡ 4294967295) × (0 < length behind)
-EndsAt ending.NoMeaning lines behind = ⊥
-EndsAt ending.ReadFailed lines behind = ⊥
-EndsAt ending.WriteFailed lines behind = ⊥
-EndsAt ending.LogFailed lines behind = ⊥
-EndsAt ending.OutOfMemory lines behind = ⊥
+-- where the run ends, after n lines and with these after them
+abbrev pub EndsAt : Ending → (lines : ℕ) → (later : List (List ℕ)) → Type 0
+EndsAt ending.Done lines later = later ≡ []
+EndsAt (ending.BadLine line) lines later = (line ≡ lines + 1) × (list_all is_good (take 1 later) ≡ false)
+EndsAt ending.TooLong lines later = (lines ≡ 4294967295) × (0 < length later)
+EndsAt ending.NoMeaning lines later = ⊥
+EndsAt ending.ReadFailed lines later = ⊥
+EndsAt ending.WriteFailed lines later = ⊥
+EndsAt ending.LogFailed lines later = ⊥
+EndsAt ending.OutOfMemory lines later = ⊥
 
 -- no call of the desk failed and memory wasn't wanting: the input was read to its end, or to a line at which a run ends
 abbrev pub is_whole : Ending → Bool

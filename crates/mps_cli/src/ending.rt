@@ -5,7 +5,7 @@ ghost use Rattle.mps_cli.specs.Ending.{status_of as status_number, report_of, Re
 
 use crate::write::err_all;
 use mps_base::Desk;
-use mps_numbers::{put_decimal, put_text};
+use mps_numerals::{put_decimal, put_text};
 
 /// The longest report, in bytes.
 const LONGEST_REPORT: usize = 64;
@@ -58,7 +58,7 @@ pub fn report<D: Desk>(desk: &mut D, ending: Ending)
     let _ = err_all(desk, &text[..length]);
 }
 
-/// Writes the report of an ending at the front of the bytes, and answers its length.
+/// Writes the report of an ending at a prefix of the bytes, and answers its length.
 fn put_report(ending: Ending, out: &mut [u8]) -> usize
     requires { 64 ≤ length out.old }
     ensures text { take result out.new ≡ report_of ending }
@@ -79,13 +79,13 @@ fn put_report(ending: Ending, out: &mut [u8]) -> usize
 }
 
 /// Writes a decimal number between two texts.
-fn put_with_number(before: &[u8], number: u32, behind: &[u8], out: &mut [u8]) -> usize
+fn put_with_number(before: &[u8], number: u32, later: &[u8], out: &mut [u8]) -> usize
     requires room { 64 ≤ length out.old }
-    requires few { length before.now + 20 + length behind.now ≤ 64 }
-    ensures text { take result out.new ≡ before.now ++ decimal number ++ behind.now }
+    requires few { length before.now + 20 + length later.now ≤ 64 }
+    ensures text { take result out.new ≡ before.now ++ decimal number ++ later.now }
     ensures short { result ≤ 64 }
 {
     let at = put_text(before, out, 0);
     let at = put_decimal(u64::from(number), out, at);
-    put_text(behind, out, at)
+    put_text(later, out, at)
 }

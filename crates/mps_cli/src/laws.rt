@@ -2,7 +2,7 @@
 
 ghost use Rattle.std.specs.Prelude.{◌≡◌, ℕ, List, Some, true};
 ghost use Rattle.mps_base.specs.Desk.{Outside, Files};
-ghost use Rattle.mps_reading.specs.Ending.{is_whole_status};
+ghost use Rattle.mps_log_reader.specs.Ending.{is_whole_status};
 ghost use Rattle.mps_cli.specs.Asked.{RunsScript};
 ghost use Rattle.mps_cli.specs.LogFile.{HoldsLog};
 

@@ -97,7 +97,7 @@ impl Lines {
         Some(Next::Line)
     }
 
-    /// Reads more behind what waits, and answers how many bytes; 0 at the end of the input.
+    /// Reads more after what waits, and answers how many bytes; 0 at the end of the input.
     fn fill<D: Desk>(&mut self, desk: &mut D) -> Result<usize, Failed>
         requires { length self.old.waiting ≤ 4096 }
         ensures taken { IfOk result (λ count. TakesIn self.old self.new (D.outside desk.old).input (D.outside desk.new).input count) }
@@ -109,10 +109,10 @@ impl Lines {
         if self.end == ROOM {
             self.move_down();
         }
-        self.read_behind(desk)
+        self.read_after(desk)
     }
 
-    /// Moves what waits to the front of the buffer. The line that was given last is lost.
+    /// Moves what waits to a prefix of the buffer. The line that was given last is lost.
     fn move_down(&mut self)
         requires { length self.old.waiting ≤ 4096 }
         ensures waits { self.new.waiting ≡ self.old.waiting }
@@ -123,7 +123,7 @@ impl Lines {
         self.start = 0;
     }
 
-    fn read_behind<D: Desk>(&mut self, desk: &mut D) -> Result<usize, Failed>
+    fn read_after<D: Desk>(&mut self, desk: &mut D) -> Result<usize, Failed>
         requires { 0 < self.old.room }
         ensures taken { IfOk result (λ count. TakesIn self.old self.new (D.outside desk.old).input (D.outside desk.new).input count) }
         ensures end { IfOk result (λ count. count ≡ 0 → IfSome (D.outside desk.old).input (λ left. left ≡ [])) }

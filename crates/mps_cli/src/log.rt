@@ -7,7 +7,7 @@ ghost use Rattle.mps_event.specs.Event.{code_of};
 ghost use Rattle.mps_event.specs.declared.version.Version.TheVariants.{One};
 ghost use Rattle.mps_model.specs.Log.{record_of, records_of_accepted, records_of_command, kind_number as number_of_kind};
 ghost use Rattle.mps_model.specs.Answer.{Said};
-ghost use Rattle.mps_reading.specs.PutOut.{PutsPart};
+ghost use Rattle.mps_log_reader.specs.PutOut.{PutsPart};
 ghost use Rattle.mps_cli.specs.Write.{appended, LogTakes};
 ghost use Rattle.mps_cli.specs.Records.{records_of_done};
 
@@ -206,7 +206,7 @@ fn log_record<D: Desk>(desk: &mut D, line: u32, event: Event, fields: &[u64]) ->
     log_all(desk, &bytes[..length])
 }
 
-/// Writes a record at the front of the bytes, and answers its length.
+/// Writes a record at a prefix of the bytes, and answers its length.
 fn put_record(bytes: &mut [u8], line: u32, event: Event, fields: &[u64]) -> usize
     requires known { AreFields One (code_of event) fields.now }
     requires few { length fields.now ≤ 4 }

@@ -32,7 +32,7 @@ fn main(rt: HostRuntime) -> ExitCode {
     ExitCode::from(desk.finish(status))
 }
 
-/// The words of the command line behind the program's name. Words that are no text are words without a meaning.
+/// The words of the command line after the program's name. Words that are no text are words without a meaning.
 fn words(rt: &HostRuntime) -> io::Result<Vec<String>> {
     let mut arguments = env::args(rt)?;
     let _program = arguments.next();

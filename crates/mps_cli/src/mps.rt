@@ -1,10 +1,10 @@
 // The top call.
 ghost use Rattle.std.specs.Prelude.{◌≡◌, ◌≢◌, ◌↔◌, None, Some, true};
 ghost use Rattle.mps_base.specs.Desk.{HasRisen};
-ghost use Rattle.mps_reading.specs.Ending.{is_whole_status};
-ghost use Rattle.mps_words.specs.Runnable.{IsRunnable};
-ghost use Rattle.mps_words.specs.Seen.{meaning_of, texts};
-ghost use Rattle.mps_words.specs.Words.{meaning};
+ghost use Rattle.mps_log_reader.specs.Ending.{is_whole_status};
+ghost use Rattle.mps_args.specs.Runnable.{IsRunnable};
+ghost use Rattle.mps_args.specs.Seen.{meaning_of, texts};
+ghost use Rattle.mps_args.specs.Words.{meaning};
 ghost use Rattle.mps_cli.specs.Asked.{DoesAsAsked, RunsScript};
 ghost use Rattle.mps_cli.specs.Ending.{CountsGrow};
 ghost use Rattle.mps_cli.specs.Script.{NoFaultRose};
@@ -13,7 +13,7 @@ use crate::ending::{Ending, report, status_of};
 use crate::run::run;
 use mps_base::Desk;
 use mps_tools::{blocks, cnv, generate, txt};
-use mps_words::{Command, command_of};
+use mps_args::{Command, command_of};
 use std::alloc::Global;
 
 /// Does what the words of the command line ask for, and answers the status of the process. Where that is not 0, a line
@@ -30,7 +30,7 @@ pub fn mps<D: Desk>(alloc: Global, words: &[String], desk: &mut D) -> u8
     ensures log_failed { result ≡ 5 → HasRisen (D.outside desk.old).log_faults (D.outside desk.new).log_faults }
     ensures counts { CountsGrow (D.outside desk.old) (D.outside desk.new) }
 
-    // Words with a meaning, no fault and no want of memory: the status is 0, 6 or 7.
+    // Words with a meaning, no fault and no out of memory: the status is 0, 6 or 7.
     ensures complete { meaning (texts words.now) ≢ None → NoFaultRose (D.outside desk.old) (D.outside desk.new)
         → result ≢ 8 → is_whole_status result ≡ true }
 {
@@ -43,7 +43,7 @@ pub fn mps<D: Desk>(alloc: Global, words: &[String], desk: &mut D) -> u8
 /// Reports that the words have no meaning.
 fn tell_usage<D: Desk>(desk: &mut D) -> u8
     ensures status { result ≡ 2 }
-    ensures told { DoesAsAsked None result (D.outside desk.old) (D.outside desk.new) }
+    ensures known_there { DoesAsAsked None result (D.outside desk.old) (D.outside desk.new) }
     ensures counts { CountsGrow (D.outside desk.old) (D.outside desk.new) }
 {
     report(desk, Ending::NoMeaning);

@@ -1,7 +1,7 @@
 // The answer of a command.
 ghost use Rattle.std.specs.Prelude.{◌≡◌, ◌≤◌, true, OnOk, OnErr};
 ghost use Rattle.mps_base.specs.Desk.{HasRisen, OnlyPrints};
-ghost use Rattle.mps_reading.specs.PutOut.{PutsPart};
+ghost use Rattle.mps_log_reader.specs.PutOut.{PutsPart};
 ghost use Rattle.mps_script.specs.Text.{text_of, is_printable};
 ghost use Rattle.mps_cli.specs.Write.{appended};
 

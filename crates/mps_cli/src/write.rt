@@ -1,7 +1,7 @@
 // Writing whole pieces to a desk, whose calls may take a part of a piece.
 ghost use Rattle.std.specs.Prelude.{◌≡◌, ◌≤◌, OnOk, OnErr};
 ghost use Rattle.mps_base.specs.Desk.{HasRisen, OnlyLogs, OnlyPrints, OnlyReports};
-ghost use Rattle.mps_reading.specs.PutOut.{PutsPart};
+ghost use Rattle.mps_log_reader.specs.PutOut.{PutsPart};
 ghost use Rattle.mps_cli.specs.Write.{appended, LogTakes};
 
 use mps_base::{Desk, Failed};

@@ -40,7 +40,7 @@ take_nil : (n : ℕ) → take {A = ℕ} n [] ≡ []
 take_nil zero = refl
 take_nil (suc n) = refl
 
--- the first so many, and then so many more
+-- the first n, and then n more
 pub take_add : (m n : ℕ) (bytes : List ℕ) → take m bytes ++ take n (drop m bytes) ≡ take (m + n) bytes
 take_add zero n bytes = ap (λ (k : ℕ). take k bytes) (omega arith)
 take_add (suc m) n [] = take_nil n ∙ sym (take_nil (suc m + n))

@@ -93,7 +93,7 @@ fields_of_event version code fields h =
 
 -- ---- the bytes of a record that was read
 
--- so many bytes make the record and spell it
+-- n bytes make the record and spell it
 pub record_bytes-record_in : (n : ℕ) (bytes : List ℕ) → little_number 2 (drop 2 bytes) ≡ n → size_of_record n ≤ length bytes → IsBytes bytes
     → record_bytes (record_in bytes) ≡ take (size_of_record n) bytes
 record_bytes-record_in n bytes n-is le fits =
@@ -288,7 +288,7 @@ first_reads version event ended (byte ∷ bytes) r known size e =
         → cond short (too_few ended) (coded_of o ended bytes) ≡ known_of event ended bytes
     chosen short ended o event bytes a b = rw (a, b) refl
 
--- the numbers at the front of bytes are those of a record
+-- the numbers at a prefix of bytes are those of a record
 record IsSpelled (r : Record) (bytes : List ℕ) : Type 0 where
   code : little_number 2 bytes ≡ r.code
   count : little_number 2 (drop 2 bytes) ≡ length r.fields
@@ -324,7 +324,7 @@ read_again version ended r rest h =
     let count : length r.fields < 2 ^ 16 = omega (arith, event.count, count-le event.event) in
     reads_spelled version ended (record_bytes r ++ rest) r event (spelled_by r rest code count h.line_fits h.fields_fit)
 
--- two records at the front of the same bytes
+-- two records at a prefix of the same bytes
 abbrev done_record : Record → Result (Option Record) LogFault
 done_record r = Ok (Some r)
 

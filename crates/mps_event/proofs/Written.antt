@@ -1,17 +1,17 @@
--- Bytes written one part after the other at the front of some room.
+-- Bytes written one part after the other at a prefix of some room.
 use Rattle.std.proofs.Common.{◌≡◌, ℕ, ◌+◌, ◌-◌, ◌*◌, ◌<◌, List, [], ◌++◌, length, take, drop, get_or, refl, sym, ap, ◌∙◌, append_assoc, arith}
 use Rattle.std.proofs.lemmas.List.{append-nil, take_at, drop_at, take_rest, take_more, drop_all, drop-drop, length-drop, length-take-le, flat_map_more}
 use Rattle.mps_base.specs.Record.{number_bytes, fields_bytes}
 use Rattle.mps_event.proofs.Records.{length-fields_bytes}
 use borrow.Rule.Slice.PartMut.{put_mid}
 
--- behind what is written already a part is written
+-- after what is written already a part is written
 pub write_more : (front part old out new : List ℕ) (at size : ℕ) → length front ≡ at → length part ≡ size → out ≡ front ++ drop at old
     → new ≡ part ++ drop size (take (length out - at) (drop at out)) → put_mid at (length out - at) out new ≡ (front ++ part) ++ drop (at + size) old
 write_more front part old out new at size front-len part-len out-is new-is =
-    let behind : drop at out ≡ drop at old = ap (λ (x : List ℕ). drop at x) out-is ∙ drop_at front (drop at old) at front-len in
+    let after : drop at out ≡ drop at old = ap (λ (x : List ℕ). drop at x) out-is ∙ drop_at front (drop at old) at front-len in
     let rest : drop size (take (length out - at) (drop at out)) ≡ drop (at + size) old =
-    ap (λ (x : List ℕ). drop size x) (take_rest out at ∙ behind) ∙ drop-drop size at old in
+    ap (λ (x : List ℕ). drop size x) (take_rest out at ∙ after) ∙ drop-drop size at old in
     let before : take at out ≡ front = ap (λ (x : List ℕ). take at x) out-is ∙ take_at front (drop at old) at front-len in
     let nothing : drop (length out - at) (drop at out) ≡ [] = drop_all (length out - at) (drop at out) (omega (arith, length-drop at out)) in
     let all : new ≡ part ++ drop (at + size) old = new-is ∙ ap (λ (x : List ℕ). part ++ x) rest in

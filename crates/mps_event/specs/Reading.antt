@@ -1,4 +1,4 @@
--- What the front of some bytes is read as: a record, nothing, or a fault, the first in the stated order.
+-- What a prefix of some bytes is read as: a record, nothing, or a fault, the first in the stated order.
 use Rattle.std.specs.Prelude.{◌≡◌, ℕ, zero, suc, ◌+◌, ◌*◌, Bool, true, false, nat_lt, ◌==◌, not, if◌then◌else◌, Option, Some, None, Result, Ok, Err, List, [], ◌∷◌, ◌++◌, length, take, drop, refl}
 use Rattle.byteorder.specs.Endian.{little_number}
 use Rattle.mps_base.specs.Record.{Record, record_bytes}
@@ -20,7 +20,7 @@ abbrev pub record_in : List ℕ → Record
 record_in bytes =
     record { line = little_number 4 (drop 4 bytes); code = little_number 2 bytes; fields = fields_in (little_number 2 (drop 2 bytes)) (drop 8 bytes) }
 
--- how many bytes a record of so many fields has
+-- how many bytes a record of n fields has
 abbrev pub size_of_record : (count : ℕ) → ℕ
 size_of_record count = 8 + 8 * count
 

@@ -29,7 +29,7 @@ pub enum Event {
     Alloc,
     /// A block was moved: from where, and to where.
     Move,
-    /// A block stayed where it is, for want of room: its address.
+    /// A block stayed where it is, where there is no room: its address.
     Stay,
     /// A registration became a message: the address of its block.
     Post,

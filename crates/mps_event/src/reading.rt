@@ -1,4 +1,4 @@
-// Reading the record at the front of some bytes.
+// Reading the record at a prefix of some bytes.
 
 ghost use Rattle.std.specs.Prelude.{◌≡◌, ◌≤◌, ◌++◌, ℕ, List, Some, Ok, Err, IfOk, IfSome, IsOkAnd, length, drop};
 ghost use Rattle.byteorder.specs.Endian.{little_number};
@@ -20,7 +20,7 @@ const HEAD: usize = 8;
 // Where the bytes of an interned name begin.
 const INTERNED: usize = 16;
 
-/// Reads the record at the front of `bytes`, in a log of this version; `ended` says that no more bytes follow these.
+/// Reads the record at a prefix of `bytes`, in a log of this version; `ended` says that no more bytes follow these.
 /// None exactly where there is no whole record yet: the bytes are empty, or they have not ended and are fewer than 8, or
 /// fewer than a known code with its number of fields needs. `Cut` comes only where the bytes have ended.
 pub fn first<'a>(

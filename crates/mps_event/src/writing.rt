@@ -8,7 +8,7 @@ ghost use Rattle.mps_event.specs.Reading.{size_of_record};
 use crate::version::Version;
 use byteorder::{ByteOrder, LittleEndian};
 
-/// Writes a record at the front of `out`, in a log of this version, and answers how many bytes it has: at most 40.
+/// Writes a record at a prefix of `out`, in a log of this version, and answers how many bytes it has: at most 40.
 pub fn put(out: &mut [u8], line: u32, code: u16, fields: &[u64], version: Version) -> usize
     requires known { AreFields version code fields.now }
     requires room { size_of_record (length fields.now) ≤ length out.old }

@@ -53,7 +53,7 @@ exact_call h p other range a = exact_unsupported (world_of h p) other (by_form (
 came_right : (h new : Kept) (c : Call) (done : Done) → IsInRange c → ComesTo (outcome h c) done new → (w : World) (line : ℕ) → StandsFor h w → IsRightStep w (step_of line c done) new
 came_right h new c done range came w line s =
     subst (λ (k : Kept). IsRightStep w (step_of line c done) k) (sym came.is_kept)
-    (subst (λ (d : Done). IsRightStep w (step_of line c d) (outcome h c).kept) (sym came.is_told)
+    (subst (λ (d : Done). IsRightStep w (step_of line c d) (outcome h c).kept) (sym came.is_known)
     (subst (λ (v : World). IsRightStep v (step_of line c (outcome h c).done) (outcome h c).kept) (sym s.world) (right_call h s.past line c range s.agrees)))
 
 -- what follows for the value of an `Ok`
@@ -72,7 +72,7 @@ replayed_call h new c r range came = ok_then r came (λ done e w line s. (came_r
 
 pub unsupported_where_due : {E : Type 0} (h new : Kept) (c : Call) (r : Result Done E) → IsInRange c → IfOk r (λ done. ComesTo (outcome h c) done new) → IfOk r (λ done. IsUnsupportedWhereDue h c done)
 unsupported_where_due h new c r range came = ok_then r came (λ done e w s.
-    subst (λ (d : Done). IsExact w c d.reply) (sym e.is_told) (subst (λ (v : World). IsExact v c (outcome h c).done.reply) (sym s.world) (exact_call h s.past c range s.agrees)))
+    subst (λ (d : Done). IsExact w c d.reply) (sym e.is_known) (subst (λ (v : World). IsExact v c (outcome h c).done.reply) (sym s.world) (exact_call h s.past c range s.agrees)))
 
 -- ---- before the first call
 
@@ -91,7 +91,7 @@ nothing_agrees = record {
   fresh = λ k _. refl;
   before_arena = λ _. (refl, refl);
   before_pool = λ _. refl;
-  before_point = λ _. record { front = refl; behind = refl; reserved = refl; closed = refl };
+  before_point = λ _. record { front = refl; following = refl; reserved = refl; closed = refl };
 }
 
 -- nothing kept stands for the empty world

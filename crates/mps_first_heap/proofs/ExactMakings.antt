@@ -17,13 +17,13 @@ use Rattle.mps_model.specs.World.{World, Pool}
 use Rattle.mps_first_heap.specs.Kept.{Kept, is_taken, is_pool}
 use Rattle.mps_first_heap.specs.Outcome.{accepted_where, is_made, may_make, is_amc, is_built_pool, is_exact, after_arena, after_table, after_pool, after_point}
 use Rattle.mps_first_heap.specs.StandsFor.{Past, Agrees, world_of, object_in, segments_from, some_address, one_where, point_with, some_where, reservation_in, front_pool, point_place_of}
-use Rattle.mps_first_heap.specs.Unsupported.{is_built, is_untold}
+use Rattle.mps_first_heap.specs.Unsupported.{is_built, is_unknown}
 use Rattle.mps_first_heap.proofs.Worlds.{world_of-parts}
 use Rattle.mps_first_heap.proofs.Acts.{act_of_table, act_of_pool, act_of_point}
 use Rattle.mps_first_heap.proofs.NameLemmas.{not_taken}
 use Rattle.mps_first_heap.proofs.Refused.{taken_thing, no_pool}
 use Rattle.mps_first_heap.proofs.Makings.{MayMake, may_make_facts, not_some, is_unpointed, pool_there}
-use Rattle.mps_first_heap.proofs.Unsupporting.{IsExact, exact_unsupported, exact_answered, by_form, by_turn, by_second, by_untold, supported, in_turn}
+use Rattle.mps_first_heap.proofs.Unsupporting.{IsExact, exact_unsupported, exact_answered, by_form, by_turn, by_second, by_unknown, supported, in_turn}
 
 abbrev made_reply : Bool → Reply
 made_reply b = if b then reply.Ok else reply.Unsupported
@@ -64,8 +64,8 @@ exact_table_where h p name slots few a true e =
     exact_answered (world_of h p) (call.Table name slots) reply.Ok refl
     (supported (world_of h p) (call.Table name slots) refl (in_turn h may.made)
     (ap (λ b. nat_lt 0 (length (one_where b (Some p.ids)))) (not_some h.table may.first))
-    (ap (λ w. is_untold (act_table w name slots)) (world_of-parts h p false (is_some h.point) (is_some h.pool) h.is_open (not_some h.table may.first) refl refl refl)
-    ∙ ap is_untold (act_of_table h.grains h.limit p.names (map (object_in h.words) p.places) (one_where (is_some h.point) (Some (point_with (some_where h.is_open (reservation_in h.words h.reserved)))))
+    (ap (λ w. is_unknown (act_table w name slots)) (world_of-parts h p false (is_some h.point) (is_some h.pool) h.is_open (not_some h.table may.first) refl refl refl)
+    ∙ ap is_unknown (act_of_table h.grains h.limit p.names (map (object_in h.words) p.places) (one_where (is_some h.point) (Some (point_with (some_where h.is_open (reservation_in h.words h.reserved)))))
     (one_where (is_some h.pool) front_pool) (segments_from 1 p.segments) (map some_address p.places) (one_where (is_some h.point) (point_place_of h)) name slots
     (a.names name ∙ not_taken h name may.free) (le-ltb 65536 (0 + slots) (omega arith)))))
 exact_table_where h p name slots few a false e =
@@ -73,7 +73,7 @@ exact_table_where h p name slots few a false e =
     (elim (why_not h h.table name e) [
       | no_arena m ↦ by_turn (world_of h p) (call.Table name slots) (ap not m)
       | second s ↦ by_second (world_of h p) (call.Table name slots) (ap (λ b. nat_lt 0 (length (one_where b (Some p.ids)))) s)
-      | taken t ↦ by_untold (world_of h p) (call.Table name slots) refusal.NameTaken (table_taken h p name slots a t) refl
+      | taken t ↦ by_unknown (world_of h p) (call.Table name slots) refusal.NameTaken (table_taken h p name slots a t) refl
     ])
 
 pub exact_table : (h : Kept) (p : Past) (name : Name) (slots : ℕ) → slots ≤ 65536 → Agrees h p → IsExact (world_of h p) (call.Table name slots) (after_table h name slots).done.reply
@@ -98,8 +98,8 @@ exact_pool_built h p name a may =
     exact_answered (world_of h p) (call.Pool name kind.Amc 1) reply.Ok refl
     (supported (world_of h p) (call.Pool name kind.Amc 1) refl (in_turn h may.made)
     (ap (λ b. nat_lt 0 (length (one_where b front_pool))) (not_some h.pool may.first))
-    (ap (λ w. is_untold (act_pool w name kind.Amc 1)) (world_of-parts h p (is_some h.table) (is_some h.point) false h.is_open refl refl (not_some h.pool may.first) refl)
-    ∙ ap is_untold (act_of_pool h.grains h.limit p.names (map (object_in h.words) p.places) (one_where (is_some h.table) (Some p.ids)) (one_where (is_some h.point) (Some (point_with (some_where h.is_open (reservation_in h.words h.reserved)))))
+    (ap (λ w. is_unknown (act_pool w name kind.Amc 1)) (world_of-parts h p (is_some h.table) (is_some h.point) false h.is_open refl refl (not_some h.pool may.first) refl)
+    ∙ ap is_unknown (act_of_pool h.grains h.limit p.names (map (object_in h.words) p.places) (one_where (is_some h.table) (Some p.ids)) (one_where (is_some h.point) (Some (point_with (some_where h.is_open (reservation_in h.words h.reserved)))))
     (segments_from 1 p.segments) (map some_address p.places) (one_where (is_some h.point) (point_place_of h)) name (a.names name ∙ not_taken h name may.free))))
 
 pool_of_kind : (h : Kept) (p : Past) (name : Name) → Agrees h p → MayMake h h.pool name → (k : Kind) (format : ℕ) → is_amc k ≡ true → format ≡ 1 → IsExact (world_of h p) (call.Pool name k format) reply.Ok
@@ -118,7 +118,7 @@ exact_pool_may h p name k format a built false e =
     (elim (why_not h h.pool name e) [
       | no_arena m ↦ by_turn (world_of h p) (call.Pool name k format) (ap not m)
       | second s ↦ by_second (world_of h p) (call.Pool name k format) (ap (λ b. nat_lt 0 (length (one_where b front_pool))) s)
-      | taken t ↦ by_untold (world_of h p) (call.Pool name k format) refusal.NameTaken (pool_taken h p name a t k format) refl
+      | taken t ↦ by_unknown (world_of h p) (call.Pool name k format) refusal.NameTaken (pool_taken h p name a t k format) refl
     ])
 
 exact_pool_where : (h : Kept) (p : Past) (name : Name) (k : Kind) (format : ℕ) → Agrees h p → (b : Bool) → is_built_pool k format ≡ b → IsExact (world_of h p) (call.Pool name k format) (made_reply (b && may_make h h.pool name))
@@ -152,12 +152,12 @@ exact_point_pool h p name pool a may true there =
     exact_answered (world_of h p) (call.Point name pool rank.Exact) reply.Ok refl
     (supported (world_of h p) (call.Point name pool rank.Exact) refl (in_turn h may.made)
     (ap (λ b. nat_lt 0 (length (one_where b (Some (point_with (some_where h.is_open (reservation_in h.words h.reserved))))))) (not_some h.point may.first))
-    (ap (λ w. is_untold (act_point w name pool rank.Exact)) (is_unpointed h p pool a may.first there)
-    ∙ ap is_untold (act_of_point h.grains h.limit p.names (map (object_in h.words) p.places) (one_where (is_some h.table) (Some p.ids))
+    (ap (λ w. is_unknown (act_point w name pool rank.Exact)) (is_unpointed h p pool a may.first there)
+    ∙ ap is_unknown (act_of_point h.grains h.limit p.names (map (object_in h.words) p.places) (one_where (is_some h.table) (Some p.ids))
     (segments_from 1 p.segments) (map some_address p.places) name pool (a.names name ∙ not_taken h name may.free) (pool_there h p pool a there))))
 exact_point_pool h p name pool a may false there =
     exact_unsupported (world_of h p) (call.Point name pool rank.Exact)
-    (by_untold (world_of h p) (call.Point name pool rank.Exact) refusal.BadName (point_without_pool h p name pool a may.free there) refl)
+    (by_unknown (world_of h p) (call.Point name pool rank.Exact) refusal.BadName (point_without_pool h p name pool a may.free there) refl)
 
 exact_point_may : (h : Kept) (p : Past) (name pool : Name) → Agrees h p → (b : Bool) → may_make h h.point name ≡ b → IsExact (world_of h p) (call.Point name pool rank.Exact) (made_reply (b && is_pool h pool))
 exact_point_may h p name pool a true e = exact_point_pool h p name pool a (may_make_facts h h.point name e) (is_pool h pool) refl
@@ -166,7 +166,7 @@ exact_point_may h p name pool a false e =
     (elim (why_not h h.point name e) [
       | no_arena m ↦ by_turn (world_of h p) (call.Point name pool rank.Exact) (ap not m)
       | second s ↦ by_second (world_of h p) (call.Point name pool rank.Exact) (ap (λ b. nat_lt 0 (length (one_where b (Some (point_with (some_where h.is_open (reservation_in h.words h.reserved))))))) s)
-      | taken t ↦ by_untold (world_of h p) (call.Point name pool rank.Exact) refusal.NameTaken (point_taken h p name pool rank.Exact a t) refl
+      | taken t ↦ by_unknown (world_of h p) (call.Point name pool rank.Exact) refusal.NameTaken (point_taken h p name pool rank.Exact a t) refl
     ])
 
 exact_point_rank : (h : Kept) (p : Past) (name pool : Name) (at_rank : Rank) → Agrees h p → IsExact (world_of h p) (call.Point name pool at_rank) (made_reply (is_exact at_rank && may_make h h.point name && is_pool h pool))

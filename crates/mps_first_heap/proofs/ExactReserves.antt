@@ -18,16 +18,16 @@ use Rattle.mps_model.specs.Graph.{Point, new_cells}
 use Rattle.mps_model.specs.Allocating.{act_reserve, check_reserve, Reserving, refuse_without_place, layout_of, takes_head}
 use Rattle.mps_model.specs.World.{World, pool_at}
 use Rattle.mps_first_heap.specs.Kept.{Kept, is_point}
-use Rattle.mps_first_heap.specs.Outcome.{after_reserve, reserve_placed, reserve_behind, segment_taken, unsupported}
+use Rattle.mps_first_heap.specs.Outcome.{after_reserve, reserve_placed, reserve_after, segment_taken, unsupported}
 use Rattle.mps_first_heap.specs.StandsFor.{Past, Agrees, world_of, object_in, segments_from, some_address, one_where, point_with, reservation_in, point_place_of}
-use Rattle.mps_first_heap.specs.Unsupported.{is_untold, is_told}
+use Rattle.mps_first_heap.specs.Unsupported.{is_unknown, is_known}
 use Rattle.mps_first_heap.proofs.Worlds.{world_of-parts, made_with_pool, pool_with_point}
 use Rattle.mps_first_heap.proofs.Acts.{reserve_bad_head, reserve_open}
 use Rattle.mps_first_heap.proofs.Inits.{point_named_there, is_point_some}
 use Rattle.mps_first_heap.proofs.Segments.{over_limit, no_run, new_segment}
 use Rattle.mps_first_heap.proofs.Refused.{no_point}
-use Rattle.mps_first_heap.proofs.Reserves.{closed, is_closed, act_placed, act_refused, placed_behind, placed_at_hand, reserve_from}
-use Rattle.mps_first_heap.proofs.Unsupporting.{IsExact, exact_unsupported, exact_answered, by_untold, supported, in_turn}
+use Rattle.mps_first_heap.proofs.Reserves.{closed, is_closed, act_placed, act_refused, placed_after, placed_at_hand, reserve_from}
+use Rattle.mps_first_heap.proofs.Unsupporting.{IsExact, exact_unsupported, exact_answered, by_unknown, supported, in_turn}
 
 -- what a reserve checks of the point that it found
 abbrev check_from : World → (head : ℕ) → Numbered Point → Checked Reserving
@@ -38,8 +38,8 @@ check_from w head point =
 check_fails : (h : Kept) (p : Past) (name : Name) (head : ℕ) (why : Refusal) → check_reserve (world_of h p) name head ≡ Err why → act_reserve (world_of h p) (world_of h p) name head ≡ Err why
 check_fails h p name head why e = ap (λ (c : Checked Reserving). c >>= reserve_from (world_of h p) (world_of h p) name head) e
 
-unsupported_check : (h : Kept) (p : Past) (name : Name) (head : ℕ) (why : Refusal) → is_told why ≡ false → check_reserve (world_of h p) name head ≡ Err why → IsExact (world_of h p) (call.Reserve name head) reply.Unsupported
-unsupported_check h p name head why told e = exact_unsupported (world_of h p) (call.Reserve name head) (by_untold (world_of h p) (call.Reserve name head) why (check_fails h p name head why e) told)
+unsupported_check : (h : Kept) (p : Past) (name : Name) (head : ℕ) (why : Refusal) → is_known why ≡ false → check_reserve (world_of h p) name head ≡ Err why → IsExact (world_of h p) (call.Reserve name head) reply.Unsupported
+unsupported_check h p name head why known_there e = exact_unsupported (world_of h p) (call.Reserve name head) (by_unknown (world_of h p) (call.Reserve name head) why (check_fails h p name head why e) known_there)
 
 made_there : (h : Kept) (p : Past) (name : Name) → Agrees h p → is_point h name ≡ true → 0 < h.grains
 made_there h p name a e = made_with_pool h p a (pool_with_point h p a (is_point_some h name e))
@@ -47,13 +47,13 @@ made_there h p name a e = made_with_pool h p a (pool_with_point h p a (is_point_
 -- a reserve that isn't refused, or is told a refusal
 supported_reserve : (h : Kept) (p : Past) (name : Name) (head : ℕ) (r : Reply) → Agrees h p → is_point h name ≡ true → h.is_open ≡ false
     → Rattle.mps_model.specs.Answer.is_unsupported (Rattle.mps_model.specs.Answer.Said r) ≡ false
-    → is_untold (act_reserve (closed h p) (closed h p) name head) ≡ false → IsExact (world_of h p) (call.Reserve name head) r
-supported_reserve h p name head r a point o answered told =
+    → is_unknown (act_reserve (closed h p) (closed h p) name head) ≡ false → IsExact (world_of h p) (call.Reserve name head) r
+supported_reserve h p name head r a point o answered known_there =
     exact_answered (world_of h p) (call.Reserve name head) r answered
     (supported (world_of h p) (call.Reserve name head) refl (in_turn h (made_there h p name a point)) refl
-    (ap (λ w. is_untold (act_reserve w w name head)) (is_closed h p a (is_point_some h name point) o) ∙ told))
+    (ap (λ w. is_unknown (act_reserve w w name head)) (is_closed h p a (is_point_some h name point) o) ∙ known_there))
 
-exact_in_arena : (h : Kept) (p : Past) (name : Name) (head : ℕ) → Agrees h p → is_point h name ≡ true → h.is_open ≡ false → is_front head ≡ true → nat_le (size_field head) (h.behind - h.front) ≡ false
+exact_in_arena : (h : Kept) (p : Past) (name : Name) (head : ℕ) → Agrees h p → is_point h name ≡ true → h.is_open ≡ false → is_front head ≡ true → nat_le (size_field head) (h.following - h.front) ≡ false
     → nat_lt h.limit (h.held + grains_needed (size_field head)) ≡ false → (b : Bool) → nat_lt h.grains (h.held + grains_needed (size_field head)) ≡ b
     → IsExact (world_of h p) (call.Reserve name head) (if b then reply.Unsupported else reply.Ok)
 exact_in_arena h p name head a point o valid fits limit true e =
@@ -62,9 +62,9 @@ exact_in_arena h p name head a point o valid fits limit true e =
     let f = front_facts head valid in
     let some : 0 < need = omega arith in
     let none = longest (between (h.held + 1) (h.grains + 1)) in
-    let placed = placed_behind h p head valid fits ∙ no_run h.grains h.limit h.held p.segments need a.held limit (ltb-true h.grains (h.held + need) e) some in
+    let placed = placed_after h p head valid fits ∙ no_run h.grains h.limit h.held p.segments need a.held limit (ltb-true h.grains (h.held + need) e) some in
     exact_unsupported (world_of h p) (call.Reserve name head)
-    (by_untold (world_of h p) (call.Reserve name head) (refusal.NoRun need none)
+    (by_unknown (world_of h p) (call.Reserve name head) (refusal.NoRun need none)
     (ap (λ w. act_reserve w w name head) (is_closed h p a (is_point_some h name point) o) ∙ act_refused h p name head (refusal.NoRun need none) named valid (ap refuse_without_place placed))
     refl)
 exact_in_arena h p name head a point o valid fits limit false e =
@@ -72,19 +72,19 @@ exact_in_arena h p name head a point o valid fits limit false e =
     let need = grains_needed (size_field head) in
     let f = front_facts head valid in
     let some : 0 < need = omega arith in
-    let placed = placed_behind h p head valid fits ∙ new_segment h.grains h.limit h.held p.segments need a.held limit (ltb-false h.grains (h.held + need) e) some in
+    let placed = placed_after h p head valid fits ∙ new_segment h.grains h.limit h.held p.segments need a.held limit (ltb-false h.grains (h.held + need) e) some in
     supported_reserve h p name head reply.Ok a point o refl
-    (ap is_untold (act_placed h p h p name head named named valid (ap refuse_without_place placed)))
+    (ap is_unknown (act_placed h p h p name head named named valid (ap refuse_without_place placed)))
 
-exact_in_limit : (h : Kept) (p : Past) (name : Name) (head : ℕ) → Agrees h p → is_point h name ≡ true → h.is_open ≡ false → is_front head ≡ true → nat_le (size_field head) (h.behind - h.front) ≡ false
+exact_in_limit : (h : Kept) (p : Past) (name : Name) (head : ℕ) → Agrees h p → is_point h name ≡ true → h.is_open ≡ false → is_front head ≡ true → nat_le (size_field head) (h.following - h.front) ≡ false
     → (b : Bool) → nat_lt h.limit (h.held + grains_needed (size_field head)) ≡ b
     → IsExact (world_of h p) (call.Reserve name head) (if b then reply.Refused (refusal.CommitLimit h.held (grains_needed (size_field head)) h.limit) else (if nat_lt h.grains (h.held + grains_needed (size_field head)) then reply.Unsupported else reply.Ok))
 exact_in_limit h p name head a point o valid fits true e =
     let named = point_named_there h p a name point in
     let need = grains_needed (size_field head) in
-    let placed = placed_behind h p head valid fits ∙ over_limit h.grains h.limit h.held p.segments need a.held e in
+    let placed = placed_after h p head valid fits ∙ over_limit h.grains h.limit h.held p.segments need a.held e in
     supported_reserve h p name head (reply.Refused (refusal.CommitLimit h.held need h.limit)) a point o refl
-    (ap is_untold (act_refused h p name head (refusal.CommitLimit h.held need h.limit) named valid (ap refuse_without_place placed)))
+    (ap is_unknown (act_refused h p name head (refusal.CommitLimit h.held need h.limit) named valid (ap refuse_without_place placed)))
 exact_in_limit h p name head a point o valid fits false e =
     exact_in_arena h p name head a point o valid fits e (nat_lt h.grains (h.held + grains_needed (size_field head))) refl
 
@@ -96,19 +96,19 @@ placed_reply h head b =
     else (if nat_lt h.grains (h.held + grains_needed (size_field head)) then reply.Unsupported else reply.Ok))
 
 exact_placed : (h : Kept) (p : Past) (name : Name) (head : ℕ) → Agrees h p → is_point h name ≡ true → h.is_open ≡ false → is_front head ≡ true
-    → (b : Bool) → nat_le (size_field head) (h.behind - h.front) ≡ b → IsExact (world_of h p) (call.Reserve name head) (placed_reply h head b)
+    → (b : Bool) → nat_le (size_field head) (h.following - h.front) ≡ b → IsExact (world_of h p) (call.Reserve name head) (placed_reply h head b)
 exact_placed h p name head a point o valid true e =
     let named = point_named_there h p a name point in
     supported_reserve h p name head reply.Ok a point o refl
-    (ap is_untold (act_placed h p h p name head named named valid (ap refuse_without_place (placed_at_hand h p head valid e))))
+    (ap is_unknown (act_placed h p h p name head named named valid (ap refuse_without_place (placed_at_hand h p head valid e))))
 exact_placed h p name head a point o valid false e =
     exact_in_limit h p name head a point o valid e (nat_lt h.limit (h.held + grains_needed (size_field head))) refl
 
 abbrev reserve_reply : Kept → (head : ℕ) → Bool → Reply
-reserve_reply h head b = if b then placed_reply h head (nat_le (size_field head) (h.behind - h.front)) else reply.Unsupported
+reserve_reply h head b = if b then placed_reply h head (nat_le (size_field head) (h.following - h.front)) else reply.Unsupported
 
 exact_open : (h : Kept) (p : Past) (name : Name) (head : ℕ) → Agrees h p → is_point h name ≡ true → is_front head ≡ true → (b : Bool) → h.is_open ≡ b → IsExact (world_of h p) (call.Reserve name head) (reserve_reply h head (not b))
-exact_open h p name head a point valid false o = exact_placed h p name head a point o valid (nat_le (size_field head) (h.behind - h.front)) refl
+exact_open h p name head a point valid false o = exact_placed h p name head a point o valid (nat_le (size_field head) (h.following - h.front)) refl
 exact_open h p name head a point valid true o =
     let q = is_point_some h name point in
     unsupported_check h p name head refusal.Open refl
@@ -130,19 +130,19 @@ exact_at h p name head a false point =
 
 -- ---- the reply of what comes
 
-behind_reply : (h : Kept) (head need : ℕ) (over past : Bool)
+after_reply : (h : Kept) (head need : ℕ) (over past : Bool)
     → (if over then Rattle.mps_first_heap.specs.Outcome.answered h (reply.Refused (refusal.CommitLimit h.held need h.limit)) else (if past then unsupported h else record { done = record { reply = reply.Ok; moved = Some (Rattle.mps_first_heap.specs.Outcome.segment_move h need) }; kept = Rattle.mps_first_heap.specs.Outcome.reserved_at_front (segment_taken h need) head })).done.reply
     ≡ (if over then reply.Refused (refusal.CommitLimit h.held need h.limit) else (if past then reply.Unsupported else reply.Ok))
-behind_reply h head need true past = refl
-behind_reply h head need false true = refl
-behind_reply h head need false false = refl
+after_reply h head need true past = refl
+after_reply h head need false true = refl
+after_reply h head need false false = refl
 
-at_hand_reply : (h : Kept) (head : ℕ) (b : Bool) → (if b then Rattle.mps_first_heap.specs.Outcome.answered (Rattle.mps_first_heap.specs.Outcome.reserved_at_front h head) reply.Ok else reserve_behind h head (grains_needed (size_field head))).done.reply ≡ placed_reply h head b
+at_hand_reply : (h : Kept) (head : ℕ) (b : Bool) → (if b then Rattle.mps_first_heap.specs.Outcome.answered (Rattle.mps_first_heap.specs.Outcome.reserved_at_front h head) reply.Ok else reserve_after h head (grains_needed (size_field head))).done.reply ≡ placed_reply h head b
 at_hand_reply h head true = refl
-at_hand_reply h head false = behind_reply h head (grains_needed (size_field head)) (nat_lt h.limit (h.held + grains_needed (size_field head))) (nat_lt h.grains (h.held + grains_needed (size_field head)))
+at_hand_reply h head false = after_reply h head (grains_needed (size_field head)) (nat_lt h.limit (h.held + grains_needed (size_field head))) (nat_lt h.grains (h.held + grains_needed (size_field head)))
 
 reserved_reply : (h : Kept) (head : ℕ) (b : Bool) → (if b then reserve_placed h head else unsupported h).done.reply ≡ reserve_reply h head b
-reserved_reply h head true = at_hand_reply h head (nat_le (size_field head) (h.behind - h.front))
+reserved_reply h head true = at_hand_reply h head (nat_le (size_field head) (h.following - h.front))
 reserved_reply h head false = refl
 
 pub exact_reserve : (h : Kept) (p : Past) (name : Name) (head : ℕ) → Agrees h p → IsExact (world_of h p) (call.Reserve name head) (after_reserve h name head).done.reply

@@ -15,16 +15,16 @@ use Rattle.mps_model.specs.Accessing.{act_number}
 use Rattle.mps_model.specs.Allocating.{act_init_number, act_commit, act_reserve, check_reserve, graph_committed, with_reserved_cells, Reserving}
 use Rattle.mps_model.specs.World.{World}
 use Rattle.mps_first_heap.specs.Kept.{Kept, is_name, is_point, has_slot, is_number_cell, head_at}
-use Rattle.mps_first_heap.specs.Outcome.{may_init, after_init, after_commit, number_at as number_told_at, number_reply, after_reserve, reserve_placed, reserve_behind}
+use Rattle.mps_first_heap.specs.Outcome.{may_init, after_init, after_commit, number_at as number_known_at, number_reply, after_reserve, reserve_placed, reserve_after}
 use Rattle.mps_first_heap.specs.StandsFor.{Past, Agrees, world_of, object_in as object_of, cells_at, segments_from, some_address, one_where, point_with, some_where, reservation_in, front_pool, point_place_of, place_in_slot, bound_of}
-use Rattle.mps_first_heap.specs.Unsupported.{is_untold}
+use Rattle.mps_first_heap.specs.Unsupported.{is_unknown}
 use Rattle.mps_first_heap.proofs.Worlds.{world_of-parts, is_name_some, made_with_table, made_with_pool, pool_with_point, at_hand_within, bound_of-le, block_there_at, slot_there, id_there, number_cell_at, object_there}
 use Rattle.mps_first_heap.proofs.Acts.{act_of_null, act_of_init, act_of_commit, init_not_open, init_no_number, commit_not_open, number_no_number}
 use Rattle.mps_first_heap.proofs.Numbers.{table_named, is_tabled, act_number_there}
 use Rattle.mps_first_heap.proofs.Inits.{point_named_there, is_point_some, is_opened}
 use Rattle.mps_first_heap.proofs.Commits.{is_whole}
 use Rattle.mps_first_heap.proofs.Refused.{no_slot, no_point, no_number}
-use Rattle.mps_first_heap.proofs.Unsupporting.{IsExact, exact_unsupported, exact_answered, by_untold, supported, in_turn}
+use Rattle.mps_first_heap.proofs.Unsupporting.{IsExact, exact_unsupported, exact_answered, by_unknown, supported, in_turn}
 
 -- ---- num
 
@@ -40,7 +40,7 @@ exact_number_where h p slot cell id a name there true number =
     let t = is_name_some h.table slot.name name in
     exact_answered (world_of h p) (call.Number slot cell) (reply.Number (slice_index h.words (slice_index p.places id + cell))) refl
     (supported (world_of h p) (call.Number slot cell) refl (in_turn h (made_with_table h p a t)) refl
-    (ap (λ w. is_untold (act_number w slot cell)) (is_tabled h p t) ∙ ap is_untold (act_number_there h p slot cell id a name there number)))
+    (ap (λ w. is_unknown (act_number w slot cell)) (is_tabled h p t) ∙ ap is_unknown (act_number_there h p slot cell id a name there number)))
 exact_number_where h p slot cell id a name there false number =
     let t = is_name_some h.table slot.name name in
     let below = id_there (length p.places) p.ids slot.index id a.ids there in
@@ -55,18 +55,18 @@ exact_number_where h p slot cell id a name there false number =
     slot id (slice_index h.words at) (cells_at h.words at) cell why (table_named h p a slot name) there (object_there h.words p.places id below) e in
     exact_unsupported (world_of h p) (call.Number slot cell)
     (elim (no_number h.words (bound_of h) at cell (block_there_at h.words (bound_of h) p.places id a.blocks below) (omega arith) number) [
-      | inl e ↦ by_untold (world_of h p) (call.Number slot cell) refusal.BadIndex (refused refusal.BadIndex e) refl
-      | inr e ↦ by_untold (world_of h p) (call.Number slot cell) refusal.NotANumber (refused refusal.NotANumber e) refl
+      | inl e ↦ by_unknown (world_of h p) (call.Number slot cell) refusal.BadIndex (refused refusal.BadIndex e) refl
+      | inr e ↦ by_unknown (world_of h p) (call.Number slot cell) refusal.NotANumber (refused refusal.NotANumber e) refl
     ])
 
 exact_number_held : (h : Kept) (p : Past) (slot : Slot) (cell : ℕ) (held : Option ℕ) → Agrees h p → is_name h.table slot.name ≡ true → slice_get p.ids slot.index ≡ Some held
-    → IsExact (world_of h p) (call.Number slot cell) (number_told_at h (place_in_slot p.places held) cell)
+    → IsExact (world_of h p) (call.Number slot cell) (number_known_at h (place_in_slot p.places held) cell)
 exact_number_held h p slot cell None a name there =
     let t = is_name_some h.table slot.name name in
     exact_answered (world_of h p) (call.Number slot cell) (reply.Refused refusal.NullRef) refl
     (supported (world_of h p) (call.Number slot cell) refl (in_turn h (made_with_table h p a t)) refl
-    (ap (λ w. is_untold (act_number w slot cell)) (is_tabled h p t)
-    ∙ ap is_untold (act_of_null h.grains h.limit p.names (map (object_of h.words) p.places) p.ids (points_of h) (one_where (is_some h.pool) front_pool) (segments_from 1 p.segments) (map some_address p.places) (one_where (is_some h.point) (point_place_of h)) slot cell (table_named h p a slot name) there)))
+    (ap (λ w. is_unknown (act_number w slot cell)) (is_tabled h p t)
+    ∙ ap is_unknown (act_of_null h.grains h.limit p.names (map (object_of h.words) p.places) p.ids (points_of h) (one_where (is_some h.pool) front_pool) (segments_from 1 p.segments) (map some_address p.places) (one_where (is_some h.point) (point_place_of h)) slot cell (table_named h p a slot name) there)))
 exact_number_held h p slot cell (Some id) a name there =
     let below = id_there (length p.places) p.ids slot.index id a.ids there in
     let block = block_there_at h.words (bound_of h) p.places id a.blocks below in
@@ -76,19 +76,19 @@ exact_number_held h p slot cell (Some id) a name there =
     (exact_number_where h p slot cell id a name there (is_number_cell (head_at h (slice_index p.places id)) cell) refl)
 
 exact_number_in : (h : Kept) (p : Past) (slot : Slot) (cell : ℕ) → Agrees h p → (b : Bool) → has_slot h slot ≡ b
-    → IsExact (world_of h p) (call.Number slot cell) (if b then number_told_at h (slice_index h.slots slot.index) cell else reply.Unsupported)
+    → IsExact (world_of h p) (call.Number slot cell) (if b then number_known_at h (slice_index h.slots slot.index) cell else reply.Unsupported)
 exact_number_in h p slot cell a false e =
     exact_unsupported (world_of h p) (call.Number slot cell)
     (elim (no_slot h p slot a e) [
-      | inl f ↦ by_untold (world_of h p) (call.Number slot cell) refusal.BadName (ap (λ (c : Checked (Found (Option ℕ))). c >>= number_from (world_of h p) cell) f) refl
-      | inr f ↦ by_untold (world_of h p) (call.Number slot cell) refusal.BadIndex (ap (λ (c : Checked (Found (Option ℕ))). c >>= number_from (world_of h p) cell) f) refl
+      | inl f ↦ by_unknown (world_of h p) (call.Number slot cell) refusal.BadName (ap (λ (c : Checked (Found (Option ℕ))). c >>= number_from (world_of h p) cell) f) refl
+      | inr f ↦ by_unknown (world_of h p) (call.Number slot cell) refusal.BadIndex (ap (λ (c : Checked (Found (Option ℕ))). c >>= number_from (world_of h p) cell) f) refl
     ])
 exact_number_in h p slot cell a true e =
     let both = and_parts (is_name h.table slot.name) (nat_lt slot.index (length h.slots)) e in
     let lt = ltb-true slot.index (length h.slots) both.1 in
     let lt' : slot.index < length (map (place_in_slot p.places) p.ids) = subst (λ (slots : List ℕ). slot.index < length slots) a.slots lt in
     let there = slot_there p.places p.ids slot.index lt' in
-    subst (λ (place : ℕ). IsExact (world_of h p) (call.Number slot cell) (number_told_at h place cell))
+    subst (λ (place : ℕ). IsExact (world_of h p) (call.Number slot cell) (number_known_at h place cell))
     (sym (ap (λ slots. slice_index slots slot.index) a.slots ∙ there.2))
     (exact_number_held h p slot cell there.0 a both.0 there.1)
 
@@ -120,8 +120,8 @@ exact_init_in h p name cell value a point o true number =
     let hand = a.at_hand in
     exact_answered (world_of h p) (call.InitNumber name cell value) reply.Ok refl
     (supported (world_of h p) (call.InitNumber name cell value) refl (in_turn h made) refl
-    (ap (λ w. is_untold (act_init_number w name cell value)) (is_opened h p q o)
-    ∙ ap is_untold (act_of_init h.grains h.limit p.names (map (object_of h.words) p.places) (one_where (is_some h.table) (Some p.ids)) (slice_index h.words h.reserved) (cells_at h.words h.reserved)
+    (ap (λ w. is_unknown (act_init_number w name cell value)) (is_opened h p q o)
+    ∙ ap is_unknown (act_of_init h.grains h.limit p.names (map (object_of h.words) p.places) (one_where (is_some h.table) (Some p.ids)) (slice_index h.words h.reserved) (cells_at h.words h.reserved)
     (one_where (is_some h.pool) front_pool) (segments_from 1 p.segments) (map some_address p.places) (point_place_of h ∷ []) name cell value (slice_index h.words (h.reserved + cell))
     (point_named_there h p a name point) (number_cell_at h.words h.front h.reserved cell (a.reservation o) (omega arith) number))))
 exact_init_in h p name cell value a point o false number =
@@ -135,8 +135,8 @@ exact_init_in h p name cell value a point o false number =
     (one_where (is_some h.pool) front_pool) (segments_from 1 p.segments) (map some_address p.places) (point_place_of h ∷ []) name cell value why (point_named_there h p a name point) e in
     exact_unsupported (world_of h p) (call.InitNumber name cell value)
     (elim (no_number h.words h.front h.reserved cell (a.reservation o) (omega arith) number) [
-      | inl e ↦ by_untold (world_of h p) (call.InitNumber name cell value) refusal.BadIndex (refused refusal.BadIndex e) refl
-      | inr e ↦ by_untold (world_of h p) (call.InitNumber name cell value) refusal.NotANumber (refused refusal.NotANumber e) refl
+      | inl e ↦ by_unknown (world_of h p) (call.InitNumber name cell value) refusal.BadIndex (refused refusal.BadIndex e) refl
+      | inr e ↦ by_unknown (world_of h p) (call.InitNumber name cell value) refusal.NotANumber (refused refusal.NotANumber e) refl
     ])
 
 exact_init_open : (h : Kept) (p : Past) (name : Name) (cell value : ℕ) → Agrees h p → is_point h name ≡ true → (b : Bool) → h.is_open ≡ b
@@ -144,7 +144,7 @@ exact_init_open : (h : Kept) (p : Past) (name : Name) (cell value : ℕ) → Agr
 exact_init_open h p name cell value a point true o = exact_init_in h p name cell value a point o (is_number_cell (head_at h h.reserved) cell) refl
 exact_init_open h p name cell value a point false o =
     exact_unsupported (world_of h p) (call.InitNumber name cell value)
-    (by_untold (world_of h p) (call.InitNumber name cell value) refusal.NotOpen
+    (by_unknown (world_of h p) (call.InitNumber name cell value) refusal.NotOpen
     (ap (λ w. act_init_number w name cell value) (world_of-parts h p (is_some h.table) true (is_some h.pool) false refl (is_point_some h name point) refl o)
     ∙ init_not_open h.grains h.limit p.names (map (object_of h.words) p.places) (one_where (is_some h.table) (Some p.ids)) (one_where (is_some h.pool) front_pool) (segments_from 1 p.segments) (map some_address p.places) (point_place_of h ∷ []) name cell value (point_named_there h p a name point))
     refl)
@@ -154,7 +154,7 @@ exact_init_at : (h : Kept) (p : Past) (name : Name) (cell value : ℕ) → Agree
 exact_init_at h p name cell value a true point = exact_init_open h p name cell value a point h.is_open refl
 exact_init_at h p name cell value a false point =
     exact_unsupported (world_of h p) (call.InitNumber name cell value)
-    (by_untold (world_of h p) (call.InitNumber name cell value) refusal.BadName (ap (λ (c : Checked (Numbered Point)). c >>= init_from (world_of h p) cell value) (no_point h p name a point)) refl)
+    (by_unknown (world_of h p) (call.InitNumber name cell value) refusal.BadName (ap (λ (c : Checked (Numbered Point)). c >>= init_from (world_of h p) cell value) (no_point h p name a point)) refl)
 
 init_reply : (h : Kept) (name : Name) (cell value : ℕ) (b : Bool) → (Rattle.mps_first_heap.specs.Outcome.accepted_where b h (record h { words = Rattle.std.specs.Prelude.slice_set h.words (h.reserved + cell) value })).done.reply ≡ (if b then reply.Ok else reply.Unsupported)
 init_reply h name cell value true = refl
@@ -190,12 +190,12 @@ exact_commit_open h p name slot a point there b o =
     by_open q t held at table true o =
         exact_answered (world_of h p) (call.Commit name slot) reply.Ok refl
         (supported (world_of h p) (call.Commit name slot) refl (in_turn h (made_with_table h p a t)) refl
-        (ap (λ w. is_untold (act_commit w name slot)) (is_whole h p t q o)
-        ∙ ap is_untold (act_of_commit h.grains h.limit p.names (map (object_of h.words) p.places) p.ids (slice_index h.words h.reserved) (cells_at h.words h.reserved)
+        (ap (λ w. is_unknown (act_commit w name slot)) (is_whole h p t q o)
+        ∙ ap is_unknown (act_of_commit h.grains h.limit p.names (map (object_of h.words) p.places) p.ids (slice_index h.words h.reserved) (cells_at h.words h.reserved)
         (one_where (is_some h.pool) front_pool) (segments_from 1 p.segments) (map some_address p.places) (point_place_of h ∷ []) name slot held (point_named_there h p a name point) table at)))
     by_open q t held at table false o =
         exact_unsupported (world_of h p) (call.Commit name slot)
-        (by_untold (world_of h p) (call.Commit name slot) refusal.NotOpen
+        (by_unknown (world_of h p) (call.Commit name slot) refusal.NotOpen
         (ap (λ w. act_commit w name slot) (world_of-parts h p true true (is_some h.pool) false t q refl o)
         ∙ commit_not_open h.grains h.limit p.names (map (object_of h.words) p.places) p.ids (one_where (is_some h.pool) front_pool) (segments_from 1 p.segments) (map some_address p.places) (point_place_of h ∷ []) name slot held (point_named_there h p a name point) table at)
         refl)
@@ -216,18 +216,18 @@ exact_commit_slot h p name slot a point false e =
     and_false true = refl
     and_false false = refl
 
-    missing : (why : Refusal) → slot_in (world_of h p) slot ≡ Err why → Rattle.mps_first_heap.specs.Unsupported.is_told why ≡ false → Rattle.mps_first_heap.specs.Unsupported.is_unsupported_call (world_of h p) (call.Commit name slot) ≡ true
-    missing why f told =
-        by_untold (world_of h p) (call.Commit name slot) why
+    missing : (why : Refusal) → slot_in (world_of h p) slot ≡ Err why → Rattle.mps_first_heap.specs.Unsupported.is_known why ≡ false → Rattle.mps_first_heap.specs.Unsupported.is_unsupported_call (world_of h p) (call.Commit name slot) ≡ true
+    missing why f known_there =
+        by_unknown (world_of h p) (call.Commit name slot) why
         (ap (λ (c : Checked (Numbered Point)). c >>= commit_from (world_of h p) slot) (found_point h p name a point)
         ∙ ap (λ (c : Checked (Found (Option ℕ))). c >>= commit_with (world_of h p) (record { number = 0; value = point_with (some_where h.is_open (reservation_in h.words h.reserved)) })) f)
-        told
+        known_there
 
 exact_commit_at : (h : Kept) (p : Past) (name : Name) (slot : Slot) → Agrees h p → (b : Bool) → is_point h name ≡ b → IsExact (world_of h p) (call.Commit name slot) (commit_reply (b && h.is_open && has_slot h slot))
 exact_commit_at h p name slot a true point = exact_commit_slot h p name slot a point (has_slot h slot) refl
 exact_commit_at h p name slot a false point =
     exact_unsupported (world_of h p) (call.Commit name slot)
-    (by_untold (world_of h p) (call.Commit name slot) refusal.BadName (ap (λ (c : Checked (Numbered Point)). c >>= commit_from (world_of h p) slot) (no_point h p name a point)) refl)
+    (by_unknown (world_of h p) (call.Commit name slot) refusal.BadName (ap (λ (c : Checked (Numbered Point)). c >>= commit_from (world_of h p) slot) (no_point h p name a point)) refl)
 
 commit_replies : (h : Kept) (slot : Slot) (b : Bool) → (if b then record { done = record { reply = reply.Ok; moved = Some (Rattle.mps_first_heap.specs.Outcome.commit_move h) }; kept = record h { slots = Rattle.std.specs.Prelude.slice_set h.slots slot.index h.reserved; is_open = false } } else Rattle.mps_first_heap.specs.Outcome.unsupported h).done.reply ≡ commit_reply b
 commit_replies h slot true = refl

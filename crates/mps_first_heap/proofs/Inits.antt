@@ -16,9 +16,9 @@ use Rattle.mps_first_heap.specs.Kept.{Kept, is_name, is_point, is_number_cell, h
 use Rattle.mps_first_heap.specs.Outcome.{said, may_init, after_init, accepted_where}
 use Rattle.mps_first_heap.specs.StandsFor.{Past, Agrees, world_of, world_with, step_of, object_in, cells_at, cells_in, cell_in, segments_from, some_address, one_where, point_with, reservation_in, front_pool, point_place_of, bound_of, IsBlockAt}
 use Rattle.mps_first_heap.specs.RightStep.{IsRightStep}
-use Rattle.mps_first_heap.proofs.Lists.{objects-set_behind, blocks-set_behind, slice_index-set_other, block_words-set, cells_in-set}
+use Rattle.mps_first_heap.proofs.Lists.{objects-set_after, blocks-set_after, slice_index-set_other, block_words-set, cells_in-set}
 use Rattle.mps_first_heap.proofs.Worlds.{world_by, world_of-parts, is_name_some, pool_with_point, made_with_pool, at_hand_within, number_cell, number_cell_at, number_cell_below, live_blocks-world_of, stored}
-use Rattle.mps_first_heap.proofs.Stores.{stored-set_behind}
+use Rattle.mps_first_heap.proofs.Stores.{stored-set_after}
 use Rattle.mps_first_heap.proofs.Steps.{right_step, unsupported_step}
 use Rattle.mps_first_heap.proofs.Acts.{act_of_init}
 
@@ -50,7 +50,7 @@ reservation_written words place cell value pos number =
     ∙ ap (λ (cells : List Cell). record { head = head; cells = cells; is_doomed = false }) (cells_in-set head 0 (take (size_field head) (drop place words)) cell value
     ∙ ap (λ (c : Cell). slice_set (cells_at words place) cell c) (ap (λ n. cell_in head n value) (let e : 0 + cell ≡ cell = omega arith in e) ∙ number_cell head cell value number))
 
--- a block stays a block after a write in it, behind its head
+-- a block stays a block after a write in it, after its head
 block_written : (words : List ℕ) (bound place i value : ℕ) → place < i → IsBlockAt words bound place → IsBlockAt (slice_set words i value) bound place
 block_written words bound place i value lt b =
     let e = slice_index-set_other words i place value lt in
@@ -78,7 +78,7 @@ world_written : (h : Kept) (p : Past) (cell value : ℕ) → Agrees h p → is_s
 world_written h p cell value a q o pos number =
     let bound : bound_of h ≡ h.reserved = ap (λ b. if b then h.reserved else h.front) o in
     let le : bound_of h ≤ h.reserved + cell = omega (arith, bound) in
-    ap (λ objects. opened_with h p objects (record { head = slice_index h.words h.reserved; cells = slice_set (cells_at h.words h.reserved) cell (NumberCell value); is_doomed = false })) (sym (objects-set_behind h.words (bound_of h) (h.reserved + cell) value p.places le a.blocks))
+    ap (λ objects. opened_with h p objects (record { head = slice_index h.words h.reserved; cells = slice_set (cells_at h.words h.reserved) cell (NumberCell value); is_doomed = false })) (sym (objects-set_after h.words (bound_of h) (h.reserved + cell) value p.places le a.blocks))
     ∙ ap (λ r. opened_with h p (map (object_in (slice_set h.words (h.reserved + cell) value)) p.places) r) (sym (reservation_written h.words h.reserved cell value pos number))
     ∙ sym (is_opened (written h cell value) p q o)
 
@@ -96,21 +96,21 @@ agrees_written h p cell value a o pos number =
       held = a.held;
       in_arena = a.in_arena;
       arena = λ made. length-set h.words (h.reserved + cell) value ∙ a.arena made;
-      blocks = blocks-set_behind h.words (bound_of h) (bound_of h) (h.reserved + cell) value p.places le (omega arith) a.blocks;
+      blocks = blocks-set_after h.words (bound_of h) (bound_of h) (h.reserved + cell) value p.places le (omega arith) a.blocks;
       reservation = λ _. block_written h.words h.front h.reserved (h.reserved + cell) value (omega arith) block;
       at_hand = a.at_hand;
       not_null = a.not_null;
-      fresh = λ k behind. get_or-set_other h.words (h.reserved + cell) k value 0 (λ e. omega arith) ∙ a.fresh k behind;
+      fresh = λ k following. get_or-set_other h.words (h.reserved + cell) k value 0 (λ e. omega arith) ∙ a.fresh k following;
       before_arena = a.before_arena;
       before_pool = a.before_pool;
-      before_point = λ none. record { front = (a.before_point none).front; behind = (a.before_point none).behind; reserved = (a.before_point none).reserved; closed = (a.before_point none).closed };
+      before_point = λ none. record { front = (a.before_point none).front; following = (a.before_point none).following; reserved = (a.before_point none).reserved; closed = (a.before_point none).closed };
     }
 
 stored_written : (h : Kept) (p : Past) (cell value : ℕ) → Agrees h p → is_some h.point ≡ true → h.is_open ≡ true → 0 < cell → is_number_cell (head_at h h.reserved) cell ≡ true → live_blocks (opened h p) ≡ stored (written h cell value).words p.places
 stored_written h p cell value a q o pos number =
     let bound : bound_of h ≡ h.reserved = ap (λ b. if b then h.reserved else h.front) o in
     let le : bound_of h ≤ h.reserved + cell = omega (arith, bound) in
-    ap live_blocks (sym (is_opened h p q o)) ∙ live_blocks-world_of h p ∙ sym (stored-set_behind h.words (bound_of h) (h.reserved + cell) value p.places le a.blocks)
+    ap live_blocks (sym (is_opened h p q o)) ∙ live_blocks-world_of h p ∙ sym (stored-set_after h.words (bound_of h) (h.reserved + cell) value p.places le a.blocks)
 
 right_written : (h : Kept) (p : Past) (line : ℕ) (name : Name) (cell value : ℕ) → Agrees h p → is_point h name ≡ true → h.is_open ≡ true → is_number_cell (head_at h h.reserved) cell ≡ true
     → IsRightStep (opened h p) (step_of line (call.InitNumber name cell value) (said reply.Ok)) (written h cell value)

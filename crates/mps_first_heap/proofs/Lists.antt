@@ -26,13 +26,13 @@ no_targets head k (w ∷ ws) = rw (no_target_in_cell head k w) (no_targets head 
 
 -- ---- a write outside a block
 
-pub take-drop-set_behind : (words : List ℕ) (place size i v : ℕ) → place + size ≤ i → take size (drop place (slice_set words i v)) ≡ take size (drop place words)
-take-drop-set_behind [] place size i v h = refl
-take-drop-set_behind (w ∷ ws) zero zero i v h = refl
-take-drop-set_behind (w ∷ ws) zero (suc size) zero v h = absurd (omega (arith, h))
-take-drop-set_behind (w ∷ ws) zero (suc size) (suc i) v h = ap (λ rest. w ∷ rest) (take-drop-set_behind ws zero size i v (omega (arith, h)))
-take-drop-set_behind (w ∷ ws) (suc place) size zero v h = absurd (omega (arith, h))
-take-drop-set_behind (w ∷ ws) (suc place) size (suc i) v h = take-drop-set_behind ws place size i v (omega (arith, h))
+pub take-drop-set_after : (words : List ℕ) (place size i v : ℕ) → place + size ≤ i → take size (drop place (slice_set words i v)) ≡ take size (drop place words)
+take-drop-set_after [] place size i v h = refl
+take-drop-set_after (w ∷ ws) zero zero i v h = refl
+take-drop-set_after (w ∷ ws) zero (suc size) zero v h = absurd (omega (arith, h))
+take-drop-set_after (w ∷ ws) zero (suc size) (suc i) v h = ap (λ rest. w ∷ rest) (take-drop-set_after ws zero size i v (omega (arith, h)))
+take-drop-set_after (w ∷ ws) (suc place) size zero v h = absurd (omega (arith, h))
+take-drop-set_after (w ∷ ws) (suc place) size (suc i) v h = take-drop-set_after ws place size i v (omega (arith, h))
 
 pub slice_index-set_other : (words : List ℕ) (i j v : ℕ) → j < i → slice_index (slice_set words i v) j ≡ slice_index words j
 slice_index-set_other [] i j v h = refl
@@ -49,24 +49,24 @@ slice_index-set_same words i v h = get_or-set_same words i v 0 h
 abbrev made_of : (head : ℕ) → List ℕ → Object
 made_of head words = record { pool = 0; body = Automatic head (cells_in head 0 words) false }
 
-pub object_in-set_behind : (words : List ℕ) (bound i v place : ℕ) → bound ≤ i → IsBlockAt words bound place → object_in (slice_set words i v) place ≡ object_in words place
-object_in-set_behind words bound i v place h b =
+pub object_in-set_after : (words : List ℕ) (bound i v place : ℕ) → bound ≤ i → IsBlockAt words bound place → object_in (slice_set words i v) place ≡ object_in words place
+object_in-set_after words bound i v place h b =
     let f = front_facts (slice_index words place) b.head in
     let below = b.below in
     let lt : place < i = omega arith in
     let le : place + size_field (slice_index words place) ≤ i = omega arith in
     ap (λ head. made_of head (take (size_field head) (drop place (slice_set words i v)))) (slice_index-set_other words i place v lt)
-    ∙ ap (λ ws. made_of (slice_index words place) ws) (take-drop-set_behind words place (size_field (slice_index words place)) i v le)
+    ∙ ap (λ ws. made_of (slice_index words place) ws) (take-drop-set_after words place (size_field (slice_index words place)) i v le)
 
-pub objects-set_behind : (words : List ℕ) (bound i v : ℕ) (places : List ℕ) → bound ≤ i → AllByRecursion (IsBlockAt words bound) places → map (object_in (slice_set words i v)) places ≡ map (object_in words) places
-objects-set_behind words bound i v [] h bs = refl
-objects-set_behind words bound i v (p ∷ ps) h bs =
-    ap (λ o. o ∷ map (object_in (slice_set words i v)) ps) (object_in-set_behind words bound i v p h bs.0)
-    ∙ ap (λ os. object_in words p ∷ os) (objects-set_behind words bound i v ps h bs.1)
+pub objects-set_after : (words : List ℕ) (bound i v : ℕ) (places : List ℕ) → bound ≤ i → AllByRecursion (IsBlockAt words bound) places → map (object_in (slice_set words i v)) places ≡ map (object_in words) places
+objects-set_after words bound i v [] h bs = refl
+objects-set_after words bound i v (p ∷ ps) h bs =
+    ap (λ o. o ∷ map (object_in (slice_set words i v)) ps) (object_in-set_after words bound i v p h bs.0)
+    ∙ ap (λ os. object_in words p ∷ os) (objects-set_after words bound i v ps h bs.1)
 
--- a block stays a block after a write behind it, and up to a later bound
-pub block-set_behind : (words : List ℕ) (bound later i v place : ℕ) → bound ≤ i → bound ≤ later → IsBlockAt words bound place → IsBlockAt (slice_set words i v) later place
-block-set_behind words bound later i v place h l b =
+-- a block stays a block after a write after it, and up to a later bound
+pub block-set_after : (words : List ℕ) (bound later i v place : ℕ) → bound ≤ i → bound ≤ later → IsBlockAt words bound place → IsBlockAt (slice_set words i v) later place
+block-set_after words bound later i v place h l b =
     let f = front_facts (slice_index words place) b.head in
     let below = b.below in
     let lt : place < i = omega arith in
@@ -77,9 +77,9 @@ block-set_behind words bound later i v place h l b =
       below = subst (λ (head : ℕ). place + size_field head ≤ later) (sym e) (omega arith);
     }
 
-pub blocks-set_behind : (words : List ℕ) (bound later i v : ℕ) (places : List ℕ) → bound ≤ i → bound ≤ later → AllByRecursion (IsBlockAt words bound) places → AllByRecursion (IsBlockAt (slice_set words i v) later) places
-blocks-set_behind words bound later i v [] h l bs = bs
-blocks-set_behind words bound later i v (p ∷ ps) h l bs = (block-set_behind words bound later i v p h l bs.0, blocks-set_behind words bound later i v ps h l bs.1)
+pub blocks-set_after : (words : List ℕ) (bound later i v : ℕ) (places : List ℕ) → bound ≤ i → bound ≤ later → AllByRecursion (IsBlockAt words bound) places → AllByRecursion (IsBlockAt (slice_set words i v) later) places
+blocks-set_after words bound later i v [] h l bs = bs
+blocks-set_after words bound later i v (p ∷ ps) h l bs = (block-set_after words bound later i v p h l bs.0, blocks-set_after words bound later i v ps h l bs.1)
 
 pub block_later : (words : List ℕ) (bound later place : ℕ) → bound ≤ later → IsBlockAt words bound place → IsBlockAt words later place
 block_later words bound later place l b = let below = b.below in record { not_null = b.not_null; head = b.head; below = omega arith }
@@ -136,13 +136,13 @@ new_cells_of_zeros head j (suc n) =
     ap (λ rest. cell_in head (suc j) 0 ∷ rest) (new_cells_of_zeros head (suc j) n)
     ∙ ap (λ m. cell_in head (suc j) 0 ∷ new_cells_from front_layout head m n) (sym (add-one (suc j)))
 
--- the words behind a write to the front of zeros
+-- the words after a write to a prefix of zeros
 words_written : (words : List ℕ) (front size head : ℕ) → front + suc size ≤ length words → ((k : ℕ) → front ≤ k → slice_index words k ≡ 0) → take (suc size) (drop front (slice_set words front head)) ≡ head ∷ replicate size 0
 words_written [] front size head h z = absurd (omega (arith, h))
 words_written (w ∷ ws) zero size head h z = ap (λ rest. head ∷ rest) (zeros size ws (omega (arith, h)) (λ k. z (suc k) (omega arith)))
 words_written (w ∷ ws) (suc front) size head h z = words_written ws front size head (omega (arith, h)) (λ k le. z (suc k) (omega arith))
 
--- the cells of a head and of zeros behind it are those of a new block
+-- the cells of a head and of zeros after it are those of a new block
 new_cells_sized : (words : List ℕ) (front head size : ℕ) → front + suc size ≤ length words → ((k : ℕ) → front ≤ k → slice_index words k ≡ 0) → cells_in head 0 (take (suc size) (drop front (slice_set words front head))) ≡ HeadCell ∷ new_cells_from front_layout head 1 size
 new_cells_sized words front head size h z = ap (cells_in head 0) (words_written words front size head h z) ∙ ap (λ cells. HeadCell ∷ cells) (new_cells_of_zeros head 0 size)
 

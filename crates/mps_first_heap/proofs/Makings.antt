@@ -64,15 +64,15 @@ null_ids : (count n : ℕ) → list_all (is_null_or_below count) (replicate n No
 null_ids count zero = refl
 null_ids count (suc n) = null_ids count n
 
--- what names stand for, behind the table
-abbrev behind_table : Kept → Name → Option Thing
-behind_table h n = if is_name h.pool n then Some (PoolThing 0) else (if is_name h.point n then Some (PointThing 0) else None)
+-- what names stand for, after the table
+abbrev rest_table : Kept → Name → Option Thing
+rest_table h n = if is_name h.pool n then Some (PoolThing 0) else (if is_name h.point n then Some (PointThing 0) else None)
 
 names_tabled : (h : Kept) (p : Past) (name : Name) (slots : ℕ) → Agrees h p → h.table ≡ None → is_taken h name ≡ false → (n : Name) → thing_in (past_tabled p name slots).names n ≡ thing_of (tabled h name slots) n
 names_tabled h p name slots a none free =
     names_made p.names name (TableThing 0) (thing_of h) (thing_of (tabled h name slots)) a.names (not_taken h name free)
-    (ap (λ b. if b then Some (TableThing 0) else behind_table h name) (same_name_itself name))
-    (λ n other. ap (λ t. if is_name t n then Some (TableThing 0) else behind_table h n) none ∙ ap (λ b. if b then Some (TableThing 0) else behind_table h n) (sym other))
+    (ap (λ b. if b then Some (TableThing 0) else rest_table h name) (same_name_itself name))
+    (λ n other. ap (λ t. if is_name t n then Some (TableThing 0) else rest_table h n) none ∙ ap (λ b. if b then Some (TableThing 0) else rest_table h n) (sym other))
 
 agrees_tabled : (h : Kept) (p : Past) (name : Name) (slots : ℕ) → Agrees h p → MayMake h h.table name → Agrees (tabled h name slots) (past_tabled p name slots)
 agrees_tabled h p name slots a may = record {
@@ -89,7 +89,7 @@ agrees_tabled h p name slots a may = record {
   fresh = a.fresh;
   before_arena = λ z. absurd (not_zero h.grains may.made z);
   before_pool = a.before_pool;
-  before_point = λ none. record { front = (a.before_point none).front; behind = (a.before_point none).behind; reserved = (a.before_point none).reserved; closed = (a.before_point none).closed };
+  before_point = λ none. record { front = (a.before_point none).front; following = (a.before_point none).following; reserved = (a.before_point none).reserved; closed = (a.before_point none).closed };
 }
 
 abbrev pub untabled : Kept → Past → World
@@ -161,7 +161,7 @@ agrees_pooled h p name a may = record {
   fresh = a.fresh;
   before_arena = λ z. absurd (not_zero h.grains may.made z);
   before_pool = λ none. absurd (false≢true (sym (ap is_some none)));
-  before_point = λ none. record { front = (a.before_point none).front; behind = (a.before_point none).behind; reserved = (a.before_point none).reserved; closed = (a.before_point none).closed };
+  before_point = λ none. record { front = (a.before_point none).front; following = (a.before_point none).following; reserved = (a.before_point none).reserved; closed = (a.before_point none).closed };
 }
 
 abbrev pub unpooled : Kept → Past → World
@@ -242,7 +242,7 @@ pub pool_there : (h : Kept) (p : Past) (pool : Name) → Agrees h p → is_pool 
 pool_there h p pool a e =
     let both = and_parts (not (is_name h.table pool)) (is_name h.pool pool) e in
     a.names pool
-    ∙ ap (λ b. if b then Some (TableThing 0) else behind_table h pool) (not-true (is_name h.table pool) both.0)
+    ∙ ap (λ b. if b then Some (TableThing 0) else rest_table h pool) (not-true (is_name h.table pool) both.0)
     ∙ ap (λ b. if b then Some (PoolThing 0) else if_point h pool) both.1
 
 abbrev pub unpointed : Kept → Past → World
@@ -257,8 +257,8 @@ pointed_with h p name place =
     world_with h.grains h.limit (past_pointed p name).names (map (object_in h.words) p.places) (one_where (is_some h.table) (Some p.ids)) (Some (point_with None) ∷ [])
     (front_pool ∷ []) (segments_from 1 p.segments) (map some_address p.places) (place ∷ [])
 
-abbrev place_with : (reserved front behind : ℕ) → PointPlace
-place_with reserved front behind = record { reserved_at = 8 * reserved; buffer = record { from = front; count = behind - front } }
+abbrev place_with : (reserved front following : ℕ) → PointPlace
+place_with reserved front following = record { reserved_at = 8 * reserved; buffer = record { from = front; count = following - front } }
 
 world_pointed : (h : Kept) (p : Past) (name pool : Name) → Agrees h p → h.point ≡ None → is_pool h pool ≡ true
     → pointed_with h p name (record { reserved_at = 0; buffer = record { from = 0; count = 0 } }) ≡ world_of (pointed h name) (past_pointed p name)
@@ -266,7 +266,7 @@ world_pointed h p name pool a none there =
     let u = a.before_point none in
     ap (λ n. pointed_with h p name (place_with n 0 0)) (sym u.reserved)
     ∙ ap (λ n. pointed_with h p name (place_with h.reserved n 0)) (sym u.front)
-    ∙ ap (λ n. pointed_with h p name (place_with h.reserved h.front n)) (sym u.behind)
+    ∙ ap (λ n. pointed_with h p name (place_with h.reserved h.front n)) (sym u.following)
     ∙ sym (world_of-parts (pointed h name) (past_pointed p name) (is_some h.table) true true false refl refl (is_name_some h.pool pool (and_parts (not (is_name h.table pool)) (is_name h.pool pool) there).1) u.closed)
 
 right_pointed : (h : Kept) (p : Past) (line : ℕ) (name pool : Name) → Agrees h p → MayMake h h.point name → is_pool h pool ≡ true
@@ -330,7 +330,7 @@ zeros_read (suc n) (suc k) = zeros_read n k
 
 nothing_named : (h : Kept) → IsUnmade h → (n : Name) → thing_of h n ≡ None
 nothing_named h u n =
-    ap (λ t. if is_name t n then Some (TableThing 0) else behind_table h n) u.table
+    ap (λ t. if is_name t n then Some (TableThing 0) else rest_table h n) u.table
     ∙ ap (λ t. if is_name t n then Some (PoolThing 0) else if_point h n) u.pool
     ∙ ap (λ t. if is_name t n then Some (PointThing 0) else None) u.point
 
@@ -351,7 +351,7 @@ agrees_arena h p grains limit a z =
       fresh = λ k _. zeros_read (512 * (grains + 1)) k;
       before_arena = λ _. (refl, refl);
       before_pool = λ _. refl;
-      before_point = λ _. record { front = refl; behind = refl; reserved = refl; closed = refl };
+      before_point = λ _. record { front = refl; following = refl; reserved = refl; closed = refl };
     }
 
 abbrev unmade_world : Kept → Past → World

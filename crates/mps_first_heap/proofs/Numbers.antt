@@ -32,16 +32,16 @@ pub is_tabled : (h : Kept) (p : Past) → is_some h.table ≡ true → world_of 
 is_tabled h p t = world_of-parts h p true (is_some h.point) (is_some h.pool) h.is_open t refl refl refl
 
 -- a `num` that is told this, and changes nothing
-number_told : (h : Kept) (p : Past) (line : ℕ) (slot : Slot) (cell number : ℕ) → Agrees h p → is_some h.table ≡ true → act_number (tabled h p) slot cell ≡ says (reply.Number number) (tabled h p) → IsRightStep (tabled h p) (step_of line (call.Number slot cell) (said (reply.Number number))) h
-number_told h p line slot cell number a t e =
+number_known : (h : Kept) (p : Past) (line : ℕ) (slot : Slot) (cell number : ℕ) → Agrees h p → is_some h.table ≡ true → act_number (tabled h p) slot cell ≡ says (reply.Number number) (tabled h p) → IsRightStep (tabled h p) (step_of line (call.Number slot cell) (said (reply.Number number))) h
+number_known h p line slot cell number a t e =
     right_step (tabled h p) (step_of line (call.Number slot cell) (said (reply.Number number))) h p refl
     (record { moves_are_legal = tt; moves_are_due = refl; answer_is_due = sym (ap answer_from e); marked = tt })
     (ap (λ r. with_client_remembered (world_from (tabled h p) r)) e ∙ sym (is_tabled h p t))
     a
     (λ pools. ap Some (ap live_blocks (sym (is_tabled h p t)) ∙ live_blocks-world_of h p))
 
-null_told : (h : Kept) (p : Past) (line : ℕ) (slot : Slot) (cell : ℕ) → Agrees h p → is_some h.table ≡ true → act_number (tabled h p) slot cell ≡ Err refusal.NullRef → IsRightStep (tabled h p) (step_of line (call.Number slot cell) (said (reply.Refused refusal.NullRef))) h
-null_told h p line slot cell a t e =
+null_known : (h : Kept) (p : Past) (line : ℕ) (slot : Slot) (cell : ℕ) → Agrees h p → is_some h.table ≡ true → act_number (tabled h p) slot cell ≡ Err refusal.NullRef → IsRightStep (tabled h p) (step_of line (call.Number slot cell) (said (reply.Refused refusal.NullRef))) h
+null_known h p line slot cell a t e =
     right_step (tabled h p) (step_of line (call.Number slot cell) (said (reply.Refused refusal.NullRef))) h p refl
     (record { moves_are_legal = tt; moves_are_due = refl; answer_is_due = sym (ap answer_from e); marked = tt })
     (ap (λ r. with_client_remembered (world_from (tabled h p) r)) e ∙ sym (is_tabled h p t))
@@ -73,14 +73,14 @@ number_where h p line slot cell id a name there false number = unsupported_step 
 number_where h p line slot cell id a name there true number =
     let t = is_name_some h.table slot.name name in
     subst (λ (w : World). IsRightStep w (step_of line (call.Number slot cell) (said (reply.Number (slice_index h.words (slice_index p.places id + cell))))) h) (sym (is_tabled h p t))
-    (number_told h p line slot cell (slice_index h.words (slice_index p.places id + cell)) a t (act_number_there h p slot cell id a name there number))
+    (number_known h p line slot cell (slice_index h.words (slice_index p.places id + cell)) a t (act_number_there h p slot cell id a name there number))
 
 number_held : (h : Kept) (p : Past) (line : ℕ) (slot : Slot) (cell : ℕ) (held : Option ℕ) → Agrees h p → is_name h.table slot.name ≡ true → slice_get p.ids slot.index ≡ Some held
     → IsRightStep (world_of h p) (step_of line (call.Number slot cell) (said (number_at h (place_in_slot p.places held) cell))) h
 number_held h p line slot cell None a name there =
     let t = is_name_some h.table slot.name name in
     subst (λ (w : World). IsRightStep w (step_of line (call.Number slot cell) (said (reply.Refused refusal.NullRef))) h) (sym (is_tabled h p t))
-    (null_told h p line slot cell a t
+    (null_known h p line slot cell a t
     (act_of_null h.grains h.limit p.names (map (object_in h.words) p.places) p.ids
     (one_where (is_some h.point) (Some (point_with (some_where h.is_open (reservation_in h.words h.reserved)))))
     (one_where (is_some h.pool) front_pool) (segments_from 1 p.segments) (map some_address p.places) (one_where (is_some h.point) (point_place_of h))

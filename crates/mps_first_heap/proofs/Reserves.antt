@@ -26,13 +26,13 @@ use Rattle.mps_model.specs.Step.{Step}
 use Rattle.mps_model.specs.History.{IsPoll, segment_taken, segment_of_reserve, live_blocks, with_client_remembered}
 use Rattle.mps_model.specs.Reply.{answer_from, world_from}
 use Rattle.mps_first_heap.specs.Kept.{Kept, is_point}
-use Rattle.mps_first_heap.specs.Outcome.{Outcome, answered, said, unsupported, reserved_at_front, segment_move, reserve_behind, reserve_placed, after_reserve}
+use Rattle.mps_first_heap.specs.Outcome.{Outcome, answered, said, unsupported, reserved_at_front, segment_move, reserve_after, reserve_placed, after_reserve}
 use Rattle.mps_first_heap.specs.Outcome as outcome
 use Rattle.mps_first_heap.specs.StandsFor.{Past, Agrees, world_of, world_with, step_of, object_in, cells_in, segment_from, segments_from, some_address, one_where, point_with, reservation_in, front_pool, bound_of}
 use Rattle.mps_first_heap.specs.RightStep.{IsRightStep}
-use Rattle.mps_first_heap.proofs.Lists.{objects-set_behind, blocks-set_behind, slice_index-set_same, new_cells_at, blocks_later, length_new_cells}
+use Rattle.mps_first_heap.proofs.Lists.{objects-set_after, blocks-set_after, slice_index-set_same, new_cells_at, blocks_later, length_new_cells}
 use Rattle.mps_first_heap.proofs.Worlds.{world_by, world_of-parts, pool_with_point, made_with_pool, at_hand_within, live_blocks-world_of, stored}
-use Rattle.mps_first_heap.proofs.Stores.{stored-set_behind}
+use Rattle.mps_first_heap.proofs.Stores.{stored-set_after}
 use Rattle.mps_first_heap.proofs.Segments.{runs, over_limit, new_segment, segments_push, sum_push}
 use Rattle.mps_first_heap.proofs.Steps.{right_step, unsupported_step}
 use Rattle.mps_first_heap.proofs.Inits.{point_named_there, is_point_some}
@@ -60,7 +60,7 @@ check_there h p name head named valid = rw (named, valid) refl
 abbrev placed_where : Kept → Past → (size : ℕ) → Bool → Placement
 placed_where h p size b = if b then Place h.front else run_placement h.grains h.limit (runs 1 p.segments) (grains_needed size)
 
-placement_there : (h : Kept) (p : Past) (size : ℕ) → placement_of (closed h p) (ForReserve 0 size) ≡ placed_where h p size (nat_le size (h.behind - h.front))
+placement_there : (h : Kept) (p : Past) (size : ℕ) → placement_of (closed h p) (ForReserve 0 size) ≡ placed_where h p size (nat_le size (h.following - h.front))
 placement_there h p size = refl
 
 -- ---- a block is reserved at the front
@@ -68,7 +68,7 @@ placement_there h p size = refl
 abbrev taken_from : Kept → (head : ℕ) → Reservation
 taken_from h head = record { head = head; cells = new_cells front_layout head; is_doomed = false }
 
-agrees_reserved : (h : Kept) (p : Past) (head : ℕ) → Agrees h p → is_some h.point ≡ true → h.is_open ≡ false → is_front head ≡ true → size_field head ≤ h.behind - h.front → 0 < h.front → Agrees (reserved_at_front h head) p
+agrees_reserved : (h : Kept) (p : Past) (head : ℕ) → Agrees h p → is_some h.point ≡ true → h.is_open ≡ false → is_front head ≡ true → size_field head ≤ h.following - h.front → 0 < h.front → Agrees (reserved_at_front h head) p
 agrees_reserved h p head a q o valid room pos =
     let made = made_with_pool h p a (pool_with_point h p a q) in
     let within = at_hand_within h p a made in
@@ -84,7 +84,7 @@ agrees_reserved h p head a q o valid room pos =
       held = a.held;
       in_arena = a.in_arena;
       arena = λ m. length-set h.words h.front head ∙ a.arena m;
-      blocks = blocks-set_behind h.words (bound_of h) h.front h.front head p.places le le a.blocks;
+      blocks = blocks-set_after h.words (bound_of h) h.front h.front head p.places le le a.blocks;
       reservation = λ _. record {
         not_null = pos;
         head = ap is_front same ∙ valid;
@@ -92,13 +92,13 @@ agrees_reserved h p head a q o valid room pos =
       };
       at_hand = (omega arith, hand.1);
       not_null = λ z. absurd (omega (arith, z));
-      fresh = λ k behind. get_or-set_other h.words h.front k head 0 (λ e. omega arith) ∙ a.fresh k (omega arith);
+      fresh = λ k following. get_or-set_other h.words h.front k head 0 (λ e. omega arith) ∙ a.fresh k (omega arith);
       before_arena = a.before_arena;
       before_pool = a.before_pool;
       before_point = λ none. absurd (false≢true (sym (ap is_some none) ∙ q));
     }
 
-abbrev reserved_with : Kept → Past → List Object → Reservation → (behind left : ℕ) → World
+abbrev reserved_with : Kept → Past → List Object → Reservation → (following left : ℕ) → World
 reserved_with h p objects r from left =
     world_with h.grains h.limit p.names objects (one_where (is_some h.table) (Some p.ids)) (Some (point_with (Some r)) ∷ [])
     (front_pool ∷ []) (segments_from 1 p.segments) (map some_address p.places)
@@ -110,7 +110,7 @@ reservation_made h head valid fits fresh =
     ap (λ (n : ℕ). record { head = n; cells = cells_in n 0 (take (size_field n) (drop h.front (slice_set h.words h.front head))); is_doomed = false }) (slice_index-set_same h.words h.front head (omega arith))
     ∙ ap (λ (cells : List Cell). record { head = head; cells = cells; is_doomed = false }) (new_cells_at h.words h.front head valid fits fresh)
 
-world_reserved : (h : Kept) (p : Past) (head : ℕ) → Agrees h p → is_some h.point ≡ true → h.is_open ≡ false → is_front head ≡ true → size_field head ≤ h.behind - h.front
+world_reserved : (h : Kept) (p : Past) (head : ℕ) → Agrees h p → is_some h.point ≡ true → h.is_open ≡ false → is_front head ≡ true → size_field head ≤ h.following - h.front
     → with_reserved (closed h p) at_rest (taken_from h head) (8 * h.front) ≡ world_of (reserved_at_front h head) p
 world_reserved h p head a q o valid room =
     let made = made_with_pool h p a (pool_with_point h p a q) in
@@ -119,16 +119,16 @@ world_reserved h p head a q o valid room =
     let f = front_facts head valid in
     let bound : bound_of h ≡ h.front = ap (λ b. if b then h.reserved else h.front) o in
     let le : bound_of h ≤ h.front = omega (arith, bound) in
-    ap (λ n. reserved_with h p (map (object_in h.words) p.places) (taken_from h head) (h.front + n) (h.behind - h.front - n)) (length_new_cells head valid)
-    ∙ ap (λ n. reserved_with h p (map (object_in h.words) p.places) (taken_from h head) (h.front + size_field head) n) (let e : h.behind - h.front - size_field head ≡ h.behind - (h.front + size_field head) = omega arith in e)
-    ∙ ap (λ objects. reserved_with h p objects (taken_from h head) (h.front + size_field head) (h.behind - (h.front + size_field head))) (sym (objects-set_behind h.words (bound_of h) h.front head p.places le a.blocks))
-    ∙ ap (λ r. reserved_with h p (map (object_in (slice_set h.words h.front head)) p.places) r (h.front + size_field head) (h.behind - (h.front + size_field head))) (sym (reservation_made h head valid (omega arith) a.fresh))
+    ap (λ n. reserved_with h p (map (object_in h.words) p.places) (taken_from h head) (h.front + n) (h.following - h.front - n)) (length_new_cells head valid)
+    ∙ ap (λ n. reserved_with h p (map (object_in h.words) p.places) (taken_from h head) (h.front + size_field head) n) (let e : h.following - h.front - size_field head ≡ h.following - (h.front + size_field head) = omega arith in e)
+    ∙ ap (λ objects. reserved_with h p objects (taken_from h head) (h.front + size_field head) (h.following - (h.front + size_field head))) (sym (objects-set_after h.words (bound_of h) h.front head p.places le a.blocks))
+    ∙ ap (λ r. reserved_with h p (map (object_in (slice_set h.words h.front head)) p.places) r (h.front + size_field head) (h.following - (h.front + size_field head))) (sym (reservation_made h head valid (omega arith) a.fresh))
     ∙ sym (world_of-parts (reserved_at_front h head) p (is_some h.table) true true true refl q (pool_with_point h p a q) refl)
 
 stored_reserved : (h : Kept) (p : Past) (head : ℕ) → Agrees h p → h.is_open ≡ false → stored h.words p.places ≡ stored (reserved_at_front h head).words p.places
 stored_reserved h p head a o =
     let bound : bound_of h ≡ h.front = ap (λ b. if b then h.reserved else h.front) o in
-    sym (stored-set_behind h.words (bound_of h) h.front head p.places (omega (arith, bound)) a.blocks)
+    sym (stored-set_after h.words (bound_of h) h.front head p.places (omega (arith, bound)) a.blocks)
 
 -- ---- the poll has no moves
 
@@ -181,24 +181,24 @@ segment_due h p name head placement named valid placed =
 
 -- ---- a reservation at hand
 
-pub placed_at_hand : (h : Kept) (p : Past) (head : ℕ) → is_front head ≡ true → nat_le (size_field head) (h.behind - h.front) ≡ true → placement_of (closed h p) (ForReserve 0 (length (new_cells front_layout head))) ≡ Place h.front
+pub placed_at_hand : (h : Kept) (p : Past) (head : ℕ) → is_front head ≡ true → nat_le (size_field head) (h.following - h.front) ≡ true → placement_of (closed h p) (ForReserve 0 (length (new_cells front_layout head))) ≡ Place h.front
 placed_at_hand h p head valid fits =
     placement_there h p (length (new_cells front_layout head))
-    ∙ ap (λ n. placed_where h p n (nat_le n (h.behind - h.front))) (length_new_cells head valid)
+    ∙ ap (λ n. placed_where h p n (nat_le n (h.following - h.front))) (length_new_cells head valid)
     ∙ ap (placed_where h p (size_field head)) fits
 
-front_not_null : (h : Kept) (p : Past) (head : ℕ) → Agrees h p → is_front head ≡ true → size_field head ≤ h.behind - h.front → 0 < h.front
+front_not_null : (h : Kept) (p : Past) (head : ℕ) → Agrees h p → is_front head ≡ true → size_field head ≤ h.following - h.front → 0 < h.front
 front_not_null h p head a valid room = let f = front_facts head valid in elim (cases_lt 0 h.front) [ inl lt ↦ lt | inr le ↦ absurd (omega (arith, a.not_null (let e : h.front ≡ 0 = omega arith in e))) ]
 
 abbrev step_at_hand : (line : ℕ) → (name : Name) → (head : ℕ) → Step
 step_at_hand line name head = step_of line (call.Reserve name head) (said reply.Ok)
 
-right_at_hand : (h : Kept) (p : Past) (line : ℕ) (name : Name) (head : ℕ) → Agrees h p → is_point h name ≡ true → h.is_open ≡ false → is_front head ≡ true → nat_le (size_field head) (h.behind - h.front) ≡ true
+right_at_hand : (h : Kept) (p : Past) (line : ℕ) (name : Name) (head : ℕ) → Agrees h p → is_point h name ≡ true → h.is_open ≡ false → is_front head ≡ true → nat_le (size_field head) (h.following - h.front) ≡ true
     → IsRightStep (closed h p) (step_at_hand line name head) (reserved_at_front h head)
 right_at_hand h p line name head a point o valid fits =
     let q = is_point_some h name point in
     let named = point_named_there h p a name point in
-    let room = leb-true (size_field head) (h.behind - h.front) fits in
+    let room = leb-true (size_field head) (h.following - h.front) fits in
     let placed = placed_at_hand h p head valid fits in
     let e = act_placed h p h p name head named named valid (ap refuse_without_place placed) ∙ ap (λ placement. placing_done (closed h p) placement head) placed in
     right_step (closed h p) (step_at_hand line name head) (reserved_at_front h head) p refl
@@ -207,29 +207,29 @@ right_at_hand h p line name head a point o valid fits =
     (agrees_reserved h p head a q o valid room (front_not_null h p head a valid room))
     (λ pools. ap Some (ap live_blocks (sym (is_closed h p a q o)) ∙ live_blocks-world_of h p ∙ stored_reserved h p head a o))
 
--- ---- a reservation behind what is held
+-- ---- a reservation after what is held
 
-pub placed_behind : (h : Kept) (p : Past) (head : ℕ) → is_front head ≡ true → nat_le (size_field head) (h.behind - h.front) ≡ false
+pub placed_after : (h : Kept) (p : Past) (head : ℕ) → is_front head ≡ true → nat_le (size_field head) (h.following - h.front) ≡ false
     → placement_of (closed h p) (ForReserve 0 (length (new_cells front_layout head))) ≡ run_placement h.grains h.limit (runs 1 p.segments) (grains_needed (size_field head))
-placed_behind h p head valid fits =
+placed_after h p head valid fits =
     placement_there h p (length (new_cells front_layout head))
-    ∙ ap (λ n. placed_where h p n (nat_le n (h.behind - h.front))) (length_new_cells head valid)
+    ∙ ap (λ n. placed_where h p n (nat_le n (h.following - h.front))) (length_new_cells head valid)
     ∙ ap (placed_where h p (size_field head)) fits
 
-abbrev told_limit : Kept → (need : ℕ) → Rattle.mps_model.specs.declared.reply.Reply.Reply
-told_limit h need = reply.Refused (refusal.CommitLimit h.held need h.limit)
+abbrev known_limit : Kept → (need : ℕ) → Rattle.mps_model.specs.declared.reply.Reply.Reply
+known_limit h need = reply.Refused (refusal.CommitLimit h.held need h.limit)
 
 abbrev step_refused : (h : Kept) → (line : ℕ) → (name : Name) → (head need : ℕ) → Step
-step_refused h line name head need = step_of line (call.Reserve name head) (said (told_limit h need))
+step_refused h line name head need = step_of line (call.Reserve name head) (said (known_limit h need))
 
-right_refused : (h : Kept) (p : Past) (line : ℕ) (name : Name) (head : ℕ) → Agrees h p → is_point h name ≡ true → h.is_open ≡ false → is_front head ≡ true → nat_le (size_field head) (h.behind - h.front) ≡ false
+right_refused : (h : Kept) (p : Past) (line : ℕ) (name : Name) (head : ℕ) → Agrees h p → is_point h name ≡ true → h.is_open ≡ false → is_front head ≡ true → nat_le (size_field head) (h.following - h.front) ≡ false
     → nat_lt h.limit (h.held + grains_needed (size_field head)) ≡ true
     → IsRightStep (closed h p) (step_refused h line name head (grains_needed (size_field head))) h
 right_refused h p line name head a point o valid fits over =
     let q = is_point_some h name point in
     let named = point_named_there h p a name point in
     let need = grains_needed (size_field head) in
-    let placed = placed_behind h p head valid fits ∙ over_limit h.grains h.limit h.held p.segments need a.held over in
+    let placed = placed_after h p head valid fits ∙ over_limit h.grains h.limit h.held p.segments need a.held over in
     let e = act_refused h p name head (refusal.CommitLimit h.held need h.limit) named valid (ap refuse_without_place placed) in
     right_step (closed h p) (step_refused h line name head need) h p refl
     (record { moves_are_legal = tt; moves_are_due = record { poll = no_poll h p name head; segment = segment_due h p name head (OverLimit h.held need h.limit) named valid placed }; answer_is_due = sym (ap answer_from e); marked = tt })
@@ -258,7 +258,7 @@ agrees_taken h p need a q o fits =
       reservation = λ e. absurd (false≢true (sym o ∙ e));
       at_hand = (omega arith, omega arith);
       not_null = λ z. absurd (omega (arith, z));
-      fresh = λ k behind. a.fresh k (omega arith);
+      fresh = λ k following. a.fresh k (omega arith);
       before_arena = a.before_arena;
       before_pool = a.before_pool;
       before_point = λ none. absurd (false≢true (sym (ap is_some none) ∙ q));
@@ -291,12 +291,12 @@ legal_segment h p name head need named valid placed =
       of_generation = refl;
     })
 
-abbrev step_behind : (h : Kept) → (line : ℕ) → (name : Name) → (head need : ℕ) → Step
-step_behind h line name head need = step_of line (call.Reserve name head) (record { reply = reply.Ok; moved = Some (segment_move h need) })
+abbrev step_after : (h : Kept) → (line : ℕ) → (name : Name) → (head need : ℕ) → Step
+step_after h line name head need = step_of line (call.Reserve name head) (record { reply = reply.Ok; moved = Some (segment_move h need) })
 
-right_taken : (h : Kept) (p : Past) (line : ℕ) (name : Name) (head : ℕ) → Agrees h p → is_point h name ≡ true → h.is_open ≡ false → is_front head ≡ true → nat_le (size_field head) (h.behind - h.front) ≡ false
+right_taken : (h : Kept) (p : Past) (line : ℕ) (name : Name) (head : ℕ) → Agrees h p → is_point h name ≡ true → h.is_open ≡ false → is_front head ≡ true → nat_le (size_field head) (h.following - h.front) ≡ false
     → nat_lt h.limit (h.held + grains_needed (size_field head)) ≡ false → h.held + grains_needed (size_field head) ≤ h.grains
-    → IsRightStep (closed h p) (step_behind h line name head (grains_needed (size_field head))) (reserved_at_front (outcome.segment_taken h (grains_needed (size_field head))) head)
+    → IsRightStep (closed h p) (step_after h line name head (grains_needed (size_field head))) (reserved_at_front (outcome.segment_taken h (grains_needed (size_field head))) head)
 right_taken h p line name head a point o valid fits limit inside =
     let q = is_point_some h name point in
     let named = point_named_there h p a name point in
@@ -304,15 +304,15 @@ right_taken h p line name head a point o valid fits limit inside =
     let need = grains_needed size in
     let f = front_facts head valid in
     let some : 0 < need = omega arith in
-    let placed = placed_behind h p head valid fits ∙ new_segment h.grains h.limit h.held p.segments need a.held limit inside some in
+    let placed = placed_after h p head valid fits ∙ new_segment h.grains h.limit h.held p.segments need a.held limit inside some in
     let taken = outcome.segment_taken h need in
     let later = past_taken p need in
     let a' = agrees_taken h p need a q o inside in
-    let room : size ≤ taken.behind - taken.front = omega arith in
-    let placed' = placed_at_hand taken later head valid (le-leb size (taken.behind - taken.front) room) in
+    let room : size ≤ taken.following - taken.front = omega arith in
+    let placed' = placed_at_hand taken later head valid (le-leb size (taken.following - taken.front) room) in
     let w = world_taken h p name head need a named in
     let e = ap (λ (v : World). act_reserve (closed h p) v name head) w ∙ act_placed h p taken later name head named named valid (ap refuse_without_place placed) ∙ ap (λ placement. placing_done (closed taken later) placement head) placed' in
-    right_step (closed h p) (step_behind h line name head need) (reserved_at_front taken head) later refl
+    right_step (closed h p) (step_after h line name head need) (reserved_at_front taken head) later refl
     (record {
       moves_are_legal = (legal_segment h p name head need named valid placed, tt);
       moves_are_due = record { poll = no_poll h p name head; segment = segment_due h p name head (NewSegment (h.held + 1) need) named valid placed };
@@ -328,18 +328,18 @@ right_taken h p line name head a point o valid fits limit inside =
 abbrev is_right : (h : Kept) → (p : Past) → (line : ℕ) → (name : Name) → (head : ℕ) → Outcome → Type 0
 is_right h p line name head o = IsRightStep (world_of h p) (step_of line (call.Reserve name head) o.done) o.kept
 
-right_in_arena : (h : Kept) (p : Past) (line : ℕ) (name : Name) (head : ℕ) → Agrees h p → is_point h name ≡ true → h.is_open ≡ false → is_front head ≡ true → nat_le (size_field head) (h.behind - h.front) ≡ false
+right_in_arena : (h : Kept) (p : Past) (line : ℕ) (name : Name) (head : ℕ) → Agrees h p → is_point h name ≡ true → h.is_open ≡ false → is_front head ≡ true → nat_le (size_field head) (h.following - h.front) ≡ false
     → nat_lt h.limit (h.held + grains_needed (size_field head)) ≡ false → (b : Bool) → nat_lt h.grains (h.held + grains_needed (size_field head)) ≡ b
     → is_right h p line name head (if b then unsupported h else record { done = record { reply = reply.Ok; moved = Some (segment_move h (grains_needed (size_field head))) }; kept = reserved_at_front (outcome.segment_taken h (grains_needed (size_field head))) head })
 right_in_arena h p line name head a point o valid fits limit true e = unsupported_step h p line (call.Reserve name head) a
 right_in_arena h p line name head a point o valid fits limit false e =
     let need = grains_needed (size_field head) in
-    subst (λ (w : World). IsRightStep w (step_behind h line name head need) (reserved_at_front (outcome.segment_taken h need) head)) (sym (is_closed h p a (is_point_some h name point) o))
+    subst (λ (w : World). IsRightStep w (step_after h line name head need) (reserved_at_front (outcome.segment_taken h need) head)) (sym (is_closed h p a (is_point_some h name point) o))
     (right_taken h p line name head a point o valid fits limit (ltb-false h.grains (h.held + need) e))
 
-right_in_limit : (h : Kept) (p : Past) (line : ℕ) (name : Name) (head : ℕ) → Agrees h p → is_point h name ≡ true → h.is_open ≡ false → is_front head ≡ true → nat_le (size_field head) (h.behind - h.front) ≡ false
+right_in_limit : (h : Kept) (p : Past) (line : ℕ) (name : Name) (head : ℕ) → Agrees h p → is_point h name ≡ true → h.is_open ≡ false → is_front head ≡ true → nat_le (size_field head) (h.following - h.front) ≡ false
     → (b : Bool) → nat_lt h.limit (h.held + grains_needed (size_field head)) ≡ b
-    → is_right h p line name head (if b then answered h (told_limit h (grains_needed (size_field head))) else (if nat_lt h.grains (h.held + grains_needed (size_field head)) then unsupported h else record { done = record { reply = reply.Ok; moved = Some (segment_move h (grains_needed (size_field head))) }; kept = reserved_at_front (outcome.segment_taken h (grains_needed (size_field head))) head }))
+    → is_right h p line name head (if b then answered h (known_limit h (grains_needed (size_field head))) else (if nat_lt h.grains (h.held + grains_needed (size_field head)) then unsupported h else record { done = record { reply = reply.Ok; moved = Some (segment_move h (grains_needed (size_field head))) }; kept = reserved_at_front (outcome.segment_taken h (grains_needed (size_field head))) head }))
 right_in_limit h p line name head a point o valid fits true e =
     subst (λ (w : World). IsRightStep w (step_refused h line name head (grains_needed (size_field head))) h) (sym (is_closed h p a (is_point_some h name point) o))
     (right_refused h p line name head a point o valid fits e)
@@ -347,8 +347,8 @@ right_in_limit h p line name head a point o valid fits false e =
     right_in_arena h p line name head a point o valid fits e (nat_lt h.grains (h.held + grains_needed (size_field head))) refl
 
 right_placed : (h : Kept) (p : Past) (line : ℕ) (name : Name) (head : ℕ) → Agrees h p → is_point h name ≡ true → h.is_open ≡ false → is_front head ≡ true
-    → (b : Bool) → nat_le (size_field head) (h.behind - h.front) ≡ b
-    → is_right h p line name head (if b then answered (reserved_at_front h head) reply.Ok else reserve_behind h head (grains_needed (size_field head)))
+    → (b : Bool) → nat_le (size_field head) (h.following - h.front) ≡ b
+    → is_right h p line name head (if b then answered (reserved_at_front h head) reply.Ok else reserve_after h head (grains_needed (size_field head)))
 right_placed h p line name head a point o valid true e =
     subst (λ (w : World). IsRightStep w (step_at_hand line name head) (reserved_at_front h head)) (sym (is_closed h p a (is_point_some h name point) o))
     (right_at_hand h p line name head a point o valid e)
@@ -361,7 +361,7 @@ reserve_where h p line name head a false e = unsupported_step h p line (call.Res
 reserve_where h p line name head a true e =
     let both = and_parts (is_point h name && is_front head) (not h.is_open) e in
     let first = and_parts (is_point h name) (is_front head) both.0 in
-    right_placed h p line name head a first.0 (not-true h.is_open both.1) first.1 (nat_le (size_field head) (h.behind - h.front)) refl
+    right_placed h p line name head a first.0 (not-true h.is_open both.1) first.1 (nat_le (size_field head) (h.following - h.front)) refl
 
 pub right_reserve : (h : Kept) (p : Past) (line : ℕ) (name : Name) (head : ℕ) → Agrees h p
     → IsRightStep (world_of h p) (step_of line (call.Reserve name head) (after_reserve h name head).done) (after_reserve h name head).kept

@@ -1,4 +1,4 @@
--- Segments that lie one behind the other, and where the next one is placed.
+-- Segments that lie one after the other, and where the next one is placed.
 use Rattle.std.proofs.Common.{◌≡◌, ℕ, ◌+◌, ◌-◌, ◌*◌, ◌<◌, ◌≤◌, Bool, true, false, refl, sym, ◌∙◌, ap, List, [], ◌∷◌, ◌++◌, map, None, Some, Option, arith}
 use Rattle.std.specs.Prelude.{nat_lt, sum, if◌then◌else◌}
 use Rattle.std.proofs.lemmas.List.Sums.{sum_by-cons, sum_by_push}
@@ -15,7 +15,7 @@ sum_cons n ns = sum_by-cons (λ (x : ℕ). x) n ns
 pub sum_push : (ns : List ℕ) (n : ℕ) → sum (ns ++ n ∷ []) ≡ sum ns + n
 sum_push ns n = sum_by_push (λ (x : ℕ). x) ns n
 
--- a segment at or behind the end of others is the last
+-- a segment at or after the end of others is the last
 segments_push_at : (grain at : ℕ) (sizes : List ℕ) (need : ℕ) → at ≡ grain + sum sizes → with_segment (segment_from at need) (segments_from grain sizes) ≡ segments_from grain (sizes ++ need ∷ [])
 segments_push_at grain at [] need e = ap (λ g. segment_from g need ∷ []) (e ∙ (let z : grain + 0 ≡ grain = omega arith in z))
 segments_push_at grain at (s ∷ ss) need e =
@@ -37,7 +37,7 @@ total_runs grain (s ∷ ss) =
     sum_by-cons (λ (r : Run). r.count) (record { from = grain_of (4096 * grain); count = s }) (runs (grain + s) ss)
     ∙ ap (λ n. s + n) (total_runs (grain + s) ss) ∙ sym (sum_cons s ss)
 
--- the one gap lies behind them
+-- the one gap lies after them
 gaps_runs : (grain high at : ℕ) (sizes : List ℕ) → at ≡ grain + sum sizes → gaps grain high (runs grain sizes) ≡ between at high
 gaps_runs grain high at [] e = ap (λ g. between g high) (sym (e ∙ (let z : grain + 0 ≡ grain = omega arith in z)))
 gaps_runs grain high at (s ∷ ss) e =

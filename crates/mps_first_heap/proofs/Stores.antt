@@ -1,4 +1,4 @@
--- A block put behind all others in a store.
+-- A block put after all others in a store.
 use Rattle.std.proofs.Common.{◌≡◌, ℕ, ◌*◌, ◌<◌, ◌≤◌, true, false, refl, sym, ◌∙◌, ap, List, [], ◌∷◌, ◌++◌, None, Some, arith}
 use Rattle.std.specs.Prelude.{nat_lt, is_some, if◌then◌else◌}
 use Rattle.std.specs.List.{AllByRecursion}
@@ -6,7 +6,7 @@ use Rattle.std.proofs.lemmas.Bool.{lt-ltb, le-ltb, ne_eqb}
 use Rattle.mps_format.specs.Laws.{front_facts}
 use Rattle.std.specs.Prelude.{slice_index, slice_set}
 use Rattle.mps_model.specs.Graph.{Object, size_of}
-use Rattle.mps_first_heap.proofs.Lists.{object_in-set_behind}
+use Rattle.mps_first_heap.proofs.Lists.{object_in-set_after}
 use Rattle.mps_model.specs.Replay.{Block, Store, with_block, block_at, is_live, after_making}
 use Rattle.mps_first_heap.specs.StandsFor.{IsBlockAt}
 use Rattle.mps_first_heap.proofs.Worlds.{block_in, stored}
@@ -19,7 +19,7 @@ with_block_below : (n : ℕ) (new : Block) (store : Store) → new.at < n → Al
 with_block_below n new [] lt all = (lt, tt)
 with_block_below n new (b ∷ bs) lt all = elim (nat_lt new.at b.at) as (λ t. AllBelow n (if t then new ∷ b ∷ bs else b ∷ with_block new bs)) [ true ↦ (lt, all) | false ↦ (all.0, with_block_below n new bs lt all.1) ]
 
--- a block that begins behind all others is the last
+-- a block that begins after all others is the last
 with_block_last : (new : Block) (store : Store) → AllBelow new.at store → with_block new store ≡ store ++ new ∷ []
 with_block_last new [] all = refl
 with_block_last new (b ∷ bs) all =
@@ -36,7 +36,7 @@ not_live n (b ∷ bs) all =
     ap (λ t. is_some (if t then Some b else block_at bs n)) (ne_eqb b.at n (λ e. let lt = all.0 in omega (arith, lt)))
     ∙ not_live n bs all.1
 
--- a new block behind all others
+-- a new block after all others
 making_last : (n words : ℕ) (store : Store) → AllBelow n store → after_making store n words 0 ≡ Some (store ++ record { at = n; words = words; pool = 0 } ∷ [])
 making_last n words store all =
     ap (λ t. if t then None else Some (with_block (record { at = n; words = words; pool = 0 }) store)) (not_live n store all)
@@ -56,16 +56,16 @@ stored_push words bound (p ∷ ps) all =
     ap (with_block (block_in words p)) (stored_push words bound ps all.1)
     ∙ with_block_before_last (block_in words p) (block_in words bound) (stored words ps) (let lt = place_below words bound p all.0 in omega arith)
 
--- a block is made behind all others
+-- a block is made after all others
 pub making_pushed : (words : List ℕ) (bound size : ℕ) (places : List ℕ) → AllByRecursion (IsBlockAt words bound) places → (block_in words bound).words ≡ size → after_making (stored words places) (8 * bound) size 0 ≡ Some (stored words (places ++ bound ∷ []))
 making_pushed words bound size places all e =
     making_last (8 * bound) size (stored words places) (stored_below words bound places all)
     ∙ ap (λ n. Some (stored words places ++ record { at = 8 * bound; words = n; pool = 0 } ∷ [])) (sym e)
     ∙ ap Some (sym (stored_push words bound places all))
 
--- a write behind all blocks changes none
-pub stored-set_behind : (words : List ℕ) (bound i value : ℕ) (places : List ℕ) → bound ≤ i → AllByRecursion (IsBlockAt words bound) places → stored (slice_set words i value) places ≡ stored words places
-stored-set_behind words bound i value [] le all = refl
-stored-set_behind words bound i value (p ∷ ps) le all =
-    ap (with_block (block_in (slice_set words i value) p)) (stored-set_behind words bound i value ps le all.1)
-    ∙ ap (λ (o : Object). with_block (record { at = 8 * p; words = size_of o; pool = 0 }) (stored words ps)) (object_in-set_behind words bound i value p le all.0)
+-- a write after all blocks changes none
+pub stored-set_after : (words : List ℕ) (bound i value : ℕ) (places : List ℕ) → bound ≤ i → AllByRecursion (IsBlockAt words bound) places → stored (slice_set words i value) places ≡ stored words places
+stored-set_after words bound i value [] le all = refl
+stored-set_after words bound i value (p ∷ ps) le all =
+    ap (with_block (block_in (slice_set words i value) p)) (stored-set_after words bound i value ps le all.1)
+    ∙ ap (λ (o : Object). with_block (record { at = 8 * p; words = size_of o; pool = 0 }) (stored words ps)) (object_in-set_after words bound i value p le all.0)

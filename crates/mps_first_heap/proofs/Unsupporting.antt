@@ -10,7 +10,7 @@ use Rattle.mps_model.specs.Answer.{Said, is_unsupported}
 use Rattle.mps_model.specs.Reply.{act}
 use Rattle.mps_model.specs.World.{World}
 use Rattle.mps_first_heap.specs.Kept.{Kept}
-use Rattle.mps_first_heap.specs.Unsupported.{is_built, is_out_of_turn, makes_second, is_told, is_untold, is_unsupported_call}
+use Rattle.mps_first_heap.specs.Unsupported.{is_built, is_out_of_turn, makes_second, is_known, is_unknown, is_unsupported_call}
 
 -- a reply is `unsupported` exactly where the call is
 abbrev pub IsExact : World → Call → Reply → Type 0
@@ -27,24 +27,24 @@ exact_answered w c r said_so e =
 
 -- the four cases
 pub by_form : (w : World) (c : Call) → not (is_built c) ≡ true → is_unsupported_call w c ≡ true
-by_form w c e = ap (λ b. b || is_out_of_turn w c || makes_second w c || is_untold (act false w w c)) e
+by_form w c e = ap (λ b. b || is_out_of_turn w c || makes_second w c || is_unknown (act false w w c)) e
 
 pub by_turn : (w : World) (c : Call) → is_out_of_turn w c ≡ true → is_unsupported_call w c ≡ true
 by_turn w c e =
-    ap (λ b. b || makes_second w c || is_untold (act false w w c)) (or_right (not (is_built c)) (is_out_of_turn w c) e)
+    ap (λ b. b || makes_second w c || is_unknown (act false w w c)) (or_right (not (is_built c)) (is_out_of_turn w c) e)
 
 pub by_second : (w : World) (c : Call) → makes_second w c ≡ true → is_unsupported_call w c ≡ true
-by_second w c e = ap (λ b. b || is_untold (act false w w c)) (or_right (not (is_built c) || is_out_of_turn w c) (makes_second w c) e)
+by_second w c e = ap (λ b. b || is_unknown (act false w w c)) (or_right (not (is_built c) || is_out_of_turn w c) (makes_second w c) e)
 
-pub by_untold : (w : World) (c : Call) (why : Refusal) → act false w w c ≡ Err why → is_told why ≡ false → is_unsupported_call w c ≡ true
-by_untold w c why e t =
-    or_right (not (is_built c) || is_out_of_turn w c || makes_second w c) (is_untold (act false w w c)) (ap is_untold e ∙ ap not t)
+pub by_unknown : (w : World) (c : Call) (why : Refusal) → act false w w c ≡ Err why → is_known why ≡ false → is_unsupported_call w c ≡ true
+by_unknown w c why e t =
+    or_right (not (is_built c) || is_out_of_turn w c || makes_second w c) (is_unknown (act false w w c)) (ap is_unknown e ∙ ap not t)
 
 -- none of them
-pub supported : (w : World) (c : Call) → not (is_built c) ≡ false → is_out_of_turn w c ≡ false → makes_second w c ≡ false → is_untold (act false w w c) ≡ false → is_unsupported_call w c ≡ false
-supported w c form turn second told =
-    or_from (not (is_built c) || is_out_of_turn w c || makes_second w c) (is_untold (act false w w c))
-    (or_from (not (is_built c) || is_out_of_turn w c) (makes_second w c) (or_from (not (is_built c)) (is_out_of_turn w c) form turn) second) told
+pub supported : (w : World) (c : Call) → not (is_built c) ≡ false → is_out_of_turn w c ≡ false → makes_second w c ≡ false → is_unknown (act false w w c) ≡ false → is_unsupported_call w c ≡ false
+supported w c form turn second known_there =
+    or_from (not (is_built c) || is_out_of_turn w c || makes_second w c) (is_unknown (act false w w c))
+    (or_from (not (is_built c) || is_out_of_turn w c) (makes_second w c) (or_from (not (is_built c)) (is_out_of_turn w c) form turn) second) known_there
 
 -- the arena was made
 pub in_turn : (h : Kept) → 0 < h.grains → not (nat_lt 0 h.grains) ≡ false

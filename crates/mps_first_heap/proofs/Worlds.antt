@@ -149,7 +149,7 @@ made_with_pool h p a t = elim (cases_lt 0 h.grains) [ inl lt ↦ lt | inr le ↦
 
 -- ---- where blocks lie
 
-pub at_hand_within : (h : Kept) (p : Past) → Agrees h p → 0 < h.grains → h.behind ≤ length h.words
+pub at_hand_within : (h : Kept) (p : Past) → Agrees h p → 0 < h.grains → h.following ≤ length h.words
 at_hand_within h p a made = let l = a.arena made in let i = a.in_arena in let q = a.at_hand in omega arith
 
 pub bound_of-le : (h : Kept) (p : Past) → Agrees h p → bound_of h ≤ h.front
@@ -187,7 +187,7 @@ number_cell_below head k v h =
     let below = (and_parts (nat_lt 0 k) (nat_lt k (words_of_head head)) both.0).1 in
     subst (λ (n : ℕ). k < n) (cond-true (is_front head) (size_field head) 0 v) (ltb-true k (words_of_head head) below)
 
--- a number cell of a block at a place has the word so many behind it
+-- a number cell of a block at a place has the word n after it
 pub number_cell_at : (words : List ℕ) (bound place k : ℕ) → IsBlockAt words bound place → bound ≤ length words → is_number_cell (slice_index words place) k ≡ true → slice_get (cells_at words place) k ≡ Some (NumberCell (slice_index words (place + k)))
 number_cell_at words bound place k b inside number =
     let head = slice_index words place in

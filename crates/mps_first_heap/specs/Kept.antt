@@ -24,9 +24,9 @@ pub record Kept : Type 0 where
   pub pool : Option Name
   -- the name of the point, where there is one
   pub point : Option Name
-  -- the first word at hand at the point, and the first behind them
+  -- the first word at hand at the point, and the first after them
   pub front : ℕ
-  pub behind : ℕ
+  pub following : ℕ
   -- where the point reserved last, and whether that reservation is open
   pub reserved : ℕ
   pub is_open : Bool
@@ -43,7 +43,7 @@ nothing_kept = record {
   pool = None;
   point = None;
   front = 0;
-  behind = 0;
+  following = 0;
   reserved = 0;
   is_open = false;
 }
@@ -97,5 +97,5 @@ a_reference_is_no_number = refl
 the_head_is_no_number : is_number_cell 0x201 0 ≡ false
 the_head_is_no_number = refl
 
-no_cell_behind_the_block : is_number_cell 0x201 2 ≡ false
-no_cell_behind_the_block = refl
+no_cell_after_the_block : is_number_cell 0x201 2 ≡ false
+no_cell_after_the_block = refl

@@ -82,7 +82,7 @@ after_point h name pool at_rank =
 
 -- ---- reserve
 
--- a block with this head is reserved at the front of the words at hand
+-- a block with this head is reserved at a prefix of the words at hand
 abbrev pub reserved_at_front : Kept → (head : ℕ) → Kept
 reserved_at_front h head = record h {
   words = slice_set h.words h.front head;
@@ -96,7 +96,7 @@ abbrev pub segment_taken : Kept → (need : ℕ) → Kept
 segment_taken h need = record h {
   held = h.held + need;
   front = 512 * (h.held + 1);
-  behind = 512 * (h.held + 1 + need);
+  following = 512 * (h.held + 1 + need);
 }
 
 -- the move by which the next grains are held
@@ -104,8 +104,8 @@ abbrev pub segment_move : Kept → (need : ℕ) → Move
 segment_move h need = moves.Seg (record { 0 = 4096 * (h.held + 1) }) need 0 0
 
 -- a reservation in a new segment
-abbrev pub reserve_behind : Kept → (head need : ℕ) → Outcome
-reserve_behind h head need =
+abbrev pub reserve_after : Kept → (head need : ℕ) → Outcome
+reserve_after h head need =
     if nat_lt h.limit (h.held + need) then answered h (reply.Refused (refusal.CommitLimit h.held need h.limit))
     else (if nat_lt h.grains (h.held + need) then unsupported h
     else record {
@@ -115,8 +115,8 @@ reserve_behind h head need =
 
 abbrev pub reserve_placed : Kept → (head : ℕ) → Outcome
 reserve_placed h head =
-    if nat_le (size_field head) (h.behind - h.front) then answered (reserved_at_front h head) reply.Ok
-    else reserve_behind h head (grains_needed (size_field head))
+    if nat_le (size_field head) (h.following - h.front) then answered (reserved_at_front h head) reply.Ok
+    else reserve_after h head (grains_needed (size_field head))
 
 abbrev pub after_reserve : Kept → Name → (head : ℕ) → Outcome
 after_reserve h name head =
@@ -169,18 +169,18 @@ outcome h _ = unsupported h
 
 -- two grains, of which one is held, and a limit of two
 abbrev example : Kept
-example = record nothing_kept { grains = 2; limit = 2; held = 1; front = 512; behind = 1024 }
+example = record nothing_kept { grains = 2; limit = 2; held = 1; front = 512; following = 1024 }
 
-at_the_front_of_the_next_grain : (reserve_behind example 0x20001 1).kept.reserved ≡ 1024
+at_the_front_of_the_next_grain : (reserve_after example 0x20001 1).kept.reserved ≡ 1024
 at_the_front_of_the_next_grain = refl
 
-its_segment_is_told : (reserve_behind example 0x20001 1).done.moved ≡ Some (moves.Seg (record { 0 = 0x2000 }) 1 0 0)
-its_segment_is_told = refl
+its_segment_is_known : (reserve_after example 0x20001 1).done.moved ≡ Some (moves.Seg (record { 0 = 0x2000 }) 1 0 0)
+its_segment_is_known = refl
 
-one_grain_over_the_limit : (reserve_behind example 0x20101 2).done.reply ≡ reply.Refused (refusal.CommitLimit 1 2 2)
+one_grain_over_the_limit : (reserve_after example 0x20101 2).done.reply ≡ reply.Refused (refusal.CommitLimit 1 2 2)
 one_grain_over_the_limit = refl
 
-one_grain_over_the_arena : (reserve_behind (record example { limit = 3 }) 0x20101 2).done.reply ≡ reply.Unsupported
+one_grain_over_the_arena : (reserve_after (record example { limit = 3 }) 0x20101 2).done.reply ≡ reply.Unsupported
 one_grain_over_the_arena = refl
 
 room_for_a_block_of_512_words : (reserve_placed example 0x20001).done.moved ≡ None

@@ -68,7 +68,7 @@ abbrev pub segment_from : (grain grains : ℕ) → Segment
 segment_from grain grains =
     record { base = 4096 * grain; grains = grains; pool = 0; generation = 0; rank = rank.Exact }
 
--- segments of these grains, one behind the other
+-- segments of these grains, one after the other
 abbrev pub segments_from : (grain : ℕ) → List ℕ → List Segment
 segments_from grain [] = []
 segments_from grain (grains ∷ more) = segment_from grain grains ∷ segments_from (grain + grains) more
@@ -77,7 +77,7 @@ abbrev pub point_with : Option Reservation → Point
 point_with reservation = record { pool = 0; rank = rank.Exact; reservation = reservation }
 
 abbrev pub point_place_of : Kept → PointPlace
-point_place_of h = record { reserved_at = 8 * h.reserved; buffer = record { from = h.front; count = h.behind - h.front } }
+point_place_of h = record { reserved_at = 8 * h.reserved; buffer = record { from = h.front; count = h.following - h.front } }
 
 abbrev pub some_address : ℕ → Option ℕ
 some_address place = Some (8 * place)
@@ -135,7 +135,7 @@ abbrev pub place_in_slot : List ℕ → Option ℕ → ℕ
 place_in_slot places None = 0
 place_in_slot places (Some id) = slice_index places id
 
--- null, or one of so many objects
+-- null, or one of n objects
 abbrev pub is_null_or_below : ℕ → Option ℕ → Bool
 is_null_or_below count None = true
 is_null_or_below count (Some id) = nat_lt id count
@@ -153,7 +153,7 @@ bound_of h = if h.is_open then h.reserved else h.front
 -- the point wasn't used
 pub record IsUnused (h : Kept) : Type 0 where
   pub front : h.front ≡ 0
-  pub behind : h.behind ≡ 0
+  pub following : h.following ≡ 0
   pub reserved : h.reserved ≡ 0
   pub closed : h.is_open ≡ false
 
@@ -172,9 +172,9 @@ pub record Agrees (h : Kept) (p : Past) : Type 0 where
   pub blocks : AllByRecursion (IsBlockAt h.words (bound_of h)) p.places
   -- so does the open reservation, up to what is at hand
   pub reservation : h.is_open ≡ true → IsBlockAt h.words h.front h.reserved
-  -- what is at hand lies in what is held, and all behind its front is zero
-  pub at_hand : (h.front ≤ h.behind) × (h.behind ≤ 512 * (h.held + 1))
-  pub not_null : h.front ≡ 0 → h.behind ≡ 0
+  -- what is at hand lies in what is held, and all after its front is zero
+  pub at_hand : (h.front ≤ h.following) × (h.following ≤ 512 * (h.held + 1))
+  pub not_null : h.front ≡ 0 → h.following ≡ 0
   pub fresh : (k : ℕ) → h.front ≤ k → slice_index h.words k ≡ 0
   -- first the arena, then the pool, then the point
   pub before_arena : h.grains ≡ 0 → (h.table ≡ None) × (h.pool ≡ None)
@@ -201,8 +201,8 @@ a_block_with_a_reference :
     cells_at (0 ∷ 0x100000301 ∷ 0 ∷ 7 ∷ 9 ∷ []) 1 ≡ HeadCell ∷ ReferenceCell None 0 ∷ NumberCell 7 ∷ []
 a_block_with_a_reference = refl
 
-the_second_segment_lies_behind_the_first : segments_from 1 (2 ∷ 3 ∷ []) ≡ segment_from 1 2 ∷ segment_from 3 3 ∷ []
-the_second_segment_lies_behind_the_first = refl
+the_second_segment_lies_after_the_first : segments_from 1 (2 ∷ 3 ∷ []) ≡ segment_from 1 2 ∷ segment_from 3 3 ∷ []
+the_second_segment_lies_after_the_first = refl
 
 the_empty_world : world_of nothing_kept (record { ids = []; places = []; segments = []; names = [] }) ≡ empty_world
 the_empty_world = refl

@@ -50,19 +50,19 @@ makes_second w (call.Point point pool rank) = nat_lt 0 (length w.graph.points)
 makes_second w _ = false
 
 -- whether a refusal is told: that of a null slot, and that of the commit limit
-abbrev pub is_told : Refusal → Bool
-is_told refusal.NullRef = true
-is_told (refusal.CommitLimit committed need limit) = true
-is_told _ = false
+abbrev pub is_known : Refusal → Bool
+is_known refusal.NullRef = true
+is_known (refusal.CommitLimit committed need limit) = true
+is_known _ = false
 
 -- whether a call comes to a refusal that isn't told
-abbrev pub is_untold : Checked Act → Bool
-is_untold (Ok a) = false
-is_untold (Err why) = not (is_told why)
+abbrev pub is_unknown : Checked Act → Bool
+is_unknown (Ok a) = false
+is_unknown (Err why) = not (is_known why)
 
 abbrev pub is_unsupported_call : World → Call → Bool
 is_unsupported_call w call =
-    not (is_built call) || is_out_of_turn w call || makes_second w call || is_untold (act false w w call)
+    not (is_built call) || is_out_of_turn w call || makes_second w call || is_unknown (act false w w call)
 
 -- whether a call takes memory: it makes the arena or a table
 abbrev pub takes_memory : Call → Bool
@@ -106,8 +106,8 @@ no_second_pool = refl
 a_name_of_nothing : is_unsupported_call example_world (call.Reserve example 0x201) ≡ true
 a_name_of_nothing = refl
 
-a_null_slot_is_told : is_untold (Err refusal.NullRef) ≡ false
-a_null_slot_is_told = refl
+a_null_slot_is_known : is_unknown (Err refusal.NullRef) ≡ false
+a_null_slot_is_known = refl
 
-no_room_is_not_told : is_untold (Err (refusal.NoRun 2 1)) ≡ true
-no_room_is_not_told = refl
+no_room_is_not_known : is_unknown (Err (refusal.NoRun 2 1)) ≡ true
+no_room_is_not_known = refl

@@ -13,7 +13,7 @@ kept_of a = record {
   pool = a.pool;
   point = a.point;
   front = a.front;
-  behind = a.behind;
+  following = a.following;
   reserved = a.reserved;
   is_open = a.is_open;
 }

@@ -15,9 +15,9 @@ pub struct Arena {
     pub slots: Vec<u32>,
     pub pool: Option<Name>,
     pub point: Option<Name>,
-    // The words at hand at the point: the first, and the first behind them.
+    // The words at hand at the point: the first, and the first after them.
     pub front: u32,
-    pub behind: u32,
+    pub following: u32,
     // Where the point reserved last, and whether that reservation is open.
     pub reserved: u32,
     pub is_open: bool,

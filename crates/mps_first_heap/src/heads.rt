@@ -37,7 +37,7 @@ pub fn is_number_cell(head: u64, cell: u64) -> bool
     !is_reference(head, cell as u32)
 }
 
-/// The word so many cells behind a place, 0 past the end.
+/// The word n cells after a place, 0 past the end.
 pub fn word_at(words: &[u64], place: u32, cell: u32) -> u64
     ensures { result ≡ slice_index words.now (place + cell) }
 {

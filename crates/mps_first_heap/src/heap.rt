@@ -44,14 +44,14 @@ impl FirstHeap {
                 pool: None,
                 point: None,
                 front: 0,
-                behind: 0,
+                following: 0,
                 reserved: 0,
                 is_open: false,
             },
         }
     }
 
-    /// Answers a call. An `Err` is for want of memory, which only `arena` and `table` take.
+    /// Answers a call. An `Err` is for out of memory, which only `arena` and `table` take.
     pub fn call(&mut self, alloc: Global, call: &Call) -> Result<Done, AllocError>
         requires { IsInRange call.now }
         ensures legal { IfOk result (λ done. IsLegalCall self.old call.now done) }

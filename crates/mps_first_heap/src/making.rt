@@ -51,7 +51,7 @@ pub fn make_arena(
         pool: None,
         point: None,
         front: 0,
-        behind: 0,
+        following: 0,
         reserved: 0,
         is_open: false,
     };

@@ -3,7 +3,7 @@ ghost use Rattle.std.specs.Prelude.{◌≡◌, ◌≤◌, ◌<◌, ◌+◌, ◌-
 ghost use Rattle.mps_base.specs.Address.{grains_needed};
 ghost use Rattle.mps_format.specs.Fields.{size_field};
 ghost use Rattle.mps_format.specs.Front.{is_front};
-ghost use Rattle.mps_first_heap.specs.Outcome.{reserved_at_front, segment_taken, segment_move, reserve_behind, reserve_placed, after_reserve};
+ghost use Rattle.mps_first_heap.specs.Outcome.{reserved_at_front, segment_taken, segment_move, reserve_after, reserve_placed, after_reserve};
 ghost use Rattle.mps_first_heap.specs.View.{kept_of};
 ghost use Rattle.mps_first_heap.specs.Comes.{ComesTo};
 
@@ -18,10 +18,10 @@ use mps_model::Reply;
 /// The words of a grain.
 const GRAIN: u32 = 512;
 
-/// Reserves a block with this head at the front of the words at hand.
+/// Reserves a block with this head at a prefix of the words at hand.
 fn reserve_at_front(heap: &mut Arena, head: u64)
     requires valid { IsTrue (is_front head) }
-    requires room { size_field head ≤ heap.old.behind - heap.old.front }
+    requires room { size_field head ≤ heap.old.following - heap.old.front }
     ensures { kept_of heap.new ≡ reserved_at_front (kept_of heap.old) head }
 {
     let size = Front.words(head);
@@ -38,11 +38,11 @@ fn reserve_at_front(heap: &mut Arena, head: u64)
 fn take_segment(heap: &mut Arena, need: u16) -> Move
     requires { heap.old.held + need < 2 ^ 16 }
     ensures after { kept_of heap.new ≡ segment_taken (kept_of heap.old) need }
-    ensures told { result ≡ segment_move (kept_of heap.old) need }
+    ensures known_there { result ≡ segment_move (kept_of heap.old) need }
 {
     let first = u32::from(heap.held) + 1;
     heap.front = GRAIN * first;
-    heap.behind = GRAIN * (first + u32::from(need));
+    heap.following = GRAIN * (first + u32::from(need));
     heap.held += need;
     Move::Seg {
         base: Addr(8 * u64::from(GRAIN * first)),
@@ -52,12 +52,12 @@ fn take_segment(heap: &mut Arena, need: u16) -> Move
     }
 }
 
-/// Reserves a block with this head, of so many words, in a new segment.
-fn reserve_behind(heap: &mut Arena, head: u64, need: u64) -> Done
+/// Reserves a block with this head, of n words, in a new segment.
+fn reserve_after(heap: &mut Arena, head: u64, need: u64) -> Done
     requires valid { IsTrue (is_front head) }
     requires need { need ≡ grains_needed (size_field head) }
     requires small { size_field head ≤ 65536 }
-    ensures { ComesTo (reserve_behind (kept_of heap.old) head need) result (kept_of heap.new) }
+    ensures { ComesTo (reserve_after (kept_of heap.old) head need) result (kept_of heap.new) }
 {
     let wanted = u64::from(heap.held) + need;
     if wanted > u64::from(heap.limit) {
@@ -78,19 +78,19 @@ fn reserve_behind(heap: &mut Arena, head: u64, need: u64) -> Done
     }
 }
 
-/// Reserves a block with this head: at the front of the words at hand, or in a new segment.
+/// Reserves a block with this head: at a prefix of the words at hand, or in a new segment.
 fn reserve_placed(heap: &mut Arena, head: u64) -> Done
     requires valid { IsTrue (is_front head) }
     requires small { size_field head ≤ 65536 }
     ensures { ComesTo (reserve_placed (kept_of heap.old) head) result (kept_of heap.new) }
 {
     let size = Front.words(head);
-    if size <= heap.behind.saturating_sub(heap.front) {
+    if size <= heap.following.saturating_sub(heap.front) {
         reserve_at_front(heap, head);
         return said(Reply::Ok);
     }
     let need = (u64::from(size) + 511) / u64::from(GRAIN);
-    reserve_behind(heap, head, need)
+    reserve_after(heap, head, need)
 }
 
 /// Reserves a block with this head at the point of this name.

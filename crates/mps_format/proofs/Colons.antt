@@ -35,14 +35,14 @@ place_of_seam xs ys digits =
     position_or_len_is is_colon (xs ++ 58 ∷ ys) (length xs) 0 (omega (arith, seam_is_within xs ys))
     (λ k below. before_the_seam xs ys k digits below) (λ _. at_the_seam xs ys)
 
--- the first colon behind digits is the one that ends them
+-- the first colon after digits is the one that ends them
 pub position_of_seam : (xs ys : List ℕ) → AllDigits 10 xs → position is_colon (xs ++ 58 ∷ ys) ≡ Some (length xs)
 position_of_seam xs ys digits = grind (arith, nat_tests, place_of_seam xs ys digits, seam_is_within xs ys)
 
 -- what a text of two numbers with a colon between them has, by the place of its first colon
 pub record IsCutAt (text : List ℕ) (a b colon : ℕ) : Type 0 where
   pub before : take colon text ≡ decimal a
-  pub behind : drop (colon + 1) text ≡ decimal b
+  pub after : drop (colon + 1) text ≡ decimal b
 
 pub has_colon : (text : List ℕ) (a b : ℕ) → a < 2 ^ 64 → text ≡ decimal a ++ 58 ∷ decimal b → position is_colon text ≡ Some (length (decimal a))
 has_colon text a b fits e = ap (position is_colon) e ∙ position_of_seam (decimal a) (decimal b) (digits_of_decimal a fits)
@@ -53,7 +53,7 @@ cut_at_colon text a b colon fits e p =
     let place : colon ≡ length (decimal a) = cc in
     record {
       before = ap (λ (n : ℕ). take n text) place ∙ ap (take (length (decimal a))) e ∙ take-append_seam (decimal a) (58 ∷ decimal b);
-      behind = ap (λ (n : ℕ). drop (n + 1) text) place ∙ ap (drop (length (decimal a) + 1)) e ∙ drop-append-add (decimal a) (58 ∷ decimal b) 1;
+      after = ap (λ (n : ℕ). drop (n + 1) text) place ∙ ap (drop (length (decimal a) + 1)) e ∙ drop-append-add (decimal a) (58 ∷ decimal b) 1;
     }
 
 -- a text is what stands before its first colon, the colon, and the rest

@@ -121,7 +121,7 @@ pair_from_text letter a b c d fa fb fc fd e =
     let colon = has_colon text a b fa refl in
     let one = cut_at_colon text a b (length (decimal a)) fa refl colon in
     let other = cut_at_colon text c d (length (decimal a)) fc same colon in
-    (decimal_injective a c fa fc (sym one.before ∙ other.before), decimal_injective b d fb fd (sym one.behind ∙ other.behind))
+    (decimal_injective a c fa fc (sym one.before ∙ other.before), decimal_injective b d fb fd (sym one.after ∙ other.after))
 
 -- texts with two letters differ
 letters_differ : (letter other : ℕ) (xs ys : List ℕ) → letter ≢ other → letter ∷ xs ≡ other ∷ ys → ⊥

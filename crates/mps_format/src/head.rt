@@ -3,7 +3,7 @@ ghost use Rattle.std.specs.Prelude.{◌≡◌, ◌≤◌, take, drop, length};
 ghost use Rattle.mps_format.specs.HeadText.{head_text, front_word, mapped_word, leaf_word};
 
 use crate::head_word::{FRONT, LEAF, MAPPED, MAX_WORDS, extra_of_head, size_of_head, tag_of_head};
-use crate::pair::{number_behind, pair_behind};
+use crate::pair::{number_after, pair_after};
 use crate::put::{put_pair, put_single};
 use crate::{Format, Front, Leaf, Mapped};
 
@@ -32,13 +32,13 @@ impl Head {
         ensures found { IfSome result (λ h. text.now ≡ text_of h) }
         ensures exact { (h : Head) → IsInWords h → text.now ≡ text_of h → result ≡ Some h }
     {
-        if let Some((size, references)) = pair_behind(b'f', text) {
+        if let Some((size, references)) = pair_after(b'f', text) {
             return Some(Head::Front { size, references });
         }
-        if let Some((size, mask)) = pair_behind(b'm', text) {
+        if let Some((size, mask)) = pair_after(b'm', text) {
             return Some(Head::Mapped { size, mask });
         }
-        match number_behind(b'l', text) {
+        match number_after(b'l', text) {
             Some(size) => Some(Head::Leaf { size }),
             None => None,
         }
@@ -75,7 +75,7 @@ impl Head {
         }
     }
 
-    /// Writes the text to the front of `out`, and returns its length in bytes.
+    /// Writes the text to a prefix of `out`, and returns its length in bytes.
     pub fn put_text(&self, out: &mut [u8]) -> usize
         requires { Self.MAX_TEXT ≤ length out.old }
         ensures text { take result out.new ≡ text_of self.now }
@@ -90,7 +90,7 @@ impl Head {
     }
 }
 
-/// Writes the text of a head word to the front of `out`, and returns its length in bytes. The tag decides the form of
+/// Writes the text of a head word to a prefix of `out`, and returns its length in bytes. The tag decides the form of
 /// the text, so a word that is no head has a text too.
 pub fn put_head_text(word: u64, out: &mut [u8]) -> usize
     requires { Head.MAX_TEXT ≤ length out.old }

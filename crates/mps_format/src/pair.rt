@@ -1,8 +1,8 @@
-// The numbers in a head text, behind its letter and a colon.
+// The numbers in a head text, after its letter and a colon.
 ghost use Rattle.std.specs.Prelude.{◌≡◌, List, ℕ, ◌^◌, ◌<◌, ◌∷◌, ◌++◌, decimal, position, IfSome, IsSome};
 ghost use Rattle.mps_format.specs.HeadText.{is_colon};
 
-use mps_numbers::decimal_number;
+use mps_numerals::decimal_number;
 
 /// The place of the first colon.
 fn first_colon(text: &[u8]) -> Option<usize>
@@ -33,8 +33,8 @@ fn two_numbers(text: &[u8]) -> Option<(u64, u64)>
     }
 }
 
-/// What stands behind this letter and a colon.
-fn behind(letter: u8, text: &[u8]) -> Option<&[u8]>
+/// What stands after this letter and a colon.
+fn after(letter: u8, text: &[u8]) -> Option<&[u8]>
     ensures found { IfSome result (λ rest. text.now ≡ letter ∷ 58 ∷ rest.now) }
     ensures exact { (rest : List ℕ) → text.now ≡ letter ∷ 58 ∷ rest → IsSome result }
 {
@@ -45,23 +45,23 @@ fn behind(letter: u8, text: &[u8]) -> Option<&[u8]>
 }
 
 /// The number of the text `LETTER:NUMBER`.
-pub fn number_behind(letter: u8, text: &[u8]) -> Option<u64>
+pub fn number_after(letter: u8, text: &[u8]) -> Option<u64>
     ensures found { IfSome result (λ n. text.now ≡ letter ∷ 58 ∷ decimal n) }
     ensures exact { (n : ℕ) → n < 2 ^ 64 → text.now ≡ letter ∷ 58 ∷ decimal n → result ≡ Some n }
 {
-    match behind(letter, text) {
+    match after(letter, text) {
         Some(rest) => decimal_number(rest),
         None => None,
     }
 }
 
 /// The numbers of the text `LETTER:NUMBER:NUMBER`.
-pub fn pair_behind(letter: u8, text: &[u8]) -> Option<(u64, u64)>
+pub fn pair_after(letter: u8, text: &[u8]) -> Option<(u64, u64)>
     ensures found { IfSome result (λ p. text.now ≡ letter ∷ 58 ∷ (decimal p.0 ++ 58 ∷ decimal p.1)) }
     ensures exact { (a b : ℕ) → a < 2 ^ 64 → b < 2 ^ 64
         → text.now ≡ letter ∷ 58 ∷ (decimal a ++ 58 ∷ decimal b) → result ≡ Some (a, b) }
 {
-    match behind(letter, text) {
+    match after(letter, text) {
         Some(rest) => two_numbers(rest),
         None => None,
     }

@@ -1,8 +1,8 @@
-// Texts with a letter, colons and numbers, written to the front of a buffer.
+// Texts with a letter, colons and numbers, written to a prefix of a buffer.
 ghost use Rattle.std.specs.Prelude.{◌≡◌, ◌+◌, ◌≤◌, ◌∷◌, ◌++◌, take, drop, length, decimal};
 ghost use Rattle.mps_format.specs.HeadText.{labelled, labelled_pair};
 
-use mps_numbers::put_decimal;
+use mps_numerals::put_decimal;
 
 /// Writes `LETTER:NUMBER`, and returns its length.
 pub fn put_single(letter: u8, number: u64, out: &mut [u8]) -> usize
@@ -16,7 +16,7 @@ pub fn put_single(letter: u8, number: u64, out: &mut [u8]) -> usize
     put_decimal(number, out, 2)
 }
 
-/// Writes `:NUMBER` at a place, and returns the place behind it.
+/// Writes `:NUMBER` at a place, and returns the place after it.
 fn put_second(number: u64, out: &mut [u8], at: usize) -> usize
     requires { at + 21 ≤ length out.old }
     ensures later { at ≤ result }

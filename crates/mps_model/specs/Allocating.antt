@@ -68,11 +68,11 @@ address_of_placement (NewSegment grain grains) = address_of_grain grain
 address_of_placement (OverLimit committed need limit) = 0
 address_of_placement (NoFreeRun need longest) = 0
 
--- a run without so many numbers at its front
+-- a run without n numbers at its front
 abbrev pub without_front : Run → (count : ℕ) → Run
 without_front r count = record { from = r.from + count; count = r.count - count }
 
--- what is at hand at a point after a reservation of so many words there
+-- what is at hand at a point after a reservation of n words there
 abbrev pub buffer_after : World → (number : ℕ) → Point → (words : ℕ) → Run
 buffer_after w number p words =
     if is_copying_pool w p.pool then without_front (buffer_of w number) words else buffer_of w number
@@ -142,7 +142,7 @@ act_commit w name target = do
 
 -- ---- manual blocks
 
--- whether a manual pool has blocks of so many words
+-- whether a manual pool has blocks of n words
 abbrev pub allows_size : PoolKind → (words : ℕ) → Bool
 allows_size (Collected kind) words = false
 allows_size (OneSize size) words = is_block_size words && words == size

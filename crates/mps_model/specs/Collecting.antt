@@ -30,7 +30,7 @@ act_start_chain judged after chain generation = do
   refuse_when (is_running judged) refusal.Running
   done (with_state after Unclamped)
 
--- a collection of which so many units more were asked
+-- a collection of which n units more were asked
 abbrev pub asked_more : (units : ℕ) → Collection → Collection
 asked_more units c = record c { spent = c.spent + units }
 
@@ -60,7 +60,7 @@ act_release w = done (with_state w Unclamped)
 
 -- ---- finalization
 
--- so many registrations and waiting messages together
+-- n registrations and waiting messages together
 abbrev pub most_registrations : ℕ
 most_registrations = 65536
 

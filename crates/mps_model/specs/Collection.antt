@@ -29,9 +29,9 @@ pub record Collection : Type 0 where
   pub had : List ℕ
   -- from where what may survive is linked: the roots at the flip, and then each posted object at its post
   pub origins : List Origin
-  -- of the registrations, so many from the front on were made before the flip
+  -- of the registrations, n from the front on were made before the flip
   pub registered_before : ℕ
-  -- of the registrations, so many from the front on were examined
+  -- of the registrations, n from the front on were examined
   pub examined : ℕ
   pub phase : Phase
   -- the segment that was reclaimed last; 0 where none was

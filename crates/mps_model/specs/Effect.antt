@@ -219,16 +219,16 @@ with_place w (Some id) place = record w { places = slice_set w.places id place }
 abbrev pub rest_of_segment : Segment → (address : ℕ) → Run
 rest_of_segment s address = record { from = word_of address; count = word_of (end_of_segment s) - word_of address }
 
--- the words behind a block of so many words at an address, in its segment
-abbrev pub words_behind : World → (address words : ℕ) → Run
-words_behind w address words = option_map_or (λ s. rest_of_segment s (address + 8 * words)) (segment_of w address) empty_run
+-- the words after a block of n words at an address, in its segment
+abbrev pub words_after : World → (address words : ℕ) → Run
+words_after w address words = option_map_or (λ s. rest_of_segment s (address + 8 * words)) (segment_of w address) empty_run
 
--- an object moved from one generation of its pool to the next: what is behind it there is at hand
+-- an object moved from one generation of its pool to the next: what is after it there is at hand
 abbrev pub after_moved_of : World → (id to : ℕ) → World
 after_moved_of w id to =
     option_map_or
     (λ o. with_tail (with_collection (with_place w (Some id) (Some to)) (placing (Some id))) o.pool
-    (target_of w o.pool (generation_of w id)) (words_behind w to (size_of o)))
+    (target_of w o.pool (generation_of w id)) (words_after w to (size_of o)))
     (object_at w.graph id)
     w
 
@@ -267,7 +267,7 @@ after_free w (Some id) at =
 abbrev pub with_next_place : World → (address : ℕ) → World
 with_next_place w address = record w { places = with_last w.places (Some address) }
 
--- the world after a move of a call, where the move behind it in the call is this one
+-- the world after a move of a call, where the move after it in the call is this one
 abbrev pub world_after_move : Call → World → Move → (next : Option Move) → World
 world_after_move call w (moves.Seg base grains pool generation) next =
     after_segment call w (record { base = base.0; grains = grains; pool = pool; generation = generation; rank = rank.Exact }) next

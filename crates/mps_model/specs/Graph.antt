@@ -42,7 +42,7 @@ pub record Point : Type 0 where
 -- a word of an area
 pub data AreaWord : Type 0 where
   PlainWord : (number : ℕ) → AreaWord
-  -- the address so many bytes into an object, which the word keeps alive and in place
+  -- the address n bytes into an object, which the word keeps alive and in place
   Hold : (id offset : ℕ) → AreaWord
 
 -- what a name stands for, by its number among the things of its kind
@@ -194,7 +194,7 @@ is_reference_cell HeadCell = false
 is_reference_cell (NumberCell number) = false
 is_reference_cell (ReferenceCell target tag) = true
 
--- so many cells of a new block, from cell k on
+-- n cells of a new block, from cell k on
 abbrev pub new_cells_from : Layout → (head k count : ℕ) → List Cell
 new_cells_from f head k zero = []
 new_cells_from f head k (suc count) =

@@ -195,7 +195,7 @@ FinishesCollection call w moves = MatchBool (is_running w) (AreUnitsToEnd call w
 pub record AreMovesOfCollect (call : Call) (w : World) (moves : List Move) : Type 0 where
   -- the moves of the collection that ran
   pub earlier : List Move
-  -- the moves of the full collection behind the act of its flip
+  -- the moves of the full collection after the act of its flip
   pub later : List Move
   pub whole : moves ≡ earlier ++ flip_act call (world_after_moves call w earlier) Everything ++ later
   pub earlier_ends : FinishesCollection call w earlier

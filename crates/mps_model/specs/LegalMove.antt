@@ -164,7 +164,7 @@ IsOwnSegment (call.Reserve point head) w base grains pool generation =
     ForChecked (check_reserve w point head) (IsSegmentForReserve w base grains pool generation)
 IsOwnSegment _ w base grains pool generation = ⊥
 
--- a segment is taken for the move behind it, or by the reserve whose last move it is
+-- a segment is taken for the move after it, or by the reserve whose last move it is
 abbrev pub IsLegalSegment : Call → World → (base grains pool generation : ℕ) → (next : Option Move) → Type 0
 IsLegalSegment call w base grains pool generation None = IsOwnSegment call w base grains pool generation
 IsLegalSegment call w base grains pool generation (Some (moves.Moved from to)) =
@@ -237,7 +237,7 @@ pub record IsLegalFlip (w : World) (zones chain generation : ℕ) : Type 0 where
   pub none_runs : IsTrue (not (is_running w))
   pub of_zones : zones ≡ condemned_zones w (condemnation_of chain generation)
 
--- whether a move of a call is legal in a world, with the move before it and the one behind it in the call
+-- whether a move of a call is legal in a world, with the move before it and the one after it in the call
 abbrev pub IsLegalMove : Call → World → (before : Option Move) → Move → (next : Option Move) → Type 0
 IsLegalMove call w before (moves.Seg base grains pool generation) next = IsLegalSegment call w base.0 grains pool generation next
 IsLegalMove call w before (moves.Unseg base) next = ForOne (segment_at w base.0) (IsLegalUnseg w before)

@@ -41,7 +41,7 @@ kind_number kind.Ams = 3
 kind_number kind.Awl = 4
 kind_number kind.Lo = 5
 
--- the record of a command that was accepted, where so many pools were made before it
+-- the record of a command that was accepted, where n pools were made before it
 abbrev pub records_of_accepted : (pools : ℕ) → Call → (line : ℕ) → List Record
 records_of_accepted pools (call.Arena grains limit) line = record_with line arena_create_code (grains ∷ limit ∷ []) ∷ []
 records_of_accepted pools (call.Limit limit) line = record_with line limit_set_code (limit ∷ []) ∷ []
@@ -69,11 +69,11 @@ pools_of_accepted _ = 0
 abbrev pub pools_made_by : Call → Answer → ℕ
 pools_made_by call answer = if is_accepted answer then pools_of_accepted call else 0
 
--- the records of a step, where so many pools were made before it
+-- the records of a step, where n pools were made before it
 abbrev pub records_of_step : (pools : ℕ) → Step → List Record
 records_of_step pools s = records_of s.moves s.line ++ records_of_command pools s.call s.answer s.line
 
--- the records of a history that goes on from where so many pools were made
+-- the records of a history that goes on from where n pools were made
 abbrev pub log_from : (pools : ℕ) → History → List Record
 log_from pools [] = []
 log_from pools (s ∷ ss) = records_of_step pools s ++ log_from (pools + pools_made_by s.call s.answer) ss

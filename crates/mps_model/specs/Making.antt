@@ -12,11 +12,11 @@ use Rattle.mps_model.specs.Checked.{Act, Checked, ◌>>=◌, ◌>>◌, required,
 
 -- ---- limits on what is live at once
 
--- so many roots: tables, areas and tables of blocks
+-- n roots: tables, areas and tables of blocks
 abbrev pub most_roots : ℕ
 most_roots = 256
 
--- so many slots, words and places of all roots together
+-- n slots, words and places of all roots together
 abbrev pub most_slots : ℕ
 most_slots = 65536
 
@@ -55,7 +55,7 @@ refuse_at_limit number limit = refuse_when (nat_le limit number) (refusal.TooMan
 abbrev pub refuse_taken : World → Name → Checked (Unit {0})
 refuse_taken w name = refuse_when (is_taken w.graph name) refusal.NameTaken
 
--- refused where one more root of so many slots passes a limit
+-- refused where one more root of n slots passes a limit
 abbrev pub refuse_root : World → (slots : ℕ) → Checked (Unit {0})
 refuse_root w slots = do
   refuse_at_limit (live_roots w.graph) most_roots
@@ -109,7 +109,7 @@ act_pool_on_chain w name kind format chain = do
   on ← chain_named w chain
   make_pool w name (record { kind = Collected kind; format = format; chain = Some on.number })
 
--- whether a manual block may have so many words
+-- whether a manual block may have n words
 abbrev pub is_block_size : ℕ → Bool
 is_block_size words = nat_le 1 words && nat_le words 65536
 

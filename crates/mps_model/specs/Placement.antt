@@ -12,11 +12,11 @@ use Rattle.mps_model.specs.World.{World, Segment, is_copying_pool, is_weak_kind,
 
 -- what is to be placed
 pub data Request : Type 0 where
-  -- a reservation of so many words at a point
+  -- a reservation of n words at a point
   ForReserve : (point words : ℕ) → Request
   -- an object that a collection moves
   ForMove : (id : ℕ) → Request
-  -- a block of so many words of a manual pool
+  -- a block of n words of a manual pool
   ForAlloc : (pool words : ℕ) → Request
 
 abbrev pub same_rank : Rank → Rank → Bool
@@ -40,7 +40,7 @@ new_segment_for w words = run_placement w.grains w.limit (held_grains w) (grains
 abbrev pub placement_in_gaps : World → List Run → (words : ℕ) → Placement
 placement_in_gaps w free words = option_map_or Place (lowest_fitting words free) (new_segment_for w words)
 
--- at the front of the words at hand, where there are enough, else in a new segment
+-- at a prefix of the words at hand, where there are enough, else in a new segment
 abbrev pub placement_at_front : World → Run → (words : ℕ) → Placement
 placement_at_front w at_hand words = if nat_le words at_hand.count then Place at_hand.from else new_segment_for w words
 

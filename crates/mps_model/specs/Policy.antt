@@ -19,7 +19,7 @@ is_of_generation w chain generation s = option_map_or (is_on_chain chain) (pool_
 abbrev pub held_by_generation : World → (chain generation : ℕ) → ℕ
 held_by_generation w chain generation = sum_by (λ s. s.grains) (filter (is_of_generation w chain generation) w.segments)
 
--- the grains that so many generations hold, from this one on
+-- the grains that n generations hold, from this one on
 abbrev pub held_by_generations : World → (chain generation count : ℕ) → List ℕ
 held_by_generations w chain generation zero = []
 held_by_generations w chain generation (suc count) =
@@ -51,6 +51,6 @@ abbrev pub polls : World → Call → Bool
 polls w (call.Reserve point head) = polls_for w (check_reserve w point head)
 polls w _ = false
 
--- a poll asks so many units of a running collection
+-- a poll asks n units of a running collection
 abbrev pub units_of_poll : ℕ
 units_of_poll = 64

@@ -21,7 +21,7 @@ block_at (b ∷ bs) address = if b.at == address then Some b else block_at bs ad
 abbrev pub is_live : Store → (address : ℕ) → Bool
 is_live store address = is_some (block_at store address)
 
--- one more block, before the first that begins behind it
+-- one more block, before the first that begins after it
 abbrev pub with_block : Block → Store → Store
 with_block new [] = new ∷ []
 with_block new (b ∷ bs) = if nat_lt new.at b.at then new ∷ b ∷ bs else b ∷ with_block new bs

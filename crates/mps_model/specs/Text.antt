@@ -27,7 +27,7 @@ head_text head =
     else (if tag_field head == 2 then codes "m" ++ colon_number (size_field head) ++ colon_number (extra_field head)
     else codes "l" ++ colon_number (size_field head))
 
--- the number of a refusal, and the numbers that it prints behind it
+-- the number of a refusal, and the numbers that it prints after it
 abbrev pub refusal_text : Refusal → List ℕ
 refusal_text refusal.BadName = codes "1"
 refusal_text refusal.NameTaken = codes "2"

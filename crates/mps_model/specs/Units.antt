@@ -18,7 +18,7 @@ use Rattle.mps_model.specs.Flip.{at_address, end_where}
 abbrev pub is_one_of : World → List ℕ → (address : ℕ) → Bool
 is_one_of w ids address = option_map_or (contains ids) (id_at w address) false
 
--- whether a move moves one of these objects, or tells it to stay. A segment is taken for the move behind it
+-- whether a move moves one of these objects, or tells it to stay. A segment is taken for the move after it
 abbrev pub keeps_one_of : World → List ℕ → Move → (next : Option Move) → Bool
 keeps_one_of w ids (moves.Seg base grains pool generation) next = is_move_next next
 keeps_one_of w ids (moves.Moved from to) next = is_one_of w ids from.0
@@ -86,7 +86,7 @@ give_back_where base false = []
 abbrev pub nothing_left : World → (base : ℕ) → Bool
 nothing_left w base = option_map_or (is_empty_segment w) (segment_at w base) false
 
--- whether no condemned segment lies behind this one
+-- whether no condemned segment lies after this one
 abbrev pub is_last_condemned : Collection → (base : ℕ) → Bool
 is_last_condemned c base = list_all (λ other. nat_le other base) c.condemned_segments
 
@@ -141,7 +141,7 @@ ends_in_last (p ∷ q ∷ ps) = ends_in_last (q ∷ ps)
 abbrev pub joined : List (List Move) → List Move
 joined pieces = flat_map (λ piece. piece) pieces
 
--- so many units, or fewer where the collection ends
+-- n units, or fewer where the collection ends
 pub record AreUnits (call : Call) (w : World) (count : ℕ) (all : List Move) : Type 0 where
   pub pieces : List (List Move)
   pub cut : joined pieces ≡ all

@@ -19,7 +19,7 @@ use Rattle.mps_model.specs.Collection.{Collection}
 pub data PoolKind : Type 0 where
   -- an automatic pool
   Collected : (kind : Kind) → PoolKind
-  -- a manual pool of blocks of so many words
+  -- a manual pool of blocks of n words
   OneSize : (words : ℕ) → PoolKind
   -- a manual pool of blocks of any sizes
   AnySize : PoolKind
@@ -176,7 +176,7 @@ target_of w pool generation = target_generation (generations_of w pool) generati
 
 -- ---- segments
 
--- the address behind a segment
+-- the address after a segment
 abbrev pub end_of_segment : Segment → ℕ
 end_of_segment s = s.base + 4096 * s.grains
 
@@ -329,7 +329,7 @@ shown_words w (Some words) = map (shown_word w) words
 abbrev pub area_words : World → List ℕ
 area_words w = flat_map (shown_words w) w.graph.areas
 
--- whether a word lies in a block of so many words: in a copying pool by bytes, else exactly at its address
+-- whether a word lies in a block of n words: in a copying pool by bytes, else exactly at its address
 abbrev pub is_word_in : (is_copying : Bool) → (place words word : ℕ) → Bool
 is_word_in true place words word = nat_le place word && nat_lt word (place + 8 * words)
 is_word_in false place words word = word == place

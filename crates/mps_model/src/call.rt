@@ -45,17 +45,17 @@ pub enum Call {
     PoolMvff {
         pool: Name,
     },
-    /// `table T N`: makes an exact root of so many slots.
+    /// `table T N`: makes an exact root of n slots.
     Table {
         table: Name,
         length: u64,
     },
-    /// `area A N`: makes an ambiguous root of so many words.
+    /// `area A N`: makes an ambiguous root of n words.
     Area {
         area: Name,
         length: u64,
     },
-    /// `blocks B N`: makes a table of so many places for manual blocks.
+    /// `blocks B N`: makes a table of n places for manual blocks.
     Blocks {
         blocks: Name,
         length: u64,
@@ -102,7 +102,7 @@ pub enum Call {
         point: Name,
         target: Slot,
     },
-    /// `alloc P SIZE B.I`: makes a manual block of so many words.
+    /// `alloc P SIZE B.I`: makes a manual block of n words.
     Alloc {
         pool: Name,
         words: u64,
@@ -204,7 +204,7 @@ pub enum Call {
         chain: Name,
         generation: u64,
     },
-    /// `step N`: so many units of collection.
+    /// `step N`: n units of collection.
     Step {
         units: u64,
     },

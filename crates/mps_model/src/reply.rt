@@ -30,7 +30,7 @@ pub enum Reply {
     Head(u64),
     /// Two numbers, in decimal.
     Pair(u64, u64),
-    /// So many words from an address on, in hexadecimal; the runner prints them from the arena.
+    /// N words from an address on, in hexadecimal; the runner prints them from the arena.
     Words(Addr, u32),
     /// `refused`, its number and its numbers.
     Refused(Refusal),

@@ -1,4 +1,4 @@
--- The first word of a line, and the words behind it.
+-- The first word of a line, and the words after it.
 use Rattle.std.proofs.Common.{◌≡◌, ℕ, ◌+◌, ◌-◌, ◌<◌, Bool, true, false, not, List, [], ◌∷◌, length, take, drop, filter, refl, sym, ◌∙◌, ap, arith}
 use Rattle.std.specs.List.{slice_split, onto_first, position_or_len}
 use Rattle.std.proofs.lemmas.List.Splits.{slice_split-cons_yes, slice_split-cons_no}
@@ -13,7 +13,7 @@ until xs = position_or_len is_space xs
 abbrev pub spaces : List ℕ → ℕ
 spaces xs = position_or_len (λ b. not (is_space b)) xs
 
--- what is cut off behind the first part
+-- what is cut off after the first part
 abbrev rest_parts : List ℕ → List (List ℕ)
 rest_parts [] = []
 rest_parts (y ∷ ys) = slice_split is_space ys

@@ -8,14 +8,14 @@ use Rattle.mps_format.specs.HeadText.{is_colon, text_of, IsInWords}
 use Rattle.mps_format.proofs.Colons.{has_colon, cut_at_colon, joined_at_colon}
 use Rattle.mps_script.specs.Word.{cut_at}
 use Rattle.mps_script.specs.Number.{decimal_number}
-use Rattle.mps_script.specs.Head.{two_numbers, head_behind, head_in}
-use Rattle.mps_numbers.proofs.Decimals.{read_is_written, written_is_read}
+use Rattle.mps_script.specs.Head.{two_numbers, head_after, head_in}
+use Rattle.mps_numerals.proofs.Decimals.{read_is_written, written_is_read}
 
 some_of : {A B : Type 0} (f : A → Option B) (o : Option A) (r : B) → option_and_then f o ≡ Some r → (x : A) × (o ≡ Some x) × (f x ≡ Some r)
 some_of f (Some x) r e = (x, refl, e)
 some_of f None r e = absurd cc
 
--- ---- what stands before and behind the first colon
+-- ---- what stands before and after the first colon
 abbrev parted : List ℕ → ℕ → List ℕ × List ℕ
 parted text p = (take p text, drop (p + 1) text)
 
@@ -41,7 +41,7 @@ pair_read a b fits fits' =
     let cut : cut_at 58 text ≡ Some (parted text (length (decimal a)))
     = cut_there text (nat_lt (position_or_len is_colon text) (length text)) (position_or_len is_colon text) (length (decimal a)) place in
     let first : decimal_number (take (length (decimal a)) text) ≡ Some a = ap decimal_number parts.before ∙ written_is_read a fits in
-    let second : decimal_number (drop (length (decimal a) + 1) text) ≡ Some b = ap decimal_number parts.behind ∙ written_is_read b fits' in
+    let second : decimal_number (drop (length (decimal a) + 1) text) ≡ Some b = ap decimal_number parts.after ∙ written_is_read b fits' in
     rw (cut) (rw (first, second) refl)
 
 pair_written : (text : List ℕ) (r : ℕ × ℕ) → two_numbers text ≡ Some r
@@ -56,9 +56,9 @@ pair_written text r e =
     let back = read_is_written cut.0.1 second.0 second.1 in
     let same : (first.0, second.0) ≡ r = cc in
     let before : take at text ≡ decimal first.0 = ap (λ (x : List ℕ × List ℕ). x.0) there.1 ∙ front.0 in
-    let behind : drop (at + 1) text ≡ decimal second.0 = ap (λ (x : List ℕ × List ℕ). x.1) there.1 ∙ back.0 in
+    let after : drop (at + 1) text ≡ decimal second.0 = ap (λ (x : List ℕ × List ℕ). x.1) there.1 ∙ back.0 in
     let whole : text ≡ decimal first.0 ++ 58 ∷ decimal second.0
-    = joined_at_colon text at there.0 ∙ ap (λ (t : List ℕ). t ++ 58 ∷ drop (at + 1) text) before ∙ ap (λ (t : List ℕ). decimal first.0 ++ 58 ∷ t) behind in
+    = joined_at_colon text at there.0 ∙ ap (λ (t : List ℕ). t ++ 58 ∷ drop (at + 1) text) before ∙ ap (λ (t : List ℕ). decimal first.0 ++ 58 ∷ t) after in
     subst (λ (s : ℕ × ℕ). (text ≡ decimal s.0 ++ 58 ∷ decimal s.1) × (s.0 < 2 ^ 64) × (s.1 < 2 ^ 64)) same (whole, front.1, back.1)
 
 -- ---- heads
@@ -98,8 +98,8 @@ letter_is letter this rest h e k =
     let same : this ≡ letter = grind (arith, common_steps) in
     subst (λ (l : ℕ). IsRead (l ∷ 58 ∷ rest) h) same k
 
-behind_written : (letter : ℕ) (rest : List ℕ) (h : Head) → head_behind letter rest ≡ Some h → IsRead (letter ∷ 58 ∷ rest) h
-behind_written letter rest h e =
+after_written : (letter : ℕ) (rest : List ℕ) (h : Head) → head_after letter rest ≡ Some h → IsRead (letter ∷ 58 ∷ rest) h
+after_written letter rest h e =
     elim (chosen (letter == 102) (letter == 109) (letter == 108) _ _ _ h e) [
       | inl k ↦ letter_is letter 102 rest h k.0 (front_written rest h k.1)
       | inr other ↦ elim other [
@@ -112,9 +112,9 @@ head_written : (text : List ℕ) (h : Head) → head_in text ≡ Some h → IsRe
 head_written [] h e = absurd cc
 head_written (letter ∷ []) h e = absurd cc
 head_written (letter ∷ colon ∷ rest) h e =
-    let k = if_some (is_colon colon) (head_behind letter rest) e in
+    let k = if_some (is_colon colon) (head_after letter rest) e in
     let same : 58 ≡ colon = grind (arith, common_steps, k.0) in
-    subst (λ (c : ℕ). IsRead (letter ∷ c ∷ rest) h) same (behind_written letter rest h k.1)
+    subst (λ (c : ℕ). IsRead (letter ∷ c ∷ rest) h) same (after_written letter rest h k.1)
   where
     if_some : (t : Bool) (x : Option Head) → (if t then x else None) ≡ Some h → (t ≡ true) × (x ≡ Some h)
     if_some true x e = (refl, e)

@@ -83,7 +83,7 @@ number_call ws =
     (slot_of p.0))
     (two_words ws)
 
--- the call of a command word and the words behind it, where they are in a built form
+-- the call of a command word and the words after it, where they are in a built form
 abbrev pub built_call : List ℕ → List (List ℕ) → Option Call
 built_call word ws =
     if bytes_eq word (codes "num") then number_call ws

@@ -15,9 +15,9 @@ two_numbers text =
     (decimal_number p.0))
     (cut_at 58 text)
 
--- the head that stands behind a letter and its colon
-abbrev pub head_behind : ℕ → List ℕ → Option Head
-head_behind letter text =
+-- the head that stands after a letter and its colon
+abbrev pub head_after : ℕ → List ℕ → Option Head
+head_after letter text =
     if letter == 102 then option_and_then (λ p. Some (Front p.0 p.1)) (two_numbers text)
     else (if letter == 109 then option_and_then (λ p. Some (Mapped p.0 p.1)) (two_numbers text)
     else (if letter == 108 then option_and_then (λ n. Some (Leaf n)) (decimal_number text)
@@ -27,7 +27,7 @@ head_behind letter text =
 abbrev pub head_in : List ℕ → Option Head
 head_in [] = None
 head_in (letter ∷ []) = None
-head_in (letter ∷ colon ∷ text) = if is_colon colon then head_behind letter text else None
+head_in (letter ∷ colon ∷ text) = if is_colon colon then head_after letter text else None
 
 -- the head word that a text stands for
 abbrev pub head_of : List ℕ → Option ℕ

@@ -32,8 +32,8 @@ call_of_line line = if nat_lt longest_line (length line) then Err (record {}) el
 pub the_last_line_needs_no_line_feed : lines_of (codes "a\n\nb") ≡ codes "a" ∷ [] ∷ codes "b" ∷ []
 the_last_line_needs_no_line_feed = refl
 
-pub nothing_behind_the_last_line_feed : lines_of (codes "a\n") ≡ codes "a" ∷ []
-nothing_behind_the_last_line_feed = refl
+pub nothing_after_the_last_line_feed : lines_of (codes "a\n") ≡ codes "a" ∷ []
+nothing_after_the_last_line_feed = refl
 
 pub no_lines : lines_of [] ≡ []
 no_lines = refl

@@ -1,7 +1,7 @@
--- Numbers as words. A decimal number has no leading zero and is below 2^64. A hexadecimal one stands behind `0x`, in
+-- Numbers as words. A decimal number has no leading zero and is below 2^64. A hexadecimal one stands after `0x`, in
 -- lower case, and so has at most 16 digits.
 use Rattle.std.specs.Prelude.{ℕ, ◌≡◌, ◌==◌, nat_le, ◌&&◌, if◌then◌else◌, codes, Option, Some, None, option_and_then, List, [], ◌∷◌, refl}
-use Rattle.mps_numbers.specs.Reading.{number_in}
+use Rattle.mps_numerals.specs.Reading.{number_in}
 
 -- a decimal number
 abbrev pub decimal_number : List ℕ → Option ℕ

@@ -6,7 +6,7 @@ use Rattle.std.specs.List.{slice_split, position_or_len, before_first, after_fir
 abbrev pub is_space : ℕ → Bool
 is_space b = b == 32
 
--- what stands before and behind the first such byte, where there is one
+-- what stands before and after the first such byte, where there is one
 abbrev pub cut_at : ℕ → List ℕ → Option (List ℕ × List ℕ)
 cut_at byte word =
     if nat_lt (position_or_len (λ b. b == byte) word) (length word)

@@ -9,7 +9,7 @@ use crate::number::{any_number, within};
 use crate::words::{three, two};
 use mps_base::{Kind, Rank};
 use mps_model::Call;
-use mps_numbers::decimal_number;
+use mps_numerals::decimal_number;
 
 /// `arena GRAINS LIMIT`.
 fn arena(arguments: &[u8]) -> Option<Call>
@@ -107,7 +107,7 @@ fn number(arguments: &[u8]) -> Option<Call>
     Some(Call::Number { slot, cell })
 }
 
-/// The call of a command word and what stands behind it, where they are in a built form.
+/// The call of a command word and what stands after it, where they are in a built form.
 pub fn built(word: &[u8], arguments: &[u8]) -> Option<Call>
     ensures { result ≡ built_call word.now (words arguments.now) }
 {

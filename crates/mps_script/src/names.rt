@@ -5,7 +5,7 @@ ghost use Rattle.mps_script.specs.Name.{is_letter, is_name_byte, is_name, name_o
 
 use crate::words::cut;
 use mps_base::{Name, Slot};
-use mps_numbers::decimal_number;
+use mps_numerals::decimal_number;
 
 fn letter(byte: u8) -> bool
     ensures { result ≡ is_letter byte }
@@ -53,8 +53,8 @@ pub fn name(word: &[u8]) -> Option<Name>
 pub fn slot(word: &[u8]) -> Option<Slot>
     ensures { result ≡ slot_of word.now }
 {
-    let (front, behind) = cut(b'.', word)?;
+    let (front, after) = cut(b'.', word)?;
     let name = name(front)?;
-    let index = decimal_number(behind)?;
+    let index = decimal_number(after)?;
     Some(Slot { name, index })
 }

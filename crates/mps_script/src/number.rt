@@ -2,9 +2,9 @@
 ghost use Rattle.std.specs.Prelude.{◌≡◌};
 ghost use Rattle.mps_script.specs.Number.{hexadecimal_number, number_of, number_within};
 
-use mps_numbers::{decimal_number, hexadecimal_number as digits_in_hexadecimal};
+use mps_numerals::{decimal_number, hexadecimal_number as digits_in_hexadecimal};
 
-/// A hexadecimal number, behind `0x`.
+/// A hexadecimal number, after `0x`.
 fn hexadecimal(word: &[u8]) -> Option<u64>
     ensures { result ≡ hexadecimal_number word.now }
 {

@@ -8,7 +8,7 @@ use itoa::Buffer;
 use mps_base::Refusal;
 use mps_format::put_head_text;
 use mps_model::Reply;
-use mps_numbers::{put_decimal, put_hexadecimal, put_text as put};
+use mps_numerals::{put_decimal, put_hexadecimal, put_text as put};
 
 /// Room for any answer line, in bytes.
 pub const LONGEST_ANSWER: usize = 64;
@@ -16,7 +16,7 @@ pub const LONGEST_ANSWER: usize = 64;
 /// A space and a number.
 fn put_spaced(out: &mut [u8], at: usize, n: u64) -> usize
     requires { at + 21 ≤ length out.old }
-    ensures behind { result ≤ at + 21 }
+    ensures after { result ≤ at + 21 }
     ensures written { take result out.new ≡ take at out.old ++ and_number n }
 {
     let at = put(b" ", out, at);
@@ -26,17 +26,17 @@ fn put_spaced(out: &mut [u8], at: usize, n: u64) -> usize
 /// A word in hexadecimal.
 fn put_word(out: &mut [u8], at: usize, n: u64) -> usize
     requires { at + 18 ≤ length out.old }
-    ensures behind { result ≤ at + 18 }
+    ensures after { result ≤ at + 18 }
     ensures written { take result out.new ≡ take at out.old ++ hexadecimal n }
 {
     let at = put(b"0x", out, at);
     put_hexadecimal(n, out, at)
 }
 
-/// The number of a refusal, and the numbers that it prints behind it.
+/// The number of a refusal, and the numbers that it prints after it.
 fn put_refusal(out: &mut [u8], at: usize, why: &Refusal) -> usize
     requires { at + 48 ≤ length out.old }
-    ensures behind { result ≤ at + 48 }
+    ensures after { result ≤ at + 48 }
     ensures written { take result out.new ≡ take at out.old ++ refusal_text why.now }
 {
     match *why {
@@ -78,7 +78,7 @@ fn put_refusal(out: &mut [u8], at: usize, why: &Refusal) -> usize
 /// A space and a number of 32 bits.
 fn put_small(out: &mut [u8], at: usize, n: u32) -> usize
     requires { at + 11 ≤ length out.old }
-    ensures behind { result ≤ at + 11 }
+    ensures after { result ≤ at + 11 }
     ensures written { take result out.new ≡ take at out.old ++ and_number n }
 {
     let at = put(b" ", out, at);
@@ -89,7 +89,7 @@ fn put_small(out: &mut [u8], at: usize, n: u32) -> usize
 /// A space and a number, twice.
 fn put_two(out: &mut [u8], at: usize, first: u32, second: u32) -> usize
     requires { at + 22 ≤ length out.old }
-    ensures behind { result ≤ at + 22 }
+    ensures after { result ≤ at + 22 }
     ensures written { take result out.new ≡ take at out.old ++ (and_number first ++ and_number second) }
 {
     let at = put_small(out, at, first);
@@ -99,7 +99,7 @@ fn put_two(out: &mut [u8], at: usize, first: u32, second: u32) -> usize
 /// A space and a number, three times.
 fn put_three(out: &mut [u8], at: usize, first: u32, second: u32, third: u32) -> usize
     requires { at + 33 ≤ length out.old }
-    ensures behind { result ≤ at + 33 }
+    ensures after { result ≤ at + 33 }
     ensures written { take result out.new ≡ take at out.old ++ (and_number first ++ (and_number second ++ and_number third)) }
 {
     let at = put_small(out, at, first);
@@ -109,7 +109,7 @@ fn put_three(out: &mut [u8], at: usize, first: u32, second: u32, third: u32) -> 
 /// The answer of a reply, without its line feed.
 fn put_plain(out: &mut [u8], reply: &Reply) -> usize
     requires { 64 ≤ length out.old }
-    ensures behind { result ≤ 60 }
+    ensures after { result ≤ 60 }
     ensures written { take result out.new ≡ reply_text reply.now }
 {
     match *reply {
@@ -138,7 +138,7 @@ fn put_plain(out: &mut [u8], reply: &Reply) -> usize
     }
 }
 
-/// Writes the answer line of a reply at the front of the buffer, and answers its length. What stands behind it is left
+/// Writes the answer line of a reply at a prefix of the buffer, and answers its length. What stands after it is left
 /// open. The words of a dump are not printed here but from the arena.
 pub fn put_text(out: &mut [u8], reply: &Reply) -> usize
     requires room { 64 ≤ length out.old }

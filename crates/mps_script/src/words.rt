@@ -29,7 +29,7 @@ fn length_of_spaces(bytes: &[u8]) -> usize
     bytes.len()
 }
 
-/// What stands before and behind the first such byte, where there is one.
+/// What stands before and after the first such byte, where there is one.
 pub fn cut(byte: u8, word: &[u8]) -> Option<(&[u8], &[u8])>
     ensures { MatchOption result (cut_at byte word.now ≡ None) (λ p. cut_at byte word.now ≡ Some (p.0.now, p.1.now)) }
 {
@@ -40,7 +40,7 @@ pub fn cut(byte: u8, word: &[u8]) -> Option<(&[u8], &[u8])>
     Some((&word[..at], &word[at + 1..]))
 }
 
-/// The first word, and what stands behind it; none where there are spaces alone.
+/// The first word, and what stands after it; none where there are spaces alone.
 pub fn next_word(bytes: &[u8]) -> Option<(&[u8], &[u8])>
     ensures { MatchOption result (words bytes.now ≡ []) (λ p. words bytes.now ≡ p.0.now ∷ words p.1.now) }
 {

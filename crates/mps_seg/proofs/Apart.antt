@@ -61,11 +61,11 @@ apart_each low high (t ∷ rs) r s ascending here there =
             let bounds = contained_bounds (end_of t) high rs s ascending.2 later in
             inr (inl (omega (arith, bounds.0, ap (λ (x : Run). end_of x) first)))
       ]
-      | inr behind ↦ elim (contains_cases rs s t there) [
+      | inr rest ↦ elim (contains_cases rs s t there) [
         | inl same ↦
-            let bounds = contained_bounds (end_of t) high rs r ascending.2 behind in
+            let bounds = contained_bounds (end_of t) high rs r ascending.2 rest in
             inr (inr (omega (arith, bounds.0, ap (λ (x : Run). end_of x) same)))
-        | inr later ↦ apart_each (end_of t) high rs r s ascending.2 behind later
+        | inr later ↦ apart_each (end_of t) high rs r s ascending.2 rest later
       ]
     ]
 

@@ -272,7 +272,7 @@ new_is_counted size = record {
   counts_are = λ t (k, within, is). absurd (omega arith);
 }
 
--- the table of first grains after so many of them are written
+-- the table of first grains after n of them are written
 pub record Noted (firsts firsts' : List ℕ) (r : Run) (first : ℕ) : Type 0 where
   pub size : length firsts' ≡ length firsts
   pub inside : (g : ℕ) → r.from ≤ g → g < end_of r → get_or firsts' g 0 ≡ first
@@ -293,7 +293,7 @@ counted_after_taking arena table ex firsts firsts' counts need grain held counte
     none_within (512 * grain) (512 * (grain + need)) ex.covered (λ t there.
     let lies = held.inside t there in
     elim (apart_from_put 1 (arena.grains + 1) arena.held r lies.grains gap.ascending lies.there) [
-      | inl behind ↦ inr (omega (arith, behind, lies.after))
+      | inl following ↦ inr (omega (arith, following, lies.after))
       | inr ahead ↦ inl (omega (arith, ahead, lies.before, held.some t there))
     ])
     in

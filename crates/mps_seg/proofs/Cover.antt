@@ -302,8 +302,8 @@ taken_is_sound covered begins ends blocks blocks' r taken size left =
               | inr above ↦ elim (cases_lt word (last_word r)) [
                 | inl below ↦ absurd (both_ways (bit ends word) (last.lower word above below) was)
                 | inr past ↦
-                    let behind : end_of r ≤ word = omega (arith, other) in
-                    bit-with_range_outside covered r.from (end_of r) word false order room (inr behind) ∙ sound.ends_inside word was
+                    let rest : end_of r ≤ word = omega (arith, other) in
+                    bit-with_range_outside covered r.from (end_of r) word false order room (inr rest) ∙ sound.ends_inside word was
               ]
             ]
       ];
@@ -342,7 +342,7 @@ is_reserved begins ends blocks r there =
       no_block = not-true (bit blocks r.from) parts.1;
     }
 
--- the reservation of so many words that begins at a place, and the block
+-- the reservation of n words that begins at a place, and the block
 pub reservation_of : (covered begins ends blocks : List Bool) (r : Run) (seen : ExtentLists) → IsSound covered begins ends blocks → lists_of begins ends blocks ≡ seen → Contains seen.reservations r
     → Taken covered begins ends blocks r × IsReserved begins ends blocks r
 reservation_of covered begins ends blocks r seen sound is listed =

@@ -490,11 +490,11 @@ same_count low high (t ∷ rs) r s ascending here there e =
             let bounds = contained_bounds (end_of t) high rs s ascending.2 later in
             absurd (omega (arith, bounds.0, ap (λ (x : Run). x.from) first, e, ascending.1))
       ]
-      | inr behind ↦ elim (contains_cases rs s t there) [
+      | inr following ↦ elim (contains_cases rs s t there) [
         | inl same ↦
-            let bounds = contained_bounds (end_of t) high rs r ascending.2 behind in
+            let bounds = contained_bounds (end_of t) high rs r ascending.2 following in
             absurd (omega (arith, bounds.0, ap (λ (x : Run). x.from) same, e, ascending.1))
-        | inr later ↦ same_count (end_of t) high rs r s ascending.2 behind later e
+        | inr later ↦ same_count (end_of t) high rs r s ascending.2 following later e
       ]
     ]
 
@@ -604,17 +604,17 @@ lowest_in_first n place (r ∷ xs) ys is =
           ∙ lowest_in_first n place xs ys (sym (cond-false (leb n r.count) (Some r.from) (lowest_fitting n xs) short) ∙ is)
     ]
 
-pub lowest_behind : (n : ℕ) (xs ys : List Run) → lowest_fitting n xs ≡ None → lowest_fitting n (xs ++ ys) ≡ lowest_fitting n ys
-lowest_behind n [] ys is = refl
-lowest_behind n (r ∷ xs) ys is =
+pub lowest_after : (n : ℕ) (xs ys : List Run) → lowest_fitting n xs ≡ None → lowest_fitting n (xs ++ ys) ≡ lowest_fitting n ys
+lowest_after n [] ys is = refl
+lowest_after n (r ∷ xs) ys is =
     elim (cases_Bool (leb n r.count)) [
       | inl fits ↦ let never : Some r.from ≡ None = sym (cond-true (leb n r.count) (Some r.from) (lowest_fitting n xs) fits) ∙ is in cc
       | inr short ↦
           cond-false (leb n r.count) (Some r.from) (lowest_fitting n (xs ++ ys)) short
-          ∙ lowest_behind n xs ys (sym (cond-false (leb n r.count) (Some r.from) (lowest_fitting n xs) short) ∙ is)
+          ∙ lowest_after n xs ys (sym (cond-false (leb n r.count) (Some r.from) (lowest_fitting n xs) short) ∙ is)
     ]
 
--- the gaps of the segments that begin at a grain or behind it
+-- the gaps of the segments that begin at a grain or after it
 unfoldable pub later_gaps : SegsState → ℕ → Rank → ℕ → List Entry → List Run
 later_gaps state pool rank grain entries = flat_map (gaps_in state) (filter (is_open_to pool rank) (segments_from grain entries))
 
@@ -633,7 +633,7 @@ gaps_step arena table ex pool rank grain Free entries = refl
 gaps_step arena table ex pool rank grain (First n p g r) entries =
     let st = segs_state arena table ex in
     let s : Segment = record { base = address_of_grain grain; grains = n; pool = p; generation = g; rank = r } in
-    let behind = filter (is_open_to pool rank) (segments_from (suc grain) entries) in
+    let following = filter (is_open_to pool rank) (segments_from (suc grain) entries) in
     let low : address_of_grain grain / 8 ≡ 512 * grain = omega arith in
     let high : end_of_segment s / 8 ≡ 512 * grain + 512 * n = omega arith in
     let mine : gaps_in st s ≡ gaps (512 * grain) (512 * grain + 512 * n) (runs_within (512 * grain) (512 * grain + 512 * n) ex.covered) =
@@ -642,11 +642,11 @@ gaps_step arena table ex pool rank grain (First n p g r) entries =
     in
     elim (cases_Bool (is_open_to pool rank s)) [
       | inl opened ↦
-          ap (λ (ss : List Segment). flat_map (gaps_in st) ss) (cond-true (is_open_to pool rank s) (s ∷ behind) behind opened)
-          ∙ ap (λ (rs : List Run). rs ++ flat_map (gaps_in st) behind) (mine ∙ sym (cond-true (is_open_to pool rank s) (gaps (512 * grain) (512 * grain + 512 * n) (runs_within (512 * grain) (512 * grain + 512 * n) ex.covered)) [] opened))
+          ap (λ (ss : List Segment). flat_map (gaps_in st) ss) (cond-true (is_open_to pool rank s) (s ∷ following) following opened)
+          ∙ ap (λ (rs : List Run). rs ++ flat_map (gaps_in st) following) (mine ∙ sym (cond-true (is_open_to pool rank s) (gaps (512 * grain) (512 * grain + 512 * n) (runs_within (512 * grain) (512 * grain + 512 * n) ex.covered)) [] opened))
       | inr closed ↦
-          ap (λ (ss : List Segment). flat_map (gaps_in st) ss) (cond-false (is_open_to pool rank s) (s ∷ behind) behind closed)
-          ∙ ap (λ (rs : List Run). rs ++ flat_map (gaps_in st) behind) (sym (cond-false (is_open_to pool rank s) (gaps (512 * grain) (512 * grain + 512 * n) (runs_within (512 * grain) (512 * grain + 512 * n) ex.covered)) [] closed))
+          ap (λ (ss : List Segment). flat_map (gaps_in st) ss) (cond-false (is_open_to pool rank s) (s ∷ following) following closed)
+          ∙ ap (λ (rs : List Run). rs ++ flat_map (gaps_in st) following) (sym (cond-false (is_open_to pool rank s) (gaps (512 * grain) (512 * grain + 512 * n) (runs_within (512 * grain) (512 * grain + 512 * n) ex.covered)) [] closed))
     ]
 
 pub gaps_more : (arena : ArenaState) (table : List Entry) (ex : ExtentLists) (pool : ℕ) (rank : Rank) (grain : ℕ) → grain < length table
@@ -694,10 +694,10 @@ put_apart low high (s ∷ rs) r ascending some above below apart =
     let first = apart s (contains_first rs s) in
     elim (cases_lt r.from s.from) [
       | inl before ↦
-          let room : end_of r ≤ s.from = elim first [ inl behind ↦ behind | inr ahead ↦ absurd (omega (arith, ahead, ascending.1)) ] in
+          let room : end_of r ≤ s.from = elim first [ inl following ↦ following | inr ahead ↦ absurd (omega (arith, ahead, ascending.1)) ] in
           subst P (sym (with_run_first r s rs before)) (above, some, (room, ascending.1, ascending.2))
       | inr after ↦
-          let room : end_of s ≤ r.from = elim first [ inl behind ↦ absurd (omega (arith, behind, some)) | inr ahead ↦ ahead ] in
+          let room : end_of s ≤ r.from = elim first [ inl following ↦ absurd (omega (arith, following, some)) | inr ahead ↦ ahead ] in
           subst P (sym (with_run_later r s rs after))
           (ascending.0, ascending.1, put_apart (end_of s) high rs r ascending.2 some room below (λ t there. apart t (contains_later rs t s there)))
     ]
@@ -763,7 +763,7 @@ new_is_free arena table ex need grain pool generation words rank held some cover
     let lies = held.inside t there in
     let here : (end_of r ≤ t.from) ⊎ (end_of t ≤ r.from) =
     elim (apart_from_put 1 (arena.grains + 1) arena.held segment lies.grains gap.ascending lies.there) [
-      | inl behind ↦ inl (omega (arith, behind, lies.after))
+      | inl following ↦ inl (omega (arith, following, lies.after))
       | inr ahead ↦ inr (omega (arith, ahead, lies.before))
     ]
     in here

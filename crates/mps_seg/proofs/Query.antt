@@ -251,9 +251,9 @@ gap_fits bits low high n (r ∷ rs) some ascending same =
           ]
       | inr room ↦
           let bounds = contained_bounds low high (r ∷ rs) r ascending (contains_first rs r) in
-          let behind : IsAscending r.from high (r ∷ rs) = (omega arith, ascending.1, ascending.2) in
+          let following : IsAscending r.from high (r ∷ rs) = (omega arith, ascending.1, ascending.2) in
           fits_at low (lowest_fitting_here n low r.from (gaps (end_of r) high rs) some room) (omega arith) (omega (arith, bounds.2))
-          (clear_run_from bits low n (λ i above below. same i above (omega (arith, bounds.2)) ∙ uncovered_below r.from high (r ∷ rs) i behind (omega arith)))
+          (clear_run_from bits low n (λ i above below. same i above (omega (arith, bounds.2)) ∙ uncovered_below r.from high (r ∷ rs) i following (omega arith)))
           (λ p above below. absurd (omega arith))
     ]
 

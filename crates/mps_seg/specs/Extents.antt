@@ -2,7 +2,7 @@
 use Rattle.std.specs.Prelude.{ℕ, ◌≤◌, ◌<◌, ◌≡◌, ◌&&◌, Bool, true, false, nat_le, nat_lt, if◌then◌else◌, Option, Some, None, List, [], ◌∷◌, refl}
 use Rattle.mps_base.specs.Run.{Run, end_of}
 
--- what is covered among so many words: by blocks, and by reservations
+-- what is covered among n words: by blocks, and by reservations
 pub record ExtentLists : Type 0 where
   pub size : ℕ
   -- blocks and reservations together
@@ -54,8 +54,8 @@ a_word_of_the_first = refl
 a_word_of_its_neighbour : run_over example 5 ≡ Some 5
 a_word_of_its_neighbour = refl
 
-no_word_behind : run_over example 6 ≡ None
-no_word_behind = refl
+no_word_after : run_over example 6 ≡ None
+no_word_after = refl
 
 the_first_from_three : first_run 3 9 example ≡ Some 5
 the_first_from_three = refl

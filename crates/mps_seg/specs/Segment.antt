@@ -14,7 +14,7 @@ pub record Segment : Type 0 where
   pub generation : ℕ
   pub rank : Rank
 
--- the address behind a segment
+-- the address after a segment
 abbrev pub end_of_segment : Segment → ℕ
 end_of_segment s = s.base + 4096 * s.grains
 

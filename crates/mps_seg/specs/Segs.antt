@@ -50,7 +50,7 @@ new_segments grains limit = record {
 abbrev pub held_grains : SegsState → List Run
 held_grains s = map grains_of_segment s.segments
 
--- where a new segment for so many words would be taken
+-- where a new segment for n words would be taken
 abbrev pub placement_for : SegsState → ℕ → Placement
 placement_for s words = run_placement s.grains s.limit (held_grains s) (grains_needed words)
 

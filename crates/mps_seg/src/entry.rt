@@ -8,7 +8,7 @@ use mps_base::Rank;
 pub(crate) enum Entry {
     /// No segment begins at this grain.
     Free,
-    /// A segment of so many grains begins here.
+    /// A segment of n grains begins here.
     First {
         grains: u32,
         pool: u32,

@@ -145,7 +145,7 @@ impl Segs {
     {
         for (grain, entry) in self.table.iter().enumerate() {
             let covered = self.counts[grain];
-            if let Some(word) = gap_behind(
+            if let Some(word) = gap_after(
                 &self.extents,
                 grain,
                 *entry,
@@ -330,7 +330,7 @@ fn gap_between(
 }
 
 /// Where the lowest gap of at least `words` words begins in the segment that begins at a grain, where one does and it is of the pool and the rank.
-fn gap_behind(
+fn gap_after(
     extents: &Extents,
     grain: usize,
     entry: Entry,

@@ -1,15 +1,9 @@
-//! The tools of a log: its portable text, the readable text of that, the blocks that are live at its end, and scripts that
-//! are generated. Each reads its input in pieces through one buffer and prints through another. The portable text is made
-//! here; the others are passed on from their crates.
+//! The tools of a log: its portable text, the readable text of that, the blocks that are live at its end, and workloads that
+//! are generated. Each has a crate of its own, and is passed on from there.
 #![tactic(auto)]
 
-mod convert;
-mod kinds;
-#[cfg(test)]
-mod tests;
-
-pub use convert::cnv;
-pub use kinds::Kinds;
-pub use mps_generator::{GenLines, generate};
-pub use mps_live_blocks::blocks;
-pub use mps_readable::txt;
+pub use mps_blocks::blocks;
+pub use mps_cnv::cnv;
+pub use mps_event::Kinds;
+pub use mps_txt::txt;
+pub use mps_workload::{GenLines, generate};

@@ -4,8 +4,8 @@ use Rattle.mps_cli.specs.Write.{LogTakes}
 use Rattle.mps_base.specs.Record.{records_bytes}
 use Rattle.mps_model.specs.Answer.{Said}
 use Rattle.mps_model.specs.Log.{records_of_command}
-use Rattle.mps_reading.specs.PutOut.{PutsPart}
-use Rattle.mps_cli.proofs.Fronts.{on_failed, where_failed, part_of_move, part_behind_move, part_without_move}
+use Rattle.mps_log_reader.specs.PutOut.{PutsPart}
+use Rattle.mps_cli.proofs.Fronts.{on_failed, where_failed, part_of_move, part_after_move, part_without_move}
 use Rattle.mps_cli.proofs.LogFile.{takes_self, takes_then}
 use Rattle.mps_cli.proofs.log.log_records.Goals as goal
 
@@ -28,7 +28,7 @@ pub returns-clause-part : goal.returns-clause-part
 returns-clause-part g c =
     on_failed c.log_command.result _ _ c.log_command.ensures.part (λ p.
     elim c.match-done.branch [
-      | in-Some+in_ok-log_move w ↦ part_behind_move c.args.line c.args.pools c.args.call.now c.args.done.now w.in-Some.moved
+      | in-Some+in_ok-log_move w ↦ part_after_move c.args.line c.args.pools c.args.call.now c.args.done.now w.in-Some.moved
           (g.D.Desk.outside c.args.desk.now).logged (g.D.Desk.outside c.match-done.desk).logged (g.D.Desk.outside c.log_command.new.desk).logged w.in-Some.is
           (ap (λ d. (g.D.Desk.outside d).logged) w.desk-is ∙ w.in_ok-log_move.ensures.logged) p
       | in_default w ↦ part_without_move c.args.line c.args.pools c.args.call.now c.args.done.now

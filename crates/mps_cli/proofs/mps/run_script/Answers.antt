@@ -1,5 +1,5 @@
 use Rattle.std.proofs.Common.{◌≡◌, ◌∙◌, ap, refl, subst, true}
-use Rattle.mps_reading.specs.Ending.{is_whole_status}
+use Rattle.mps_log_reader.specs.Ending.{is_whole_status}
 use Rattle.mps_cli.specs.Ending.{status_of}
 use Rattle.mps_cli.proofs.SoFar.{answered_between, ran_then_reported, reported_after, whole_status}
 use Rattle.mps_cli.proofs.Leaving.{leaves_then_reported}

@@ -2,9 +2,9 @@ use Rattle.std.proofs.Common.{◌≡◌, Some, ◌∙◌, ap, refl, inl, inr}
 use Rattle.mps_base.specs.Record.{header_bytes}
 use Rattle.mps_cli.specs.Buffer.{Waiting, left_of}
 use Rattle.mps_cli.specs.Write.{appended}
-use Rattle.mps_cli.proofs.SoFar.{answered_between, answered_nothing, ran_behind_header}
+use Rattle.mps_cli.proofs.SoFar.{answered_between, answered_nothing, ran_after_header}
 use Rattle.mps_cli.proofs.LogFile.{in_file, takes_then}
-use Rattle.mps_cli.proofs.Leaving.{leaves_behind_header, leaves_unbegun}
+use Rattle.mps_cli.proofs.Leaving.{leaves_after_header, leaves_unbegun}
 use Rattle.mps_cli.proofs.run.run.Goals as goal
 
 pub returns-clause-ran : goal.returns-clause-ran
@@ -13,10 +13,10 @@ returns-clause-ran g c whole bytes e =
     c.in-Ok-log_header.ensures.others.input ∙ (c.in-Ok-open_files.ensures.input ∙ e) in
     let left : left_of c.in-Ok.lines (g.D.Desk.outside c.log_header.new.desk).input ≡ Some bytes =
     ap (left_of c.in-Ok.lines) input ∙ ap (λ (w : Waiting). left_of w (Some bytes)) c.in-Ok.ensures in
-    ran_behind_header c.run_lines.result bytes (g.D.Desk.outside c.args.desk.now) (g.D.Desk.outside c.log_header.new.desk)
+    ran_after_header c.run_lines.result bytes (g.D.Desk.outside c.args.desk.now) (g.D.Desk.outside c.log_header.new.desk)
     (g.D.Desk.outside c.run_lines.new.desk) (header_bytes 1) refl
     (c.in-Ok-log_header.ensures.others.printed ∙ c.in-Ok-open_files.ensures.printed)
-    (c.in-Ok-log_header.ensures.logged ∙ ap (λ told. appended told (header_bytes 1)) c.in-Ok-open_files.ensures.logged)
+    (c.in-Ok-log_header.ensures.logged ∙ ap (λ known_there. appended known_there (header_bytes 1)) c.in-Ok-open_files.ensures.logged)
     (c.run_lines.ensures.ran whole bytes left)
 
 pub returns-in_default-clause-answered : goal.returns-in_default-clause-answered
@@ -71,10 +71,10 @@ returns-clause-leaves g c bytes e =
     c.in-Ok-log_header.ensures.others.input ∙ (c.in-Ok-open_files.ensures.input ∙ e) in
     let left : left_of c.in-Ok.lines (g.D.Desk.outside c.log_header.new.desk).input ≡ Some bytes =
     ap (left_of c.in-Ok.lines) input ∙ ap (λ (w : Waiting). left_of w (Some bytes)) c.in-Ok.ensures in
-    leaves_behind_header c.run_lines.result bytes (g.D.Desk.outside c.args.desk.now) (g.D.Desk.outside c.log_header.new.desk)
+    leaves_after_header c.run_lines.result bytes (g.D.Desk.outside c.args.desk.now) (g.D.Desk.outside c.log_header.new.desk)
     (g.D.Desk.outside c.run_lines.new.desk)
     (c.in-Ok-log_header.ensures.others.printed ∙ c.in-Ok-open_files.ensures.printed)
-    (c.in-Ok-log_header.ensures.logged ∙ ap (λ told. appended told (header_bytes 1)) c.in-Ok-open_files.ensures.logged)
+    (c.in-Ok-log_header.ensures.logged ∙ ap (λ known_there. appended known_there (header_bytes 1)) c.in-Ok-open_files.ensures.logged)
     (c.run_lines.ensures.leaves bytes left)
 
 pub returns-in-Err-clause-leaves : goal.returns-in-Err-clause-leaves

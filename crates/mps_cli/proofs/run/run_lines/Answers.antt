@@ -4,7 +4,7 @@ use Rattle.mps_cli.specs.Buffer.{ComesNextOf, left_of}
 use Rattle.mps_cli.specs.Script.{IsBadHere, StepsRan, commands_of_call, is_good}
 use Rattle.mps_cli.specs.declared.next.Next.TheVariants.{Line, TooLong}
 use Rattle.mps_cli.proofs.SoFar.{SoFar, at_start, answered_so_far, one_line_more, ends_long_line, ends_too_long, ends_bad_line, counts_line, quiet_line}
-use Rattle.mps_cli.proofs.LogFile.{takes_self, takes_behind_reading}
+use Rattle.mps_cli.proofs.LogFile.{takes_self, takes_after_reading}
 use Rattle.mps_cli.specs.Leaving.{Stops}
 use Rattle.mps_cli.proofs.Leaving.{leaves_line}
 use Rattle.mps_cli.proofs.run.run_lines.Goals as goal
@@ -39,7 +39,7 @@ loop-next-preserved g c = record {
   few = omega (arith, c.in-None.ensures.few, c.loop-next.invariant.few);
   counts = counts_line (g.D.Desk.outside c.args.desk.now) (g.D.Desk.outside c.loop-next.desk) (g.D.Desk.outside c.next.new.desk) (g.D.Desk.outside c.run_line.new.desk) c.loop-next.invariant.counts c.in-Ok.ensures.counted c.in-Ok.ensures.others c.in-None.ensures.counts;
   quiet = quiet_line (g.D.Desk.outside c.args.desk.now) (g.D.Desk.outside c.loop-next.desk) (g.D.Desk.outside c.next.new.desk) (g.D.Desk.outside c.run_line.new.desk) c.loop-next.invariant.quiet c.in-Ok.ensures.others c.in-None.ensures.quiet;
-  takes = takes_behind_reading (g.D.Desk.outside c.args.desk.now) (g.D.Desk.outside c.loop-next.desk) (g.D.Desk.outside c.next.new.desk) (g.D.Desk.outside c.run_line.new.desk) c.loop-next.invariant.takes c.in-Ok.ensures.others c.in-None.ensures.takes;
+  takes = takes_after_reading (g.D.Desk.outside c.args.desk.now) (g.D.Desk.outside c.loop-next.desk) (g.D.Desk.outside c.next.new.desk) (g.D.Desk.outside c.run_line.new.desk) c.loop-next.invariant.takes c.in-Ok.ensures.others c.in-None.ensures.takes;
   so_far = subst (λ left. SoFar c.run_line.new.heap (c.loop-next.line + 1) c.run_line.new.pools (g.D.Desk.outside c.args.desk.now) (g.D.Desk.outside c.run_line.new.desk) (left_of c.args.lines.now (g.D.Desk.outside c.args.desk.now).input) left)
       (sym (ap (left_of c.next.new.self) c.in-None.ensures.steps.input))
       (one_line_more c.loop-next.heap c.run_line.new.heap c.loop-next.line c.loop-next.pools c.run_line.new.pools (g.D.Desk.outside c.args.desk.now) (g.D.Desk.outside c.loop-next.desk) (g.D.Desk.outside c.next.new.desk) (g.D.Desk.outside c.run_line.new.desk) (left_of c.args.lines.now (g.D.Desk.outside c.args.desk.now).input) (left_of c.loop-next.lines (g.D.Desk.outside c.loop-next.desk).input) (left_of c.next.new.self (g.D.Desk.outside c.next.new.desk).input) c.next.new.self.line
@@ -60,7 +60,7 @@ loop-next-init g c = record {
 
 pub returns-in-Some-clause-takes : goal.returns-in-Some-clause-takes
 returns-in-Some-clause-takes g c =
-    takes_behind_reading (g.D.Desk.outside c.args.desk.now) (g.D.Desk.outside c.loop-next.desk) (g.D.Desk.outside c.next.new.desk)
+    takes_after_reading (g.D.Desk.outside c.args.desk.now) (g.D.Desk.outside c.loop-next.desk) (g.D.Desk.outside c.next.new.desk)
     (g.D.Desk.outside c.run_line.new.desk) c.loop-next.invariant.takes c.in-Ok.ensures.others c.in-Some.ensures.takes
 
 pub returns-in-Some-clause-leaves : goal.returns-in-Some-clause-leaves

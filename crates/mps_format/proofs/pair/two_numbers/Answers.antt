@@ -10,7 +10,7 @@ returns-in-Some-clause-found c = found_pair c.args.text.now c.in-Some.colon c.tw
 pub returns-in-Some-clause-exact : goal.returns-in-Some-clause-exact
 returns-in-Some-clause-exact c = λ a b fa fb e.
     let cut = cut_at_colon c.args.text.now a b c.in-Some.colon fa e (sym c.in-Some.ensures) in
-    c.two_texts.ensures.exact a b fa fb cut.before (take_rest c.args.text.now (c.in-Some.colon + 1) ∙ cut.behind)
+    c.two_texts.ensures.exact a b fa fb cut.before (take_rest c.args.text.now (c.in-Some.colon + 1) ∙ cut.after)
 
 pub returns-in-None-clause-exact : goal.returns-in-None-clause-exact
 returns-in-None-clause-exact c = λ a b fa fb e.

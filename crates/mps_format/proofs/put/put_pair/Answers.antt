@@ -1,4 +1,4 @@
--- Behind the second number all is as it was.
+-- After the second number all is as it was.
 use Rattle.std.proofs.Common.{◌∙◌}
 use Rattle.mps_format.proofs.Buffers.{alike_further}
 use Rattle.mps_format.proofs.put.put_pair.Goals as goal

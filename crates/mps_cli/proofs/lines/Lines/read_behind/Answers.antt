@@ -1,7 +1,7 @@
 use Rattle.std.proofs.Common.{◌∙◌, ap, ◌++◌, take, arith}
 use Rattle.std.proofs.lemmas.Grind.{common_steps}
 use Rattle.mps_cli.proofs.Between.{between_grown}
-use Rattle.mps_cli.proofs.lines.Lines.read_behind.Goals as goal
+use Rattle.mps_cli.proofs.lines.Lines.read_after.Goals as goal
 
 pub returns-clause-taken : goal.returns-clause-taken
 returns-clause-taken g c = record {

@@ -5,12 +5,12 @@ use Rattle.mps_seg.specs.declared.entry.Entry.{Entry}
 use Rattle.mps_seg.specs.declared.entry.Entry.TheVariants.{Free}
 use Rattle.mps_seg.specs.Segs.{SegsState, gaps_of, at_word, CanCover}
 use Rattle.mps_seg.specs.Table.{segs_state, gaps_at, IsWholeAt, IsCountAt}
-use Rattle.mps_seg.proofs.Held.{later_gaps, all_gaps, no_gaps, gaps_more, whole_at, lowest_in_first, lowest_behind, gap_at_is_free}
+use Rattle.mps_seg.proofs.Held.{later_gaps, all_gaps, no_gaps, gaps_more, whole_at, lowest_in_first, lowest_after, gap_at_is_free}
 use Rattle.mps_seg.proofs.Counts.{count_at}
 use Rattle.mps_seg.proofs.segs.Segs.lowest_gap.Goals as goal
 
-pub gap_behind-requires-clause-whole : goal.gap_behind-requires-clause-whole
-gap_behind-requires-clause-whole c =
+pub gap_after-requires-clause-whole : goal.gap_after-requires-clause-whole
+gap_after-requires-clause-whole c =
     let P : List Entry → Type 0 = λ es. IsWholeAt c.loop-grain.grain (get_or es c.loop-grain.grain Free) c.self.inside.extents in
     subst P (sym c.deref-entry-items.ensures.value) (whole_at c.self.inside.arena c.self.inside.table.items c.self.inside.extents c.loop-grain.grain (get_or c.self.inside.table.items c.loop-grain.grain Free) c.self.invariant.0 refl)
 
@@ -60,7 +60,7 @@ loop-grain-preserved c =
     let here = subst Q c.deref-entry-items.ensures.value c.in_default.ensures.lowest in
     let R : ℕ → Type 0 = λ k. lowest_fitting c.args.words (later_gaps st c.args.pool c.args.rank k (drop k table)) ≡ lowest_fitting c.args.words (later_gaps st c.args.pool c.args.rank 0 table) in
     subst R (sym (add-one grain))
-    (sym (lowest_behind c.args.words (gaps_at grain (get_or table grain Free) c.args.pool c.args.rank extents) (later_gaps st c.args.pool c.args.rank (suc grain) (drop (suc grain) table)) (sym here))
+    (sym (lowest_after c.args.words (gaps_at grain (get_or table grain Free) c.args.pool c.args.rank extents) (later_gaps st c.args.pool c.args.rank (suc grain) (drop (suc grain) table)) (sym here))
     ∙ ap (λ (rs : List Run). lowest_fitting c.args.words rs) (sym (gaps_more arena table extents c.args.pool c.args.rank grain within)) ∙ c.loop-grain.invariant)
 
 pub returns-clause-lowest : goal.returns-clause-lowest
@@ -80,8 +80,8 @@ returns-clause-lowest c =
     ∙ c.loop-grain.invariant ∙ ap (λ (rs : List Run). lowest_fitting c.args.words rs) (all_gaps arena table extents c.args.pool c.args.rank))
     ∙ ap (λ (x : SegsState). option_map at_word (lowest_fitting c.args.words (gaps_of x c.args.pool c.args.rank))) c.self.view_is
 
-pub gap_behind-requires-clause-counted : goal.gap_behind-requires-clause-counted
-gap_behind-requires-clause-counted c =
+pub gap_after-requires-clause-counted : goal.gap_after-requires-clause-counted
+gap_after-requires-clause-counted c =
     let grain = c.loop-grain.grain in
     let table = c.self.inside.table.items in
     let counts = c.self.inside.counts.items in

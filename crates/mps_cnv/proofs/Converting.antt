@@ -1,0 +1,182 @@
+-- The conversion of a log, one record after the other.
+use Rattle.std.proofs.Common.{◌≡◌, ℕ, ◌+◌, ◌<◌, ◌≤◌, true, false, List, [], ◌∷◌, ◌++◌, length, drop, Option, Some, None, Result, Ok, Err, refl, sym, ap, subst, ◌∙◌, arith}
+use Rattle.std.specs.Prelude.{IfSome, unwrap_or}
+use Rattle.std.specs.List.{All, flat_map}
+use Rattle.std.specs.Option.{option_map}
+use Rattle.std.proofs.lemmas.List.{length-append}
+use Rattle.mps_base.specs.Desk.{Outside}
+use Rattle.mps_base.specs.Record.{Record, record_bytes, records_bytes}
+use Rattle.mps_event.specs.declared.version.Version.{Version}
+use Rattle.mps_event.specs.Grammar.{IsRecord}
+use Rattle.mps_event.specs.Reading.{first_of}
+use Rattle.mps_report.specs.declared.stop.Stop.{Stop}
+use Rattle.mps_report.specs.declared.stop.Stop.TheVariants as stop
+use Rattle.mps_report.specs.Streams.{Kept}
+use Rattle.mps_log_reader.specs.Input.{Buffered, ReadsMore, IsAtEnd}
+use Rattle.mps_log_reader.specs.Left.{left_of, LastGives}
+use Rattle.mps_log_reader.specs.PutOut.{put_out, PutsOut}
+use Rattle.mps_log_reader.proofs.Left.{left_same, split_pending, nothing_left, fault_left, nothing_in_front, one_in_front, left_after_known}
+use Rattle.mps_log_reader.proofs.PutOut.{put_same, put_more, nothing_put, one_put}
+use Rattle.mps_log_reader.proofs.Records.{none_yet, all_and_one, flat_one}
+use Rattle.mps_cnv.specs.Portable.{line_of_kinds}
+use Rattle.mps_cnv.specs.Converting.{PendingGives, NextGives, AllGive}
+
+-- ---- one record
+
+-- the next record, from what is pending: the pieces before it were read and printed
+pub next_gives : (version : Version) (kinds offset : ℕ) (a b c : Outside) (x y : Buffered) (p q r : List ℕ) (size : Option ℕ)
+    → IsAtEnd a x → ReadsMore a b x y → (y.ended ≡ false → y.failed ≡ false → 40 ≤ length y.pending) → Kept b c p q → c.input ≡ b.input
+    → PendingGives version kinds offset y q r (Ok size)
+    → NextGives version kinds offset (left_of a x) (left_of c (record y { pending = drop (unwrap_or size 0) y.pending })) (put_out a p) (put_out c r) (Ok size)
+next_gives version kinds offset a b c x y p q r None at_end reads enough kept same gives =
+    let left : left_of b y ≡ left_of a x = left_same a b x y reads in
+    let put : put_out c q ≡ put_out b p = put_same b c p q kept in
+    let before : put_out b p ≡ put_out a p = ap (λ (o : Option (List ℕ)). option_map (λ printed. printed ++ p) o) reads.others.printed in (
+      subst (λ (o : Option (List ℕ)). IfSome o (λ bytes. bytes ≡ [])) left (nothing_left version y.ended y.pending b.input gives.0 (λ h. enough h gives.1) (reads.end at_end)),
+      ap (put_out c) gives.2 ∙ put ∙ before,
+    )
+next_gives version kinds offset a b c x y p q r (Some size) at_end reads enough kept same gives =
+    let left : left_of b y ≡ left_of a x = left_same a b x y reads in
+    let put : put_out c q ≡ put_out b p = put_same b c p q kept in
+    let before : put_out b p ≡ put_out a p = ap (λ (o : Option (List ℕ)). option_map (λ printed. printed ++ p) o) reads.others.printed in
+    let line = line_of_kinds version kinds gives.0 in
+    record {
+      read = gives.0;
+      grammar = gives.1;
+      sized = gives.2;
+      front = sym left ∙ split_pending (record_bytes gives.0) y.pending (drop size y.pending) b.input gives.3
+          ∙ ap (λ (o : Option (List ℕ)). option_map (λ rest. record_bytes gives.0 ++ rest) (option_map (λ rest. drop size y.pending ++ rest) o)) (sym same);
+      put = ap (put_out c) gives.4 ∙ put_more q line c.printed ∙ ap (λ (o : Option (List ℕ)). option_map (λ all. all ++ line) o) (put ∙ before);
+    }
+
+pub next_stops : (version : Version) (kinds offset : ℕ) (a b c : Outside) (x y : Buffered) (left_after : Option (List ℕ)) (p q r : List ℕ) (why : Stop)
+    → IsAtEnd a x → ReadsMore a b x y → Kept b c p q
+    → PendingGives version kinds offset y q r (Err why)
+    → NextGives version kinds offset (left_of a x) left_after (put_out a p) (put_out c r) (Err why)
+next_stops version kinds offset a b c x y left_after p q r (stop.BadRecord at fault) at_end reads kept gives =
+    let left : left_of b y ≡ left_of a x = left_same a b x y reads in
+    let put : put_out c q ≡ put_out b p = put_same b c p q kept in
+    let before : put_out b p ≡ put_out a p = ap (λ (o : Option (List ℕ)). option_map (λ printed. printed ++ p) o) reads.others.printed in (
+      gives.0,
+      subst (λ (o : Option (List ℕ)). IfSome o (λ bytes. first_of version true bytes ≡ Err fault)) left (fault_left version y.ended y.pending b.input fault gives.1 (reads.end at_end)),
+      ap (put_out c) gives.2 ∙ put ∙ before,
+    )
+next_stops version kinds offset a b c x y left_after p q r stop.ReadFailed at_end reads kept gives = tt
+next_stops version kinds offset a b c x y left_after p q r stop.WriteFailed at_end reads kept gives = tt
+next_stops version kinds offset a b c x y left_after p q r stop.BadHeader at_end reads kept gives = absurd gives
+next_stops version kinds offset a b c x y left_after p q r (stop.BadReplay at) at_end reads kept gives = absurd gives
+next_stops version kinds offset a b c x y left_after p q r (stop.BadLine line) at_end reads kept gives = absurd gives
+next_stops version kinds offset a b c x y left_after p q r stop.TooLong at_end reads kept gives = absurd gives
+next_stops version kinds offset a b c x y left_after p q r stop.OutOfMemory at_end reads kept gives = absurd gives
+
+pub room_fails : (version : Version) (kinds offset : ℕ) (left left_after before after : Option (List ℕ)) (result : Result (Unit {0}) Stop) (why : Stop)
+    → result ≡ Err stop.WriteFailed → result ≡ Err why → NextGives version kinds offset left left_after before after (Err why)
+room_fails version kinds offset left left_after before after result why e f =
+    let g : why ≡ stop.WriteFailed = cc in
+    rw g tt
+
+-- ---- all records so far
+
+pub record SoFar (version : Version) (kinds count offset : ℕ) (left left_after before after : Option (List ℕ)) : Type 0 where
+  pub records : List Record
+  pub each : All (IsRecord version) records
+  pub counted : length records ≡ count
+  pub place : offset ≡ 8 + length (records_bytes records)
+  pub front : left ≡ option_map (λ rest. records_bytes records ++ rest) left_after
+  pub put : PutsOut before after (flat_map (line_of_kinds version kinds) records)
+
+pub at_start : (version : Version) (kinds : ℕ) (left before : Option (List ℕ)) → SoFar version kinds 0 8 left left before before
+at_start version kinds left before = record {
+  records = [];
+  each = none_yet version;
+  counted = refl;
+  place = refl;
+  front = nothing_in_front left;
+  put = nothing_put before;
+}
+
+pub one_more : (version : Version) (kinds count offset size : ℕ) (left left_after left_then before after put : Option (List ℕ))
+    → SoFar version kinds count offset left left_after before after → NextGives version kinds offset left_after left_then after put (Ok (Some size))
+    → SoFar version kinds (count + 1) (offset + size) left left_then before put
+one_more version kinds count offset size left left_after left_then before after put s n =
+    let bytes : records_bytes (s.records ++ n.read ∷ []) ≡ records_bytes s.records ++ record_bytes n.read = flat_one record_bytes s.records n.read in
+    record {
+      records = s.records ++ n.read ∷ [];
+      each = all_and_one version s.records n.read s.each n.grammar;
+      counted = length-append s.records (n.read ∷ []) ∙ ap (λ (k : ℕ). k + 1) s.counted;
+      place = let a = length-append (records_bytes s.records) (record_bytes n.read) in let b = ap (λ (x : List ℕ). length x) bytes in omega (arith, s.place, n.sized, a, b);
+      front = subst (λ (x : List ℕ). left ≡ option_map (λ rest. x ++ rest) left_then) (sym bytes)
+          (one_in_front (records_bytes s.records) (record_bytes n.read) left left_after left_then s.front n.front);
+      put = subst (λ (x : List ℕ). put ≡ option_map (λ all. all ++ x) before) (sym (flat_one (line_of_kinds version kinds) s.records n.read))
+          (one_put (flat_map (line_of_kinds version kinds) s.records) (line_of_kinds version kinds n.read) before after put s.put n.put);
+    }
+
+pub all_read : (version : Version) (kinds count offset : ℕ) (left left_after left_then before after put : Option (List ℕ)) (bytes : List ℕ) → count < 4294967295
+    → SoFar version kinds count offset left left_after before after → NextGives version kinds offset left_after left_then after put (Ok None)
+    → left ≡ Some bytes → AllGive {T = Unit {0}} version kinds bytes before put (Ok tt)
+all_read version kinds count offset left left_after left_then before after put bytes few s n e =
+    let g = left_after_known (records_bytes s.records) bytes left left_after s.front e in
+    record {
+      records = s.records;
+      rest = g.0;
+      each = s.each;
+      few = omega (arith, s.counted);
+      spelled = g.2;
+      ends_at = subst (λ (o : Option (List ℕ)). IfSome o (λ bytes. bytes ≡ [])) g.1 n.0;
+      put = n.1 ∙ s.put;
+    }
+
+pub all_stop : (version : Version) (kinds count offset : ℕ) (left left_after left_then before after put : Option (List ℕ)) (bytes : List ℕ) (why : Stop) → count < 4294967295
+    → SoFar version kinds count offset left left_after before after → NextGives version kinds offset left_after left_then after put (Err why)
+    → left ≡ Some bytes → AllGive {T = Unit {0}} version kinds bytes before put (Err why)
+all_stop version kinds count offset left left_after left_then before after put bytes (stop.BadRecord at fault) few s n e =
+    let g = left_after_known (records_bytes s.records) bytes left left_after s.front e in
+    record {
+      records = s.records;
+      rest = g.0;
+      each = s.each;
+      few = omega (arith, s.counted);
+      spelled = g.2;
+      ends_at = (n.0 ∙ s.place, subst (λ (o : Option (List ℕ)). IfSome o (λ bytes. first_of version true bytes ≡ Err fault)) g.1 n.1, omega (arith, s.counted));
+      put = n.2 ∙ s.put;
+    }
+all_stop version kinds count offset left left_after left_then before after put bytes stop.ReadFailed few s n e = tt
+all_stop version kinds count offset left left_after left_then before after put bytes stop.WriteFailed few s n e = tt
+all_stop version kinds count offset left left_after left_then before after put bytes stop.BadHeader few s n e = absurd n
+all_stop version kinds count offset left left_after left_then before after put bytes (stop.BadReplay at) few s n e = absurd n
+all_stop version kinds count offset left left_after left_then before after put bytes (stop.BadLine line) few s n e = absurd n
+all_stop version kinds count offset left left_after left_then before after put bytes stop.TooLong few s n e = absurd n
+all_stop version kinds count offset left left_after left_then before after put bytes stop.OutOfMemory few s n e = absurd n
+
+pub all_counted : (version : Version) (kinds count offset : ℕ) (left left_after before after : Option (List ℕ)) (bytes : List ℕ) (result : Result (Unit {0}) Stop) → count ≡ 4294967295
+    → SoFar version kinds count offset left left_after before after → LastGives left_after result
+    → left ≡ Some bytes → AllGive {T = Unit {0}} version kinds bytes before after result
+all_counted version kinds count offset left left_after before after bytes (Ok value) full s n e =
+    let g = left_after_known (records_bytes s.records) bytes left left_after s.front e in
+    record {
+      records = s.records;
+      rest = g.0;
+      each = s.each;
+      few = omega (arith, s.counted);
+      spelled = g.2;
+      ends_at = subst (λ (o : Option (List ℕ)). IfSome o (λ bytes. bytes ≡ [])) g.1 n;
+      put = s.put;
+    }
+all_counted version kinds count offset left left_after before after bytes (Err stop.TooLong) full s n e =
+    let g = left_after_known (records_bytes s.records) bytes left left_after s.front e in
+    record {
+      records = s.records;
+      rest = g.0;
+      each = s.each;
+      few = omega (arith, s.counted);
+      spelled = g.2;
+      ends_at = (s.counted ∙ full, subst (λ (o : Option (List ℕ)). IfSome o (λ bytes. 0 < length bytes)) g.1 n);
+      put = s.put;
+    }
+all_counted version kinds count offset left left_after before after bytes (Err stop.ReadFailed) full s n e = tt
+all_counted version kinds count offset left left_after before after bytes (Err stop.WriteFailed) full s n e = absurd n
+all_counted version kinds count offset left left_after before after bytes (Err stop.BadHeader) full s n e = absurd n
+all_counted version kinds count offset left left_after before after bytes (Err (stop.BadRecord at fault)) full s n e = absurd n
+all_counted version kinds count offset left left_after before after bytes (Err (stop.BadReplay at)) full s n e = absurd n
+all_counted version kinds count offset left left_after before after bytes (Err (stop.BadLine line)) full s n e = absurd n
+all_counted version kinds count offset left left_after before after bytes (Err stop.OutOfMemory) full s n e = absurd n

@@ -1,0 +1,75 @@
+use Rattle.std.proofs.Common.{◌∙◌, ◌++◌, ℕ, List, Option, Ok, ap, arith}
+use Rattle.std.specs.Option.{option_map}
+use Rattle.std.proofs.lemmas.Result.{err_from_is_err_and}
+use Rattle.mps_log_reader.specs.Causes.{Works}
+use Rattle.mps_event.specs.KindSet.{bits_of}
+use Rattle.mps_log_reader.specs.Left.{left_of}
+use Rattle.mps_log_reader.specs.PutOut.{put_out}
+use Rattle.mps_log_reader.proofs.Causes.{works-then}
+use Rattle.mps_log_reader.proofs.PartPut.{grows_none, grows_then}
+use Rattle.mps_log_reader.proofs.Stops.{not_at_the_end, handed_on}
+use Rattle.mps_cnv.proofs.Cut.{records_cut}
+use Rattle.mps_cnv.proofs.Broken.{front_breaks, last_breaks}
+use Rattle.mps_cnv.proofs.Converting.{one_more}
+use Rattle.mps_cnv.proofs.cnv.convert_records.Goals as goal
+
+pub loop-preserved : goal.loop-preserved
+loop-preserved g c =
+    let works : Works {T = Unit {0}} (g.D.Desk.outside c.args.desk.now) (g.D.Desk.outside c.loop.desk) c.args.input.now c.loop.input (Ok tt) = c.loop.invariant.works in
+    let next = rw c.in-Some.is at c.in_ok-convert_next.ensures.gives in
+    let step = c.in_ok-convert_next.ensures.works in
+    record {
+      works = works-then _ _ _ _ _ _ (Ok tt) (Ok tt) works (record { runs = step.runs; fault = step.fault; cause = tt });
+      offset = let size = rw c.in-Some.is at c.in_ok-convert_next.ensures.size in omega (arith, size, c.loop.invariant.offset);
+      reported = c.in_ok-convert_next.ensures.reported ∙ c.loop.invariant.reported;
+      err_faults = c.in_ok-convert_next.ensures.err_faults ∙ c.loop.invariant.err_faults;
+      at_end = c.in_ok-convert_next.ensures.at_end;
+      grows = grows_then (g.D.Desk.outside c.args.desk.now).printed (g.D.Desk.outside c.loop.desk).printed (g.D.Desk.outside c.convert_next.new.desk).printed c.loop.invariant.grows c.convert_next.ensures.grows;
+      so_far = one_more c.args.version (bits_of c.args.kinds) c.loop.counter c.loop.offset c.in-Some.size
+          (left_of (g.D.Desk.outside c.args.desk.now) c.args.input.now) (left_of (g.D.Desk.outside c.loop.desk) c.loop.input) (left_of (g.D.Desk.outside c.convert_next.new.desk) c.convert_next.new.input)
+          (put_out (g.D.Desk.outside c.args.desk.now) c.args.output.now) (put_out (g.D.Desk.outside c.loop.desk) c.loop.output) (put_out (g.D.Desk.outside c.convert_next.new.desk) c.convert_next.new.output)
+          c.loop.invariant.so_far next;
+    }
+
+pub returns-in_err-convert_next-clause-broken : goal.returns-in_err-convert_next-clause-broken
+returns-in_err-convert_next-clause-broken g c failed bytes known_there =
+    let p = err_from_is_err_and c.from_residual.result c.from_residual.ensures.1 in
+    front_breaks c.args.version (bits_of c.args.kinds) c.loop.counter c.loop.offset
+    (left_of (g.D.Desk.outside c.args.desk.now) c.args.input.now) (left_of (g.D.Desk.outside c.loop.desk) c.loop.input) (g.D.Desk.outside c.convert_next.new.desk).input
+    (put_out (g.D.Desk.outside c.args.desk.now) c.args.output.now) (put_out (g.D.Desk.outside c.loop.desk) c.loop.output) (put_out (g.D.Desk.outside c.convert_next.new.desk) c.convert_next.new.output)
+    bytes (omega (arith, c.loop-test.true)) c.loop.invariant.so_far (c.in_err-convert_next.ensures.broken (handed_on _ _ c.from_residual.result p.0 _ _ p.1 p.2 failed)) known_there
+
+pub returns-clause-broken : goal.returns-clause-broken
+returns-clause-broken g c failed bytes known_there =
+    front_breaks c.args.version (bits_of c.args.kinds) c.loop.counter c.loop.offset
+    (left_of (g.D.Desk.outside c.args.desk.now) c.args.input.now) (left_of (g.D.Desk.outside c.loop.desk) c.loop.input) (g.D.Desk.outside c.after_the_last.new.desk).input
+    (put_out (g.D.Desk.outside c.args.desk.now) c.args.output.now) (put_out (g.D.Desk.outside c.loop.desk) c.loop.output) (put_out (g.D.Desk.outside c.after_the_last.new.desk) c.loop.output)
+    bytes (omega (arith, c.loop-test.false, c.loop.auto.counter-end)) c.loop.invariant.so_far
+    (last_breaks c.args.version (left_of (g.D.Desk.outside c.loop.desk) c.loop.input) (g.D.Desk.outside c.after_the_last.new.desk).input
+    (put_out (g.D.Desk.outside c.loop.desk) c.loop.output) (put_out (g.D.Desk.outside c.after_the_last.new.desk) c.loop.output)
+    (c.after_the_last.ensures.unread failed) (ap (λ (o : Option (List ℕ)). option_map (λ printed. printed ++ c.loop.output) o) c.after_the_last.ensures.printed)) known_there
+
+pub returns-in_err-convert_next-clause-grows : goal.returns-in_err-convert_next-clause-grows
+returns-in_err-convert_next-clause-grows g c =
+    grows_then (g.D.Desk.outside c.args.desk.now).printed (g.D.Desk.outside c.loop.desk).printed (g.D.Desk.outside c.convert_next.new.desk).printed c.loop.invariant.grows c.convert_next.ensures.grows
+
+pub returns-in-None-clause-grows : goal.returns-in-None-clause-grows
+returns-in-None-clause-grows g c =
+    grows_then (g.D.Desk.outside c.args.desk.now).printed (g.D.Desk.outside c.loop.desk).printed (g.D.Desk.outside c.convert_next.new.desk).printed c.loop.invariant.grows c.convert_next.ensures.grows
+
+pub returns-clause-grows : goal.returns-clause-grows
+returns-clause-grows g c =
+    grows_then (g.D.Desk.outside c.args.desk.now).printed (g.D.Desk.outside c.loop.desk).printed (g.D.Desk.outside c.after_the_last.new.desk).printed c.loop.invariant.grows
+    (grows_none (g.D.Desk.outside c.loop.desk).printed (g.D.Desk.outside c.after_the_last.new.desk).printed c.after_the_last.ensures.printed)
+
+pub returns-in_err-convert_next-clause-cut : goal.returns-in_err-convert_next-clause-cut
+returns-in_err-convert_next-clause-cut g c failed bytes known_there =
+    let p = err_from_is_err_and c.from_residual.result c.from_residual.ensures.1 in
+    records_cut c.args.version (bits_of c.args.kinds) c.loop.counter c.loop.offset
+    (left_of (g.D.Desk.outside c.args.desk.now) c.args.input.now) (left_of (g.D.Desk.outside c.loop.desk) c.loop.input)
+    (g.D.Desk.outside c.args.desk.now) (g.D.Desk.outside c.loop.desk) (g.D.Desk.outside c.convert_next.new.desk) c.args.output.now c.loop.output bytes
+    (omega (arith, c.loop-test.true)) c.loop.invariant.so_far c.loop.invariant.grows (c.in_err-convert_next.ensures.cut (handed_on _ _ c.from_residual.result p.0 _ _ p.1 p.2 failed)) known_there
+
+pub returns-clause-cut : goal.returns-clause-cut
+returns-clause-cut g c failed bytes known_there =
+    not_at_the_end _ (left_of (g.D.Desk.outside c.loop.desk) c.loop.input) c.after_the_last.result (c.after_the_last.ensures.gives c.loop.invariant.at_end) failed

@@ -1,0 +1,215 @@
+// `cnv`: the portable text of a log.
+
+ghost use Rattle.std.specs.Prelude.{◌≡◌, ◌≢◌, ◌≤◌, ◌<◌, ◌+◌, ◌*◌, ◌++◌, ◌⊎◌, ℕ, List, Some, true, length, IfOk, IfSome};
+ghost use Rattle.mps_log_reader.specs.Causes.{IsCaused, IsTold, Works, Answers};
+ghost use Rattle.std.specs.List.{flat_map};
+ghost use Rattle.mps_event.specs.Event.{event_of};
+ghost use Rattle.mps_event.specs.Reading.{first_of};
+ghost use Rattle.mps_cnv.specs.Portable.{is_wanted, line_of_kinds};
+ghost use Rattle.mps_log_reader.specs.RecordLine.{record_line, field_text};
+ghost use Rattle.mps_log_reader.specs.Input.{IsAtEnd};
+ghost use Rattle.mps_log_reader.specs.Left.{left_of};
+ghost use Rattle.mps_log_reader.specs.PutOut.{put_out, Grows, PutsPart};
+ghost use Rattle.mps_log_reader.specs.Ending.{is_whole_status, IsUnopened, ReportsStatus};
+ghost use Rattle.mps_log_reader.specs.Opening.{OpensNothing};
+ghost use Rattle.mps_cnv.specs.Converted.{ConvertedWith, HasConverted, IsCutRecord, IsCutShort, Fails, IsOnly};
+ghost use Rattle.mps_cnv.specs.Converting.{ConvertsPart, ConvertsFront, PendingGives, NextGives, AllGive};
+ghost use Rattle.mps_event.specs.KindSet.{bits_of};
+ghost use Rattle.mps_report.specs.Reports.{report_of};
+ghost use Rattle.mps_report.specs.Streams.{Runs, Reports};
+ghost use Rattle.mps_report.specs.declared.stop.Stop.TheVariants.{OutOfMemory};
+
+
+use mps_base::Desk;
+use mps_event::{Event, Kinds, RecordRef, Version, first};
+use mps_report::{Output, Stop, finish};
+use mps_log_reader::{
+    Input, MOST_OF_A_RECORD, after_the_last, flush_after, make_room, open_log, put_first_line,
+};
+use std::alloc::Global;
+
+/// Prints the portable text of the log of this name, of the records of these kinds, and answers the status of the
+/// program: 0, or with a report 3 where a read failed, 4 where a write failed, 6 at the first record that is wrong, 7
+/// where record 2^32 begins, 8 for out of memory.
+pub fn cnv<D: Desk>(alloc: Global, log: &str, kinds: Kinds, desk: &mut D) -> u8
+    ensures answers { Answers (D.outside desk.old) (D.outside desk.new) result }
+    // With any status its ending was reported, and nothing with 0.
+    ensures reported { ReportsStatus result (D.outside desk.old) (D.outside desk.new) }
+    // Where the opened file is told, and the status is none of a fault or for out of memory: exactly this was printed.
+    ensures converted { is_whole_status result ≡ true → (bytes : List ℕ) → (D.outside desk.old).text log.now ≡ Some bytes
+        → ConvertedWith (bits_of kinds) bytes result (D.outside desk.old) (D.outside desk.new) }
+    // Where the log could not be read: the whole records that had come were printed; a prefix of that, where a write failed
+    // too.
+    ensures broken { result ≡ 3 → (bytes : List ℕ) → (D.outside desk.old).text log.now ≡ Some bytes
+        → Fails (bits_of kinds) bytes (D.outside desk.old) (D.outside desk.new) }
+    // Where the desk tells what it opens, a log that is not there is not read: nothing is printed.
+    ensures missing { OpensNothing (D.outside desk.old) log.now → IsUnopened result (D.outside desk.old) (D.outside desk.new) }
+    // Memory runs out only before the desk is called: that is reported, and nothing else happens.
+    ensures no_memory { result ≡ 8 → Reports (D.outside desk.old) (D.outside desk.new) (report_of OutOfMemory) }
+    // Where a write failed: a front of the text was printed.
+    ensures cut { result ≡ 4 → (bytes : List ℕ) → (D.outside desk.old).text log.now ≡ Some bytes
+        → IsCutShort (bits_of kinds) bytes (D.outside desk.old) (D.outside desk.new) }
+    // And nothing else: a whole log gives 0 and all of its text, one with a bad record gives 6 and the text before it.
+    ensures only { is_whole_status result ≡ true → (bytes : List ℕ) → (D.outside desk.old).text log.now ≡ Some bytes
+        → IsOnly (bits_of kinds) bytes result (D.outside desk.old) (D.outside desk.new) }
+{
+    let ending = convert(alloc, log, kinds, desk);
+    finish(ending, desk)
+}
+
+fn convert<D: Desk>(alloc: Global, log: &str, kinds: Kinds, desk: &mut D) -> Result<(), Stop>
+    ensures cause { IsCaused (D.outside desk.old) (D.outside desk.new) result }
+    ensures runs { Runs (D.outside desk.old) (D.outside desk.new) }
+    ensures reported { (D.outside desk.new).reported ≡ (D.outside desk.old).reported }
+    ensures err_faults { (D.outside desk.new).err_faults ≡ (D.outside desk.old).err_faults }
+    ensures broken { result ≡ Err Stop.ReadFailed → (bytes : List ℕ) → (D.outside desk.old).text log.now ≡ Some bytes
+        → Fails (bits_of kinds) bytes (D.outside desk.old) (D.outside desk.new) }
+    ensures missing { OpensNothing (D.outside desk.old) log.now
+        → ((result ≡ Err Stop.ReadFailed) ⊎ (result ≡ Err Stop.OutOfMemory)) × ((D.outside desk.new).printed ≡ (D.outside desk.old).printed) }
+    ensures no_memory { result ≡ Err Stop.OutOfMemory → D.outside desk.new ≡ D.outside desk.old }
+    ensures cut { result ≡ Err Stop.WriteFailed → (bytes : List ℕ) → (D.outside desk.old).text log.now ≡ Some bytes
+        → IsCutShort (bits_of kinds) bytes (D.outside desk.old) (D.outside desk.new) }
+    ensures converted { (bytes : List ℕ) → (D.outside desk.old).text log.now ≡ Some bytes
+        → HasConverted (bits_of kinds) bytes result (D.outside desk.old) (D.outside desk.new) }
+{
+    let mut input = match Input::new(alloc) {
+        Ok(input) => input,
+        Err(_) => return Err(Stop::OutOfMemory),
+    };
+    let mut output = match Output::new(alloc) {
+        Ok(output) => output,
+        Err(_) => return Err(Stop::OutOfMemory),
+    };
+    let version = open_log(log, &mut input, desk)?;
+    put_first_line(version, &mut output);
+    let ending = convert_records(version, kinds, &mut input, &mut output, desk);
+    flush_after(ending, &mut output, desk)
+}
+
+fn convert_records<D: Desk>(
+    version: Version,
+    kinds: Kinds,
+    input: &mut Input,
+    output: &mut Output,
+    desk: &mut D,
+) -> Result<(), Stop>
+    requires { IsAtEnd (D.outside desk.old) input.old }
+    ensures works { Works (D.outside desk.old) (D.outside desk.new) input.old input.new result }
+    ensures reported { (D.outside desk.new).reported ≡ (D.outside desk.old).reported }
+    ensures err_faults { (D.outside desk.new).err_faults ≡ (D.outside desk.old).err_faults }
+    ensures broken { result ≡ Err Stop.ReadFailed → (bytes : List ℕ) → left_of (D.outside desk.old) input.old ≡ Some bytes
+        → ConvertsFront version (bits_of kinds) bytes (D.outside desk.new).input (put_out (D.outside desk.old) output.old) (put_out (D.outside desk.new) output.new) }
+    ensures memory { result ≢ Err Stop.OutOfMemory }
+    ensures grows { Grows (D.outside desk.old).printed (D.outside desk.new).printed }
+    ensures cut { result ≡ Err Stop.WriteFailed → (bytes : List ℕ) → left_of (D.outside desk.old) input.old ≡ Some bytes
+        → ConvertsPart version (bits_of kinds) bytes output.old (D.outside desk.old).printed (D.outside desk.new).printed }
+    ensures all { (bytes : List ℕ) → left_of (D.outside desk.old) input.old ≡ Some bytes
+        → AllGive version (bits_of kinds) bytes (put_out (D.outside desk.old) output.old) (put_out (D.outside desk.new) output.new) result }
+{
+    let mut offset: u64 = 8;
+    for _ in 0..u32::MAX {
+        match convert_next(version, kinds, input, offset, output, desk)? {
+            None => return Ok(()),
+            Some(size) => offset += size as u64,
+        }
+    }
+    after_the_last(input, desk)
+}
+
+// The next record, and its size; None at the end.
+fn convert_next<D: Desk>(
+    version: Version,
+    kinds: Kinds,
+    input: &mut Input,
+    offset: u64,
+    output: &mut Output,
+    desk: &mut D,
+) -> Result<Option<usize>, Stop>
+    requires { IsAtEnd (D.outside desk.old) input.old }
+    ensures works { Works (D.outside desk.old) (D.outside desk.new) input.old input.new result }
+    ensures size { IfOk result (λ o. IfSome o (λ size. size ≤ 40)) }
+    ensures gives { NextGives version (bits_of kinds) offset (left_of (D.outside desk.old) input.old) (left_of (D.outside desk.new) input.new)
+        (put_out (D.outside desk.old) output.old) (put_out (D.outside desk.new) output.new) result }
+    ensures broken { result ≡ Err Stop.ReadFailed → ((bytes : List ℕ) → left_of (D.outside desk.old) input.old ≡ Some bytes
+        → IsCutRecord version bytes (D.outside desk.new).input) × (put_out (D.outside desk.new) output.new ≡ put_out (D.outside desk.old) output.old) }
+    ensures grows { Grows (D.outside desk.old).printed (D.outside desk.new).printed }
+    ensures cut { result ≡ Err Stop.WriteFailed → PutsPart (D.outside desk.old).printed (D.outside desk.new).printed output.old }
+    ensures at_end { IsAtEnd (D.outside desk.new) input.new }
+    ensures reported { (D.outside desk.new).reported ≡ (D.outside desk.old).reported }
+    ensures err_faults { (D.outside desk.new).err_faults ≡ (D.outside desk.old).err_faults }
+{
+    input.fill(MOST_OF_A_RECORD, desk);
+    make_room(output, desk)?;
+    let size = convert_record(version, kinds, input, offset, output)?;
+    input.take(size.unwrap_or(0));
+    Ok(size)
+}
+
+// The record at the front, and its size; None at the end.
+fn convert_record(
+    version: Version,
+    kinds: Kinds,
+    input: &Input,
+    offset: u64,
+    output: &mut Output,
+) -> Result<Option<usize>, Stop>
+    requires { length output.old + 512 ≤ 65536 }
+    ensures known_there { IsTold input.now result }
+    ensures size { IfOk result (λ o. IfSome o (λ size. (size ≤ 40) × (size ≤ length input.now.pending))) }
+    ensures broken { result ≡ Err Stop.ReadFailed → (first_of version input.now.ended input.now.pending ≡ Ok None) × (output.new ≡ output.old) }
+    ensures gives { PendingGives version (bits_of kinds) offset input.now output.old output.new result }
+{
+    match first(input.pending(), input.has_ended(), version) {
+        Err(fault) => Err(Stop::BadRecord(offset, fault)),
+        Ok(None) if input.has_failed() => Err(Stop::ReadFailed),
+        Ok(None) => Ok(None),
+        Ok(Some(entry)) => {
+            put_wanted(&entry, version, kinds, output);
+            Ok(Some(entry.size()))
+        }
+    }
+}
+
+// The line of a record of one of these kinds.
+fn put_wanted(entry: &RecordRef<'_>, version: Version, kinds: Kinds, output: &mut Output)
+    requires room { length output.old + 512 ≤ 65536 }
+    requires count { length entry.now.fields ≤ 4 }
+    ensures { output.new ≡ output.old ++ line_of_kinds version (bits_of kinds) entry.now }
+{
+    if is_wanted(entry, version, kinds) {
+        put_record(entry, output);
+    }
+}
+
+fn is_wanted(entry: &RecordRef<'_>, version: Version, kinds: Kinds) -> bool
+    ensures { result ≡ is_wanted (bits_of kinds) (event_of version entry.now.code) }
+{
+    match Event::of_code(entry.code(), version) {
+        Some(event) => kinds.has(event),
+        None => false,
+    }
+}
+
+// The line of a record.
+fn put_record(entry: &RecordRef<'_>, output: &mut Output)
+    requires room { length output.old + 512 ≤ 65536 }
+    requires count { length entry.now.fields ≤ 4 }
+    ensures { output.new ≡ output.old ++ record_line entry.now }
+{
+    output.decimal(u64::from(entry.line()));
+    output.text(b" ");
+    output.decimal(u64::from(entry.code()));
+    put_fields(entry, output);
+    output.text(b"\n");
+}
+
+fn put_fields(entry: &RecordRef<'_>, output: &mut Output)
+    requires room { length output.old + 17 * length entry.now.fields ≤ 65536 }
+    ensures text { output.new ≡ output.old ++ flat_map field_text entry.now.fields }
+    ensures size { length output.new ≤ length output.old + 17 * length entry.now.fields }
+{
+    for i in 0..entry.count() {
+        output.text(b" ");
+        output.hexadecimal(entry.field(i));
+    }
+}

@@ -1,5 +1,0 @@
-use Rattle.mps_live_blocks.proofs.Ascending.{blocks_ascend}
-use Rattle.mps_live_blocks.proofs.laws.live_blocks_ascend.Goals as goal
-
-pub returns : goal.returns
-returns c = λ records s e. blocks_ascend records s e

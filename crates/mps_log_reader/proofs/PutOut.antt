@@ -1,0 +1,29 @@
+-- What was put out, of told and unknown texts.
+use Rattle.std.proofs.Common.{◌≡◌, ℕ, List, [], ◌++◌, Option, Some, None, refl, sym, ap, append_assoc}
+use Rattle.std.specs.Option.{option_map}
+use Rattle.std.proofs.lemmas.List.{append-nil}
+use Rattle.mps_base.specs.Desk.{Outside}
+use Rattle.mps_report.specs.Streams.{Kept}
+use Rattle.mps_log_reader.specs.PutOut.{put_out}
+
+puts_kept : (text gathered_before gathered : List ℕ) (p q : Option (List ℕ)) → q ≡ option_map (λ before. before ++ text) p → gathered_before ≡ text ++ gathered
+    → option_map (λ printed. printed ++ gathered) q ≡ option_map (λ printed. printed ++ gathered_before) p
+puts_kept text gathered_before gathered None q e f = rw e refl
+puts_kept text gathered_before gathered (Some before) q e f = rw (e, f) (ap Some (append_assoc before text gathered))
+
+-- so does printing what was put out
+pub put_same : (a b : Outside) (x y : List ℕ) → Kept a b x y → put_out b y ≡ put_out a x
+put_same a b x y k = puts_kept k.text x y a.printed b.printed k.printed.printed k.same
+
+pub put_more : (gathered text : List ℕ) (p : Option (List ℕ)) → option_map (λ printed. printed ++ (gathered ++ text)) p
+    ≡ option_map (λ all. all ++ text) (option_map (λ printed. printed ++ gathered) p)
+put_more gathered text None = refl
+put_more gathered text (Some before) = ap Some (sym (append_assoc before gathered text))
+
+pub nothing_put : (known_there : Option (List ℕ)) → known_there ≡ option_map (λ all. all ++ []) known_there
+nothing_put None = refl
+nothing_put (Some text) = ap Some (sym (append-nil text))
+
+pub one_put : (x y : List ℕ) (a b c : Option (List ℕ)) → b ≡ option_map (λ all. all ++ x) a → c ≡ option_map (λ all. all ++ y) b → c ≡ option_map (λ all. all ++ (x ++ y)) a
+one_put x y None b c e f = rw (f, e) refl
+one_put x y (Some all) b c e f = rw (f, e) (ap Some (append_assoc all x y))

@@ -1,0 +1,55 @@
+use Rattle.std.proofs.Common.{refl, [], ◌∷◌}
+use Rattle.mps_base.specs.declared.moves.Move.TheVariants as moves
+use Rattle.mps_model.specs.Units.{reclaims}
+use Rattle.mps_model_examples.specs.Script.{address}
+use Rattle.mps_model_examples.specs.Flipped.{FlippedIsLegal}
+use Rattle.mps_model_examples.proofs.Steps.{answered}
+
+pub flipped_is_legal : FlippedIsLegal
+flipped_is_legal = (
+  answered tt refl refl tt refl refl refl refl refl,
+  (
+    answered tt refl refl tt refl refl refl refl refl,
+    (
+      answered tt refl refl tt refl refl refl refl refl,
+      (
+        answered tt refl refl tt refl refl refl refl refl,
+        (
+          answered (record { placement = (refl, refl); of_pool = refl; of_generation = refl }, tt) (record { poll = refl; segment = refl }) refl tt refl refl refl refl refl,
+          (
+            answered (
+              record { none_runs = refl; of_zones = refl },
+              (
+                record { empty = refl; due = refl },
+                (record { survivors = tt; copied = refl; segments = refl }, tt),
+              ),
+            )
+                (record {
+                  earlier = [];
+                  later = moves.Unseg (address 0x1000) ∷ moves.End ∷ [];
+                  whole = refl;
+                  earlier_ends = refl;
+                  later_ends = record {
+                    pieces = (moves.Unseg (address 0x1000) ∷ moves.End ∷ []) ∷ [];
+                    cut = refl;
+                    row = reclaims (record { base = 0x1000; freed = []; condemned = refl; in_turn = refl; ascending = refl; in_segment = refl; whole = refl });
+                    ends = refl;
+                  };
+                })
+                refl tt refl refl refl refl refl,
+            (
+              answered tt refl refl tt refl refl refl refl refl,
+              (
+                answered tt refl refl tt refl refl refl refl refl,
+                (
+                  answered tt refl refl tt refl refl refl refl refl,
+                  (answered tt refl refl tt refl refl refl refl refl, tt),
+                ),
+              ),
+            ),
+          ),
+        ),
+      ),
+    ),
+  ),
+)

@@ -1,0 +1,5 @@
+use Rattle.mps_model_examples.proofs.WrongAnswers as history
+use Rattle.mps_model_examples.proofs.limit_beside_gap.Goals as goal
+
+pub returns : goal.returns
+returns c = history.limit_beside_gap

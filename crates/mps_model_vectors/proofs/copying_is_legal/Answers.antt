@@ -1,5 +1,0 @@
-use Rattle.mps_model_vectors.proofs.Copying as history
-use Rattle.mps_model_vectors.proofs.copying_is_legal.Goals as goal
-
-pub returns : goal.returns
-returns c = history.copying_is_legal

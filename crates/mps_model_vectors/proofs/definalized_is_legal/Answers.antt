@@ -1,5 +1,0 @@
-use Rattle.mps_model_vectors.proofs.Definalized as history
-use Rattle.mps_model_vectors.proofs.definalized_is_legal.Goals as goal
-
-pub returns : goal.returns
-returns c = history.definalized_is_legal

@@ -1,5 +1,0 @@
-use Rattle.mps_model_vectors.proofs.Depending as history
-use Rattle.mps_model_vectors.proofs.depending_is_legal.Goals as goal
-
-pub returns : goal.returns
-returns c = history.depending_is_legal

@@ -1,5 +1,0 @@
-use Rattle.mps_model_vectors.proofs.FillingGaps as history
-use Rattle.mps_model_vectors.proofs.filling_gaps_is_legal.Goals as goal
-
-pub returns : goal.returns
-returns c = history.filling_gaps_is_legal

@@ -1,5 +1,0 @@
-use Rattle.mps_model_vectors.proofs.WrongAnswers as history
-use Rattle.mps_model_vectors.proofs.fresh_after_move.Goals as goal
-
-pub returns : goal.returns
-returns c = history.fresh_after_move

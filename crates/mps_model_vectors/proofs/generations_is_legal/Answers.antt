@@ -1,5 +1,0 @@
-use Rattle.mps_model_vectors.proofs.Generations as history
-use Rattle.mps_model_vectors.proofs.generations_is_legal.Goals as goal
-
-pub returns : goal.returns
-returns c = history.generations_is_legal

@@ -1,5 +1,0 @@
-use Rattle.mps_model_vectors.proofs.WrongAnswers as history
-use Rattle.mps_model_vectors.proofs.get_of_old_place.Goals as goal
-
-pub returns : goal.returns
-returns c = history.get_of_old_place

@@ -1,5 +1,0 @@
-use Rattle.mps_model_vectors.proofs.Incremental as history
-use Rattle.mps_model_vectors.proofs.incremental_is_legal.Goals as goal
-
-pub returns : goal.returns
-returns c = history.incremental_is_legal

@@ -1,5 +1,0 @@
-use Rattle.mps_model_vectors.proofs.WrongAnswers as history
-use Rattle.mps_model_vectors.proofs.limit_beside_gap.Goals as goal
-
-pub returns : goal.returns
-returns c = history.limit_beside_gap

@@ -1,5 +1,0 @@
-use Rattle.mps_model_vectors.proofs.Manual as history
-use Rattle.mps_model_vectors.proofs.manual_is_legal.Goals as goal
-
-pub returns : goal.returns
-returns c = history.manual_is_legal

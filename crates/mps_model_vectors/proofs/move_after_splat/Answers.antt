@@ -1,5 +1,0 @@
-use Rattle.mps_model_vectors.proofs.WrongMoves as history
-use Rattle.mps_model_vectors.proofs.move_after_splat.Goals as goal
-
-pub returns : goal.returns
-returns c = history.move_after_splat

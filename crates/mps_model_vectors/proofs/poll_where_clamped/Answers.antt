@@ -1,5 +1,0 @@
-use Rattle.mps_model_vectors.proofs.WrongUnits as history
-use Rattle.mps_model_vectors.proofs.poll_where_clamped.Goals as goal
-
-pub returns : goal.returns
-returns c = history.poll_where_clamped

@@ -1,5 +1,0 @@
-use Rattle.mps_model_vectors.proofs.ReadingOn as history
-use Rattle.mps_model_vectors.proofs.reading_on_is_legal.Goals as goal
-
-pub returns : goal.returns
-returns c = history.reading_on_is_legal

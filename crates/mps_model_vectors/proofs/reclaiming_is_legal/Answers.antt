@@ -1,5 +1,0 @@
-use Rattle.mps_model_vectors.proofs.Reclaiming as history
-use Rattle.mps_model_vectors.proofs.reclaiming_is_legal.Goals as goal
-
-pub returns : goal.returns
-returns c = history.reclaiming_is_legal

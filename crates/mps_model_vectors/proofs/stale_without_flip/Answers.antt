@@ -1,5 +1,0 @@
-use Rattle.mps_model_vectors.proofs.WrongAnswers as history
-use Rattle.mps_model_vectors.proofs.stale_without_flip.Goals as goal
-
-pub returns : goal.returns
-returns c = history.stale_without_flip

@@ -1,5 +1,0 @@
-use Rattle.mps_model_vectors.proofs.WrongUnits as history
-use Rattle.mps_model_vectors.proofs.start_does_all.Goals as goal
-
-pub returns : goal.returns
-returns c = history.start_does_all

@@ -1,5 +1,0 @@
-use Rattle.mps_model_vectors.proofs.WrongMoves as history
-use Rattle.mps_model_vectors.proofs.stay_beside_room.Goals as goal
-
-pub returns : goal.returns
-returns c = history.stay_beside_room

@@ -1,5 +1,0 @@
-use Rattle.mps_model_vectors.proofs.Staying as history
-use Rattle.mps_model_vectors.proofs.staying_is_legal.Goals as goal
-
-pub returns : goal.returns
-returns c = history.staying_is_legal

@@ -1,5 +1,0 @@
-use Rattle.mps_model_vectors.proofs.Stepping as history
-use Rattle.mps_model_vectors.proofs.stepping_is_legal.Goals as goal
-
-pub returns : goal.returns
-returns c = history.stepping_is_legal

@@ -1,5 +1,0 @@
-use Rattle.mps_model_vectors.proofs.WrongUnits as history
-use Rattle.mps_model_vectors.proofs.two_units_for_one.Goals as goal
-
-pub returns : goal.returns
-returns c = history.two_units_for_one

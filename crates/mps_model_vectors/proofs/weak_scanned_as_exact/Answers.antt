@@ -1,5 +1,0 @@
-use Rattle.mps_model_vectors.proofs.WrongUnits as history
-use Rattle.mps_model_vectors.proofs.weak_scanned_as_exact.Goals as goal
-
-pub returns : goal.returns
-returns c = history.weak_scanned_as_exact

@@ -1,0 +1,15 @@
+// Texts put after one another into borrowed bytes.
+
+ghost use Rattle.std.specs.Prelude.{◌≡◌, ◌≤◌, ◌+◌, ◌++◌, length, take, drop};
+
+/// Writes a text at `at`, and answers the place after it. What stands before and after stays.
+pub fn put_text(text: &[u8], out: &mut [u8], at: usize) -> usize
+    requires { at + length text.now ≤ length out.old }
+    ensures end { result ≡ at + length text.now }
+    ensures text { take result out.new ≡ take at out.old ++ text.now }
+    ensures rest { drop result out.new ≡ drop result out.old }
+{
+    let end = at + text.len();
+    out[at..end].copy_from_slice(text);
+    end
+}

@@ -1,0 +1,157 @@
+-- What is printed and reported piece by piece.
+use Rattle.std.proofs.Common.{◌≡◌, ℕ, ◌+◌, ◌-◌, ◌≤◌, List, [], ◌++◌, length, take, drop, Option, Some, None, refl, sym, ap, subst, ◌∙◌, append_assoc, arith, inl, inr}
+use Rattle.std.specs.Option.{option_map}
+use Rattle.std.proofs.lemmas.List.{append-nil, take_all, take_rest}
+use Rattle.std.proofs.Math.Seq.{take-add}
+use Rattle.mps_base.specs.Desk.{Outside, HasRisen, OnlyPrints, OnlyReports, added}
+use Rattle.mps_report.specs.Streams.{Prints, PrintsPart, Reports}
+
+-- ---- texts after one another
+
+nothing_after : (known_there : Option (List ℕ)) → known_there ≡ option_map (λ before. before ++ []) known_there
+nothing_after None = refl
+nothing_after (Some text) = ap Some (sym (append-nil text))
+
+both_after : (a b c : Option (List ℕ)) (x y : List ℕ) → b ≡ option_map (λ before. before ++ x) a → c ≡ option_map (λ before. before ++ y) b
+    → c ≡ option_map (λ before. before ++ (x ++ y)) a
+both_after None b c x y e f = rw (f, e) refl
+both_after (Some text) b c x y e f = rw (f, e) (ap Some (append_assoc text x y))
+
+-- ---- counts
+
+pub risen_later : (a b c : ℕ) → HasRisen a b → b ≤ c → HasRisen a c
+risen_later a b c (inl up) le = inl (omega arith)
+risen_later a b c (inr last) le = inr (omega arith)
+
+pub risen_earlier : (a b c : ℕ) → a ≤ b → HasRisen b c → HasRisen a c
+risen_earlier a b c le (inl up) = inl (omega arith)
+risen_earlier a b c le (inr last) = inr last
+
+-- ---- printing
+
+prints_only-same : (o : Outside) → OnlyPrints o o
+prints_only-same o = record {
+  files = refl;
+  text = refl;
+  input = refl;
+  in_faults = refl;
+  logged = refl;
+  log_faults = refl;
+  reported = refl;
+  err_faults = refl;
+}
+
+pub prints_only-then : (a b c : Outside) → OnlyPrints a b → OnlyPrints b c → OnlyPrints a c
+prints_only-then a b c e f = record {
+  files = f.files ∙ e.files;
+  text = f.text ∙ e.text;
+  input = f.input ∙ e.input;
+  in_faults = f.in_faults ∙ e.in_faults;
+  logged = f.logged ∙ e.logged;
+  log_faults = f.log_faults ∙ e.log_faults;
+  reported = f.reported ∙ e.reported;
+  err_faults = f.err_faults ∙ e.err_faults;
+}
+
+pub prints-none : (o : Outside) → Prints o o []
+prints-none o = record { printed = nothing_after o.printed; counted = omega arith; others = prints_only-same o }
+
+pub prints-then : (a b c : Outside) (x y : List ℕ) → Prints a b x → Prints b c y → Prints a c (x ++ y)
+prints-then a b c x y e f = record {
+  printed = both_after a.printed b.printed c.printed x y e.printed f.printed;
+  counted = omega (arith, e.counted, f.counted);
+  others = prints_only-then a b c e.others f.others;
+}
+
+pub prints-as : (a b : Outside) (x y : List ℕ) → x ≡ y → Prints a b x → Prints a b y
+prints-as a b x y e p = subst (λ (z : List ℕ). Prints a b z) e p
+
+-- a piece more of the bytes was taken
+pub prints_more : (a b c : Outside) (bytes : List ℕ) (at count : ℕ) → Prints a b (take at bytes)
+    → c.printed ≡ added b.printed (take (length bytes - at) (drop at bytes)) count → b.out_faults ≤ c.out_faults → OnlyPrints b c
+    → Prints a c (take (at + count) bytes)
+prints_more a b c bytes at count before printed counted others =
+    let piece : Prints b c (take count (take (length bytes - at) (drop at bytes))) = record { printed = printed; counted = counted; others = others } in
+    let text : take at bytes ++ take count (take (length bytes - at) (drop at bytes)) ≡ take (at + count) bytes =
+    ap (λ (x : List ℕ). take at bytes ++ take count x) (take_rest bytes at) ∙ sym (take-add at count bytes) in
+    prints-as a c _ _ text (prints-then a b c (take at bytes) _ before piece)
+
+-- a call that failed took nothing
+pub prints_no_more : (a b c : Outside) (text : List ℕ) → Prints a b text → c.printed ≡ b.printed → b.out_faults ≤ c.out_faults → OnlyPrints b c → Prints a c text
+prints_no_more a b c text before printed counted others =
+    let piece : Prints b c [] = record { printed = printed ∙ nothing_after b.printed; counted = counted; others = others } in
+    prints-as a c _ _ (append-nil text) (prints-then a b c text [] before piece)
+
+-- a fault after a prefix of the bytes was printed
+pub part_printed : (a b c : Outside) (bytes : List ℕ) (at : ℕ) → Prints a b (take at bytes) → c.printed ≡ b.printed → b.out_faults ≤ c.out_faults → OnlyPrints b c
+    → HasRisen b.out_faults c.out_faults → PrintsPart a c bytes
+part_printed a b c bytes at before printed counted others fault = record {
+  count = at;
+  part = prints_no_more a b c (take at bytes) before printed counted others;
+  fault = risen_earlier a.out_faults b.out_faults c.out_faults before.counted fault;
+}
+
+pub all_printed : (a b : Outside) (bytes : List ℕ) (at : ℕ) → length bytes ≤ at → Prints a b (take at bytes) → Prints a b bytes
+all_printed a b bytes at le p = prints-as a b _ _ (take_all at bytes le) p
+
+-- ---- reporting
+
+pub reports_only-same : (o : Outside) → OnlyReports o o
+reports_only-same o = record {
+  files = refl;
+  text = refl;
+  input = refl;
+  in_faults = refl;
+  logged = refl;
+  log_faults = refl;
+  printed = refl;
+  out_faults = refl;
+}
+
+pub reports_only-then : (a b c : Outside) → OnlyReports a b → OnlyReports b c → OnlyReports a c
+reports_only-then a b c e f = record {
+  files = f.files ∙ e.files;
+  text = f.text ∙ e.text;
+  input = f.input ∙ e.input;
+  in_faults = f.in_faults ∙ e.in_faults;
+  logged = f.logged ∙ e.logged;
+  log_faults = f.log_faults ∙ e.log_faults;
+  printed = f.printed ∙ e.printed;
+  out_faults = f.out_faults ∙ e.out_faults;
+}
+
+-- so far no fault came
+pub record IsReporting (old new : Outside) (text : List ℕ) : Type 0 where
+  pub reported : new.reported ≡ option_map (λ before. before ++ text) old.reported
+  pub counted : old.err_faults ≤ new.err_faults
+  pub others : OnlyReports old new
+
+pub reports-none : (o : Outside) → IsReporting o o []
+reports-none o = record { reported = nothing_after o.reported; counted = omega arith; others = reports_only-same o }
+
+pub reports_more : (a b c : Outside) (bytes : List ℕ) (at count : ℕ) → IsReporting a b (take at bytes)
+    → c.reported ≡ added b.reported (take (length bytes - at) (drop at bytes)) count → b.err_faults ≤ c.err_faults → OnlyReports b c
+    → IsReporting a c (take (at + count) bytes)
+reports_more a b c bytes at count before reported counted others =
+    let text : take at bytes ++ take count (take (length bytes - at) (drop at bytes)) ≡ take (at + count) bytes =
+    ap (λ (x : List ℕ). take at bytes ++ take count x) (take_rest bytes at) ∙ sym (take-add at count bytes) in
+    record {
+      reported = both_after a.reported b.reported c.reported (take at bytes) (take count (take (length bytes - at) (drop at bytes))) before.reported reported
+          ∙ ap (λ (x : List ℕ). option_map (λ front. front ++ x) a.reported) text;
+      counted = omega (arith, before.counted);
+      others = reports_only-then a b c before.others others;
+    }
+
+pub reported_all : (a b : Outside) (bytes : List ℕ) (at : ℕ) → length bytes ≤ at → IsReporting a b (take at bytes) → Reports a b bytes
+reported_all a b bytes at le r = record {
+  reported = inr (r.reported ∙ ap (λ (x : List ℕ). option_map (λ front. front ++ x) a.reported) (take_all at bytes le));
+  counted = r.counted;
+  others = r.others;
+}
+
+pub report_failed : (a b c : Outside) (bytes front : List ℕ) → IsReporting a b front → OnlyReports b c → HasRisen b.err_faults c.err_faults → b.err_faults ≤ c.err_faults → Reports a c bytes
+report_failed a b c bytes front r others fault counted = record {
+  reported = inl (risen_earlier a.err_faults b.err_faults c.err_faults r.counted fault);
+  counted = omega (arith, r.counted);
+  others = reports_only-then a b c r.others others;
+}

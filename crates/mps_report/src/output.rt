@@ -1,0 +1,110 @@
+// What a tool prints, gathered in a buffer.
+
+ghost use Rattle.std.specs.Prelude.{◌≡◌, ◌≤◌, ◌<◌, ◌+◌, ◌++◌, ◌⊎◌, ℕ, [], length, take, decimal, OnOk, OnErr, IfOk};
+ghost use Rattle.mps_numerals.specs.Hexadecimal.{hexadecimal};
+ghost use Rattle.mps_report.specs.Streams.{Prints, PrintsPart, Kept};
+
+use mps_base::{Desk, Failed};
+use mps_numerals::{put_decimal, put_hexadecimal, put_text};
+use std::alloc::{AllocError, Global};
+use std::marker::Model;
+
+// The bytes that are gathered before they are printed.
+const ROOM: usize = 65536;
+
+// The bytes that there is room for after `make_room`: those of a line, and more.
+const ROOM_FOR_A_LINE: usize = 512;
+
+/// The bytes that are to be printed next, gathered in a buffer of 64 KiB. Contracts see these bytes.
+#[derive(Drop)]
+pub struct Output {
+    room: Vec<u8>,
+    used: usize,
+}
+
+impl Model for Output {
+    ghost use Rattle.std.specs.Prelude.{◌≡◌, ◌≤◌, ℕ, List, take, length};
+
+    ghost Value = { List ℕ };
+
+    ghost view = { λ o. take o.used o.room.items };
+
+    ghost invariant = { λ o. (length o.room.items ≡ 65536) × (o.used ≤ 65536) };
+}
+
+impl Output {
+    /// Nothing was gathered yet.
+    pub fn new(alloc: Global) -> Result<Output, AllocError>
+        ensures { IfOk result (λ output. output ≡ []) }
+    {
+        let room = vec![in alloc; 0u8; ROOM]?;
+        Ok(Output { room, used: 0 })
+    }
+
+    /// Makes room for a line, of 512 bytes. `Failed` where a write failed, after some of the bytes were printed; what was
+    /// gathered then stays.
+    pub fn make_room<D: Desk>(&mut self, desk: &mut D) -> Result<(), Failed>
+        ensures room { OnOk result (length self.new + 512 ≤ 65536) }
+        ensures kept { OnOk result (Kept (D.outside desk.old) (D.outside desk.new) self.old self.new) }
+        ensures failed { OnErr result (PrintsPart (D.outside desk.old) (D.outside desk.new) self.old) }
+        ensures stays { OnErr result (self.new ≡ self.old) }
+    {
+        if ROOM - self.used < ROOM_FOR_A_LINE {
+            self.flush(desk)
+        } else {
+            Ok(())
+        }
+    }
+
+    /// Prints all that was gathered. `Failed` where a write failed, after some of the bytes were printed; what was gathered
+    /// then stays.
+    pub fn flush<D: Desk>(&mut self, desk: &mut D) -> Result<(), Failed>
+        ensures empty { OnOk result (self.new ≡ []) }
+        ensures printed { OnOk result (Prints (D.outside desk.old) (D.outside desk.new) self.old) }
+        ensures failed { OnErr result (PrintsPart (D.outside desk.old) (D.outside desk.new) self.old) }
+        ensures stays { OnErr result (self.new ≡ self.old) }
+    {
+        print_all(&self.room[..self.used], desk)?;
+        self.used = 0;
+        Ok(())
+    }
+
+    /// A text.
+    pub fn text(&mut self, bytes: &[u8])
+        requires { length self.old + length bytes.now ≤ 65536 }
+        ensures { self.new ≡ self.old ++ bytes.now }
+    {
+        self.used = put_text(bytes, &mut self.room, self.used);
+    }
+
+    /// A number in decimal.
+    pub fn decimal(&mut self, number: u64)
+        requires { length self.old + 20 ≤ 65536 }
+        ensures text { self.new ≡ self.old ++ decimal number }
+        ensures short { length self.new ≤ length self.old + 20 }
+    {
+        self.used = put_decimal(number, &mut self.room, self.used);
+    }
+
+    /// A number in hexadecimal, without `0x`.
+    pub fn hexadecimal(&mut self, number: u64)
+        requires { length self.old + 16 ≤ 65536 }
+        ensures text { self.new ≡ self.old ++ hexadecimal number }
+        ensures short { length self.new ≤ length self.old + 16 }
+    {
+        self.used = put_hexadecimal(number, &mut self.room, self.used);
+    }
+}
+
+// Prints bytes, in as many pieces as the desk takes them.
+fn print_all<D: Desk>(bytes: &[u8], desk: &mut D) -> Result<(), Failed>
+    ensures printed { OnOk result (Prints (D.outside desk.old) (D.outside desk.new) bytes.now) }
+    ensures failed { OnErr result (PrintsPart (D.outside desk.old) (D.outside desk.new) bytes.now) }
+{
+    let mut at = 0;
+    while at < bytes.len() {
+        let count = desk.out(&bytes[at..])?;
+        at += count;
+    }
+    Ok(())
+}

@@ -1,0 +1,56 @@
+use Rattle.std.proofs.Common.{◌≡◌, drop, take, ap, sym, subst, ◌∙◌, ℕ, Ok, Bool}
+use Rattle.std.specs.Prelude.{unwrap_or}
+use Rattle.std.proofs.lemmas.Result.{err_from_is_err_and}
+use Rattle.mps_log_reader.specs.Input.{Buffered}
+use Rattle.mps_log_reader.specs.Left.{left_of}
+use Rattle.mps_log_reader.specs.PutOut.{put_out}
+use Rattle.mps_log_reader.proofs.PartPut.{grows_by, puts_part}
+use Rattle.mps_txt.specs.TextSteps.{NextLine}
+use Rattle.mps_txt.proofs.NextLine.{next_line, next_stops}
+use Rattle.mps_txt.proofs.textual.read_next.Goals as goal
+
+pub returns-in_err-size-clause-gives : goal.returns-in_err-size-clause-gives
+returns-in_err-size-clause-gives g c =
+    let p = err_from_is_err_and c.from_residual-in_err-size.result c.from_residual-in_err-size.ensures.1 in
+    rw (p.1, p.2)
+    (next_stops c.args.version c.args.number c.args.labels.now c.read_line.new.labels (g.D.Desk.outside c.args.desk.now) (g.D.Desk.outside c.fill.new.desk) (g.D.Desk.outside c.make_room.new.desk)
+    c.args.input.now c.fill.new.self c.fill.new.self (left_of (g.D.Desk.outside c.make_room.new.desk) c.fill.new.self) c.args.output.now c.make_room.new.output c.read_line.new.output _
+    c.requires c.fill.ensures.read c.fill.ensures.enough c.in_ok-make_room.ensures.kept c.make_room.ensures.input c.in_err-size.ensures.gives)
+
+pub returns-clause-gives : goal.returns-clause-gives
+returns-clause-gives g c =
+    let after : c.take.new.self ≡ record c.fill.new.self { pending = drop (unwrap_or c.in_ok-size.size 0) c.fill.new.self.pending } =
+    c.take.ensures ∙ ap (λ (n : ℕ). record c.fill.new.self { pending = drop n c.fill.new.self.pending }) c.unwrap_or.ensures in
+    let left = left_of (g.D.Desk.outside c.args.desk.now) c.args.input.now in
+    let before = put_out (g.D.Desk.outside c.args.desk.now) c.args.output.now in
+    let put = put_out (g.D.Desk.outside c.make_room.new.desk) c.read_line.new.output in
+    subst (λ (b : Buffered). NextLine c.args.version c.args.number c.args.labels.now c.read_line.new.labels left (left_of (g.D.Desk.outside c.make_room.new.desk) b) b (g.D.Desk.outside c.make_room.new.desk).input before put (Ok c.is_some.result))
+    (sym after)
+    (subst (λ (some : Bool). NextLine c.args.version c.args.number c.args.labels.now c.read_line.new.labels left
+    (left_of (g.D.Desk.outside c.make_room.new.desk) (record c.fill.new.self { pending = drop (unwrap_or c.in_ok-size.size 0) c.fill.new.self.pending })) (record c.fill.new.self { pending = drop (unwrap_or c.in_ok-size.size 0) c.fill.new.self.pending }) (g.D.Desk.outside c.make_room.new.desk).input before put (Ok some))
+    (sym c.is_some.ensures)
+    (next_line c.args.version c.args.number c.args.labels.now c.read_line.new.labels (g.D.Desk.outside c.args.desk.now) (g.D.Desk.outside c.fill.new.desk) (g.D.Desk.outside c.make_room.new.desk)
+    c.args.input.now c.fill.new.self c.args.output.now c.make_room.new.output c.read_line.new.output c.in_ok-size.size
+    c.requires c.fill.ensures.read c.fill.ensures.enough c.in_ok-make_room.ensures.kept c.make_room.ensures.input c.in_ok-size.ensures.gives))
+
+pub returns-in_err-make_room-clause-grows : goal.returns-in_err-make_room-clause-grows
+returns-in_err-make_room-clause-grows g c =
+    let p = c.in_err-make_room.ensures.part in
+    grows_by (take p.count c.args.output.now) (g.D.Desk.outside c.args.desk.now).printed (g.D.Desk.outside c.fill.new.desk).printed (g.D.Desk.outside c.make_room.new.desk).printed
+    c.fill.ensures.read.others.printed p.part.printed
+
+pub returns-in_err-make_room-clause-cut : goal.returns-in_err-make_room-clause-cut
+returns-in_err-make_room-clause-cut g c failed =
+    puts_part (g.D.Desk.outside c.args.desk.now) (g.D.Desk.outside c.fill.new.desk) (g.D.Desk.outside c.make_room.new.desk) c.args.output.now c.fill.ensures.read.others.printed c.in_err-make_room.ensures.part
+
+pub returns-in_err-size-clause-grows : goal.returns-in_err-size-clause-grows
+returns-in_err-size-clause-grows g c =
+    let k = c.in_ok-make_room.ensures.kept in
+    grows_by k.text (g.D.Desk.outside c.args.desk.now).printed (g.D.Desk.outside c.fill.new.desk).printed (g.D.Desk.outside c.make_room.new.desk).printed
+    c.fill.ensures.read.others.printed k.printed.printed
+
+pub returns-clause-grows : goal.returns-clause-grows
+returns-clause-grows g c =
+    let k = c.in_ok-make_room.ensures.kept in
+    grows_by k.text (g.D.Desk.outside c.args.desk.now).printed (g.D.Desk.outside c.fill.new.desk).printed (g.D.Desk.outside c.make_room.new.desk).printed
+    c.fill.ensures.read.others.printed k.printed.printed
