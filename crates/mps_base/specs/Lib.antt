@@ -4,6 +4,7 @@ pub mod Held
 pub mod HostDesk
 pub mod MemDesk
 pub mod Run
+pub mod Segment
 pub mod Placement
 pub mod QuietDesk
 pub mod Record

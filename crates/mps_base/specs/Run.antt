@@ -1,6 +1,6 @@
 -- Runs of consecutive numbers: of words, where blocks and reservations lie, or of grains, where segments do. The gaps
 -- between runs are where something new may be placed.
-use Rattle.std.specs.Prelude.{ℕ, ◌≡◌, ◌+◌, ◌-◌, ◌≤◌, ◌<◌, max, ◌==◌, nat_le, nat_lt, sum_by, if◌then◌else◌, Option, Some, None, List, [], ◌∷◌, ◌++◌, refl}
+use Rattle.std.specs.Prelude.{ℕ, ◌≡◌, ◌+◌, ◌-◌, ◌≤◌, ◌<◌, max, ◌==◌, ◌&&◌, nat_le, nat_lt, sum_by, if◌then◌else◌, Option, Some, None, List, [], ◌∷◌, ◌++◌, refl}
 
 -- `count` numbers from `from` on
 pub record Run : Type 0 where
@@ -53,6 +53,16 @@ abbrev pub without_run : ℕ → List Run → List Run
 without_run from [] = []
 without_run from (r ∷ rs) = if from == r.from then rs else r ∷ without_run from rs
 
+-- runs in ascending order
+abbrev pub in_order : List Run → List Run
+in_order [] = []
+in_order (r ∷ rs) = with_run r (in_order rs)
+
+-- the runs that begin from `low` on and below `high`
+abbrev pub runs_within : ℕ → ℕ → List Run → List Run
+runs_within low high [] = []
+runs_within low high (r ∷ rs) = if nat_le low r.from && nat_lt r.from high then r ∷ runs_within low high rs else runs_within low high rs
+
 -- two runs, at 1 and 2 and at 5
 abbrev example : List Run
 example = record { from = 1; count = 2 } ∷ record { from = 5; count = 1 } ∷ []
@@ -83,3 +93,10 @@ the_longest_gap = refl
 
 pub neighbours_leave_no_gap : gaps 1 3 (record { from = 1; count = 1 } ∷ record { from = 2; count = 1 } ∷ []) ≡ []
 neighbours_leave_no_gap = refl
+
+pub the_lower_run_comes_first :
+    in_order (record { from = 5; count = 1 } ∷ record { from = 1; count = 2 } ∷ []) ≡ example
+the_lower_run_comes_first = refl
+
+pub a_run_begins_within : runs_within 2 6 example ≡ record { from = 5; count = 1 } ∷ []
+a_run_begins_within = refl

@@ -15,7 +15,7 @@ mod refusal;
 mod stored_file;
 mod trail;
 
-pub use address::{Addr, ZoneSet};
+pub use address::{Addr, BYTES_OF_GRAIN, BYTES_OF_WORD, WORDS_OF_GRAIN, ZoneSet};
 pub use desk::{Desk, Failed};
 pub use host_desk::HostDesk;
 pub use mem_desk::{DeskCall, MemDesk};
