@@ -73,7 +73,7 @@ text_in files name =
 
 -- the bytes told, and the first n of a piece after them
 abbrev pub added : Option (List ℕ) → List ℕ → ℕ → Option (List ℕ)
-added known_there piece n = option_map (λ before. before ++ take n piece) known_there
+added known piece n = option_map (λ before. before ++ take n piece) known
 
 -- the last value of a count, which a u64 holds
 abbrev pub last_count : ℕ

@@ -21,7 +21,7 @@ pub trait Desk {
     /// Opens a file as the input, in place of an earlier one. The name `-` is standard input.
     fn open(&mut self, name: &str) -> Result<(), Failed>
         ensures input { OnOk result ((outside self.new).input ≡ (outside self.old).text name.now) }
-        ensures known_there { IsSome (outside self.new).input ↔ IsSome (outside self.old).input }
+        ensures known { IsSome (outside self.new).input ↔ IsSome (outside self.old).input }
         ensures failed { OnErr result ((outside self.new).input ≡ (outside self.old).input) }
         ensures counted { (outside self.old).in_faults ≤ (outside self.new).in_faults }
         ensures cause { OnErr result (HasRisen (outside self.old).in_faults (outside self.new).in_faults) }

@@ -143,7 +143,7 @@ fn replay_record(
     offset: u64,
 ) -> Result<Option<usize>, Stop>
     requires { replay.old.interned < 4294967296 }
-    ensures known_there { IsTold input.now result }
+    ensures known { IsTold input.now result }
     ensures size { IfOk result (λ o. IfSome o (λ size. (size ≤ 40) × (size ≤ length input.now.pending))) }
     ensures replays { PendingReplays version offset input.now replay.old replay.new result }
 {

@@ -114,7 +114,7 @@ leaves_part kept n pools old o1 o2 o3 script rest line left2 f reads next s = re
   printed = s.printed ∙ (reads.printed ∙ f.printed);
   count = s.count;
   logged = subst (λ p. o3.logged ≡ appended o2.logged (take s.count (records_bytes (records_of_step p s.step)))) f.made s.logged
-      ∙ (ap (λ known_there. appended known_there (take s.count (records_bytes (records_of_step (pools_made f.history) s.step)))) (reads.logged ∙ f.logged)
+      ∙ (ap (λ known. appended known (take s.count (records_bytes (records_of_step (pools_made f.history) s.step)))) (reads.logged ∙ f.logged)
       ∙ appended_twice old.logged (records_bytes (log_of f.history)) (take s.count (records_bytes (records_of_step (pools_made f.history) s.step))));
 }
 
@@ -127,11 +127,11 @@ leaves_answer kept n pools old o1 o2 o3 script rest line left2 f reads next s = 
   step = s.step;
   begun = begins kept n pools old o1 script rest line left2 s.step f next s.begun;
   logged = subst (λ p. o3.logged ≡ appended o2.logged (records_bytes (records_of_step p s.step))) f.made s.logged
-      ∙ (ap (λ known_there. appended known_there (records_bytes (records_of_step (pools_made f.history) s.step))) (reads.logged ∙ f.logged)
+      ∙ (ap (λ known. appended known (records_bytes (records_of_step (pools_made f.history) s.step))) (reads.logged ∙ f.logged)
       ∙ appended_twice old.logged (records_bytes (log_of f.history)) (records_bytes (records_of_step (pools_made f.history) s.step)));
   count = s.count;
   printed = s.printed
-      ∙ (ap (λ known_there. appended known_there (take s.count (text_of_answer s.step.answer))) (reads.printed ∙ f.printed)
+      ∙ (ap (λ known. appended known (take s.count (text_of_answer s.step.answer))) (reads.printed ∙ f.printed)
       ∙ appended_twice old.printed (answers_of f.history) (take s.count (text_of_answer s.step.answer)));
 }
 
@@ -177,7 +177,7 @@ leaves_line ends kept n pools old o1 o2 o3 script (Some rest) line left2 f reads
 logged_after : (header bytes : List ℕ) (old start new : Outside) → start.logged ≡ appended old.logged header
     → new.logged ≡ appended start.logged bytes → new.logged ≡ appended old.logged (header ++ bytes)
 logged_after header bytes old start new before later =
-    later ∙ (ap (λ known_there. appended known_there bytes) before ∙ appended_twice old.logged header bytes)
+    later ∙ (ap (λ known. appended known bytes) before ∙ appended_twice old.logged header bytes)
 
 whole_after : (header script : List ℕ) (old start new : Outside) → start.printed ≡ old.printed
     → start.logged ≡ appended old.logged header → LeavesWhole [] script start new → LeavesWhole header script old new
@@ -185,7 +185,7 @@ whole_after header script old start new p l r = record {
   history = r.history;
   lines = r.lines;
   run = r.run;
-  printed = r.printed ∙ ap (λ known_there. appended known_there (answers_of r.history)) p;
+  printed = r.printed ∙ ap (λ known. appended known (answers_of r.history)) p;
   logged = logged_after header (records_bytes (log_of r.history)) old start new l r.logged;
 }
 
@@ -204,7 +204,7 @@ after_header ending.LogFailed header script old start new p l r = record {
   lines = r.lines;
   step = r.step;
   begun = r.begun;
-  printed = r.printed ∙ ap (λ known_there. appended known_there (answers_of r.history)) p;
+  printed = r.printed ∙ ap (λ known. appended known (answers_of r.history)) p;
   count = r.count;
   logged = logged_after header (records_bytes (log_of r.history) ++ take r.count (records_after r.history r.step)) old start new l r.logged;
 }
@@ -215,7 +215,7 @@ after_header ending.WriteFailed header script old start new p l r = record {
   begun = r.begun;
   logged = logged_after header (records_bytes (log_of r.history) ++ records_after r.history r.step) old start new l r.logged;
   count = r.count;
-  printed = r.printed ∙ ap (λ known_there. appended known_there (answers_of r.history ++ take r.count (text_of_answer r.step.answer))) p;
+  printed = r.printed ∙ ap (λ known. appended known (answers_of r.history ++ take r.count (text_of_answer r.step.answer))) p;
 }
 after_header ending.NoMeaning header script old start new p l r = r
 

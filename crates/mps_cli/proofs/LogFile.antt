@@ -40,20 +40,20 @@ with_logged-twice fs None first second = refl
 with_logged-twice fs (Some name) first second = with_more-twice fs name first second
 
 -- nothing after what the log's file holds
-filed_nothing : (known_there : Option Files) → known_there ≡ option_map (after_log []) known_there
+filed_nothing : (known : Option Files) → known ≡ option_map (after_log []) known
 filed_nothing None = refl
 filed_nothing (Some files) = ap (λ (all : List File). Some (record files { all = all })) (sym (with_logged-nothing files.all files.log))
 
 -- a piece after another
-filed_twice : (known_there : Option Files) (first second : List ℕ)
-    → option_map (after_log second) (option_map (after_log first) known_there) ≡ option_map (after_log (first ++ second)) known_there
+filed_twice : (known : Option Files) (first second : List ℕ)
+    → option_map (after_log second) (option_map (after_log first) known) ≡ option_map (after_log (first ++ second)) known
 filed_twice None first second = refl
 filed_twice (Some files) first second =
     ap (λ (all : List File). Some (record files { all = all })) (with_logged-twice files.all files.log first second)
 
 -- what is logged after a file that was made for the log
-filed_after_made : (known_there : Option Files) (name bytes : List ℕ)
-    → option_map (after_log bytes) (option_map (made_for_log name) known_there) ≡ option_map (with_log name bytes) known_there
+filed_after_made : (known : Option Files) (name bytes : List ℕ)
+    → option_map (after_log bytes) (option_map (made_for_log name) known) ≡ option_map (with_log name bytes) known
 filed_after_made None name bytes = refl
 filed_after_made (Some files) name bytes =
     ap (λ (all : List File). Some (record { all = all; log = Some name })) (with_more-with_file files.all name [] bytes)
@@ -72,8 +72,8 @@ takes_self a = takes_nothing a a refl refl
 pub takes_then : (a b c : Outside) → LogTakes a b → LogTakes b c → LogTakes a c
 takes_then a b c f g = record {
   bytes = f.bytes ++ g.bytes;
-  logged = g.logged ∙ (ap (λ known_there. appended known_there g.bytes) f.logged ∙ appended_twice a.logged f.bytes g.bytes);
-  filed = g.filed ∙ (ap (λ known_there. option_map (after_log g.bytes) known_there) f.filed ∙ filed_twice a.files f.bytes g.bytes);
+  logged = g.logged ∙ (ap (λ known. appended known g.bytes) f.logged ∙ appended_twice a.logged f.bytes g.bytes);
+  filed = g.filed ∙ (ap (λ known. option_map (after_log g.bytes) known) f.filed ∙ filed_twice a.files f.bytes g.bytes);
 }
 
 -- a line was read, and then the log took some bytes
@@ -85,8 +85,8 @@ pub in_file : (name : List ℕ) (old made new : Outside) → made.logged ≡ old
     → LogTakes made new → IsInFile name old new
 in_file name old made new logged files takes = record {
   bytes = takes.bytes;
-  logged = takes.logged ∙ ap (λ known_there. appended known_there takes.bytes) logged;
-  files = takes.filed ∙ (ap (λ known_there. option_map (after_log takes.bytes) known_there) files ∙ filed_after_made old.files name takes.bytes);
+  logged = takes.logged ∙ ap (λ known. appended known takes.bytes) logged;
+  files = takes.filed ∙ (ap (λ known. option_map (after_log takes.bytes) known) files ∙ filed_after_made old.files name takes.bytes);
 }
 
 -- the same after a report
@@ -121,7 +121,7 @@ same_piece before first second e = append_cancel_left before first second (let s
 pub log_in_its_file : (log script : List ℕ) (status : ℕ) (old new : Outside) → RunsScript log script status old new
     → is_whole_status status ≡ true → (files : Files) → old.files ≡ Some files → (before : List ℕ) → old.logged ≡ Some before
     → (bytes : List ℕ) → old.text script ≡ Some bytes → HoldsLog log bytes files new
-log_in_its_file log script status old new r whole files known_there before logged bytes e =
+log_in_its_file log script status old new r whole files known before logged bytes e =
     let ran = (r.ran whole bytes e).ran in
     let filed = r.in_file whole in
     let same : filed.bytes ≡ log_bytes ran.history = same_piece before filed.bytes (log_bytes ran.history)
@@ -131,7 +131,7 @@ log_in_its_file log script status old new r whole files known_there before logge
       lines = ran.lines;
       run = ran.run;
       now = with_log log (log_bytes ran.history) files;
-      known_there = filed.files ∙ (ap (λ bs. option_map (with_log log bs) old.files) same ∙ ap (λ o. option_map (with_log log (log_bytes ran.history)) o) known_there);
+      known = filed.files ∙ (ap (λ bs. option_map (with_log log bs) old.files) same ∙ ap (λ o. option_map (with_log log (log_bytes ran.history)) o) known);
       log = file_named-with_file files.all log (log_bytes ran.history);
       others = λ other differ. file_named-with_file_other files.all log other (log_bytes ran.history) differ;
     }

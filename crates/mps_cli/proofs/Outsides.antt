@@ -27,26 +27,26 @@ only_logs_then a b c f g = record {
 }
 
 -- nothing after what is told
-pub appended_empty : (known_there : Option (List ℕ)) → known_there ≡ appended known_there []
+pub appended_empty : (known : Option (List ℕ)) → known ≡ appended known []
 appended_empty None = refl
 appended_empty (Some bytes) = ap Some (sym (append-nil bytes))
 
 -- a piece after another
-pub appended_twice : (known_there : Option (List ℕ)) (a b : List ℕ) → appended (appended known_there a) b ≡ appended known_there (a ++ b)
+pub appended_twice : (known : Option (List ℕ)) (a b : List ℕ) → appended (appended known a) b ≡ appended known (a ++ b)
 appended_twice None a b = refl
 appended_twice (Some bytes) a b = ap Some (append_assoc bytes a b)
 
 -- nothing of a piece after what is told
-pub appended_nothing : (known_there : Option (List ℕ)) (piece : List ℕ) → known_there ≡ appended known_there (take 0 piece)
+pub appended_nothing : (known : Option (List ℕ)) (piece : List ℕ) → known ≡ appended known (take 0 piece)
 appended_nothing None piece = refl
 appended_nothing (Some bytes) piece = ap Some (grind (arith, common_steps))
 
 -- a part of a piece, and then the next part of it
-pub appended_more : (known_there now next : Option (List ℕ)) (piece : List ℕ) (written n : ℕ)
-    → now ≡ appended known_there (take written piece)
+pub appended_more : (known now next : Option (List ℕ)) (piece : List ℕ) (written n : ℕ)
+    → now ≡ appended known (take written piece)
     → next ≡ added now (take (length piece - written) (drop written piece)) n
     → written ≤ length piece → n ≤ length piece - written
-    → next ≡ appended known_there (take (written + n) piece)
+    → next ≡ appended known (take (written + n) piece)
 appended_more None now next piece written n e f h k = f ∙ ap (λ o. added o (take (length piece - written) (drop written piece)) n) e
 appended_more (Some bytes) now next piece written n e f h k =
     f ∙ (ap (λ o. added o (take (length piece - written) (drop written piece)) n) e ∙ ap Some (joined bytes piece written n h k))
@@ -57,6 +57,6 @@ appended_more (Some bytes) now next piece written n e f h k =
         rw (take_rest piece written, take-add written n piece) (append_assoc bytes (take written piece) (take n (drop written piece)))
 
 -- the whole piece
-pub appended_all : (known_there now : Option (List ℕ)) (piece : List ℕ) (written : ℕ)
-    → now ≡ appended known_there (take written piece) → length piece ≤ written → now ≡ appended known_there piece
-appended_all known_there now piece written e h = let all : take written piece ≡ piece = grind (arith, common_steps) in rw all at e
+pub appended_all : (known now : Option (List ℕ)) (piece : List ℕ) (written : ℕ)
+    → now ≡ appended known (take written piece) → length piece ≤ written → now ≡ appended known piece
+appended_all known now piece written e h = let all : take written piece ≡ piece = grind (arith, common_steps) in rw all at e

@@ -131,11 +131,11 @@ one_line_more kept kept2 n pools pools2 old o1 o2 o3 script left left2 line f re
   history = f.history ++ s.steps;
   made = s.pools ∙ (ap (λ p. p + pools_made s.steps) f.made ∙ sym (pools_made-append f.history s.steps));
   printed = s.printed
-      ∙ (ap (λ known_there. appended known_there (answers_of s.steps)) (reads.printed ∙ f.printed)
+      ∙ (ap (λ known. appended known (answers_of s.steps)) (reads.printed ∙ f.printed)
       ∙ (appended_twice old.printed (answers_of f.history) (answers_of s.steps)
       ∙ ap (appended old.printed) (sym (flat_map-append (λ (t : Step). text_of_answer t.answer) f.history s.steps))));
   logged = s.logged
-      ∙ (ap (λ known_there. appended known_there (records_bytes (log_from pools s.steps))) (reads.logged ∙ f.logged)
+      ∙ (ap (λ known. appended known (records_bytes (log_from pools s.steps))) (reads.logged ∙ f.logged)
       ∙ (appended_twice old.logged (records_bytes (log_of f.history)) (records_bytes (log_from pools s.steps))
       ∙ ap (appended old.logged)
       (sym (flat_map-append record_bytes (log_of f.history) (log_from pools s.steps))
@@ -259,7 +259,7 @@ answered_between script old start end new before a later = record {
   history = a.history;
   lines = a.lines;
   run = a.run;
-  printed = later ∙ (a.printed ∙ ap (λ known_there. appended known_there (answers_of a.history)) before);
+  printed = later ∙ (a.printed ∙ ap (λ known. appended known (answers_of a.history)) before);
 }
 
 -- ---- counts
@@ -284,7 +284,7 @@ quiet_line a b c d f reads g = record {
 pub reported_after : (ends : Ending) (old mid new : Outside) → IsQuiet old mid → Reports ends mid new → Reports ends old new
 reported_after ends old mid new quiet reports unrisen =
     reports (λ risen. unrisen (subst (λ n. HasRisen n new.err_faults) quiet.err_faults risen))
-    ∙ ap (λ known_there. appended known_there (report_of ends)) quiet.reported
+    ∙ ap (λ known. appended known (report_of ends)) quiet.reported
 
 -- ---- a whole run
 
@@ -296,9 +296,9 @@ ran_after_header ends script old start new header is printed logged r = record {
   history = r.history;
   lines = r.lines;
   run = r.run;
-  printed = r.printed ∙ ap (λ known_there. appended known_there (answers_of r.history)) printed;
+  printed = r.printed ∙ ap (λ known. appended known (answers_of r.history)) printed;
   logged = r.logged
-      ∙ (ap (λ known_there. appended known_there (records_bytes (log_of r.history))) logged
+      ∙ (ap (λ known. appended known (records_bytes (log_of r.history))) logged
       ∙ (appended_twice old.logged header (records_bytes (log_of r.history))
       ∙ ap (λ h. appended old.logged (h ++ records_bytes (log_of r.history))) is));
   ends_at = r.ends_at;

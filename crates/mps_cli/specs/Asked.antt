@@ -127,11 +127,11 @@ a_log_by_its_name old new does = does.in_file refl
 
 pub a_script_by_its_name : (old new : Outside) (bytes : List ℕ) → DoesAsAsked (meaning (codes "run" ∷ codes "-o" ∷ codes "a" ∷ codes "s" ∷ [])) 0 old new
     → old.text (codes "s") ≡ Some bytes → RanWith 0 bytes old new
-a_script_by_its_name old new bytes does known_there = does.ran refl bytes known_there
+a_script_by_its_name old new bytes does is_known = does.ran refl bytes is_known
 
 pub a_log_is_converted_whole : (old new : Outside) (bytes : List ℕ) → DoesAsAsked (meaning (codes "cnv" ∷ codes "-k" ∷ codes "seg,object" ∷ [])) 0 old new
     → old.text (codes "mpsio.log") ≡ Some bytes → ConvertedWith 40 bytes 0 old new
-a_log_is_converted_whole old new bytes does known_there = does.converted refl bytes known_there
+a_log_is_converted_whole old new bytes does is_known = does.converted refl bytes is_known
 
 pub a_missing_text_prints_nothing : (status : ℕ) (old new : Outside) → DoesAsAsked (meaning (codes "txt" ∷ codes "-l" ∷ codes "a" ∷ [])) status old new
     → OpensNothing old (codes "a") → new.printed ≡ old.printed

@@ -33,7 +33,7 @@ pub record HoldsLog (name script : List ℕ) (files : Files) (new : Outside) : T
   pub lines : ℕ
   pub run : HasRun script lines history
   pub now : Files
-  pub known_there : new.files ≡ Some now
+  pub known : new.files ≡ Some now
   pub log : file_named now.all name ≡ Some (log_bytes history)
   pub others : (other : List ℕ) → other ≢ name → file_named now.all other ≡ file_named files.all other
 

@@ -5,7 +5,7 @@ use Rattle.mps_base.specs.Desk.{Outside, after_log}
 
 -- the bytes told, and a piece after them
 abbrev pub appended : Option (List ℕ) → List ℕ → Option (List ℕ)
-appended known_there piece = option_map (λ before. before ++ piece) known_there
+appended known piece = option_map (λ before. before ++ piece) known
 
 -- the log took some bytes: they were logged, and they went after what its file held
 pub record LogTakes (old new : Outside) : Type 0 where

@@ -43,7 +43,7 @@ pub fn mps<D: Desk>(alloc: Global, words: &[String], desk: &mut D) -> u8
 /// Reports that the words have no meaning.
 fn tell_usage<D: Desk>(desk: &mut D) -> u8
     ensures status { result ≡ 2 }
-    ensures known_there { DoesAsAsked None result (D.outside desk.old) (D.outside desk.new) }
+    ensures known { DoesAsAsked None result (D.outside desk.old) (D.outside desk.new) }
     ensures counts { CountsGrow (D.outside desk.old) (D.outside desk.new) }
 {
     report(desk, Ending::NoMeaning);

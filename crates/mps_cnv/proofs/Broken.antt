@@ -38,11 +38,11 @@ none_open version true (byte ∷ bytes) e =
 
 cut_record : (version : Version) (ended : Bool) (pending bytes : List ℕ) (input : Option (List ℕ)) → option_map (λ rest. pending ++ rest) input ≡ Some bytes
     → first_of version ended pending ≡ Ok None → IsCutRecord version bytes input
-cut_record version ended pending bytes None known_there none = absurd (let f : None ≡ Some bytes = known_there in cc)
-cut_record version ended pending bytes (Some rest) known_there none = record {
+cut_record version ended pending bytes None known none = absurd (let f : None ≡ Some bytes = known in cc)
+cut_record version ended pending bytes (Some rest) known none = record {
   part = pending;
   others = rest;
-  split = (let f : Some (pending ++ rest) ≡ Some bytes = known_there in cc);
+  split = (let f : Some (pending ++ rest) ≡ Some bytes = known in cc);
   none = none_open version ended pending none;
   still = refl;
 }
@@ -53,7 +53,7 @@ NextBreaks version left unread before after = ((bytes : List ℕ) → left ≡ S
 pub next_breaks : (version : Version) (a b c : Outside) (x y : Buffered) (p q r : List ℕ) → ReadsMore a b x y → Kept b c p q → c.input ≡ b.input
     → (first_of version y.ended y.pending ≡ Ok None) × (r ≡ q) → NextBreaks version (left_of a x) c.input (put_out a p) (put_out c r)
 next_breaks version a b c x y p q r reads kept same gives = (
-  (λ bytes known_there. subst (λ (o : Option (List ℕ)). IsCutRecord version bytes o) (sym same) (cut_record version y.ended y.pending bytes b.input (left_same a b x y reads ∙ known_there) gives.0)),
+  (λ bytes known. subst (λ (o : Option (List ℕ)). IsCutRecord version bytes o) (sym same) (cut_record version y.ended y.pending bytes b.input (left_same a b x y reads ∙ known) gives.0)),
   ap (put_out c) gives.1 ∙ put_same b c p q kept ∙ ap (λ (o : Option (List ℕ)). option_map (λ printed. printed ++ p) o) reads.others.printed,
 )
 
@@ -77,7 +77,7 @@ front_breaks version kinds count offset left left_after unread before after put 
 -- after the last record that can be counted nothing had come
 pub last_breaks : (version : Version) (left_after unread after put : Option (List ℕ)) → unread ≡ left_after → put ≡ after → NextBreaks version left_after unread after put
 last_breaks version left_after unread after put same printed = (
-  (λ bytes known_there. record { part = []; others = bytes; split = refl; none = refl; still = same ∙ known_there }),
+  (λ bytes known. record { part = []; others = bytes; split = refl; none = refl; still = same ∙ known }),
   printed,
 )
 

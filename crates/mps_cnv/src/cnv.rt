@@ -154,7 +154,7 @@ fn convert_record(
     output: &mut Output,
 ) -> Result<Option<usize>, Stop>
     requires { length output.old + 512 ≤ 65536 }
-    ensures known_there { IsTold input.now result }
+    ensures known { IsTold input.now result }
     ensures size { IfOk result (λ o. IfSome o (λ size. (size ≤ 40) × (size ≤ length input.now.pending))) }
     ensures broken { result ≡ Err Stop.ReadFailed → (first_of version input.now.ended input.now.pending ≡ Ok None) × (output.new ≡ output.old) }
     ensures gives { PendingGives version (bits_of kinds) offset input.now output.old output.new result }

@@ -39,7 +39,7 @@ check_fails : (h : Kept) (p : Past) (name : Name) (head : ℕ) (why : Refusal) �
 check_fails h p name head why e = ap (λ (c : Checked Reserving). c >>= reserve_from (world_of h p) (world_of h p) name head) e
 
 unsupported_check : (h : Kept) (p : Past) (name : Name) (head : ℕ) (why : Refusal) → is_known why ≡ false → check_reserve (world_of h p) name head ≡ Err why → IsExact (world_of h p) (call.Reserve name head) reply.Unsupported
-unsupported_check h p name head why known_there e = exact_unsupported (world_of h p) (call.Reserve name head) (by_unknown (world_of h p) (call.Reserve name head) why (check_fails h p name head why e) known_there)
+unsupported_check h p name head why known e = exact_unsupported (world_of h p) (call.Reserve name head) (by_unknown (world_of h p) (call.Reserve name head) why (check_fails h p name head why e) known)
 
 made_there : (h : Kept) (p : Past) (name : Name) → Agrees h p → is_point h name ≡ true → 0 < h.grains
 made_there h p name a e = made_with_pool h p a (pool_with_point h p a (is_point_some h name e))
@@ -48,10 +48,10 @@ made_there h p name a e = made_with_pool h p a (pool_with_point h p a (is_point_
 supported_reserve : (h : Kept) (p : Past) (name : Name) (head : ℕ) (r : Reply) → Agrees h p → is_point h name ≡ true → h.is_open ≡ false
     → Rattle.mps_model.specs.Answer.is_unsupported (Rattle.mps_model.specs.Answer.Said r) ≡ false
     → is_unknown (act_reserve (closed h p) (closed h p) name head) ≡ false → IsExact (world_of h p) (call.Reserve name head) r
-supported_reserve h p name head r a point o answered known_there =
+supported_reserve h p name head r a point o answered known =
     exact_answered (world_of h p) (call.Reserve name head) r answered
     (supported (world_of h p) (call.Reserve name head) refl (in_turn h (made_there h p name a point)) refl
-    (ap (λ w. is_unknown (act_reserve w w name head)) (is_closed h p a (is_point_some h name point) o) ∙ known_there))
+    (ap (λ w. is_unknown (act_reserve w w name head)) (is_closed h p a (is_point_some h name point) o) ∙ known))
 
 exact_in_arena : (h : Kept) (p : Past) (name : Name) (head : ℕ) → Agrees h p → is_point h name ≡ true → h.is_open ≡ false → is_front head ≡ true → nat_le (size_field head) (h.following - h.front) ≡ false
     → nat_lt h.limit (h.held + grains_needed (size_field head)) ≡ false → (b : Bool) → nat_lt h.grains (h.held + grains_needed (size_field head)) ≡ b

@@ -217,11 +217,11 @@ exact_commit_slot h p name slot a point false e =
     and_false false = refl
 
     missing : (why : Refusal) → slot_in (world_of h p) slot ≡ Err why → Rattle.mps_first_heap.specs.Unsupported.is_known why ≡ false → Rattle.mps_first_heap.specs.Unsupported.is_unsupported_call (world_of h p) (call.Commit name slot) ≡ true
-    missing why f known_there =
+    missing why f known =
         by_unknown (world_of h p) (call.Commit name slot) why
         (ap (λ (c : Checked (Numbered Point)). c >>= commit_from (world_of h p) slot) (found_point h p name a point)
         ∙ ap (λ (c : Checked (Found (Option ℕ))). c >>= commit_with (world_of h p) (record { number = 0; value = point_with (some_where h.is_open (reservation_in h.words h.reserved)) })) f)
-        known_there
+        known
 
 exact_commit_at : (h : Kept) (p : Past) (name : Name) (slot : Slot) → Agrees h p → (b : Bool) → is_point h name ≡ b → IsExact (world_of h p) (call.Commit name slot) (commit_reply (b && h.is_open && has_slot h slot))
 exact_commit_at h p name slot a true point = exact_commit_slot h p name slot a point (has_slot h slot) refl

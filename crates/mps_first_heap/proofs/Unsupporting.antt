@@ -42,9 +42,9 @@ by_unknown w c why e t =
 
 -- none of them
 pub supported : (w : World) (c : Call) → not (is_built c) ≡ false → is_out_of_turn w c ≡ false → makes_second w c ≡ false → is_unknown (act false w w c) ≡ false → is_unsupported_call w c ≡ false
-supported w c form turn second known_there =
+supported w c form turn second known =
     or_from (not (is_built c) || is_out_of_turn w c || makes_second w c) (is_unknown (act false w w c))
-    (or_from (not (is_built c) || is_out_of_turn w c) (makes_second w c) (or_from (not (is_built c)) (is_out_of_turn w c) form turn) second) known_there
+    (or_from (not (is_built c) || is_out_of_turn w c) (makes_second w c) (or_from (not (is_built c)) (is_out_of_turn w c) form turn) second) known
 
 -- the arena was made
 pub in_turn : (h : Kept) → 0 < h.grains → not (nat_lt 0 h.grains) ≡ false

@@ -5,6 +5,6 @@ use Rattle.mps_first_heap.specs.Kept.{Kept}
 use Rattle.mps_first_heap.specs.Outcome.{Outcome}
 
 -- this was told, and this is kept
-pub record ComesTo (came_to : Outcome) (known_there : Done) (kept : Kept) : Type 0 where
-  pub is_known : known_there ≡ came_to.done
+pub record ComesTo (came_to : Outcome) (known : Done) (kept : Kept) : Type 0 where
+  pub is_known : known ≡ came_to.done
   pub is_kept : kept ≡ came_to.kept

@@ -38,7 +38,7 @@ fn reserve_at_front(heap: &mut Arena, head: u64)
 fn take_segment(heap: &mut Arena, need: u16) -> Move
     requires { heap.old.held + need < 2 ^ 16 }
     ensures after { kept_of heap.new ≡ segment_taken (kept_of heap.old) need }
-    ensures known_there { result ≡ segment_move (kept_of heap.old) need }
+    ensures known { result ≡ segment_move (kept_of heap.old) need }
 {
     let first = u32::from(heap.held) + 1;
     heap.front = GRAIN * first;

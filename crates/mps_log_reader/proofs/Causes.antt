@@ -176,10 +176,10 @@ works_write_failed a b x r h = record { runs = r; fault = λ f. inl f; cause = h
 
 -- what was told of an input that stays as it is, or of which something was taken
 pub works_known : {T : Type 0} (o : Outside) (x y : Buffered) (ending : Result T Stop) → y.failed ≡ x.failed → IsTold x ending → Works o o x y ending
-works_known o x y ending same known_there = record {
+works_known o x y ending same is_known = record {
   runs = runs-none o;
   fault = λ f. inl (sym same ∙ f);
-  cause = caused_known o o x x ending (λ f. inl f) known_there;
+  cause = caused_known o o x x ending (λ f. inl f) is_known;
 }
 
 -- ---- the status

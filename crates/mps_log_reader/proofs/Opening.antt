@@ -36,9 +36,9 @@ no_header_later pending more true false none long enough end version rest e =
 
 no_header_of : (pending bytes : List ℕ) (ended failed : Bool) (input : Option (List ℕ)) → option_map (λ rest. pending ++ rest) input ≡ Some bytes → HasNoHeader pending
     → (failed ≡ true → 8 ≤ length pending) → (ended ≡ false → failed ≡ false → 8 ≤ length pending) → (ended ≡ true → IfSome input (λ left. left ≡ [])) → HasNoHeader bytes
-no_header_of pending bytes ended failed None known_there none long enough end = absurd (let e : None ≡ Some bytes = known_there in cc)
-no_header_of pending bytes ended failed (Some more) known_there none long enough end =
-    let e : pending ++ more ≡ bytes = (let f : Some (pending ++ more) ≡ Some bytes = known_there in cc) in
+no_header_of pending bytes ended failed None known none long enough end = absurd (let e : None ≡ Some bytes = known in cc)
+no_header_of pending bytes ended failed (Some more) known none long enough end =
+    let e : pending ++ more ≡ bytes = (let f : Some (pending ++ more) ≡ Some bytes = known in cc) in
     λ version rest h. no_header_later pending more ended failed none long enough end version rest (e ∙ h)
 
 -- before anything was read
@@ -53,19 +53,19 @@ untouched_end a x e h = absurd (let f : x.ended ≡ false = ap (λ (b : Buffered
 
 pub opens : (a b : Outside) (x y z : Buffered) (bytes : List ℕ) (text : Option (List ℕ)) (result : Result Version Stop) → x ≡ untouched → a.input ≡ text → ReadsMore a b x y
     → (y.ended ≡ false → y.failed ≡ false → 8 ≤ length y.pending) → TakesHeader y z result → text ≡ Some bytes → OpensWith bytes (left_of b z) result
-opens a b x y z bytes text (Ok version) start given reads enough takes known_there =
-    let left : left_of b y ≡ Some bytes = left_same a b x y reads ∙ untouched_left a x start ∙ given ∙ known_there in
+opens a b x y z bytes text (Ok version) start given reads enough takes known =
+    let left : left_of b y ≡ Some bytes = left_same a b x y reads ∙ untouched_left a x start ∙ given ∙ known in
     sym left ∙ split_pending (header_bytes (number_of_version version)) y.pending z.pending b.input takes.0
-opens a b x y z bytes text (Err stop.BadHeader) start given reads enough takes known_there =
-    let left : left_of b y ≡ Some bytes = left_same a b x y reads ∙ untouched_left a x start ∙ given ∙ known_there in
+opens a b x y z bytes text (Err stop.BadHeader) start given reads enough takes known =
+    let left : left_of b y ≡ Some bytes = left_same a b x y reads ∙ untouched_left a x start ∙ given ∙ known in
     no_header_of y.pending bytes y.ended y.failed b.input left takes.0 takes.1 enough (reads.end (untouched_end a x start))
-opens a b x y z bytes text (Err stop.ReadFailed) start given reads enough takes known_there = tt
-opens a b x y z bytes text (Err stop.WriteFailed) start given reads enough takes known_there = absurd takes
-opens a b x y z bytes text (Err (stop.BadRecord at fault)) start given reads enough takes known_there = absurd takes
-opens a b x y z bytes text (Err (stop.BadReplay at)) start given reads enough takes known_there = absurd takes
-opens a b x y z bytes text (Err (stop.BadLine line)) start given reads enough takes known_there = absurd takes
-opens a b x y z bytes text (Err stop.TooLong) start given reads enough takes known_there = absurd takes
-opens a b x y z bytes text (Err stop.OutOfMemory) start given reads enough takes known_there = absurd takes
+opens a b x y z bytes text (Err stop.ReadFailed) start given reads enough takes known = tt
+opens a b x y z bytes text (Err stop.WriteFailed) start given reads enough takes known = absurd takes
+opens a b x y z bytes text (Err (stop.BadRecord at fault)) start given reads enough takes known = absurd takes
+opens a b x y z bytes text (Err (stop.BadReplay at)) start given reads enough takes known = absurd takes
+opens a b x y z bytes text (Err (stop.BadLine line)) start given reads enough takes known = absurd takes
+opens a b x y z bytes text (Err stop.TooLong) start given reads enough takes known = absurd takes
+opens a b x y z bytes text (Err stop.OutOfMemory) start given reads enough takes known = absurd takes
 
 -- ---- a header that had not come whole
 
@@ -76,8 +76,8 @@ cut_of pending bytes (Some rest) e short =
 
 pub cut_header : (a b : Outside) (x y z : Buffered) (bytes : List ℕ) (text : Option (List ℕ)) (result : Result Version Stop) → x ≡ untouched → a.input ≡ text → ReadsMore a b x y
     → TakesHeader y z result → text ≡ Some bytes → result ≡ Err stop.ReadFailed → IsCutHeader bytes b.input
-cut_header a b x y z bytes text result start given reads takes known_there failed =
-    let left : left_of b y ≡ Some bytes = left_same a b x y reads ∙ untouched_left a x start ∙ given ∙ known_there in
+cut_header a b x y z bytes text result start given reads takes known failed =
+    let left : left_of b y ≡ Some bytes = left_same a b x y reads ∙ untouched_left a x start ∙ given ∙ known in
     cut_of y.pending bytes b.input left (subst (λ (r : Result Version Stop). TakesHeader y z r) failed takes)
 
 -- ---- the header of a log and what follows it

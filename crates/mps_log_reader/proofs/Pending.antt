@@ -52,7 +52,7 @@ reads_only-then a b c e f = record {
   err_faults = f.err_faults ∙ e.err_faults;
 }
 
-nothing_before : (known_there : Option (List ℕ)) → known_there ≡ option_map (λ left. [] ++ left) known_there
+nothing_before : (known : Option (List ℕ)) → known ≡ option_map (λ left. [] ++ left) known
 nothing_before None = refl
 nothing_before (Some text) = refl
 

@@ -20,7 +20,7 @@ pub put_more : (gathered text : List ℕ) (p : Option (List ℕ)) → option_map
 put_more gathered text None = refl
 put_more gathered text (Some before) = ap Some (sym (append_assoc before gathered text))
 
-pub nothing_put : (known_there : Option (List ℕ)) → known_there ≡ option_map (λ all. all ++ []) known_there
+pub nothing_put : (known : Option (List ℕ)) → known ≡ option_map (λ all. all ++ []) known
 nothing_put None = refl
 nothing_put (Some text) = ap Some (sym (append-nil text))
 

@@ -27,13 +27,13 @@ reports_status status (Err why) a b c quiet faults zero same is reports =
 pub unopened : (status : ℕ) (ending : Result (Unit {0}) Stop) (a b c : Outside) → (ending ≡ Err stop.ReadFailed) ⊎ (ending ≡ Err stop.OutOfMemory) → b.printed ≡ a.printed
     → IfErr ending (λ why. status ≡ status_of why) → IfErr ending (λ why. Reports b c (report_of why)) → IsUnopened status a c
 unopened status ending a b c (inl e) same is reports =
-    let known_there : status ≡ 3 = subst (λ (r : Result (Unit {0}) Stop). IfErr r (λ why. status ≡ status_of why)) e is in
+    let known : status ≡ 3 = subst (λ (r : Result (Unit {0}) Stop). IfErr r (λ why. status ≡ status_of why)) e is in
     let reported : Reports b c (report_of stop.ReadFailed) = subst (λ (r : Result (Unit {0}) Stop). IfErr r (λ why. Reports b c (report_of why))) e reports in
-    (inl known_there, reported.others.printed ∙ same)
+    (inl known, reported.others.printed ∙ same)
 unopened status ending a b c (inr e) same is reports =
-    let known_there : status ≡ 8 = subst (λ (r : Result (Unit {0}) Stop). IfErr r (λ why. status ≡ status_of why)) e is in
+    let known : status ≡ 8 = subst (λ (r : Result (Unit {0}) Stop). IfErr r (λ why. status ≡ status_of why)) e is in
     let reported : Reports b c (report_of stop.OutOfMemory) = subst (λ (r : Result (Unit {0}) Stop). IfErr r (λ why. Reports b c (report_of why))) e reports in
-    (inr known_there, reported.others.printed ∙ same)
+    (inr known, reported.others.printed ∙ same)
 
 -- memory was wanting before anything happened, and that was reported
 pub reports_no_memory : (status : ℕ) (ending : Result (Unit {0}) Stop) (a b c : Outside) → status ≡ 8 → (ending ≡ Err stop.OutOfMemory → b ≡ a)

@@ -46,7 +46,7 @@ pub fn open_log<D: Desk>(log: &str, input: &mut Input, desk: &mut D) -> Result<V
 
 // Takes the header at the front.
 fn take_header(input: &mut Input) -> Result<Version, Stop>
-    ensures known_there { IsTold input.old result }
+    ensures known { IsTold input.old result }
     ensures taken { TakesHeader input.old input.new result }
     ensures failed { input.new.failed ≡ input.old.failed }
 {
@@ -107,7 +107,7 @@ pub fn after_the_last<D: Desk>(input: &mut Input, desk: &mut D) -> Result<(), St
 }
 
 fn end_of(input: &Input) -> Result<(), Stop>
-    ensures known_there { IsTold input.now result }
+    ensures known { IsTold input.now result }
     ensures gives { EndGives input.now result }
     ensures unread { result ≡ Err Stop.ReadFailed → input.now.pending ≡ [] }
 {

@@ -8,7 +8,7 @@ use Rattle.mps_report.specs.Streams.{Prints, PrintsPart, Reports}
 
 -- ---- texts after one another
 
-nothing_after : (known_there : Option (List ℕ)) → known_there ≡ option_map (λ before. before ++ []) known_there
+nothing_after : (known : Option (List ℕ)) → known ≡ option_map (λ before. before ++ []) known
 nothing_after None = refl
 nothing_after (Some text) = ap Some (sym (append-nil text))
 

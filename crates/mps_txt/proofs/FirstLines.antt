@@ -74,44 +74,44 @@ untouched_end a x e h = absurd (let f : x.ended ≡ false = ap (λ (b : Buffered
 first_left : (version : Version) (size : ℕ) (y z : Buffered) (input : Option (List ℕ)) (bytes : List ℕ) → IsFront y (first_text version) size → z.pending ≡ drop size y.pending
     → option_map (λ rest. y.pending ++ rest) input ≡ Some bytes → (y.ended ≡ true → IfSome input (λ left. left ≡ [])) → (y.ended ≡ false → y.failed ≡ false → 4097 ≤ length y.pending)
     → Some (closed bytes) ≡ option_map (λ rest. first_line version ++ closed rest) (option_map (λ rest. z.pending ++ rest) input)
-first_left version size y z None bytes front following known_there end enough = absurd (let e : None ≡ Some bytes = known_there in cc)
-first_left version size y z (Some more) bytes front following known_there end enough =
-    let is : y.pending ++ more ≡ bytes = (let e : Some (y.pending ++ more) ≡ Some bytes = known_there in cc) in
+first_left version size y z None bytes front following known end enough = absurd (let e : None ≡ Some bytes = known in cc)
+first_left version size y z (Some more) bytes front following known end enough =
+    let is : y.pending ++ more ≡ bytes = (let e : Some (y.pending ++ more) ≡ Some bytes = known in cc) in
     let split = front_closed y (first_text version) size more front end enough in
     ap Some (sym (ap closed is) ∙ split ∙ sym (line_of_version version (closed (drop size y.pending ++ more)))
     ∙ ap (λ (x : List ℕ). first_line version ++ closed (x ++ more)) (sym following))
 
 none_left : (y : Buffered) (input : Option (List ℕ)) (bytes : List ℕ) → HasOtherFront y → option_map (λ rest. y.pending ++ rest) input ≡ Some bytes
     → (y.ended ≡ true → IfSome input (λ left. left ≡ [])) → (y.ended ≡ false → y.failed ≡ false → 4097 ≤ length y.pending) → HasNoFirstLine bytes
-none_left y None bytes other known_there end enough = absurd (let e : None ≡ Some bytes = known_there in cc)
-none_left y (Some more) bytes other known_there end enough =
-    let is : y.pending ++ more ≡ bytes = (let e : Some (y.pending ++ more) ≡ Some bytes = known_there in cc) in
+none_left y None bytes other known end enough = absurd (let e : None ≡ Some bytes = known in cc)
+none_left y (Some more) bytes other known end enough =
+    let is : y.pending ++ more ≡ bytes = (let e : Some (y.pending ++ more) ≡ Some bytes = known in cc) in
     subst (λ (x : List ℕ). HasNoFirstLine x) is (no_first y more other end enough)
 
 pub text_opens : (a b : Outside) (x y z : Buffered) (bytes : List ℕ) (text input : Option (List ℕ)) (result : Result Version Stop) → x ≡ untouched → a.input ≡ text → ReadsMore a b x y
     → (y.ended ≡ false → y.failed ≡ false → 4097 ≤ length y.pending) → TakesFirst y z result → text ≡ Some bytes → TextOpens bytes (left_of b z) input b.input result
-text_opens a b x y z bytes text input (Ok version) start given reads enough takes known_there =
-    let left : left_of b y ≡ Some bytes = left_same a b x y reads ∙ untouched_left a x start ∙ given ∙ known_there in
+text_opens a b x y z bytes text input (Ok version) start given reads enough takes known =
+    let left : left_of b y ≡ Some bytes = left_same a b x y reads ∙ untouched_left a x start ∙ given ∙ known in
     first_left version takes.size y z b.input bytes takes.front (ap (λ (b : Buffered). b.pending) takes.following) left (reads.end (untouched_end a x start)) enough
-text_opens a b x y z bytes text input (Err (stop.BadLine line)) start given reads enough takes known_there =
-    let left : left_of b y ≡ Some bytes = left_same a b x y reads ∙ untouched_left a x start ∙ given ∙ known_there in
+text_opens a b x y z bytes text input (Err (stop.BadLine line)) start given reads enough takes known =
+    let left : left_of b y ≡ Some bytes = left_same a b x y reads ∙ untouched_left a x start ∙ given ∙ known in
     (takes.0, none_left y b.input bytes takes.1 left (reads.end (untouched_end a x start)) enough)
-text_opens a b x y z bytes text input (Err stop.ReadFailed) start given reads enough takes known_there =
-    let left : left_of b y ≡ Some bytes = left_same a b x y reads ∙ untouched_left a x start ∙ given ∙ known_there in
+text_opens a b x y z bytes text input (Err stop.ReadFailed) start given reads enough takes known =
+    let left : left_of b y ≡ Some bytes = left_same a b x y reads ∙ untouched_left a x start ∙ given ∙ known in
     inr (subst (λ (o : Option (List ℕ)). IfSome o (λ bytes. BreaksOff bytes b.input)) left (broken_left y.pending b.input b.input takes.0 takes.1 refl))
-text_opens a b x y z bytes text input (Err stop.WriteFailed) start given reads enough takes known_there = absurd takes
-text_opens a b x y z bytes text input (Err stop.BadHeader) start given reads enough takes known_there = absurd takes
-text_opens a b x y z bytes text input (Err (stop.BadRecord at fault)) start given reads enough takes known_there = absurd takes
-text_opens a b x y z bytes text input (Err (stop.BadReplay at)) start given reads enough takes known_there = absurd takes
-text_opens a b x y z bytes text input (Err stop.TooLong) start given reads enough takes known_there = absurd takes
-text_opens a b x y z bytes text input (Err stop.OutOfMemory) start given reads enough takes known_there = absurd takes
+text_opens a b x y z bytes text input (Err stop.WriteFailed) start given reads enough takes known = absurd takes
+text_opens a b x y z bytes text input (Err stop.BadHeader) start given reads enough takes known = absurd takes
+text_opens a b x y z bytes text input (Err (stop.BadRecord at fault)) start given reads enough takes known = absurd takes
+text_opens a b x y z bytes text input (Err (stop.BadReplay at)) start given reads enough takes known = absurd takes
+text_opens a b x y z bytes text input (Err stop.TooLong) start given reads enough takes known = absurd takes
+text_opens a b x y z bytes text input (Err stop.OutOfMemory) start given reads enough takes known = absurd takes
 
 -- the first line is taken with its line feed, or it is the last one
 pub opens_whole : (a b : Outside) (x y z : Buffered) (bytes : List ℕ) (text : Option (List ℕ)) (result : Result Version Stop) → x ≡ untouched → a.input ≡ text → ReadsMore a b x y
     → (y.ended ≡ false → y.failed ≡ false → 4097 ≤ length y.pending) → TakesFirst y z result → text ≡ Some bytes → OpensWhole bytes (left_of b z) z result
-opens_whole a b x y z bytes text (Ok version) start given reads enough takes known_there =
-    let left : left_of b y ≡ Some bytes = left_same a b x y reads ∙ untouched_left a x start ∙ given ∙ known_there in
+opens_whole a b x y z bytes text (Ok version) start given reads enough takes known =
+    let left : left_of b y ≡ Some bytes = left_same a b x y reads ∙ untouched_left a x start ∙ given ∙ known in
     subst (λ (o : Option (List ℕ)). IsWholeOrLast (first_line version) o (left_of b z) z) left
     (subst (λ (following : Buffered). IsWholeOrLast (first_line version) (left_of b y) (left_of b following) following) (sym takes.following)
     (whole_in_front y (first_text version) (first_line version) takes.size b.input (line_of_version version) takes.front enough))
-opens_whole a b x y z bytes text (Err why) start given reads enough takes known_there = tt
+opens_whole a b x y z bytes text (Err why) start given reads enough takes known = tt

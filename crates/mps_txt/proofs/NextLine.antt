@@ -26,7 +26,7 @@ put_before : (a b c : Outside) (p q : List ℕ) → b.printed ≡ a.printed → 
 put_before a b c p q same kept = put_same b c p q kept ∙ ap (λ (o : Option (List ℕ)). option_map (λ printed. printed ++ p) o) same
 
 pub end_known : (ended : Bool) (input : Option (List ℕ)) (more : List ℕ) → input ≡ Some more → (ended ≡ true → IfSome input (λ left. left ≡ [])) → ended ≡ true → more ≡ []
-end_known ended input more known_there end h = rw known_there at (end h)
+end_known ended input more known end h = rw known at (end h)
 
 nothing_pending : (ended failed : Bool) (pending : List ℕ) (input : Option (List ℕ)) → pending ≡ [] → failed ≡ false → (ended ≡ false → failed ≡ false → 4097 ≤ length pending)
     → (ended ≡ true → IfSome input (λ left. left ≡ [])) → IfSome (option_map (λ rest. pending ++ rest) input) (λ bytes. bytes ≡ [])
@@ -48,7 +48,7 @@ of_left P pending (Some more) h = h more refl
 
 pub broken_left : (pending : List ℕ) (input unread : Option (List ℕ)) → Lacks 10 pending → length pending ≤ 4096 → unread ≡ input → IfSome (option_map (λ rest. pending ++ rest) input) (λ bytes. BreaksOff bytes unread)
 broken_left pending input unread lacks short same =
-    of_left (λ bytes. BreaksOff bytes unread) pending input (λ more known_there. record { part = pending; others = more; split = refl; lacks = lacks; short = short; still = same ∙ known_there })
+    of_left (λ bytes. BreaksOff bytes unread) pending input (λ more known. record { part = pending; others = more; split = refl; lacks = lacks; short = short; still = same ∙ known })
 
 -- the next line, from what is pending: the pieces before it were read and printed
 pub next_line : (version : Version) (number : ℕ) (s t : Naming) (a b c : Outside) (x y : Buffered) (p q r : List ℕ) (size : Option ℕ)
@@ -70,7 +70,7 @@ next_line version number s t a b c x y p q r (Some size) at_end reads enough kep
       meaning = gives.meaning;
       front = ap (λ (o : Option (List ℕ)). option_map closed o) (sym left)
           ∙ front_left (record_text gives.read) (record_line gives.read) y.pending (drop size y.pending) b.input (line_feed_after gives.read)
-          (λ more known_there. front_closed y (record_text gives.read) size more gives.front (end_known y.ended b.input more known_there (reads.end at_end)) enough)
+          (λ more known. front_closed y (record_text gives.read) size more gives.front (end_known y.ended b.input more known (reads.end at_end)) enough)
           ∙ ap (λ (o : Option (List ℕ)). option_map (λ rest. record_line gives.read ++ closed rest) (option_map (λ rest. drop size y.pending ++ rest) o)) (sym same);
       whole = subst (λ (o : Option (List ℕ)). IsWholeOrLast (record_line gives.read) o (left_of c following) following) left
           (subst (λ (o : Option (List ℕ)). IsWholeOrLast (record_line gives.read) (left_of b y) (option_map (λ rest. drop size y.pending ++ rest) o) following) (sym same)
@@ -87,7 +87,7 @@ next_stops version number s t a b c x y following left_after p q r (stop.BadLine
       gives.0,
       subst (λ (o : Option (List ℕ)). IfSome o (λ bytes. (0 < length (closed bytes)) × IsWrongNext version s (closed bytes))) left
           (of_left (λ bytes. (0 < length (closed bytes)) × IsWrongNext version s (closed bytes)) y.pending b.input
-          (λ more known_there. let g = wrong_front version s y more gives.1 (end_known y.ended b.input more known_there (reads.end at_end)) enough in (g.some, g.wrong))),
+          (λ more known. let g = wrong_front version s y more gives.1 (end_known y.ended b.input more known (reads.end at_end)) enough in (g.some, g.wrong))),
       ap (put_out c) gives.2 ∙ put_before a b c p q reads.others.printed kept,
     )
 next_stops version number s t a b c x y following left_after p q r stop.ReadFailed at_end reads enough kept same gives =
@@ -99,7 +99,7 @@ next_stops version number s t a b c x y following left_after p q r stop.OutOfMem
     let left : left_of b y ≡ left_of a x = left_same a b x y reads in (
       subst (λ (o : Option (List ℕ)). IfSome o (λ bytes. IsNextToTakeMemory version s (closed bytes))) left
           (of_left (λ bytes. IsNextToTakeMemory version s (closed bytes)) y.pending b.input
-          (λ more known_there. memory_front version s y more gives.0 (end_known y.ended b.input more known_there (reads.end at_end)) enough)),
+          (λ more known. memory_front version s y more gives.0 (end_known y.ended b.input more known (reads.end at_end)) enough)),
       ap (put_out c) gives.1 ∙ put_before a b c p q reads.others.printed kept,
     )
 next_stops version number s t a b c x y following left_after p q r stop.WriteFailed at_end reads enough kept same gives = absurd gives

@@ -107,7 +107,7 @@ fn open_text<D: Desk>(text: &str, input: &mut Input, desk: &mut D) -> Result<Ver
 }
 
 fn take_first_line(input: &mut Input) -> Result<Version, Stop>
-    ensures known_there { IsTold input.old result }
+    ensures known { IsTold input.old result }
     ensures taken { TakesFirst input.old input.new result }
     ensures failed { input.new.failed ≡ input.old.failed }
 {
@@ -118,7 +118,7 @@ fn take_first_line(input: &mut Input) -> Result<Version, Stop>
 
 // The version that the first line says, and how many bytes it takes.
 fn first_line(input: &Input) -> Result<(Version, usize), Stop>
-    ensures known_there { IsTold input.now result }
+    ensures known { IsTold input.now result }
     ensures size { IfOk result (λ found. found.1 ≤ length input.now.pending) }
     ensures found { FindsFirst input.now result }
 {
@@ -145,7 +145,7 @@ fn version_of(line: &[u8]) -> Option<Version>
 
 // The line at the front without its line feed, and how many bytes it takes; None at the end of the text.
 fn next_line(input: &Input, number: u64) -> Result<Option<(&[u8], usize)>, Stop>
-    ensures known_there { IsTold input.now result }
+    ensures known { IsTold input.now result }
     ensures size { IfOk result (λ o. IfSome o (λ found. found.1 ≤ length input.now.pending)) }
     ensures line { IfOk result (λ o. IfSome o (λ found. IsFront input.now found.0.now found.1)) }
     ensures end { IfOk result (λ o. IfNone o ((input.now.pending ≡ []) × (input.now.failed ≡ false))) }
@@ -227,7 +227,7 @@ fn read_line(
     output: &mut Output,
 ) -> Result<Option<usize>, Stop>
     requires { length output.old + 512 ≤ 65536 }
-    ensures known_there { IsTold input.now result }
+    ensures known { IsTold input.now result }
     ensures size { IfOk result (λ o. IfSome o (λ size. size ≤ length input.now.pending)) }
     ensures gives { PendingLine version number labels.old labels.new input.now output.old output.new result }
 {

@@ -24,15 +24,15 @@ loop-preserved g c =
     }
 
 pub returns-in-None-clause-all : goal.returns-in-None-clause-all
-returns-in-None-clause-all g c bytes known_there =
+returns-in-None-clause-all g c bytes known =
     let next = rw c.in-None.is at c.in_ok-replay_next.ensures.replays in
     all_read c.args.version c.loop.counter c.loop.offset
     (left_of (g.D.Desk.outside c.args.desk.now) c.args.input.now) (left_of (g.D.Desk.outside c.loop.desk) c.loop.input) (left_of (g.D.Desk.outside c.replay_next.new.desk) c.replay_next.new.input)
-    c.args.replay.now c.loop.replay c.replay_next.new.replay bytes (omega (arith, c.loop-test.true)) c.loop.invariant.so_far next known_there
+    c.args.replay.now c.loop.replay c.replay_next.new.replay bytes (omega (arith, c.loop-test.true)) c.loop.invariant.so_far next known
 
 pub returns-clause-all : goal.returns-clause-all
-returns-clause-all g c bytes known_there =
+returns-clause-all g c bytes known =
     all_counted c.args.version c.loop.counter c.loop.offset
     (left_of (g.D.Desk.outside c.args.desk.now) c.args.input.now) (left_of (g.D.Desk.outside c.loop.desk) c.loop.input)
     c.args.replay.now c.loop.replay bytes c.after_the_last.result (omega (arith, c.loop-test.false, c.loop.auto.counter-end)) c.loop.invariant.so_far
-    (c.after_the_last.ensures.gives c.loop.invariant.at_end) known_there
+    (c.after_the_last.ensures.gives c.loop.invariant.at_end) known

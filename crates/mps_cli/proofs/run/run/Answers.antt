@@ -16,7 +16,7 @@ returns-clause-ran g c whole bytes e =
     ran_after_header c.run_lines.result bytes (g.D.Desk.outside c.args.desk.now) (g.D.Desk.outside c.log_header.new.desk)
     (g.D.Desk.outside c.run_lines.new.desk) (header_bytes 1) refl
     (c.in-Ok-log_header.ensures.others.printed ∙ c.in-Ok-open_files.ensures.printed)
-    (c.in-Ok-log_header.ensures.logged ∙ ap (λ known_there. appended known_there (header_bytes 1)) c.in-Ok-open_files.ensures.logged)
+    (c.in-Ok-log_header.ensures.logged ∙ ap (λ known. appended known (header_bytes 1)) c.in-Ok-open_files.ensures.logged)
     (c.run_lines.ensures.ran whole bytes left)
 
 pub returns-in_default-clause-answered : goal.returns-in_default-clause-answered
@@ -74,7 +74,7 @@ returns-clause-leaves g c bytes e =
     leaves_after_header c.run_lines.result bytes (g.D.Desk.outside c.args.desk.now) (g.D.Desk.outside c.log_header.new.desk)
     (g.D.Desk.outside c.run_lines.new.desk)
     (c.in-Ok-log_header.ensures.others.printed ∙ c.in-Ok-open_files.ensures.printed)
-    (c.in-Ok-log_header.ensures.logged ∙ ap (λ known_there. appended known_there (header_bytes 1)) c.in-Ok-open_files.ensures.logged)
+    (c.in-Ok-log_header.ensures.logged ∙ ap (λ known. appended known (header_bytes 1)) c.in-Ok-open_files.ensures.logged)
     (c.run_lines.ensures.leaves bytes left)
 
 pub returns-in-Err-clause-leaves : goal.returns-in-Err-clause-leaves

@@ -6,7 +6,7 @@ use Rattle.mps_cli.proofs.write.err_all.Given as goal
 abbrev pub invariant-loop-written : goal.invariant-loop-written
 invariant-loop-written g l = record {
   within : l.written ≤ length l.piece;
-  known_there : (g.D.Desk.outside l.desk).reported ≡ appended (g.D.Desk.outside l.initial.desk).reported (take l.written l.piece);
+  known : (g.D.Desk.outside l.desk).reported ≡ appended (g.D.Desk.outside l.initial.desk).reported (take l.written l.piece);
   counted : (g.D.Desk.outside l.initial.desk).err_faults ≤ (g.D.Desk.outside l.desk).err_faults;
   others : OnlyReports (g.D.Desk.outside l.initial.desk) (g.D.Desk.outside l.desk);
 }

@@ -10,9 +10,9 @@ loop-written-preserved g c =
     grind (arith, common_steps, c.in_ok-written.ensures.within) in
     record {
       within = omega arith;
-      known_there = appended_more (g.D.Desk.outside c.args.desk.now).logged (g.D.Desk.outside c.loop-written.desk).logged
+      known = appended_more (g.D.Desk.outside c.args.desk.now).logged (g.D.Desk.outside c.loop-written.desk).logged
           (g.D.Desk.outside c.log.new.self).logged c.args.piece.now c.loop-written.written c.in_ok-written.field-0
-          c.loop-written.invariant.known_there c.in_ok-written.ensures.logged c.loop-written.invariant.within short;
+          c.loop-written.invariant.known c.in_ok-written.ensures.logged c.loop-written.invariant.within short;
       counted = grind (arith, c.loop-written.invariant.counted, c.in_ok-written.ensures.counted);
       takes = takes_then _ _ _ c.loop-written.invariant.takes
           (record { bytes = _; logged = c.in_ok-written.ensures.logged; filed = c.in_ok-written.ensures.filed });
@@ -22,7 +22,7 @@ loop-written-preserved g c =
 pub loop-written-init : goal.loop-written-init
 loop-written-init g c = record {
   within = omega arith;
-  known_there = appended_empty (g.D.Desk.outside c.args.desk.now).logged;
+  known = appended_empty (g.D.Desk.outside c.args.desk.now).logged;
   counted = omega arith;
   takes = takes_self (g.D.Desk.outside c.args.desk.now);
   others = only_logs_self (g.D.Desk.outside c.args.desk.now);

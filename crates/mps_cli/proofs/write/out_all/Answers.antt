@@ -10,9 +10,9 @@ loop-written-preserved g c =
     grind (arith, common_steps, c.in_ok-written.ensures.within) in
     record {
       within = omega arith;
-      known_there = appended_more (g.D.Desk.outside c.args.desk.now).printed (g.D.Desk.outside c.loop-written.desk).printed
+      known = appended_more (g.D.Desk.outside c.args.desk.now).printed (g.D.Desk.outside c.loop-written.desk).printed
           (g.D.Desk.outside c.out.new.self).printed c.args.piece.now c.loop-written.written c.in_ok-written.field-0
-          c.loop-written.invariant.known_there c.in_ok-written.ensures.printed c.loop-written.invariant.within short;
+          c.loop-written.invariant.known c.in_ok-written.ensures.printed c.loop-written.invariant.within short;
       counted = grind (arith, c.loop-written.invariant.counted, c.in_ok-written.ensures.counted);
       others = prints_only-then _ _ _ c.loop-written.invariant.others c.in_ok-written.ensures.others;
     }

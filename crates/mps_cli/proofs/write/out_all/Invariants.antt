@@ -6,7 +6,7 @@ use Rattle.mps_cli.proofs.write.out_all.Given as goal
 abbrev pub invariant-loop-written : goal.invariant-loop-written
 invariant-loop-written g l = record {
   within : l.written ≤ length l.piece;
-  known_there : (g.D.Desk.outside l.desk).printed ≡ appended (g.D.Desk.outside l.initial.desk).printed (take l.written l.piece);
+  known : (g.D.Desk.outside l.desk).printed ≡ appended (g.D.Desk.outside l.initial.desk).printed (take l.written l.piece);
   counted : (g.D.Desk.outside l.initial.desk).out_faults ≤ (g.D.Desk.outside l.desk).out_faults;
   others : OnlyPrints (g.D.Desk.outside l.initial.desk) (g.D.Desk.outside l.desk);
 }

@@ -7,15 +7,15 @@ use Rattle.mps_cnv.proofs.OneReading.{only}
 use Rattle.mps_cnv.proofs.cnv.cnv.Goals as goal
 
 pub returns-clause-converted : goal.returns-clause-converted
-returns-clause-converted g c whole bytes known_there =
+returns-clause-converted g c whole bytes known =
     converted_with (bits_of c.args.kinds) c.finish.result bytes c.convert-ending.result (g.D.Desk.outside c.args.desk.now) (g.D.Desk.outside c.convert-ending.new.desk) (g.D.Desk.outside c.finish.new.desk)
-    c.convert-ending.ensures.reported c.convert-ending.ensures.err_faults (c.convert-ending.ensures.converted bytes known_there) c.finish.ensures.done c.finish.ensures.quiet c.finish.ensures.status c.finish.ensures.reported
+    c.convert-ending.ensures.reported c.convert-ending.ensures.err_faults (c.convert-ending.ensures.converted bytes known) c.finish.ensures.done c.finish.ensures.quiet c.finish.ensures.status c.finish.ensures.reported
 
 pub returns-clause-only : goal.returns-clause-only
-returns-clause-only g c whole bytes known_there =
+returns-clause-only g c whole bytes known =
     only (bits_of c.args.kinds) bytes c.finish.result (g.D.Desk.outside c.args.desk.now) (g.D.Desk.outside c.finish.new.desk) whole
     (converted_with (bits_of c.args.kinds) c.finish.result bytes c.convert-ending.result (g.D.Desk.outside c.args.desk.now) (g.D.Desk.outside c.convert-ending.new.desk) (g.D.Desk.outside c.finish.new.desk)
-    c.convert-ending.ensures.reported c.convert-ending.ensures.err_faults (c.convert-ending.ensures.converted bytes known_there) c.finish.ensures.done c.finish.ensures.quiet c.finish.ensures.status c.finish.ensures.reported)
+    c.convert-ending.ensures.reported c.convert-ending.ensures.err_faults (c.convert-ending.ensures.converted bytes known) c.finish.ensures.done c.finish.ensures.quiet c.finish.ensures.status c.finish.ensures.reported)
 
 pub returns-clause-reported : goal.returns-clause-reported
 returns-clause-reported g c =
@@ -23,9 +23,9 @@ returns-clause-reported g c =
     c.convert-ending.ensures.reported c.convert-ending.ensures.err_faults c.finish.ensures.done c.finish.ensures.quiet c.finish.ensures.status c.finish.ensures.reported
 
 pub returns-clause-broken : goal.returns-clause-broken
-returns-clause-broken g c three bytes known_there =
+returns-clause-broken g c three bytes known =
     fails_with (bits_of c.args.kinds) c.finish.result bytes c.convert-ending.result (g.D.Desk.outside c.args.desk.now) (g.D.Desk.outside c.convert-ending.new.desk) (g.D.Desk.outside c.finish.new.desk) three
-    (λ e. c.convert-ending.ensures.broken e bytes known_there) c.finish.ensures.done c.finish.ensures.status c.finish.ensures.reported
+    (λ e. c.convert-ending.ensures.broken e bytes known) c.finish.ensures.done c.finish.ensures.status c.finish.ensures.reported
 
 pub returns-clause-no_memory : goal.returns-clause-no_memory
 returns-clause-no_memory g c eight =
@@ -33,9 +33,9 @@ returns-clause-no_memory g c eight =
     c.convert-ending.ensures.no_memory c.finish.ensures.done c.finish.ensures.status c.finish.ensures.reported
 
 pub returns-clause-cut : goal.returns-clause-cut
-returns-clause-cut g c four bytes known_there =
+returns-clause-cut g c four bytes known =
     cut_with (bits_of c.args.kinds) c.finish.result bytes c.convert-ending.result (g.D.Desk.outside c.args.desk.now) (g.D.Desk.outside c.convert-ending.new.desk) (g.D.Desk.outside c.finish.new.desk) four
-    (λ e. c.convert-ending.ensures.cut e bytes known_there) c.finish.ensures.done c.finish.ensures.status c.finish.ensures.reported
+    (λ e. c.convert-ending.ensures.cut e bytes known) c.finish.ensures.done c.finish.ensures.status c.finish.ensures.reported
 
 pub returns-clause-missing : goal.returns-clause-missing
 returns-clause-missing g c nothing =

@@ -32,22 +32,22 @@ loop-preserved g c =
     }
 
 pub returns-in_err-convert_next-clause-broken : goal.returns-in_err-convert_next-clause-broken
-returns-in_err-convert_next-clause-broken g c failed bytes known_there =
+returns-in_err-convert_next-clause-broken g c failed bytes known =
     let p = err_from_is_err_and c.from_residual.result c.from_residual.ensures.1 in
     front_breaks c.args.version (bits_of c.args.kinds) c.loop.counter c.loop.offset
     (left_of (g.D.Desk.outside c.args.desk.now) c.args.input.now) (left_of (g.D.Desk.outside c.loop.desk) c.loop.input) (g.D.Desk.outside c.convert_next.new.desk).input
     (put_out (g.D.Desk.outside c.args.desk.now) c.args.output.now) (put_out (g.D.Desk.outside c.loop.desk) c.loop.output) (put_out (g.D.Desk.outside c.convert_next.new.desk) c.convert_next.new.output)
-    bytes (omega (arith, c.loop-test.true)) c.loop.invariant.so_far (c.in_err-convert_next.ensures.broken (handed_on _ _ c.from_residual.result p.0 _ _ p.1 p.2 failed)) known_there
+    bytes (omega (arith, c.loop-test.true)) c.loop.invariant.so_far (c.in_err-convert_next.ensures.broken (handed_on _ _ c.from_residual.result p.0 _ _ p.1 p.2 failed)) known
 
 pub returns-clause-broken : goal.returns-clause-broken
-returns-clause-broken g c failed bytes known_there =
+returns-clause-broken g c failed bytes known =
     front_breaks c.args.version (bits_of c.args.kinds) c.loop.counter c.loop.offset
     (left_of (g.D.Desk.outside c.args.desk.now) c.args.input.now) (left_of (g.D.Desk.outside c.loop.desk) c.loop.input) (g.D.Desk.outside c.after_the_last.new.desk).input
     (put_out (g.D.Desk.outside c.args.desk.now) c.args.output.now) (put_out (g.D.Desk.outside c.loop.desk) c.loop.output) (put_out (g.D.Desk.outside c.after_the_last.new.desk) c.loop.output)
     bytes (omega (arith, c.loop-test.false, c.loop.auto.counter-end)) c.loop.invariant.so_far
     (last_breaks c.args.version (left_of (g.D.Desk.outside c.loop.desk) c.loop.input) (g.D.Desk.outside c.after_the_last.new.desk).input
     (put_out (g.D.Desk.outside c.loop.desk) c.loop.output) (put_out (g.D.Desk.outside c.after_the_last.new.desk) c.loop.output)
-    (c.after_the_last.ensures.unread failed) (ap (λ (o : Option (List ℕ)). option_map (λ printed. printed ++ c.loop.output) o) c.after_the_last.ensures.printed)) known_there
+    (c.after_the_last.ensures.unread failed) (ap (λ (o : Option (List ℕ)). option_map (λ printed. printed ++ c.loop.output) o) c.after_the_last.ensures.printed)) known
 
 pub returns-in_err-convert_next-clause-grows : goal.returns-in_err-convert_next-clause-grows
 returns-in_err-convert_next-clause-grows g c =
@@ -63,13 +63,13 @@ returns-clause-grows g c =
     (grows_none (g.D.Desk.outside c.loop.desk).printed (g.D.Desk.outside c.after_the_last.new.desk).printed c.after_the_last.ensures.printed)
 
 pub returns-in_err-convert_next-clause-cut : goal.returns-in_err-convert_next-clause-cut
-returns-in_err-convert_next-clause-cut g c failed bytes known_there =
+returns-in_err-convert_next-clause-cut g c failed bytes known =
     let p = err_from_is_err_and c.from_residual.result c.from_residual.ensures.1 in
     records_cut c.args.version (bits_of c.args.kinds) c.loop.counter c.loop.offset
     (left_of (g.D.Desk.outside c.args.desk.now) c.args.input.now) (left_of (g.D.Desk.outside c.loop.desk) c.loop.input)
     (g.D.Desk.outside c.args.desk.now) (g.D.Desk.outside c.loop.desk) (g.D.Desk.outside c.convert_next.new.desk) c.args.output.now c.loop.output bytes
-    (omega (arith, c.loop-test.true)) c.loop.invariant.so_far c.loop.invariant.grows (c.in_err-convert_next.ensures.cut (handed_on _ _ c.from_residual.result p.0 _ _ p.1 p.2 failed)) known_there
+    (omega (arith, c.loop-test.true)) c.loop.invariant.so_far c.loop.invariant.grows (c.in_err-convert_next.ensures.cut (handed_on _ _ c.from_residual.result p.0 _ _ p.1 p.2 failed)) known
 
 pub returns-clause-cut : goal.returns-clause-cut
-returns-clause-cut g c failed bytes known_there =
+returns-clause-cut g c failed bytes known =
     not_at_the_end _ (left_of (g.D.Desk.outside c.loop.desk) c.loop.input) c.after_the_last.result (c.after_the_last.ensures.gives c.loop.invariant.at_end) failed

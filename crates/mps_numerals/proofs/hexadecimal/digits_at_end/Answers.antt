@@ -5,10 +5,10 @@ use Rattle.mps_numerals.proofs.hexadecimal.digits_at_end.Goals as goal
 
 pub loop-rest-init : goal.loop-rest-init
 loop-rest-init c = record {
-  size = rw length-set c.known_there-room;
+  size = rw length-set c.told-room;
   within = omega arith;
   fits = omega arith;
-  text = rw c.glyph.ensures (first_digit c.args.number c.args.room.now c.known_there-room);
+  text = rw c.glyph.ensures (first_digit c.args.number c.args.room.now c.told-room);
 }
 
 pub loop-rest-preserved : goal.loop-rest-preserved
