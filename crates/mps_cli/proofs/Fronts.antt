@@ -6,7 +6,7 @@ use Rattle.mps_base.specs.declared.desk.Failed.{Failed}
 use Rattle.mps_base.specs.declared.moves.Move.{Move}
 use Rattle.mps_base.specs.Record.{record_bytes, records_bytes}
 use Rattle.mps_model.specs.declared.call.Call.{Call}
-use Rattle.mps_model.specs.Answer.{Said}
+use Rattle.mps_model.specs.Answer.{Replied}
 use Rattle.mps_model.specs.Log.{record_of, records_of_command}
 use Rattle.mps_first_heap.specs.declared.done.Done.{Done}
 use Rattle.mps_log_reader.specs.PutOut.{PutsPart}
@@ -46,16 +46,16 @@ where_failed (Err failed) P h = h
 pub part_of_move : (line pools : ℕ) (call : Call) (done : Done) (moved : Move) (old new : Option (List ℕ)) → done.moved ≡ Some moved
     → PutsPart old new (record_bytes (record_of moved line)) → PutsPart old new (records_bytes (records_of_done line pools call done))
 part_of_move line pools call done moved old new is p =
-    rw is (part_of_first old new (record_bytes (record_of moved line)) (records_bytes (records_of_command pools call (Said done.reply) line)) p)
+    rw is (part_of_first old new (record_bytes (record_of moved line)) (records_bytes (records_of_command pools call (Replied done.reply) line)) p)
 
 pub part_after_move : (line pools : ℕ) (call : Call) (done : Done) (moved : Move) (old mid new : Option (List ℕ)) → done.moved ≡ Some moved
     → mid ≡ appended old (record_bytes (record_of moved line))
-    → PutsPart mid new (records_bytes (records_of_command pools call (Said done.reply) line))
+    → PutsPart mid new (records_bytes (records_of_command pools call (Replied done.reply) line))
     → PutsPart old new (records_bytes (records_of_done line pools call done))
 part_after_move line pools call done moved old mid new is logged p =
-    rw is (part_of_second old mid new (record_bytes (record_of moved line)) (records_bytes (records_of_command pools call (Said done.reply) line)) logged p)
+    rw is (part_of_second old mid new (record_bytes (record_of moved line)) (records_bytes (records_of_command pools call (Replied done.reply) line)) logged p)
 
 pub part_without_move : (line pools : ℕ) (call : Call) (done : Done) (old new : Option (List ℕ)) → done.moved ≡ None
-    → PutsPart old new (records_bytes (records_of_command pools call (Said done.reply) line))
+    → PutsPart old new (records_bytes (records_of_command pools call (Replied done.reply) line))
     → PutsPart old new (records_bytes (records_of_done line pools call done))
 part_without_move line pools call done old new is p = rw is p

@@ -7,7 +7,7 @@ use Rattle.std.specs.Prelude.{◌↔◌, IsTrue}
 use Rattle.mps_model.specs.declared.reply.Reply.{Reply}
 use Rattle.mps_model.specs.declared.reply.Reply.TheVariants as reply
 use Rattle.mps_first_heap.specs.Unsupported.{is_unsupported_call}
-use Rattle.mps_model.specs.Answer.{Said}
+use Rattle.mps_model.specs.Answer.{Replied}
 use Rattle.mps_model.specs.Step.{Step}
 use Rattle.mps_model.specs.Log.{records_of_step, pools_made_by}
 use Rattle.mps_script.specs.Text.{text_of}
@@ -22,15 +22,15 @@ use Rattle.mps_model.specs.Replay.{replay_from}
 use Rattle.mps_model.specs.History.{live_blocks}
 
 -- the answer is `unsupported` where the reply is
-pub said_unsupported : (r : Reply) (b : Bool) → (r ≡ reply.Unsupported) ↔ IsTrue b → (Said r ≡ Said reply.Unsupported) ↔ IsTrue b
-said_unsupported r b h = (λ e. h.0 (let a : r ≡ reply.Unsupported = cc in a), λ t. ap Said (h.1 t))
+pub said_unsupported : (r : Reply) (b : Bool) → (r ≡ reply.Unsupported) ↔ IsTrue b → (Replied r ≡ Replied reply.Unsupported) ↔ IsTrue b
+said_unsupported r b h = (λ e. h.0 (let a : r ≡ reply.Unsupported = cc in a), λ t. ap Replied (h.1 t))
 
 -- a command that was answered is one step
 pub one_step : (line pools count : ℕ) (call : Call) (done : Done) (before after : Kept) (old new : Outside)
     → IsLegalCall before call done → StandsAfter before call done after → IsReplayedCall before call done → IsUnsupportedWhereDue before call done
     → new.logged ≡ appended old.logged (records_bytes (records_of_done line pools call done))
     → new.printed ≡ appended old.printed (text_of done.reply) → new.input ≡ old.input
-    → count ≡ pools_made_by call (Said done.reply)
+    → count ≡ pools_made_by call (Replied done.reply)
     → StepsRan (record { line = line; call = call } ∷ []) before after pools (pools + count) old new
 one_step line pools count call done before after old new is_legal stands replayed unsupported logged printed input made = record {
   steps = step ∷ [];
@@ -46,4 +46,4 @@ one_step line pools count call done before after old new is_legal stands replaye
 }
   where
     step : Step
-    step = record { line = line; call = call; moves = moves_of done.moved; answer = Said done.reply }
+    step = record { line = line; call = call; moves = moves_of done.moved; answer = Replied done.reply }

@@ -4,7 +4,7 @@ use Rattle.mps_base.specs.Desk.{Outside, OnlyReports}
 use Rattle.mps_base.specs.Record.{record_bytes, records_bytes, header_bytes, limit_set_code}
 use Rattle.mps_model.specs.declared.call.Call.TheVariants as call
 use Rattle.mps_model.specs.declared.reply.Reply.TheVariants as reply
-use Rattle.mps_model.specs.Answer.{Said}
+use Rattle.mps_model.specs.Answer.{Replied}
 use Rattle.mps_model.specs.Step.{Step, History}
 use Rattle.mps_model.specs.Log.{log_of, records_of_step, pools_made}
 use Rattle.mps_model.specs.World.{World, empty_world}
@@ -153,6 +153,6 @@ pub an_arena_takes_memory : NeedsMemory (commands_from 1 (codes "arena 8 8" ∷ 
 an_arena_takes_memory = record { command = record { line = 1; call = call.Arena 8 8 }; is = refl; takes = refl }
 
 pub a_limit_has_one_record :
-    records_after [] (record { line = 3; call = call.Limit 8; moves = []; answer = Said reply.Ok })
+    records_after [] (record { line = 3; call = call.Limit 8; moves = []; answer = Replied reply.Ok })
     ≡ record_bytes (record { line = 3; code = limit_set_code; fields = 8 ∷ [] })
 a_limit_has_one_record = refl

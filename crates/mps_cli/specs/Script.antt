@@ -6,7 +6,7 @@ use Rattle.mps_base.specs.Record.{records_bytes}
 use Rattle.mps_model.specs.declared.call.Call.{Call}
 use Rattle.mps_model.specs.declared.call.Call.TheVariants as call
 use Rattle.mps_model.specs.declared.reply.Reply.TheVariants as reply
-use Rattle.mps_model.specs.Answer.{Answer, Said, Dumped}
+use Rattle.mps_model.specs.Answer.{Answer, Replied, Dumped}
 use Rattle.mps_model.specs.Step.{Step, History}
 use Rattle.mps_model.specs.Log.{log_of, log_from, log_bytes, pools_made}
 use Rattle.mps_model.specs.World.{World, empty_world}
@@ -57,7 +57,7 @@ commands_of history = map command_of_step history
 
 -- what is printed for an answer
 abbrev pub text_of_answer : Answer → List ℕ
-text_of_answer (Said r) = text_of r
+text_of_answer (Replied r) = text_of r
 text_of_answer (Dumped words) = line_of_answer (Dumped words)
 
 -- what is printed for a history: the answer line of each step, in order
@@ -66,7 +66,7 @@ answers_of history = flat_map (λ (s : Step). text_of_answer s.answer) history
 
 -- a command is answered `unsupported` exactly where that is said of it, in the world before it
 abbrev pub IsUnsupportedWhereDue : World → Step → Type 0
-IsUnsupportedWhereDue w s = (s.answer ≡ Said reply.Unsupported) ↔ IsTrue (is_unsupported_call w s.call)
+IsUnsupportedWhereDue w s = (s.answer ≡ Replied reply.Unsupported) ↔ IsTrue (is_unsupported_call w s.call)
 
 -- so are all commands of a history, from a world on
 abbrev pub AreUnsupportedWhereDue : World → History → Type 0

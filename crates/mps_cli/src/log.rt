@@ -6,7 +6,7 @@ ghost use Rattle.mps_event.specs.Grammar.{AreFields};
 ghost use Rattle.mps_event.specs.Event.{code_of};
 ghost use Rattle.mps_event.specs.declared.version.Version.TheVariants.{One};
 ghost use Rattle.mps_model.specs.Log.{record_of, records_of_accepted, records_of_command, kind_number as number_of_kind};
-ghost use Rattle.mps_model.specs.Answer.{Said};
+ghost use Rattle.mps_model.specs.Answer.{Replied};
 ghost use Rattle.mps_log_reader.specs.PutOut.{PutsPart};
 ghost use Rattle.mps_cli.specs.Write.{appended, LogTakes};
 ghost use Rattle.mps_cli.specs.Records.{records_of_done};
@@ -117,9 +117,9 @@ fn log_command<D: Desk>(
     reply: &Reply,
 ) -> Result<(), Failed>
     ensures logged { OnOk result ((D.outside desk.new).logged
-        ≡ appended (D.outside desk.old).logged (records_bytes (records_of_command pools call.now (Said reply.now) line))) }
+        ≡ appended (D.outside desk.old).logged (records_bytes (records_of_command pools call.now (Replied reply.now) line))) }
     ensures part { OnErr result (PutsPart (D.outside desk.old).logged (D.outside desk.new).logged
-        (records_bytes (records_of_command pools call.now (Said reply.now) line))) }
+        (records_bytes (records_of_command pools call.now (Replied reply.now) line))) }
     ensures takes { LogTakes (D.outside desk.old) (D.outside desk.new) }
     ensures counted { (D.outside desk.old).log_faults ≤ (D.outside desk.new).log_faults }
     ensures cause { OnErr result (HasRisen (D.outside desk.old).log_faults (D.outside desk.new).log_faults) }

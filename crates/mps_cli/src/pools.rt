@@ -1,13 +1,13 @@
 // How many pools a command made.
 ghost use Rattle.std.specs.Prelude.{◌≡◌, ◌≤◌};
-ghost use Rattle.mps_model.specs.Answer.{Said};
+ghost use Rattle.mps_model.specs.Answer.{Replied};
 ghost use Rattle.mps_model.specs.Log.{pools_made_by, pools_of_accepted};
 
 use mps_model::{Call, Reply};
 
 /// How many pools a command made that was replied to so.
 pub fn pools_made(call: &Call, reply: &Reply) -> u64
-    ensures count { result ≡ pools_made_by call.now (Said reply.now) }
+    ensures count { result ≡ pools_made_by call.now (Replied reply.now) }
     ensures few { result ≤ 1 }
 {
     match *reply {

@@ -76,7 +76,7 @@ unsupported_where_due h new c r range came = ok_then r came (λ done e w s.
 
 -- ---- before the first call
 
-nothing_agrees : Agrees nothing_kept (record { ids = []; places = []; segments = []; names = [] })
+nothing_agrees : Agrees nothing_kept (record { ids = []; addresses = []; segments = []; names = [] })
 nothing_agrees = record {
   names = λ _. refl;
   slots = refl;
@@ -96,4 +96,4 @@ nothing_agrees = record {
 
 -- nothing kept stands for the empty world
 pub nothing_stands : StandsFor nothing_kept empty_world
-nothing_stands = record { past = record { ids = []; places = []; segments = []; names = [] }; world = refl; agrees = nothing_agrees }
+nothing_stands = record { past = record { ids = []; addresses = []; segments = []; names = [] }; world = refl; agrees = nothing_agrees }

@@ -21,7 +21,7 @@ use Rattle.mps_model.specs.Reply.{answer_from, world_from}
 use Rattle.mps_model.specs.Effect.{with_next_place}
 use Rattle.mps_first_heap.specs.Kept.{Kept, is_name, is_point, has_slot, head_at, words_of_head}
 use Rattle.mps_first_heap.specs.Outcome.{unsupported, commit_move, after_commit}
-use Rattle.mps_first_heap.specs.StandsFor.{Past, Agrees, world_of, world_with, step_of, object_in, cells_at, segments_from, some_address, one_where, point_with, reservation_in, front_pool, point_place_of, place_in_slot, is_null_or_below, bound_of}
+use Rattle.mps_first_heap.specs.StandsFor.{Past, Agrees, world_of, world_with, step_of, object_in, cells_at, segments_from, some_address, one_where, point_with, reservation_in, front_pool, point_memory_of, place_in_slot, is_null_or_below, bound_of}
 use Rattle.mps_first_heap.specs.RightStep.{IsRightStep}
 use Rattle.mps_first_heap.proofs.Lists.{length-cells_in, length-block_words, blocks_later, blocks_push}
 use Rattle.mps_first_heap.proofs.Worlds.{world_by, world_of-parts, is_name_some, pool_with_point, made_with_pool, at_hand_within, slot_there, live_blocks-world_of, stored}
@@ -36,7 +36,7 @@ abbrev committed : Kept → Slot → Kept
 committed h slot = record h { slots = slice_set h.slots slot.index h.reserved; is_open = false }
 
 abbrev past_committed : Kept → Past → Slot → Past
-past_committed h p slot = record p { ids = slice_set p.ids slot.index (Some (length p.places)); places = p.places ++ h.reserved ∷ [] }
+past_committed h p slot = record p { ids = slice_set p.ids slot.index (Some (length p.addresses)); addresses = p.addresses ++ h.reserved ∷ [] }
 
 abbrev pub whole : Kept → Past → World
 whole h p = world_by h p true true (is_some h.pool) true
@@ -50,48 +50,48 @@ step_committed h line name slot = step_of line (call.Commit name slot) (record {
 -- ---- the world after it
 
 abbrev committed_with : Kept → Past → List Object → List (Option ℕ) → List (Option ℕ) → World
-committed_with h p objects ids places =
-    world_with h.grains h.limit p.names objects (Some ids ∷ []) (Some (point_with None) ∷ []) (one_where (is_some h.pool) front_pool) (segments_from 1 p.segments) places (point_place_of h ∷ [])
+committed_with h p objects ids addresses =
+    world_with h.grains h.limit p.names objects (Some ids ∷ []) (Some (point_with None) ∷ []) (one_where (is_some h.pool) front_pool) (segments_from 1 p.segments) addresses (point_memory_of h ∷ [])
 
 world_committed : (h : Kept) (p : Past) (slot : Slot) → is_some h.table ≡ true → is_some h.point ≡ true
-    → committed_with h p (map (object_in h.words) p.places ++ object_in h.words h.reserved ∷ []) (slice_set p.ids slot.index (Some (length (map (object_in h.words) p.places)))) (map some_address p.places ++ some_address h.reserved ∷ [])
+    → committed_with h p (map (object_in h.words) p.addresses ++ object_in h.words h.reserved ∷ []) (slice_set p.ids slot.index (Some (length (map (object_in h.words) p.addresses)))) (map some_address p.addresses ++ some_address h.reserved ∷ [])
     ≡ world_of (committed h slot) (past_committed h p slot)
 world_committed h p slot t q =
-    ap (λ objects. committed_with h p objects (slice_set p.ids slot.index (Some (length (map (object_in h.words) p.places)))) (map some_address p.places ++ some_address h.reserved ∷ [])) (sym (map_push (object_in h.words) p.places h.reserved))
-    ∙ ap (λ n. committed_with h p (map (object_in h.words) (p.places ++ h.reserved ∷ [])) (slice_set p.ids slot.index (Some n)) (map some_address p.places ++ some_address h.reserved ∷ [])) (length-map p.places (object_in h.words))
-    ∙ ap (λ places. committed_with h p (map (object_in h.words) (p.places ++ h.reserved ∷ [])) (slice_set p.ids slot.index (Some (length p.places))) places) (sym (map_push some_address p.places h.reserved))
+    ap (λ objects. committed_with h p objects (slice_set p.ids slot.index (Some (length (map (object_in h.words) p.addresses)))) (map some_address p.addresses ++ some_address h.reserved ∷ [])) (sym (map_push (object_in h.words) p.addresses h.reserved))
+    ∙ ap (λ n. committed_with h p (map (object_in h.words) (p.addresses ++ h.reserved ∷ [])) (slice_set p.ids slot.index (Some n)) (map some_address p.addresses ++ some_address h.reserved ∷ [])) (length-map p.addresses (object_in h.words))
+    ∙ ap (λ addresses. committed_with h p (map (object_in h.words) (p.addresses ++ h.reserved ∷ [])) (slice_set p.ids slot.index (Some (length p.addresses))) addresses) (sym (map_push some_address p.addresses h.reserved))
     ∙ sym (world_of-parts (committed h slot) (past_committed h p slot) true true (is_some h.pool) false t q refl refl)
 
 -- ---- what is kept agrees
 
-slot_pushed : (places : List ℕ) (place : ℕ) (id : ℕ) → id < length places → slice_index (places ++ place ∷ []) id ≡ slice_index places id
+slot_pushed : (addresses : List ℕ) (place : ℕ) (id : ℕ) → id < length addresses → slice_index (addresses ++ place ∷ []) id ≡ slice_index addresses id
 slot_pushed [] place id h = absurd (omega (arith, h))
 slot_pushed (p ∷ ps) place zero h = refl
 slot_pushed (p ∷ ps) place (suc id) h = slot_pushed ps place id (omega (arith, h))
 
-last_pushed : (places : List ℕ) (place : ℕ) → slice_index (places ++ place ∷ []) (length places) ≡ place
+last_pushed : (addresses : List ℕ) (place : ℕ) → slice_index (addresses ++ place ∷ []) (length addresses) ≡ place
 last_pushed [] place = refl
 last_pushed (p ∷ ps) place = last_pushed ps place
 
-held_pushed : (places : List ℕ) (place : ℕ) (held : Option ℕ) → is_null_or_below (length places) held ≡ true → place_in_slot places held ≡ place_in_slot (places ++ place ∷ []) held
-held_pushed places place None h = refl
-held_pushed places place (Some id) h = sym (slot_pushed places place id (ltb-true id (length places) h))
+held_pushed : (addresses : List ℕ) (place : ℕ) (held : Option ℕ) → is_null_or_below (length addresses) held ≡ true → place_in_slot addresses held ≡ place_in_slot (addresses ++ place ∷ []) held
+held_pushed addresses place None h = refl
+held_pushed addresses place (Some id) h = sym (slot_pushed addresses place id (ltb-true id (length addresses) h))
 
-slots_kept : (places : List ℕ) (place : ℕ) (ids : List (Option ℕ)) → list_all (is_null_or_below (length places)) ids ≡ true
-    → map (place_in_slot places) ids ≡ map (place_in_slot (places ++ place ∷ [])) ids
-slots_kept places place [] h = refl
-slots_kept places place (held ∷ ids) h =
-    let both = and_parts (is_null_or_below (length places) held) (list_all (is_null_or_below (length places)) ids) h in
-    ap (λ x. x ∷ map (place_in_slot places) ids) (held_pushed places place held both.0)
-    ∙ ap (λ rest. place_in_slot (places ++ place ∷ []) held ∷ rest) (slots_kept places place ids both.1)
+slots_kept : (addresses : List ℕ) (place : ℕ) (ids : List (Option ℕ)) → list_all (is_null_or_below (length addresses)) ids ≡ true
+    → map (place_in_slot addresses) ids ≡ map (place_in_slot (addresses ++ place ∷ [])) ids
+slots_kept addresses place [] h = refl
+slots_kept addresses place (held ∷ ids) h =
+    let both = and_parts (is_null_or_below (length addresses) held) (list_all (is_null_or_below (length addresses)) ids) h in
+    ap (λ x. x ∷ map (place_in_slot addresses) ids) (held_pushed addresses place held both.0)
+    ∙ ap (λ rest. place_in_slot (addresses ++ place ∷ []) held ∷ rest) (slots_kept addresses place ids both.1)
 
 -- the slots with one written, over places with one more
-slots_pushed : (places : List ℕ) (place : ℕ) (ids : List (Option ℕ)) (i : ℕ) → list_all (is_null_or_below (length places)) ids ≡ true
-    → slice_set (map (place_in_slot places) ids) i place ≡ map (place_in_slot (places ++ place ∷ [])) (slice_set ids i (Some (length places)))
-slots_pushed places place ids i h =
-    ap (λ slots. slice_set slots i place) (slots_kept places place ids h)
-    ∙ ap (λ x. slice_set (map (place_in_slot (places ++ place ∷ [])) ids) i x) (sym (last_pushed places place))
-    ∙ sym (map-set (place_in_slot (places ++ place ∷ [])) ids i (Some (length places)))
+slots_pushed : (addresses : List ℕ) (place : ℕ) (ids : List (Option ℕ)) (i : ℕ) → list_all (is_null_or_below (length addresses)) ids ≡ true
+    → slice_set (map (place_in_slot addresses) ids) i place ≡ map (place_in_slot (addresses ++ place ∷ [])) (slice_set ids i (Some (length addresses)))
+slots_pushed addresses place ids i h =
+    ap (λ slots. slice_set slots i place) (slots_kept addresses place ids h)
+    ∙ ap (λ x. slice_set (map (place_in_slot (addresses ++ place ∷ [])) ids) i x) (sym (last_pushed addresses place))
+    ∙ sym (map-set (place_in_slot (addresses ++ place ∷ [])) ids i (Some (length addresses)))
 
 ids_more : (count : ℕ) (ids : List (Option ℕ)) → list_all (is_null_or_below count) ids ≡ true → list_all (is_null_or_below (suc count)) ids ≡ true
 ids_more count [] h = refl
@@ -108,11 +108,11 @@ ids_set count (held ∷ ids) (suc i) id lt h =
     let both = and_parts (is_null_or_below count held) (list_all (is_null_or_below count) ids) h in
     and_from (is_null_or_below count held) (list_all (is_null_or_below count) (slice_set ids i (Some id))) both.0 (ids_set count ids i id lt both.1)
 
-ids_pushed : (places : List ℕ) (place : ℕ) (ids : List (Option ℕ)) (i : ℕ) → list_all (is_null_or_below (length places)) ids ≡ true
-    → list_all (is_null_or_below (length (places ++ place ∷ []))) (slice_set ids i (Some (length places))) ≡ true
-ids_pushed places place ids i h =
-    subst (λ (n : ℕ). list_all (is_null_or_below n) (slice_set ids i (Some (length places))) ≡ true) (let e : suc (length places) ≡ length (places ++ place ∷ []) = omega (arith, length_push places place) in e)
-    (ids_set (suc (length places)) ids i (length places) (omega arith) (ids_more (length places) ids h))
+ids_pushed : (addresses : List ℕ) (place : ℕ) (ids : List (Option ℕ)) (i : ℕ) → list_all (is_null_or_below (length addresses)) ids ≡ true
+    → list_all (is_null_or_below (length (addresses ++ place ∷ []))) (slice_set ids i (Some (length addresses))) ≡ true
+ids_pushed addresses place ids i h =
+    subst (λ (n : ℕ). list_all (is_null_or_below n) (slice_set ids i (Some (length addresses))) ≡ true) (let e : suc (length addresses) ≡ length (addresses ++ place ∷ []) = omega (arith, length_push addresses place) in e)
+    (ids_set (suc (length addresses)) ids i (length addresses) (omega arith) (ids_more (length addresses) ids h))
 
 some_or_none : (h : Kept) → is_some h.point ≡ true → h.point ≡ None → ⊥
 some_or_none h q none = false≢true (sym (ap is_some none) ∙ q)
@@ -124,12 +124,12 @@ agrees_committed h p slot a q o =
     let below = block.below in
     record {
       names = a.names;
-      slots = ap (λ slots. slice_set slots slot.index h.reserved) a.slots ∙ slots_pushed p.places h.reserved p.ids slot.index a.ids;
-      ids = ids_pushed p.places h.reserved p.ids slot.index a.ids;
+      slots = ap (λ slots. slice_set slots slot.index h.reserved) a.slots ∙ slots_pushed p.addresses h.reserved p.ids slot.index a.ids;
+      ids = ids_pushed p.addresses h.reserved p.ids slot.index a.ids;
       held = a.held;
       in_arena = a.in_arena;
       arena = a.arena;
-      blocks = blocks_push h.words h.front h.reserved p.places (blocks_later h.words (bound_of h) h.front p.places (omega (arith, bound)) a.blocks) block;
+      blocks = blocks_push h.words h.front h.reserved p.addresses (blocks_later h.words (bound_of h) h.front p.addresses (omega (arith, bound)) a.blocks) block;
       reservation = λ e. absurd (false≢true e);
       at_hand = a.at_hand;
       not_null = a.not_null;
@@ -165,12 +165,12 @@ legal_commit h p name slot a point o =
 -- ---- the step is right
 
 replayed : (h : Kept) (p : Past) (line : ℕ) (name : Name) (slot : Slot) (pools : ℕ) → Agrees h p → is_some h.table ≡ true → is_some h.point ≡ true → h.is_open ≡ true
-    → replay_from (live_blocks (whole h p)) (records_of_step pools (step_committed h line name slot)) ≡ Some (stored h.words (p.places ++ h.reserved ∷ []))
+    → replay_from (live_blocks (whole h p)) (records_of_step pools (step_committed h line name slot)) ≡ Some (stored h.words (p.addresses ++ h.reserved ∷ []))
 replayed h p line name slot pools a t q o =
     let bound : bound_of h ≡ h.reserved = ap (λ b. if b then h.reserved else h.front) o in
     ap (λ store. option_and_then (λ after. Some after) (after_making store (8 * h.reserved) (words_of_head (head_at h h.reserved)) 0))
     (ap live_blocks (sym (is_whole h p t q o)) ∙ live_blocks-world_of h p)
-    ∙ ap (option_and_then (λ after. Some after)) (making_pushed h.words h.reserved (words_of_head (head_at h h.reserved)) p.places (blocks_later h.words (bound_of h) h.reserved p.places (omega (arith, bound)) a.blocks) (reserved_block h p a q o))
+    ∙ ap (option_and_then (λ after. Some after)) (making_pushed h.words h.reserved (words_of_head (head_at h h.reserved)) p.addresses (blocks_later h.words (bound_of h) h.reserved p.addresses (omega (arith, bound)) a.blocks) (reserved_block h p a q o))
 
 right_committed : (h : Kept) (p : Past) (line : ℕ) (name : Name) (slot : Slot) → Agrees h p → is_point h name ≡ true → h.is_open ≡ true → has_slot h slot ≡ true
     → IsRightStep (whole h p) (step_committed h line name slot) (committed h slot)
@@ -179,10 +179,10 @@ right_committed h p line name slot a point o there =
     let t = is_name_some h.table slot.name both.0 in
     let q = is_point_some h name point in
     let lt = ltb-true slot.index (length h.slots) both.1 in
-    let lt' : slot.index < length (map (place_in_slot p.places) p.ids) = subst (λ (slots : List ℕ). slot.index < length slots) a.slots lt in
-    let at = slot_there p.places p.ids slot.index lt' in
-    let e = act_of_commit h.grains h.limit p.names (map (object_in h.words) p.places) p.ids (slice_index h.words h.reserved) (cells_at h.words h.reserved)
-    (one_where (is_some h.pool) front_pool) (segments_from 1 p.segments) (map some_address p.places ++ some_address h.reserved ∷ []) (point_place_of h ∷ []) name slot at.0
+    let lt' : slot.index < length (map (place_in_slot p.addresses) p.ids) = subst (λ (slots : List ℕ). slot.index < length slots) a.slots lt in
+    let at = slot_there p.addresses p.ids slot.index lt' in
+    let e = act_of_commit h.grains h.limit p.names (map (object_in h.words) p.addresses) p.ids (slice_index h.words h.reserved) (cells_at h.words h.reserved)
+    (one_where (is_some h.pool) front_pool) (segments_from 1 p.segments) (map some_address p.addresses ++ some_address h.reserved ∷ []) (point_memory_of h ∷ []) name slot at.0
     (point_named_there h p a name point) (table_named h p a slot both.0) at.1 in
     right_step (whole h p) (step_committed h line name slot) (committed h slot) (past_committed h p slot) refl
     (record { moves_are_legal = (legal_commit h p name slot a point o, tt); moves_are_due = refl; answer_is_due = sym (ap answer_from e); marked = tt })

@@ -16,7 +16,7 @@ use Rattle.mps_model.specs.Making.{act_table, act_pool, act_point}
 use Rattle.mps_model.specs.World.{World, Pool}
 use Rattle.mps_first_heap.specs.Kept.{Kept, is_taken, is_pool}
 use Rattle.mps_first_heap.specs.Outcome.{accepted_where, is_made, may_make, is_amc, is_built_pool, is_exact, after_arena, after_table, after_pool, after_point}
-use Rattle.mps_first_heap.specs.StandsFor.{Past, Agrees, world_of, object_in, segments_from, some_address, one_where, point_with, some_where, reservation_in, front_pool, point_place_of}
+use Rattle.mps_first_heap.specs.StandsFor.{Past, Agrees, world_of, object_in, segments_from, some_address, one_where, point_with, some_where, reservation_in, front_pool, point_memory_of}
 use Rattle.mps_first_heap.specs.Unsupported.{is_built, is_unknown}
 use Rattle.mps_first_heap.proofs.Worlds.{world_of-parts}
 use Rattle.mps_first_heap.proofs.Acts.{act_of_table, act_of_pool, act_of_point}
@@ -65,8 +65,8 @@ exact_table_where h p name slots few a true e =
     (supported (world_of h p) (call.Table name slots) refl (in_turn h may.made)
     (ap (λ b. nat_lt 0 (length (one_where b (Some p.ids)))) (not_some h.table may.first))
     (ap (λ w. is_unknown (act_table w name slots)) (world_of-parts h p false (is_some h.point) (is_some h.pool) h.is_open (not_some h.table may.first) refl refl refl)
-    ∙ ap is_unknown (act_of_table h.grains h.limit p.names (map (object_in h.words) p.places) (one_where (is_some h.point) (Some (point_with (some_where h.is_open (reservation_in h.words h.reserved)))))
-    (one_where (is_some h.pool) front_pool) (segments_from 1 p.segments) (map some_address p.places) (one_where (is_some h.point) (point_place_of h)) name slots
+    ∙ ap is_unknown (act_of_table h.grains h.limit p.names (map (object_in h.words) p.addresses) (one_where (is_some h.point) (Some (point_with (some_where h.is_open (reservation_in h.words h.reserved)))))
+    (one_where (is_some h.pool) front_pool) (segments_from 1 p.segments) (map some_address p.addresses) (one_where (is_some h.point) (point_memory_of h)) name slots
     (a.names name ∙ not_taken h name may.free) (le-ltb 65536 (0 + slots) (omega arith)))))
 exact_table_where h p name slots few a false e =
     exact_unsupported (world_of h p) (call.Table name slots)
@@ -99,8 +99,8 @@ exact_pool_built h p name a may =
     (supported (world_of h p) (call.Pool name kind.Amc 1) refl (in_turn h may.made)
     (ap (λ b. nat_lt 0 (length (one_where b front_pool))) (not_some h.pool may.first))
     (ap (λ w. is_unknown (act_pool w name kind.Amc 1)) (world_of-parts h p (is_some h.table) (is_some h.point) false h.is_open refl refl (not_some h.pool may.first) refl)
-    ∙ ap is_unknown (act_of_pool h.grains h.limit p.names (map (object_in h.words) p.places) (one_where (is_some h.table) (Some p.ids)) (one_where (is_some h.point) (Some (point_with (some_where h.is_open (reservation_in h.words h.reserved)))))
-    (segments_from 1 p.segments) (map some_address p.places) (one_where (is_some h.point) (point_place_of h)) name (a.names name ∙ not_taken h name may.free))))
+    ∙ ap is_unknown (act_of_pool h.grains h.limit p.names (map (object_in h.words) p.addresses) (one_where (is_some h.table) (Some p.ids)) (one_where (is_some h.point) (Some (point_with (some_where h.is_open (reservation_in h.words h.reserved)))))
+    (segments_from 1 p.segments) (map some_address p.addresses) (one_where (is_some h.point) (point_memory_of h)) name (a.names name ∙ not_taken h name may.free))))
 
 pool_of_kind : (h : Kept) (p : Past) (name : Name) → Agrees h p → MayMake h h.pool name → (k : Kind) (format : ℕ) → is_amc k ≡ true → format ≡ 1 → IsExact (world_of h p) (call.Pool name k format) reply.Ok
 pool_of_kind h p name a may kind.Amc format k f = subst (λ (n : ℕ). IsExact (world_of h p) (call.Pool name kind.Amc n) reply.Ok) (sym f) (exact_pool_built h p name a may)
@@ -153,8 +153,8 @@ exact_point_pool h p name pool a may true there =
     (supported (world_of h p) (call.Point name pool rank.Exact) refl (in_turn h may.made)
     (ap (λ b. nat_lt 0 (length (one_where b (Some (point_with (some_where h.is_open (reservation_in h.words h.reserved))))))) (not_some h.point may.first))
     (ap (λ w. is_unknown (act_point w name pool rank.Exact)) (is_unpointed h p pool a may.first there)
-    ∙ ap is_unknown (act_of_point h.grains h.limit p.names (map (object_in h.words) p.places) (one_where (is_some h.table) (Some p.ids))
-    (segments_from 1 p.segments) (map some_address p.places) name pool (a.names name ∙ not_taken h name may.free) (pool_there h p pool a there))))
+    ∙ ap is_unknown (act_of_point h.grains h.limit p.names (map (object_in h.words) p.addresses) (one_where (is_some h.table) (Some p.ids))
+    (segments_from 1 p.segments) (map some_address p.addresses) name pool (a.names name ∙ not_taken h name may.free) (pool_there h p pool a there))))
 exact_point_pool h p name pool a may false there =
     exact_unsupported (world_of h p) (call.Point name pool rank.Exact)
     (by_unknown (world_of h p) (call.Point name pool rank.Exact) refusal.BadName (point_without_pool h p name pool a may.free there) refl)

@@ -19,7 +19,7 @@ use Rattle.mps_model.specs.Allocating.{act_reserve, check_reserve, Reserving, re
 use Rattle.mps_model.specs.World.{World, pool_at}
 use Rattle.mps_first_heap.specs.Kept.{Kept, is_point}
 use Rattle.mps_first_heap.specs.Outcome.{after_reserve, reserve_placed, reserve_after, segment_taken, unsupported}
-use Rattle.mps_first_heap.specs.StandsFor.{Past, Agrees, world_of, object_in, segments_from, some_address, one_where, point_with, reservation_in, point_place_of}
+use Rattle.mps_first_heap.specs.StandsFor.{Past, Agrees, world_of, object_in, segments_from, some_address, one_where, point_with, reservation_in, point_memory_of}
 use Rattle.mps_first_heap.specs.Unsupported.{is_unknown, is_known}
 use Rattle.mps_first_heap.proofs.Worlds.{world_of-parts, made_with_pool, pool_with_point}
 use Rattle.mps_first_heap.proofs.Acts.{reserve_bad_head, reserve_open}
@@ -46,7 +46,7 @@ made_there h p name a e = made_with_pool h p a (pool_with_point h p a (is_point_
 
 -- a reserve that isn't refused, or is told a refusal
 supported_reserve : (h : Kept) (p : Past) (name : Name) (head : ℕ) (r : Reply) → Agrees h p → is_point h name ≡ true → h.is_open ≡ false
-    → Rattle.mps_model.specs.Answer.is_unsupported (Rattle.mps_model.specs.Answer.Said r) ≡ false
+    → Rattle.mps_model.specs.Answer.is_unsupported (Rattle.mps_model.specs.Answer.Replied r) ≡ false
     → is_unknown (act_reserve (closed h p) (closed h p) name head) ≡ false → IsExact (world_of h p) (call.Reserve name head) r
 supported_reserve h p name head r a point o answered known =
     exact_answered (world_of h p) (call.Reserve name head) r answered
@@ -113,7 +113,7 @@ exact_open h p name head a point valid true o =
     let q = is_point_some h name point in
     unsupported_check h p name head refusal.Open refl
     (ap (λ w. check_reserve w name head) (world_of-parts h p (is_some h.table) true true true refl q (pool_with_point h p a q) o)
-    ∙ reserve_open h.grains h.limit p.names (map (object_in h.words) p.places) (one_where (is_some h.table) (Some p.ids)) (reservation_in h.words h.reserved) (segments_from 1 p.segments) (map some_address p.places) (point_place_of h ∷ []) name head (point_named_there h p a name point) valid)
+    ∙ reserve_open h.grains h.limit p.names (map (object_in h.words) p.addresses) (one_where (is_some h.table) (Some p.ids)) (reservation_in h.words h.reserved) (segments_from 1 p.segments) (map some_address p.addresses) (point_memory_of h ∷ []) name head (point_named_there h p a name point) valid)
 
 exact_head : (h : Kept) (p : Past) (name : Name) (head : ℕ) → Agrees h p → is_point h name ≡ true → (b : Bool) → is_front head ≡ b → IsExact (world_of h p) (call.Reserve name head) (reserve_reply h head (b && not h.is_open))
 exact_head h p name head a point true valid = exact_open h p name head a point valid h.is_open refl
@@ -121,7 +121,7 @@ exact_head h p name head a point false valid =
     let q = is_point_some h name point in
     unsupported_check h p name head refusal.BadHead refl
     (ap (λ w. check_reserve w name head) (world_of-parts h p (is_some h.table) true true h.is_open refl q (pool_with_point h p a q) refl)
-    ∙ reserve_bad_head h.grains h.limit p.names (map (object_in h.words) p.places) (one_where (is_some h.table) (Some p.ids)) (Rattle.mps_first_heap.specs.StandsFor.some_where h.is_open (reservation_in h.words h.reserved)) (segments_from 1 p.segments) (map some_address p.places) (point_place_of h ∷ []) name head (point_named_there h p a name point) valid)
+    ∙ reserve_bad_head h.grains h.limit p.names (map (object_in h.words) p.addresses) (one_where (is_some h.table) (Some p.ids)) (Rattle.mps_first_heap.specs.StandsFor.some_where h.is_open (reservation_in h.words h.reserved)) (segments_from 1 p.segments) (map some_address p.addresses) (point_memory_of h ∷ []) name head (point_named_there h p a name point) valid)
 
 exact_at : (h : Kept) (p : Past) (name : Name) (head : ℕ) → Agrees h p → (b : Bool) → is_point h name ≡ b → IsExact (world_of h p) (call.Reserve name head) (reserve_reply h head (b && is_front head && not h.is_open))
 exact_at h p name head a true point = exact_head h p name head a point (is_front head) refl

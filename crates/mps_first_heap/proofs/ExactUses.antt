@@ -16,7 +16,7 @@ use Rattle.mps_model.specs.Allocating.{act_init_number, act_commit, act_reserve,
 use Rattle.mps_model.specs.World.{World}
 use Rattle.mps_first_heap.specs.Kept.{Kept, is_name, is_point, has_slot, is_number_cell, head_at}
 use Rattle.mps_first_heap.specs.Outcome.{may_init, after_init, after_commit, number_at as number_known_at, number_reply, after_reserve, reserve_placed, reserve_after}
-use Rattle.mps_first_heap.specs.StandsFor.{Past, Agrees, world_of, object_in as object_of, cells_at, segments_from, some_address, one_where, point_with, some_where, reservation_in, front_pool, point_place_of, place_in_slot, bound_of}
+use Rattle.mps_first_heap.specs.StandsFor.{Past, Agrees, world_of, object_in as object_of, cells_at, segments_from, some_address, one_where, point_with, some_where, reservation_in, front_pool, point_memory_of, place_in_slot, bound_of}
 use Rattle.mps_first_heap.specs.Unsupported.{is_unknown}
 use Rattle.mps_first_heap.proofs.Worlds.{world_of-parts, is_name_some, made_with_table, made_with_pool, pool_with_point, at_hand_within, bound_of-le, block_there_at, slot_there, id_there, number_cell_at, object_there}
 use Rattle.mps_first_heap.proofs.Acts.{act_of_null, act_of_init, act_of_commit, init_not_open, init_no_number, commit_not_open, number_no_number}
@@ -34,46 +34,46 @@ number_from w cell from = object_in w from.value >>= (λ object. number_at (cell
 abbrev points_of : Kept → List (Option Point)
 points_of h = one_where (is_some h.point) (Some (point_with (some_where h.is_open (reservation_in h.words h.reserved))))
 
-exact_number_where : (h : Kept) (p : Past) (slot : Slot) (cell id : ℕ) → Agrees h p → is_name h.table slot.name ≡ true → slice_get p.ids slot.index ≡ Some (Some id) → (b : Bool) → is_number_cell (head_at h (slice_index p.places id)) cell ≡ b
-    → IsExact (world_of h p) (call.Number slot cell) (if b then reply.Number (slice_index h.words (slice_index p.places id + cell)) else reply.Unsupported)
+exact_number_where : (h : Kept) (p : Past) (slot : Slot) (cell id : ℕ) → Agrees h p → is_name h.table slot.name ≡ true → slice_get p.ids slot.index ≡ Some (Some id) → (b : Bool) → is_number_cell (head_at h (slice_index p.addresses id)) cell ≡ b
+    → IsExact (world_of h p) (call.Number slot cell) (if b then reply.Number (slice_index h.words (slice_index p.addresses id + cell)) else reply.Unsupported)
 exact_number_where h p slot cell id a name there true number =
     let t = is_name_some h.table slot.name name in
-    exact_answered (world_of h p) (call.Number slot cell) (reply.Number (slice_index h.words (slice_index p.places id + cell))) refl
+    exact_answered (world_of h p) (call.Number slot cell) (reply.Number (slice_index h.words (slice_index p.addresses id + cell))) refl
     (supported (world_of h p) (call.Number slot cell) refl (in_turn h (made_with_table h p a t)) refl
     (ap (λ w. is_unknown (act_number w slot cell)) (is_tabled h p t) ∙ ap is_unknown (act_number_there h p slot cell id a name there number)))
 exact_number_where h p slot cell id a name there false number =
     let t = is_name_some h.table slot.name name in
-    let below = id_there (length p.places) p.ids slot.index id a.ids there in
-    let at = slice_index p.places id in
+    let below = id_there (length p.addresses) p.ids slot.index id a.ids there in
+    let at = slice_index p.addresses id in
     let made = made_with_table h p a t in
     let le = bound_of-le h p a in
     let within = at_hand_within h p a made in
     let hand = a.at_hand in
     let refused = λ (why : Refusal) (e : number_at (cells_at h.words at) cell ≡ Err why).
     ap (λ w. act_number w slot cell) (is_tabled h p t)
-    ∙ number_no_number h.grains h.limit p.names (map (object_of h.words) p.places) p.ids (points_of h) (one_where (is_some h.pool) front_pool) (segments_from 1 p.segments) (map some_address p.places) (one_where (is_some h.point) (point_place_of h))
-    slot id (slice_index h.words at) (cells_at h.words at) cell why (table_named h p a slot name) there (object_there h.words p.places id below) e in
+    ∙ number_no_number h.grains h.limit p.names (map (object_of h.words) p.addresses) p.ids (points_of h) (one_where (is_some h.pool) front_pool) (segments_from 1 p.segments) (map some_address p.addresses) (one_where (is_some h.point) (point_memory_of h))
+    slot id (slice_index h.words at) (cells_at h.words at) cell why (table_named h p a slot name) there (object_there h.words p.addresses id below) e in
     exact_unsupported (world_of h p) (call.Number slot cell)
-    (elim (no_number h.words (bound_of h) at cell (block_there_at h.words (bound_of h) p.places id a.blocks below) (omega arith) number) [
+    (elim (no_number h.words (bound_of h) at cell (block_there_at h.words (bound_of h) p.addresses id a.blocks below) (omega arith) number) [
       | inl e ↦ by_unknown (world_of h p) (call.Number slot cell) refusal.BadIndex (refused refusal.BadIndex e) refl
       | inr e ↦ by_unknown (world_of h p) (call.Number slot cell) refusal.NotANumber (refused refusal.NotANumber e) refl
     ])
 
 exact_number_held : (h : Kept) (p : Past) (slot : Slot) (cell : ℕ) (held : Option ℕ) → Agrees h p → is_name h.table slot.name ≡ true → slice_get p.ids slot.index ≡ Some held
-    → IsExact (world_of h p) (call.Number slot cell) (number_known_at h (place_in_slot p.places held) cell)
+    → IsExact (world_of h p) (call.Number slot cell) (number_known_at h (place_in_slot p.addresses held) cell)
 exact_number_held h p slot cell None a name there =
     let t = is_name_some h.table slot.name name in
     exact_answered (world_of h p) (call.Number slot cell) (reply.Refused refusal.NullRef) refl
     (supported (world_of h p) (call.Number slot cell) refl (in_turn h (made_with_table h p a t)) refl
     (ap (λ w. is_unknown (act_number w slot cell)) (is_tabled h p t)
-    ∙ ap is_unknown (act_of_null h.grains h.limit p.names (map (object_of h.words) p.places) p.ids (points_of h) (one_where (is_some h.pool) front_pool) (segments_from 1 p.segments) (map some_address p.places) (one_where (is_some h.point) (point_place_of h)) slot cell (table_named h p a slot name) there)))
+    ∙ ap is_unknown (act_of_null h.grains h.limit p.names (map (object_of h.words) p.addresses) p.ids (points_of h) (one_where (is_some h.pool) front_pool) (segments_from 1 p.segments) (map some_address p.addresses) (one_where (is_some h.point) (point_memory_of h)) slot cell (table_named h p a slot name) there)))
 exact_number_held h p slot cell (Some id) a name there =
-    let below = id_there (length p.places) p.ids slot.index id a.ids there in
-    let block = block_there_at h.words (bound_of h) p.places id a.blocks below in
+    let below = id_there (length p.addresses) p.ids slot.index id a.ids there in
+    let block = block_there_at h.words (bound_of h) p.addresses id a.blocks below in
     let not_null = block.not_null in
-    let ne : (slice_index p.places id == 0) ≡ false = ne_eqb (slice_index p.places id) 0 (λ e. omega arith) in
-    subst (λ (b : Bool). IsExact (world_of h p) (call.Number slot cell) (if b then reply.Refused refusal.NullRef else (if is_number_cell (head_at h (slice_index p.places id)) cell then reply.Number (slice_index h.words (slice_index p.places id + cell)) else reply.Unsupported))) (sym ne)
-    (exact_number_where h p slot cell id a name there (is_number_cell (head_at h (slice_index p.places id)) cell) refl)
+    let ne : (slice_index p.addresses id == 0) ≡ false = ne_eqb (slice_index p.addresses id) 0 (λ e. omega arith) in
+    subst (λ (b : Bool). IsExact (world_of h p) (call.Number slot cell) (if b then reply.Refused refusal.NullRef else (if is_number_cell (head_at h (slice_index p.addresses id)) cell then reply.Number (slice_index h.words (slice_index p.addresses id + cell)) else reply.Unsupported))) (sym ne)
+    (exact_number_where h p slot cell id a name there (is_number_cell (head_at h (slice_index p.addresses id)) cell) refl)
 
 exact_number_in : (h : Kept) (p : Past) (slot : Slot) (cell : ℕ) → Agrees h p → (b : Bool) → has_slot h slot ≡ b
     → IsExact (world_of h p) (call.Number slot cell) (if b then number_known_at h (slice_index h.slots slot.index) cell else reply.Unsupported)
@@ -86,8 +86,8 @@ exact_number_in h p slot cell a false e =
 exact_number_in h p slot cell a true e =
     let both = and_parts (is_name h.table slot.name) (nat_lt slot.index (length h.slots)) e in
     let lt = ltb-true slot.index (length h.slots) both.1 in
-    let lt' : slot.index < length (map (place_in_slot p.places) p.ids) = subst (λ (slots : List ℕ). slot.index < length slots) a.slots lt in
-    let there = slot_there p.places p.ids slot.index lt' in
+    let lt' : slot.index < length (map (place_in_slot p.addresses) p.ids) = subst (λ (slots : List ℕ). slot.index < length slots) a.slots lt in
+    let there = slot_there p.addresses p.ids slot.index lt' in
     subst (λ (place : ℕ). IsExact (world_of h p) (call.Number slot cell) (number_known_at h place cell))
     (sym (ap (λ slots. slice_index slots slot.index) a.slots ∙ there.2))
     (exact_number_held h p slot cell there.0 a both.0 there.1)
@@ -121,8 +121,8 @@ exact_init_in h p name cell value a point o true number =
     exact_answered (world_of h p) (call.InitNumber name cell value) reply.Ok refl
     (supported (world_of h p) (call.InitNumber name cell value) refl (in_turn h made) refl
     (ap (λ w. is_unknown (act_init_number w name cell value)) (is_opened h p q o)
-    ∙ ap is_unknown (act_of_init h.grains h.limit p.names (map (object_of h.words) p.places) (one_where (is_some h.table) (Some p.ids)) (slice_index h.words h.reserved) (cells_at h.words h.reserved)
-    (one_where (is_some h.pool) front_pool) (segments_from 1 p.segments) (map some_address p.places) (point_place_of h ∷ []) name cell value (slice_index h.words (h.reserved + cell))
+    ∙ ap is_unknown (act_of_init h.grains h.limit p.names (map (object_of h.words) p.addresses) (one_where (is_some h.table) (Some p.ids)) (slice_index h.words h.reserved) (cells_at h.words h.reserved)
+    (one_where (is_some h.pool) front_pool) (segments_from 1 p.segments) (map some_address p.addresses) (point_memory_of h ∷ []) name cell value (slice_index h.words (h.reserved + cell))
     (point_named_there h p a name point) (number_cell_at h.words h.front h.reserved cell (a.reservation o) (omega arith) number))))
 exact_init_in h p name cell value a point o false number =
     let q = is_point_some h name point in
@@ -131,8 +131,8 @@ exact_init_in h p name cell value a point o false number =
     let hand = a.at_hand in
     let refused = λ (why : Refusal) (e : number_at (cells_at h.words h.reserved) cell ≡ Err why).
     ap (λ w. act_init_number w name cell value) (is_opened h p q o)
-    ∙ init_no_number h.grains h.limit p.names (map (object_of h.words) p.places) (one_where (is_some h.table) (Some p.ids)) (slice_index h.words h.reserved) (cells_at h.words h.reserved)
-    (one_where (is_some h.pool) front_pool) (segments_from 1 p.segments) (map some_address p.places) (point_place_of h ∷ []) name cell value why (point_named_there h p a name point) e in
+    ∙ init_no_number h.grains h.limit p.names (map (object_of h.words) p.addresses) (one_where (is_some h.table) (Some p.ids)) (slice_index h.words h.reserved) (cells_at h.words h.reserved)
+    (one_where (is_some h.pool) front_pool) (segments_from 1 p.segments) (map some_address p.addresses) (point_memory_of h ∷ []) name cell value why (point_named_there h p a name point) e in
     exact_unsupported (world_of h p) (call.InitNumber name cell value)
     (elim (no_number h.words h.front h.reserved cell (a.reservation o) (omega arith) number) [
       | inl e ↦ by_unknown (world_of h p) (call.InitNumber name cell value) refusal.BadIndex (refused refusal.BadIndex e) refl
@@ -146,7 +146,7 @@ exact_init_open h p name cell value a point false o =
     exact_unsupported (world_of h p) (call.InitNumber name cell value)
     (by_unknown (world_of h p) (call.InitNumber name cell value) refusal.NotOpen
     (ap (λ w. act_init_number w name cell value) (world_of-parts h p (is_some h.table) true (is_some h.pool) false refl (is_point_some h name point) refl o)
-    ∙ init_not_open h.grains h.limit p.names (map (object_of h.words) p.places) (one_where (is_some h.table) (Some p.ids)) (one_where (is_some h.pool) front_pool) (segments_from 1 p.segments) (map some_address p.places) (point_place_of h ∷ []) name cell value (point_named_there h p a name point))
+    ∙ init_not_open h.grains h.limit p.names (map (object_of h.words) p.addresses) (one_where (is_some h.table) (Some p.ids)) (one_where (is_some h.pool) front_pool) (segments_from 1 p.segments) (map some_address p.addresses) (point_memory_of h ∷ []) name cell value (point_named_there h p a name point))
     refl)
 
 exact_init_at : (h : Kept) (p : Past) (name : Name) (cell value : ℕ) → Agrees h p → (b : Bool) → is_point h name ≡ b
@@ -182,8 +182,8 @@ exact_commit_open h p name slot a point there b o =
     let both = and_parts (is_name h.table slot.name) (nat_lt slot.index (length h.slots)) there in
     let t = is_name_some h.table slot.name both.0 in
     let lt = ltb-true slot.index (length h.slots) both.1 in
-    let lt' : slot.index < length (map (place_in_slot p.places) p.ids) = subst (λ (slots : List ℕ). slot.index < length slots) a.slots lt in
-    let at = slot_there p.places p.ids slot.index lt' in
+    let lt' : slot.index < length (map (place_in_slot p.addresses) p.ids) = subst (λ (slots : List ℕ). slot.index < length slots) a.slots lt in
+    let at = slot_there p.addresses p.ids slot.index lt' in
     by_open q t at.0 at.1 (table_named h p a slot both.0) b o
   where
     by_open : is_some h.point ≡ true → is_some h.table ≡ true → (held : Option ℕ) → slice_get p.ids slot.index ≡ Some held → thing_in p.names slot.name ≡ Some (Rattle.mps_model.specs.Graph.TableThing 0) → (b : Bool) → h.is_open ≡ b → IsExact (world_of h p) (call.Commit name slot) (commit_reply b)
@@ -191,13 +191,13 @@ exact_commit_open h p name slot a point there b o =
         exact_answered (world_of h p) (call.Commit name slot) reply.Ok refl
         (supported (world_of h p) (call.Commit name slot) refl (in_turn h (made_with_table h p a t)) refl
         (ap (λ w. is_unknown (act_commit w name slot)) (is_whole h p t q o)
-        ∙ ap is_unknown (act_of_commit h.grains h.limit p.names (map (object_of h.words) p.places) p.ids (slice_index h.words h.reserved) (cells_at h.words h.reserved)
-        (one_where (is_some h.pool) front_pool) (segments_from 1 p.segments) (map some_address p.places) (point_place_of h ∷ []) name slot held (point_named_there h p a name point) table at)))
+        ∙ ap is_unknown (act_of_commit h.grains h.limit p.names (map (object_of h.words) p.addresses) p.ids (slice_index h.words h.reserved) (cells_at h.words h.reserved)
+        (one_where (is_some h.pool) front_pool) (segments_from 1 p.segments) (map some_address p.addresses) (point_memory_of h ∷ []) name slot held (point_named_there h p a name point) table at)))
     by_open q t held at table false o =
         exact_unsupported (world_of h p) (call.Commit name slot)
         (by_unknown (world_of h p) (call.Commit name slot) refusal.NotOpen
         (ap (λ w. act_commit w name slot) (world_of-parts h p true true (is_some h.pool) false t q refl o)
-        ∙ commit_not_open h.grains h.limit p.names (map (object_of h.words) p.places) p.ids (one_where (is_some h.pool) front_pool) (segments_from 1 p.segments) (map some_address p.places) (point_place_of h ∷ []) name slot held (point_named_there h p a name point) table at)
+        ∙ commit_not_open h.grains h.limit p.names (map (object_of h.words) p.addresses) p.ids (one_where (is_some h.pool) front_pool) (segments_from 1 p.segments) (map some_address p.addresses) (point_memory_of h ∷ []) name slot held (point_named_there h p a name point) table at)
         refl)
 
 exact_commit_slot : (h : Kept) (p : Past) (name : Name) (slot : Slot) → Agrees h p → is_point h name ≡ true → (b : Bool) → has_slot h slot ≡ b → IsExact (world_of h p) (call.Commit name slot) (commit_reply (h.is_open && b))

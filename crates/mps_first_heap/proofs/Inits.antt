@@ -14,7 +14,7 @@ use Rattle.mps_model.specs.History.{live_blocks, with_client_remembered}
 use Rattle.mps_model.specs.Reply.{answer_from, world_from}
 use Rattle.mps_first_heap.specs.Kept.{Kept, is_name, is_point, is_number_cell, head_at, words_of_head}
 use Rattle.mps_first_heap.specs.Outcome.{said, may_init, after_init, accepted_where}
-use Rattle.mps_first_heap.specs.StandsFor.{Past, Agrees, world_of, world_with, step_of, object_in, cells_at, cells_in, cell_in, segments_from, some_address, one_where, point_with, reservation_in, front_pool, point_place_of, bound_of, IsBlockAt}
+use Rattle.mps_first_heap.specs.StandsFor.{Past, Agrees, world_of, world_with, step_of, object_in, cells_at, cells_in, cell_in, segments_from, some_address, one_where, point_with, reservation_in, front_pool, point_memory_of, bound_of, IsBlockAt}
 use Rattle.mps_first_heap.specs.RightStep.{IsRightStep}
 use Rattle.mps_first_heap.proofs.Lists.{objects-set_after, blocks-set_after, slice_index-set_other, block_words-set, cells_in-set}
 use Rattle.mps_first_heap.proofs.Worlds.{world_by, world_of-parts, is_name_some, pool_with_point, made_with_pool, at_hand_within, number_cell, number_cell_at, number_cell_below, live_blocks-world_of, stored}
@@ -69,17 +69,17 @@ is_opened h p q o = world_of-parts h p (is_some h.table) true (is_some h.pool) t
 abbrev opened_with : Kept → Past → List Object → Reservation → World
 opened_with h p objects r =
     world_with h.grains h.limit p.names objects (one_where (is_some h.table) (Some p.ids)) (Some (point_with (Some r)) ∷ [])
-    (one_where (is_some h.pool) front_pool) (segments_from 1 p.segments) (map some_address p.places) (point_place_of h ∷ [])
+    (one_where (is_some h.pool) front_pool) (segments_from 1 p.segments) (map some_address p.addresses) (point_memory_of h ∷ [])
 
 -- the world after the write
 world_written : (h : Kept) (p : Past) (cell value : ℕ) → Agrees h p → is_some h.point ≡ true → h.is_open ≡ true → 0 < cell → is_number_cell (head_at h h.reserved) cell ≡ true
-    → opened_with h p (map (object_in h.words) p.places) (record { head = slice_index h.words h.reserved; cells = slice_set (cells_at h.words h.reserved) cell (NumberCell value); is_doomed = false })
+    → opened_with h p (map (object_in h.words) p.addresses) (record { head = slice_index h.words h.reserved; cells = slice_set (cells_at h.words h.reserved) cell (NumberCell value); is_doomed = false })
     ≡ world_of (written h cell value) p
 world_written h p cell value a q o pos number =
     let bound : bound_of h ≡ h.reserved = ap (λ b. if b then h.reserved else h.front) o in
     let le : bound_of h ≤ h.reserved + cell = omega (arith, bound) in
-    ap (λ objects. opened_with h p objects (record { head = slice_index h.words h.reserved; cells = slice_set (cells_at h.words h.reserved) cell (NumberCell value); is_doomed = false })) (sym (objects-set_after h.words (bound_of h) (h.reserved + cell) value p.places le a.blocks))
-    ∙ ap (λ r. opened_with h p (map (object_in (slice_set h.words (h.reserved + cell) value)) p.places) r) (sym (reservation_written h.words h.reserved cell value pos number))
+    ap (λ objects. opened_with h p objects (record { head = slice_index h.words h.reserved; cells = slice_set (cells_at h.words h.reserved) cell (NumberCell value); is_doomed = false })) (sym (objects-set_after h.words (bound_of h) (h.reserved + cell) value p.addresses le a.blocks))
+    ∙ ap (λ r. opened_with h p (map (object_in (slice_set h.words (h.reserved + cell) value)) p.addresses) r) (sym (reservation_written h.words h.reserved cell value pos number))
     ∙ sym (is_opened (written h cell value) p q o)
 
 agrees_written : (h : Kept) (p : Past) (cell value : ℕ) → Agrees h p → h.is_open ≡ true → 0 < cell → is_number_cell (head_at h h.reserved) cell ≡ true → Agrees (written h cell value) p
@@ -96,7 +96,7 @@ agrees_written h p cell value a o pos number =
       held = a.held;
       in_arena = a.in_arena;
       arena = λ made. length-set h.words (h.reserved + cell) value ∙ a.arena made;
-      blocks = blocks-set_after h.words (bound_of h) (bound_of h) (h.reserved + cell) value p.places le (omega arith) a.blocks;
+      blocks = blocks-set_after h.words (bound_of h) (bound_of h) (h.reserved + cell) value p.addresses le (omega arith) a.blocks;
       reservation = λ _. block_written h.words h.front h.reserved (h.reserved + cell) value (omega arith) block;
       at_hand = a.at_hand;
       not_null = a.not_null;
@@ -106,11 +106,11 @@ agrees_written h p cell value a o pos number =
       before_point = λ none. record { front = (a.before_point none).front; following = (a.before_point none).following; reserved = (a.before_point none).reserved; closed = (a.before_point none).closed };
     }
 
-stored_written : (h : Kept) (p : Past) (cell value : ℕ) → Agrees h p → is_some h.point ≡ true → h.is_open ≡ true → 0 < cell → is_number_cell (head_at h h.reserved) cell ≡ true → live_blocks (opened h p) ≡ stored (written h cell value).words p.places
+stored_written : (h : Kept) (p : Past) (cell value : ℕ) → Agrees h p → is_some h.point ≡ true → h.is_open ≡ true → 0 < cell → is_number_cell (head_at h h.reserved) cell ≡ true → live_blocks (opened h p) ≡ stored (written h cell value).words p.addresses
 stored_written h p cell value a q o pos number =
     let bound : bound_of h ≡ h.reserved = ap (λ b. if b then h.reserved else h.front) o in
     let le : bound_of h ≤ h.reserved + cell = omega (arith, bound) in
-    ap live_blocks (sym (is_opened h p q o)) ∙ live_blocks-world_of h p ∙ sym (stored-set_after h.words (bound_of h) (h.reserved + cell) value p.places le a.blocks)
+    ap live_blocks (sym (is_opened h p q o)) ∙ live_blocks-world_of h p ∙ sym (stored-set_after h.words (bound_of h) (h.reserved + cell) value p.addresses le a.blocks)
 
 right_written : (h : Kept) (p : Past) (line : ℕ) (name : Name) (cell value : ℕ) → Agrees h p → is_point h name ≡ true → h.is_open ≡ true → is_number_cell (head_at h h.reserved) cell ≡ true
     → IsRightStep (opened h p) (step_of line (call.InitNumber name cell value) (said reply.Ok)) (written h cell value)
@@ -121,8 +121,8 @@ right_written h p line name cell value a point o number =
     let made = made_with_pool h p a (pool_with_point h p a q) in
     let within = at_hand_within h p a made in
     let hand = a.at_hand in
-    let e = act_of_init h.grains h.limit p.names (map (object_in h.words) p.places) (one_where (is_some h.table) (Some p.ids)) (slice_index h.words h.reserved) (cells_at h.words h.reserved)
-    (one_where (is_some h.pool) front_pool) (segments_from 1 p.segments) (map some_address p.places) (point_place_of h ∷ []) name cell value (slice_index h.words (h.reserved + cell))
+    let e = act_of_init h.grains h.limit p.names (map (object_in h.words) p.addresses) (one_where (is_some h.table) (Some p.ids)) (slice_index h.words h.reserved) (cells_at h.words h.reserved)
+    (one_where (is_some h.pool) front_pool) (segments_from 1 p.segments) (map some_address p.addresses) (point_memory_of h ∷ []) name cell value (slice_index h.words (h.reserved + cell))
     (point_named_there h p a name point) (number_cell_at h.words h.front h.reserved cell (a.reservation o) (omega arith) number) in
     right_step (opened h p) (step_of line (call.InitNumber name cell value) (said reply.Ok)) (written h cell value) p refl
     (record { moves_are_legal = tt; moves_are_due = refl; answer_is_due = sym (ap answer_from e); marked = tt })

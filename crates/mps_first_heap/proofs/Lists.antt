@@ -58,7 +58,7 @@ object_in-set_after words bound i v place h b =
     ap (λ head. made_of head (take (size_field head) (drop place (slice_set words i v)))) (slice_index-set_other words i place v lt)
     ∙ ap (λ ws. made_of (slice_index words place) ws) (take-drop-set_after words place (size_field (slice_index words place)) i v le)
 
-pub objects-set_after : (words : List ℕ) (bound i v : ℕ) (places : List ℕ) → bound ≤ i → AllByRecursion (IsBlockAt words bound) places → map (object_in (slice_set words i v)) places ≡ map (object_in words) places
+pub objects-set_after : (words : List ℕ) (bound i v : ℕ) (addresses : List ℕ) → bound ≤ i → AllByRecursion (IsBlockAt words bound) addresses → map (object_in (slice_set words i v)) addresses ≡ map (object_in words) addresses
 objects-set_after words bound i v [] h bs = refl
 objects-set_after words bound i v (p ∷ ps) h bs =
     ap (λ o. o ∷ map (object_in (slice_set words i v)) ps) (object_in-set_after words bound i v p h bs.0)
@@ -77,18 +77,18 @@ block-set_after words bound later i v place h l b =
       below = subst (λ (head : ℕ). place + size_field head ≤ later) (sym e) (omega arith);
     }
 
-pub blocks-set_after : (words : List ℕ) (bound later i v : ℕ) (places : List ℕ) → bound ≤ i → bound ≤ later → AllByRecursion (IsBlockAt words bound) places → AllByRecursion (IsBlockAt (slice_set words i v) later) places
+pub blocks-set_after : (words : List ℕ) (bound later i v : ℕ) (addresses : List ℕ) → bound ≤ i → bound ≤ later → AllByRecursion (IsBlockAt words bound) addresses → AllByRecursion (IsBlockAt (slice_set words i v) later) addresses
 blocks-set_after words bound later i v [] h l bs = bs
 blocks-set_after words bound later i v (p ∷ ps) h l bs = (block-set_after words bound later i v p h l bs.0, blocks-set_after words bound later i v ps h l bs.1)
 
 pub block_later : (words : List ℕ) (bound later place : ℕ) → bound ≤ later → IsBlockAt words bound place → IsBlockAt words later place
 block_later words bound later place l b = let below = b.below in record { not_null = b.not_null; head = b.head; below = omega arith }
 
-pub blocks_later : (words : List ℕ) (bound later : ℕ) (places : List ℕ) → bound ≤ later → AllByRecursion (IsBlockAt words bound) places → AllByRecursion (IsBlockAt words later) places
+pub blocks_later : (words : List ℕ) (bound later : ℕ) (addresses : List ℕ) → bound ≤ later → AllByRecursion (IsBlockAt words bound) addresses → AllByRecursion (IsBlockAt words later) addresses
 blocks_later words bound later [] l bs = bs
 blocks_later words bound later (p ∷ ps) l bs = (block_later words bound later p l bs.0, blocks_later words bound later ps l bs.1)
 
-pub blocks_push : (words : List ℕ) (bound place : ℕ) (places : List ℕ) → AllByRecursion (IsBlockAt words bound) places → IsBlockAt words bound place → AllByRecursion (IsBlockAt words bound) (places ++ place ∷ [])
+pub blocks_push : (words : List ℕ) (bound place : ℕ) (addresses : List ℕ) → AllByRecursion (IsBlockAt words bound) addresses → IsBlockAt words bound place → AllByRecursion (IsBlockAt words bound) (addresses ++ place ∷ [])
 blocks_push words bound place [] bs b = (b, tt)
 blocks_push words bound place (p ∷ ps) bs b = (bs.0, blocks_push words bound place ps bs.1 b)
 

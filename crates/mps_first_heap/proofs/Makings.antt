@@ -12,12 +12,12 @@ use Rattle.mps_base.specs.declared.names.Rank.TheVariants as rank
 use Rattle.mps_model.specs.declared.call.Call.TheVariants as call
 use Rattle.mps_model.specs.declared.reply.Reply.TheVariants as reply
 use Rattle.mps_model.specs.Graph.{Thing, TableThing, PoolThing, PointThing, same_name, thing_in}
-use Rattle.mps_model.specs.World.{World, PointPlace}
+use Rattle.mps_model.specs.World.{World, PointMemory}
 use Rattle.mps_model.specs.History.{live_blocks, with_client_remembered}
 use Rattle.mps_model.specs.Reply.{answer_from, world_from}
 use Rattle.mps_first_heap.specs.Kept.{Kept, is_name, is_taken, is_pool}
 use Rattle.mps_first_heap.specs.Outcome.{said, accepted_where, is_made, may_make, is_amc, is_built_pool, is_exact, arena_made, after_arena, after_table, after_pool, after_point}
-use Rattle.mps_first_heap.specs.StandsFor.{Past, Agrees, world_of, world_with, step_of, object_in, segments_from, some_address, one_where, point_with, some_where, reservation_in, front_pool, point_place_of, place_in_slot, is_null_or_below, bound_of, IsBlockAt, thing_of}
+use Rattle.mps_first_heap.specs.StandsFor.{Past, Agrees, world_of, world_with, step_of, object_in, segments_from, some_address, one_where, point_with, some_where, reservation_in, front_pool, point_memory_of, place_in_slot, is_null_or_below, bound_of, IsBlockAt, thing_of}
 use Rattle.mps_first_heap.specs.RightStep.{IsRightStep}
 use Rattle.mps_first_heap.proofs.Worlds.{world_by, world_of-parts, is_name_some, live_blocks-world_of}
 use Rattle.mps_first_heap.proofs.Steps.{right_step, unsupported_step}
@@ -56,9 +56,9 @@ tabled h name slots = record h { table = Some name; slots = replicate slots 0 }
 abbrev past_tabled : Past → Name → (slots : ℕ) → Past
 past_tabled p name slots = record p { ids = replicate slots None; names = p.names ++ record { name = name; thing = TableThing 0 } ∷ [] }
 
-null_slots : (places : List ℕ) (n : ℕ) → replicate n 0 ≡ map (place_in_slot places) (replicate n None)
-null_slots places zero = refl
-null_slots places (suc n) = ap (λ rest. 0 ∷ rest) (null_slots places n)
+null_slots : (addresses : List ℕ) (n : ℕ) → replicate n 0 ≡ map (place_in_slot addresses) (replicate n None)
+null_slots addresses zero = refl
+null_slots addresses (suc n) = ap (λ rest. 0 ∷ rest) (null_slots addresses n)
 
 null_ids : (count n : ℕ) → list_all (is_null_or_below count) (replicate n None) ≡ true
 null_ids count zero = refl
@@ -77,8 +77,8 @@ names_tabled h p name slots a none free =
 agrees_tabled : (h : Kept) (p : Past) (name : Name) (slots : ℕ) → Agrees h p → MayMake h h.table name → Agrees (tabled h name slots) (past_tabled p name slots)
 agrees_tabled h p name slots a may = record {
   names = names_tabled h p name slots a may.first may.free;
-  slots = null_slots p.places slots;
-  ids = null_ids (length p.places) slots;
+  slots = null_slots p.addresses slots;
+  ids = null_ids (length p.addresses) slots;
   held = a.held;
   in_arena = a.in_arena;
   arena = a.arena;
@@ -99,8 +99,8 @@ right_tabled : (h : Kept) (p : Past) (line : ℕ) (name : Name) (slots : ℕ) �
     → IsRightStep (untabled h p) (step_of line (call.Table name slots) (said reply.Ok)) (tabled h name slots)
 right_tabled h p line name slots few a may =
     let w = world_of-parts h p false (is_some h.point) (is_some h.pool) h.is_open (not_some h.table may.first) refl refl refl in
-    let e = act_of_table h.grains h.limit p.names (map (object_in h.words) p.places) (one_where (is_some h.point) (Some (point_with (some_where h.is_open (reservation_in h.words h.reserved)))))
-    (one_where (is_some h.pool) front_pool) (segments_from 1 p.segments) (map some_address p.places) (one_where (is_some h.point) (point_place_of h)) name slots
+    let e = act_of_table h.grains h.limit p.names (map (object_in h.words) p.addresses) (one_where (is_some h.point) (Some (point_with (some_where h.is_open (reservation_in h.words h.reserved)))))
+    (one_where (is_some h.pool) front_pool) (segments_from 1 p.segments) (map some_address p.addresses) (one_where (is_some h.point) (point_memory_of h)) name slots
     (a.names name ∙ not_taken h name may.free) (le-ltb 65536 (0 + slots) (omega arith)) in
     right_step (untabled h p) (step_of line (call.Table name slots) (said reply.Ok)) (tabled h name slots) (past_tabled p name slots) refl
     (record { moves_are_legal = tt; moves_are_due = refl; answer_is_due = sym (ap answer_from e); marked = tt })
@@ -171,8 +171,8 @@ right_pooled : (h : Kept) (p : Past) (line : ℕ) (name : Name) → Agrees h p �
     → IsRightStep (unpooled h p) (step_of line (call.Pool name kind.Amc 1) (said reply.Ok)) (pooled h name)
 right_pooled h p line name a may =
     let w = world_of-parts h p (is_some h.table) (is_some h.point) false h.is_open refl refl (not_some h.pool may.first) refl in
-    let e = act_of_pool h.grains h.limit p.names (map (object_in h.words) p.places) (one_where (is_some h.table) (Some p.ids)) (one_where (is_some h.point) (Some (point_with (some_where h.is_open (reservation_in h.words h.reserved)))))
-    (segments_from 1 p.segments) (map some_address p.places) (one_where (is_some h.point) (point_place_of h)) name (a.names name ∙ not_taken h name may.free) in
+    let e = act_of_pool h.grains h.limit p.names (map (object_in h.words) p.addresses) (one_where (is_some h.table) (Some p.ids)) (one_where (is_some h.point) (Some (point_with (some_where h.is_open (reservation_in h.words h.reserved)))))
+    (segments_from 1 p.segments) (map some_address p.addresses) (one_where (is_some h.point) (point_memory_of h)) name (a.names name ∙ not_taken h name may.free) in
     right_step (unpooled h p) (step_of line (call.Pool name kind.Amc 1) (said reply.Ok)) (pooled h name) (past_pooled p name) refl
     (record { moves_are_legal = tt; moves_are_due = refl; answer_is_due = sym (ap answer_from e); marked = tt })
     (ap (λ r. with_client_remembered (world_from (unpooled h p) r)) e)
@@ -252,12 +252,12 @@ pub is_unpointed : (h : Kept) (p : Past) (pool : Name) → Agrees h p → h.poin
 is_unpointed h p pool a none there =
     world_of-parts h p (is_some h.table) false true false refl (not_some h.point none) (is_name_some h.pool pool (and_parts (not (is_name h.table pool)) (is_name h.pool pool) there).1) (a.before_point none).closed
 
-abbrev pointed_with : Kept → Past → Name → PointPlace → World
+abbrev pointed_with : Kept → Past → Name → PointMemory → World
 pointed_with h p name place =
-    world_with h.grains h.limit (past_pointed p name).names (map (object_in h.words) p.places) (one_where (is_some h.table) (Some p.ids)) (Some (point_with None) ∷ [])
-    (front_pool ∷ []) (segments_from 1 p.segments) (map some_address p.places) (place ∷ [])
+    world_with h.grains h.limit (past_pointed p name).names (map (object_in h.words) p.addresses) (one_where (is_some h.table) (Some p.ids)) (Some (point_with None) ∷ [])
+    (front_pool ∷ []) (segments_from 1 p.segments) (map some_address p.addresses) (place ∷ [])
 
-abbrev place_with : (reserved front following : ℕ) → PointPlace
+abbrev place_with : (reserved front following : ℕ) → PointMemory
 place_with reserved front following = record { reserved_at = 8 * reserved; buffer = record { from = front; count = following - front } }
 
 world_pointed : (h : Kept) (p : Past) (name pool : Name) → Agrees h p → h.point ≡ None → is_pool h pool ≡ true
@@ -273,8 +273,8 @@ right_pointed : (h : Kept) (p : Past) (line : ℕ) (name pool : Name) → Agrees
     → IsRightStep (unpointed h p) (step_of line (call.Point name pool rank.Exact) (said reply.Ok)) (pointed h name)
 right_pointed h p line name pool a may there =
     let w = is_unpointed h p pool a may.first there in
-    let e = act_of_point h.grains h.limit p.names (map (object_in h.words) p.places) (one_where (is_some h.table) (Some p.ids))
-    (segments_from 1 p.segments) (map some_address p.places) name pool (a.names name ∙ not_taken h name may.free) (pool_there h p pool a there) in
+    let e = act_of_point h.grains h.limit p.names (map (object_in h.words) p.addresses) (one_where (is_some h.table) (Some p.ids))
+    (segments_from 1 p.segments) (map some_address p.addresses) name pool (a.names name ∙ not_taken h name may.free) (pool_there h p pool a there) in
     right_step (unpointed h p) (step_of line (call.Point name pool rank.Exact) (said reply.Ok)) (pointed h name) (past_pointed p name) refl
     (record { moves_are_legal = tt; moves_are_due = refl; answer_is_due = sym (ap answer_from e); marked = tt })
     (ap (λ r. with_client_remembered (world_from (unpointed h p) r)) e ∙ world_pointed h p name pool a may.first there)
@@ -311,17 +311,17 @@ pub record IsUnmade (h : Kept) : Type 0 where
 pub unmade : (h : Kept) (p : Past) → Agrees h p → h.grains ≡ 0 → IsUnmade h
 unmade h p a z = let none = a.before_arena z in record { table = none.0; pool = none.1; point = a.before_pool none.1 }
 
-no_places : (words : List ℕ) (bound : ℕ) (places : List ℕ) → bound ≡ 0 → AllByRecursion (IsBlockAt words bound) places → places ≡ []
-no_places words bound [] z all = refl
-no_places words bound (p ∷ ps) z all = let not_null = all.0.not_null in let below = all.0.below in absurd (omega arith)
+no_addresses : (words : List ℕ) (bound : ℕ) (addresses : List ℕ) → bound ≡ 0 → AllByRecursion (IsBlockAt words bound) addresses → addresses ≡ []
+no_addresses words bound [] z all = refl
+no_addresses words bound (p ∷ ps) z all = let not_null = all.0.not_null in let below = all.0.below in absurd (omega arith)
 
 abbrev past_arena : Past → Past
-past_arena p = record p { ids = []; places = [] }
+past_arena p = record p { ids = []; addresses = [] }
 
-places_gone : (h : Kept) (p : Past) → Agrees h p → h.point ≡ None → p.places ≡ []
+places_gone : (h : Kept) (p : Past) → Agrees h p → h.point ≡ None → p.addresses ≡ []
 places_gone h p a none =
     let u = a.before_point none in
-    no_places h.words (bound_of h) p.places (ap (λ b. if b then h.reserved else h.front) u.closed ∙ u.front) a.blocks
+    no_addresses h.words (bound_of h) p.addresses (ap (λ b. if b then h.reserved else h.front) u.closed ∙ u.front) a.blocks
 
 zeros_read : (n k : ℕ) → slice_index (replicate n 0) k ≡ 0
 zeros_read zero k = refl
@@ -361,7 +361,7 @@ is_unmade_world : (h : Kept) (p : Past) → Agrees h p → h.grains ≡ 0 → wo
 is_unmade_world h p a z =
     let u = unmade h p a z in
     world_of-parts h p false false false false (not_some h.table u.table) (not_some h.point u.point) (not_some h.pool u.pool) (a.before_point u.point).closed
-    ∙ ap (λ places. world_by h (record p { ids = []; places = places }) false false false false) (places_gone h p a u.point)
+    ∙ ap (λ addresses. world_by h (record p { ids = []; addresses = addresses }) false false false false) (places_gone h p a u.point)
 
 right_made : (h : Kept) (p : Past) (line : ℕ) (grains limit : ℕ) → Agrees h p → h.grains ≡ 0
     → IsRightStep (unmade_world h p) (step_of line (call.Arena grains limit) (said reply.Ok)) (arena_made grains limit)

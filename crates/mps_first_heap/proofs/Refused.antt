@@ -70,7 +70,7 @@ no_index : (h : Kept) (p : Past) (slot : Slot) → Agrees h p → is_name h.tabl
 no_index h p slot a t i =
     let named = named_table h p slot.name a t in
     let le = ltb-false slot.index (length h.slots) i in
-    let past : slice_get p.ids slot.index ≡ None = slice_get_past p.ids slot.index (subst (λ (n : ℕ). n ≤ slot.index) (ap length a.slots ∙ length-map p.ids (place_in_slot p.places)) le) in
+    let past : slice_get p.ids slot.index ≡ None = slice_get_past p.ids slot.index (subst (λ (n : ℕ). n ≤ slot.index) (ap length a.slots ∙ length-map p.ids (place_in_slot p.addresses)) le) in
     ap (λ w. slot_in w slot) (world_of-parts h p true (is_some h.point) (is_some h.pool) h.is_open (is_name_some h.table slot.name t) refl refl refl)
     ∙ rw (named, past) refl
 

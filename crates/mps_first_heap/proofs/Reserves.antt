@@ -20,7 +20,8 @@ use Rattle.mps_model.specs.Allocating.{Reserving, check_reserve, act_reserve, wi
 use Rattle.mps_model.specs.Placement.{ForReserve, placement_of}
 use Rattle.mps_model.specs.LegalMove.{ForChecked, IsNewSegmentAt, IsSegmentForReserve, IsOwnSegment}
 use Rattle.mps_model.specs.Policy.{polls}
-use Rattle.mps_model.specs.World.{World, Segment}
+use Rattle.mps_base.specs.Segment.{Segment}
+use Rattle.mps_model.specs.World.{World}
 use Rattle.mps_model.specs.Effect.{world_after_moves, after_segment_for}
 use Rattle.mps_model.specs.Step.{Step}
 use Rattle.mps_model.specs.History.{IsPoll, segment_taken, segment_of_reserve, live_blocks, with_client_remembered}
@@ -84,7 +85,7 @@ agrees_reserved h p head a q o valid room pos =
       held = a.held;
       in_arena = a.in_arena;
       arena = λ m. length-set h.words h.front head ∙ a.arena m;
-      blocks = blocks-set_after h.words (bound_of h) h.front h.front head p.places le le a.blocks;
+      blocks = blocks-set_after h.words (bound_of h) h.front h.front head p.addresses le le a.blocks;
       reservation = λ _. record {
         not_null = pos;
         head = ap is_front same ∙ valid;
@@ -101,7 +102,7 @@ agrees_reserved h p head a q o valid room pos =
 abbrev reserved_with : Kept → Past → List Object → Reservation → (following left : ℕ) → World
 reserved_with h p objects r from left =
     world_with h.grains h.limit p.names objects (one_where (is_some h.table) (Some p.ids)) (Some (point_with (Some r)) ∷ [])
-    (front_pool ∷ []) (segments_from 1 p.segments) (map some_address p.places)
+    (front_pool ∷ []) (segments_from 1 p.segments) (map some_address p.addresses)
     (record { reserved_at = 8 * h.front; buffer = record { from = from; count = left } } ∷ [])
 
 reservation_made : (h : Kept) (head : ℕ) → is_front head ≡ true → h.front + size_field head ≤ length h.words → ((k : ℕ) → h.front ≤ k → slice_index h.words k ≡ 0) → reservation_in (slice_set h.words h.front head) h.front ≡ taken_from h head
@@ -119,16 +120,16 @@ world_reserved h p head a q o valid room =
     let f = front_facts head valid in
     let bound : bound_of h ≡ h.front = ap (λ b. if b then h.reserved else h.front) o in
     let le : bound_of h ≤ h.front = omega (arith, bound) in
-    ap (λ n. reserved_with h p (map (object_in h.words) p.places) (taken_from h head) (h.front + n) (h.following - h.front - n)) (length_new_cells head valid)
-    ∙ ap (λ n. reserved_with h p (map (object_in h.words) p.places) (taken_from h head) (h.front + size_field head) n) (let e : h.following - h.front - size_field head ≡ h.following - (h.front + size_field head) = omega arith in e)
-    ∙ ap (λ objects. reserved_with h p objects (taken_from h head) (h.front + size_field head) (h.following - (h.front + size_field head))) (sym (objects-set_after h.words (bound_of h) h.front head p.places le a.blocks))
-    ∙ ap (λ r. reserved_with h p (map (object_in (slice_set h.words h.front head)) p.places) r (h.front + size_field head) (h.following - (h.front + size_field head))) (sym (reservation_made h head valid (omega arith) a.fresh))
+    ap (λ n. reserved_with h p (map (object_in h.words) p.addresses) (taken_from h head) (h.front + n) (h.following - h.front - n)) (length_new_cells head valid)
+    ∙ ap (λ n. reserved_with h p (map (object_in h.words) p.addresses) (taken_from h head) (h.front + size_field head) n) (let e : h.following - h.front - size_field head ≡ h.following - (h.front + size_field head) = omega arith in e)
+    ∙ ap (λ objects. reserved_with h p objects (taken_from h head) (h.front + size_field head) (h.following - (h.front + size_field head))) (sym (objects-set_after h.words (bound_of h) h.front head p.addresses le a.blocks))
+    ∙ ap (λ r. reserved_with h p (map (object_in (slice_set h.words h.front head)) p.addresses) r (h.front + size_field head) (h.following - (h.front + size_field head))) (sym (reservation_made h head valid (omega arith) a.fresh))
     ∙ sym (world_of-parts (reserved_at_front h head) p (is_some h.table) true true true refl q (pool_with_point h p a q) refl)
 
-stored_reserved : (h : Kept) (p : Past) (head : ℕ) → Agrees h p → h.is_open ≡ false → stored h.words p.places ≡ stored (reserved_at_front h head).words p.places
+stored_reserved : (h : Kept) (p : Past) (head : ℕ) → Agrees h p → h.is_open ≡ false → stored h.words p.addresses ≡ stored (reserved_at_front h head).words p.addresses
 stored_reserved h p head a o =
     let bound : bound_of h ≡ h.front = ap (λ b. if b then h.reserved else h.front) o in
-    sym (stored-set_after h.words (bound_of h) h.front head p.places (omega (arith, bound)) a.blocks)
+    sym (stored-set_after h.words (bound_of h) h.front head p.addresses (omega (arith, bound)) a.blocks)
 
 -- ---- the poll has no moves
 
@@ -254,7 +255,7 @@ agrees_taken h p need a q o fits =
       held = ap (λ n. n + need) a.held ∙ sym (sum_push p.segments need);
       in_arena = fits;
       arena = a.arena;
-      blocks = blocks_later h.words (bound_of h) (bound_of (outcome.segment_taken h need)) p.places (omega (arith, bound, bound')) a.blocks;
+      blocks = blocks_later h.words (bound_of h) (bound_of (outcome.segment_taken h need)) p.addresses (omega (arith, bound, bound')) a.blocks;
       reservation = λ e. absurd (false≢true (sym o ∙ e));
       at_hand = (omega arith, omega arith);
       not_null = λ z. absurd (omega (arith, z));
@@ -266,8 +267,8 @@ agrees_taken h p need a q o fits =
 
 abbrev taken_with : Kept → Past → List Segment → (from count : ℕ) → World
 taken_with h p segments from count =
-    world_with h.grains h.limit p.names (map (object_in h.words) p.places) (one_where (is_some h.table) (Some p.ids)) (Some (point_with None) ∷ [])
-    (front_pool ∷ []) segments (map some_address p.places) (record { reserved_at = 8 * h.reserved; buffer = record { from = from; count = count } } ∷ [])
+    world_with h.grains h.limit p.names (map (object_in h.words) p.addresses) (one_where (is_some h.table) (Some p.ids)) (Some (point_with None) ∷ [])
+    (front_pool ∷ []) segments (map some_address p.addresses) (record { reserved_at = 8 * h.reserved; buffer = record { from = from; count = count } } ∷ [])
 
 -- the world after the segment was taken
 pub world_taken : (h : Kept) (p : Past) (name : Name) (head need : ℕ) → Agrees h p → thing_in p.names name ≡ Some (PointThing 0)

@@ -6,7 +6,7 @@ use Rattle.std.proofs.lemmas.Bool.{lt-ltb, le-ltb, le-leb, lt-leb}
 use Rattle.mps_base.specs.Run.{Run, gaps, between, lowest_fitting, total, longest}
 use Rattle.mps_base.specs.Placement.{Placement, NewSegment, OverLimit, NoFreeRun, run_placement}
 use Rattle.mps_base.specs.Address.{grain_of}
-use Rattle.mps_model.specs.World.{grains_of_segment, with_segment}
+use Rattle.mps_base.specs.Segment.{grains_of_segment, with_segment}
 use Rattle.mps_first_heap.specs.StandsFor.{segment_from, segments_from}
 
 sum_cons : (n : ℕ) (ns : List ℕ) → sum (n ∷ ns) ≡ n + sum ns

@@ -36,7 +36,7 @@ answered_step w s kept p due after a = record {
 }
 
 -- a step that was answered is right where its moves and its answer are due, and what is kept agrees with the world after it
-pub right_step : (w : World) (s : Step) (kept : Kept) (p : Past) → is_unsupported s.answer ≡ false → IsDue w s → world_after w s ≡ world_of kept p → Agrees kept p → ((pools : ℕ) → replay_from (live_blocks w) (records_of_step pools s) ≡ Some (stored kept.words p.places)) → IsRightStep w s kept
+pub right_step : (w : World) (s : Step) (kept : Kept) (p : Past) → is_unsupported s.answer ≡ false → IsDue w s → world_after w s ≡ world_of kept p → Agrees kept p → ((pools : ℕ) → replay_from (live_blocks w) (records_of_step pools s) ≡ Some (stored kept.words p.addresses)) → IsRightStep w s kept
 right_step w s kept p answered due after a replays = record {
   is_legal = subst (λ (b : Bool). MatchBool b (s.moves ≡ []) (IsAnsweredStep w s)) (sym answered) (answered_step w s kept p due after a);
   stands = record { past = p; world = after; agrees = a };

@@ -45,26 +45,26 @@ making_last n words store all =
 place_below : (words : List ℕ) (bound place : ℕ) → IsBlockAt words bound place → place < bound
 place_below words bound place b = let f = front_facts (slice_index words place) b.head in let below = b.below in omega arith
 
-stored_below : (words : List ℕ) (bound : ℕ) (places : List ℕ) → AllByRecursion (IsBlockAt words bound) places → AllBelow (8 * bound) (stored words places)
+stored_below : (words : List ℕ) (bound : ℕ) (addresses : List ℕ) → AllByRecursion (IsBlockAt words bound) addresses → AllBelow (8 * bound) (stored words addresses)
 stored_below words bound [] all = tt
 stored_below words bound (p ∷ ps) all =
     with_block_below (8 * bound) (block_in words p) (stored words ps) (let lt = place_below words bound p all.0 in omega arith) (stored_below words bound ps all.1)
 
-stored_push : (words : List ℕ) (bound : ℕ) (places : List ℕ) → AllByRecursion (IsBlockAt words bound) places → stored words (places ++ bound ∷ []) ≡ stored words places ++ block_in words bound ∷ []
+stored_push : (words : List ℕ) (bound : ℕ) (addresses : List ℕ) → AllByRecursion (IsBlockAt words bound) addresses → stored words (addresses ++ bound ∷ []) ≡ stored words addresses ++ block_in words bound ∷ []
 stored_push words bound [] all = refl
 stored_push words bound (p ∷ ps) all =
     ap (with_block (block_in words p)) (stored_push words bound ps all.1)
     ∙ with_block_before_last (block_in words p) (block_in words bound) (stored words ps) (let lt = place_below words bound p all.0 in omega arith)
 
 -- a block is made after all others
-pub making_pushed : (words : List ℕ) (bound size : ℕ) (places : List ℕ) → AllByRecursion (IsBlockAt words bound) places → (block_in words bound).words ≡ size → after_making (stored words places) (8 * bound) size 0 ≡ Some (stored words (places ++ bound ∷ []))
-making_pushed words bound size places all e =
-    making_last (8 * bound) size (stored words places) (stored_below words bound places all)
-    ∙ ap (λ n. Some (stored words places ++ record { at = 8 * bound; words = n; pool = 0 } ∷ [])) (sym e)
-    ∙ ap Some (sym (stored_push words bound places all))
+pub making_pushed : (words : List ℕ) (bound size : ℕ) (addresses : List ℕ) → AllByRecursion (IsBlockAt words bound) addresses → (block_in words bound).words ≡ size → after_making (stored words addresses) (8 * bound) size 0 ≡ Some (stored words (addresses ++ bound ∷ []))
+making_pushed words bound size addresses all e =
+    making_last (8 * bound) size (stored words addresses) (stored_below words bound addresses all)
+    ∙ ap (λ n. Some (stored words addresses ++ record { at = 8 * bound; words = n; pool = 0 } ∷ [])) (sym e)
+    ∙ ap Some (sym (stored_push words bound addresses all))
 
 -- a write after all blocks changes none
-pub stored-set_after : (words : List ℕ) (bound i value : ℕ) (places : List ℕ) → bound ≤ i → AllByRecursion (IsBlockAt words bound) places → stored (slice_set words i value) places ≡ stored words places
+pub stored-set_after : (words : List ℕ) (bound i value : ℕ) (addresses : List ℕ) → bound ≤ i → AllByRecursion (IsBlockAt words bound) addresses → stored (slice_set words i value) addresses ≡ stored words addresses
 stored-set_after words bound i value [] le all = refl
 stored-set_after words bound i value (p ∷ ps) le all =
     ap (with_block (block_in (slice_set words i value) p)) (stored-set_after words bound i value ps le all.1)

@@ -6,7 +6,7 @@ use Rattle.mps_base.specs.declared.refusal.Refusal.{Refusal}
 use Rattle.mps_model.specs.declared.call.Call.{Call}
 use Rattle.mps_model.specs.declared.reply.Reply.{Reply}
 use Rattle.mps_model.specs.declared.reply.Reply.TheVariants as reply
-use Rattle.mps_model.specs.Answer.{Said, is_unsupported}
+use Rattle.mps_model.specs.Answer.{Replied, is_unsupported}
 use Rattle.mps_model.specs.Reply.{act}
 use Rattle.mps_model.specs.World.{World}
 use Rattle.mps_first_heap.specs.Kept.{Kept}
@@ -21,9 +21,9 @@ pub exact_unsupported : (w : World) (c : Call) → is_unsupported_call w c ≡ t
 exact_unsupported w c e = ((λ _. e), (λ _. refl))
 
 -- where it isn't
-pub exact_answered : (w : World) (c : Call) (r : Reply) → is_unsupported (Said r) ≡ false → is_unsupported_call w c ≡ false → IsExact w c r
+pub exact_answered : (w : World) (c : Call) (r : Reply) → is_unsupported (Replied r) ≡ false → is_unsupported_call w c ≡ false → IsExact w c r
 exact_answered w c r said_so e =
-    ((λ is. absurd (false≢true (sym said_so ∙ ap (λ (s : Reply). is_unsupported (Said s)) is))), (λ t. absurd (false≢true (sym e ∙ t))))
+    ((λ is. absurd (false≢true (sym said_so ∙ ap (λ (s : Reply). is_unsupported (Replied s)) is))), (λ t. absurd (false≢true (sym e ∙ t))))
 
 -- the four cases
 pub by_form : (w : World) (c : Call) → not (is_built c) ≡ true → is_unsupported_call w c ≡ true

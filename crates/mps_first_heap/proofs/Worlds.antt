@@ -14,12 +14,12 @@ use Rattle.mps_model.specs.World.{World, live_ids, numbers_of}
 use Rattle.mps_model.specs.Replay.{Block, Store, with_block}
 use Rattle.mps_model.specs.History.{HeldAreLive, block_of, blocks_of_ids, live_blocks}
 use Rattle.mps_first_heap.specs.Kept.{Kept, is_name, words_of_head, is_number_cell}
-use Rattle.mps_first_heap.specs.StandsFor.{Past, Agrees, world_of, world_with, segments_from, front_pool, point_place_of, place_in_slot, cell_in, cells_at, object_in, reservation_in, point_with, one_where, some_where, some_address, is_null_or_below, IsBlockAt, bound_of}
+use Rattle.mps_first_heap.specs.StandsFor.{Past, Agrees, world_of, world_with, segments_from, front_pool, point_memory_of, place_in_slot, cell_in, cells_at, object_in, reservation_in, point_with, one_where, some_where, some_address, is_null_or_below, IsBlockAt, bound_of}
 use Rattle.mps_first_heap.proofs.Lists.{no_targets, length-block_words, slice_get-cells_in}
 
 -- ---- live objects
 
-live_at : (places : List ℕ) (id : ℕ) → id < length places → is_some (entry_at (map some_address places) id) ≡ true
+live_at : (addresses : List ℕ) (id : ℕ) → id < length addresses → is_some (entry_at (map some_address addresses) id) ≡ true
 live_at [] id h = absurd (omega (arith, h))
 live_at (p ∷ ps) zero h = refl
 live_at (p ∷ ps) (suc id) h = live_at ps id (omega (arith, h))
@@ -45,7 +45,7 @@ reservation_has_none words place false opened = refl
 reservation_has_none words place true false = refl
 reservation_has_none words place true true = ap (λ ids. ids ++ []) (no_targets (slice_index words place) 0 (take (size_field (slice_index words place)) (drop place words)))
 
-object_has_none : (words places : List ℕ) (id : ℕ) → option_map_or targets_of (slice_get (map (object_in words) places) id) [] ≡ []
+object_has_none : (words addresses : List ℕ) (id : ℕ) → option_map_or targets_of (slice_get (map (object_in words) addresses) id) [] ≡ []
 object_has_none words [] id = refl
 object_has_none words (p ∷ ps) zero = no_targets (slice_index words p) 0 (take (size_field (slice_index words p)) (drop p words))
 object_has_none words (p ∷ ps) (suc id) = object_has_none words ps id
@@ -56,13 +56,13 @@ flat_map_nil f (id ∷ ids) each = ap (λ xs. xs ++ flat_map f ids) (each id) �
 
 pub held_are_live : (h : Kept) (p : Past) → Agrees h p → HeldAreLive (world_of h p)
 held_are_live h p a =
-    let live = λ (id : ℕ). is_some (entry_at (map some_address p.places) id) in
+    let live = λ (id : ℕ). is_some (entry_at (map some_address p.addresses) id) in
     record {
       client = list_all-append live (((flat_map slots_of (one_where (is_some h.table) (Some p.ids)) ++ []) ++ [])) (flat_map targets_of_point (one_where (is_some h.point) (Some (point_with (some_where h.is_open (reservation_in h.words h.reserved))))))
-          (list_all-append live (flat_map slots_of (one_where (is_some h.table) (Some p.ids)) ++ []) [] (list_all-append live (flat_map slots_of (one_where (is_some h.table) (Some p.ids))) [] (slots_live live (length p.places) p.ids (is_some h.table) (live_at p.places) a.ids) refl) refl)
+          (list_all-append live (flat_map slots_of (one_where (is_some h.table) (Some p.ids)) ++ []) [] (list_all-append live (flat_map slots_of (one_where (is_some h.table) (Some p.ids))) [] (slots_live live (length p.addresses) p.ids (is_some h.table) (live_at p.addresses) a.ids) refl) refl)
           (subst (λ (ids : List ℕ). list_all live ids ≡ true) (sym (reservation_has_none h.words h.reserved (is_some h.point) h.is_open)) refl);
       blocks = refl;
-      referred = subst (λ (ids : List ℕ). list_all live ids ≡ true) (sym (flat_map_nil (targets (world_of h p).graph) (live_ids (world_of h p)) (object_has_none h.words p.places))) refl;
+      referred = subst (λ (ids : List ℕ). list_all live ids ≡ true) (sym (flat_map_nil (targets (world_of h p).graph) (live_ids (world_of h p)) (object_has_none h.words p.addresses))) refl;
     }
 
 -- ---- live blocks
@@ -72,16 +72,16 @@ abbrev pub block_in : List ℕ → (place : ℕ) → Block
 block_in words place = record { at = 8 * place; words = length (cells_at words place); pool = 0 }
 
 -- the blocks at some places
-abbrev pub stored : List ℕ → (places : List ℕ) → Store
+abbrev pub stored : List ℕ → (addresses : List ℕ) → Store
 stored words [] = []
 stored words (p ∷ ps) = with_block (block_in words p) (stored words ps)
 
-entry_there : (places : List ℕ) (id : ℕ) → id < length places → entry_at (map some_address places) id ≡ Some (8 * slice_index places id)
+entry_there : (addresses : List ℕ) (id : ℕ) → id < length addresses → entry_at (map some_address addresses) id ≡ Some (8 * slice_index addresses id)
 entry_there [] id h = absurd (omega (arith, h))
 entry_there (p ∷ ps) zero h = refl
 entry_there (p ∷ ps) (suc id) h = entry_there ps id (omega (arith, h))
 
-pub object_there : (words places : List ℕ) (id : ℕ) → id < length places → slice_get (map (object_in words) places) id ≡ Some (object_in words (slice_index places id))
+pub object_there : (words addresses : List ℕ) (id : ℕ) → id < length addresses → slice_get (map (object_in words) addresses) id ≡ Some (object_in words (slice_index addresses id))
 object_there words [] id h = absurd (omega (arith, h))
 object_there words (p ∷ ps) zero h = refl
 object_there words (p ∷ ps) (suc id) h = object_there words ps id (omega (arith, h))
@@ -94,31 +94,31 @@ block_by place object = record {
   pool = option_map_or (λ o. o.pool) object 0;
 }
 
-block_there : (h : Kept) (p : Past) (id : ℕ) → id < length p.places → block_of (world_of h p) id ≡ block_in h.words (slice_index p.places id)
+block_there : (h : Kept) (p : Past) (id : ℕ) → id < length p.addresses → block_of (world_of h p) id ≡ block_in h.words (slice_index p.addresses id)
 block_there h p id lt =
-    ap (λ place. block_by place (slice_get (map (object_in h.words) p.places) id)) (entry_there p.places id lt)
-    ∙ ap (λ object. block_by (Some (8 * slice_index p.places id)) object) (object_there h.words p.places id lt)
+    ap (λ place. block_by place (slice_get (map (object_in h.words) p.addresses) id)) (entry_there p.addresses id lt)
+    ∙ ap (λ object. block_by (Some (8 * slice_index p.addresses id)) object) (object_there h.words p.addresses id lt)
 
-blocks_there : (w : World) (words : List ℕ) (first : ℕ) (places : List ℕ) → ((i : ℕ) → i < length places → block_of w (first + i) ≡ block_in words (slice_index places i)) → blocks_of_ids w (numbers_of is_some first (map some_address places)) ≡ stored words places
+blocks_there : (w : World) (words : List ℕ) (first : ℕ) (addresses : List ℕ) → ((i : ℕ) → i < length addresses → block_of w (first + i) ≡ block_in words (slice_index addresses i)) → blocks_of_ids w (numbers_of is_some first (map some_address addresses)) ≡ stored words addresses
 blocks_there w words first [] each = refl
 blocks_there w words first (p ∷ ps) each =
     ap (λ b. with_block b (blocks_of_ids w (numbers_of is_some (first + 1) (map some_address ps)))) (ap (block_of w) (sym (add-zero first)) ∙ each 0 (omega arith))
     ∙ ap (with_block (block_in words p)) (blocks_there w words (first + 1) ps (λ i lt. ap (block_of w) (let e : first + 1 + i ≡ first + suc i = omega arith in e) ∙ each (suc i) (omega (arith, lt))))
 
-pub live_blocks-world_of : (h : Kept) (p : Past) → live_blocks (world_of h p) ≡ stored h.words p.places
-live_blocks-world_of h p = blocks_there (world_of h p) h.words 0 p.places (λ i lt. ap (block_of (world_of h p)) (let e : 0 + i ≡ i = omega arith in e) ∙ block_there h p i lt)
+pub live_blocks-world_of : (h : Kept) (p : Past) → live_blocks (world_of h p) ≡ stored h.words p.addresses
+live_blocks-world_of h p = blocks_there (world_of h p) h.words 0 p.addresses (λ i lt. ap (block_of (world_of h p)) (let e : 0 + i ≡ i = omega arith in e) ∙ block_there h p i lt)
 
 -- ---- which parts there are
 
 -- the world of the heap, where it is known which parts there are
 abbrev pub world_by : Kept → Past → (table point pool opened : Bool) → World
 world_by h p table point pool opened =
-    world_with h.grains h.limit p.names (map (object_in h.words) p.places) (one_where table (Some p.ids))
+    world_with h.grains h.limit p.names (map (object_in h.words) p.addresses) (one_where table (Some p.ids))
     (one_where point (Some (point_with (some_where opened (reservation_in h.words h.reserved)))))
     (one_where pool front_pool)
     (segments_from 1 p.segments)
-    (map some_address p.places)
-    (one_where point (point_place_of h))
+    (map some_address p.addresses)
+    (one_where point (point_memory_of h))
 
 pub world_of-parts : (h : Kept) (p : Past) (table point pool opened : Bool) → is_some h.table ≡ table → is_some h.point ≡ point → is_some h.pool ≡ pool → h.is_open ≡ opened → world_of h p ≡ world_by h p table point pool opened
 world_of-parts h p table point pool opened t q l o =
@@ -159,16 +159,16 @@ bound_of-le h p a = by_open h.is_open refl
     by_open true e = let below = (a.reservation e).below in omega arith
     by_open false e = omega arith
 
-pub block_there_at : (words : List ℕ) (bound : ℕ) (places : List ℕ) (id : ℕ) → AllByRecursion (IsBlockAt words bound) places → id < length places → IsBlockAt words bound (slice_index places id)
+pub block_there_at : (words : List ℕ) (bound : ℕ) (addresses : List ℕ) (id : ℕ) → AllByRecursion (IsBlockAt words bound) addresses → id < length addresses → IsBlockAt words bound (slice_index addresses id)
 block_there_at words bound [] id bs h = absurd (omega (arith, h))
 block_there_at words bound (p ∷ ps) zero bs h = bs.0
 block_there_at words bound (p ∷ ps) (suc id) bs h = block_there_at words bound ps id bs.1 (omega (arith, h))
 
 -- what stands in a slot
-pub slot_there : (places : List ℕ) (ids : List (Option ℕ)) (i : ℕ) → i < length (map (place_in_slot places) ids) → (held : Option ℕ) × (slice_get ids i ≡ Some held) × (slice_index (map (place_in_slot places) ids) i ≡ place_in_slot places held)
-slot_there places [] i h = absurd (omega (arith, h))
-slot_there places (held ∷ ids) zero h = (held, refl, refl)
-slot_there places (held ∷ ids) (suc i) h = slot_there places ids i (omega (arith, h))
+pub slot_there : (addresses : List ℕ) (ids : List (Option ℕ)) (i : ℕ) → i < length (map (place_in_slot addresses) ids) → (held : Option ℕ) × (slice_get ids i ≡ Some held) × (slice_index (map (place_in_slot addresses) ids) i ≡ place_in_slot addresses held)
+slot_there addresses [] i h = absurd (omega (arith, h))
+slot_there addresses (held ∷ ids) zero h = (held, refl, refl)
+slot_there addresses (held ∷ ids) (suc i) h = slot_there addresses ids i (omega (arith, h))
 
 pub id_there : (count : ℕ) (ids : List (Option ℕ)) (i id : ℕ) → list_all (is_null_or_below count) ids ≡ true → slice_get ids i ≡ Some (Some id) → id < count
 id_there count [] i id h e = absurd (none-some (Some id) e)

@@ -9,10 +9,11 @@ use Rattle.mps_format.specs.Any.{numbered_layout}
 use Rattle.mps_format.specs.Fields.{size_field}
 use Rattle.mps_format.specs.Front.{is_front, front_layout}
 use Rattle.mps_model.specs.declared.call.Call.{Call}
-use Rattle.mps_model.specs.Answer.{Said}
+use Rattle.mps_model.specs.Answer.{Replied}
 use Rattle.mps_model.specs.Step.{Step}
 use Rattle.mps_model.specs.Graph.{Cell, HeadCell, NumberCell, ReferenceCell, Automatic, Object, Point, Reservation, Thing, TableThing, PoolThing, PointThing, NamedThing, thing_in, Slots}
-use Rattle.mps_model.specs.World.{World, empty_world, Pool, Collected, Segment, PointPlace, Unclamped}
+use Rattle.mps_base.specs.Segment.{Segment}
+use Rattle.mps_model.specs.World.{World, empty_world, Pool, Collected, PointMemory, Unclamped}
 use Rattle.mps_first_heap.specs.Kept.{Kept, nothing_kept, is_name}
 use Rattle.mps_first_heap.specs.declared.done.Done.{Done}
 
@@ -48,7 +49,7 @@ reservation_in words place = record { head = slice_index words place; cells = ce
 -- the order of making
 pub record Past : Type 0 where
   pub ids : List (Option ℕ)
-  pub places : List ℕ
+  pub addresses : List ℕ
   pub segments : List ℕ
   pub names : List NamedThing
 
@@ -76,8 +77,8 @@ segments_from grain (grains ∷ more) = segment_from grain grains ∷ segments_f
 abbrev pub point_with : Option Reservation → Point
 point_with reservation = record { pool = 0; rank = rank.Exact; reservation = reservation }
 
-abbrev pub point_place_of : Kept → PointPlace
-point_place_of h = record { reserved_at = 8 * h.reserved; buffer = record { from = h.front; count = h.following - h.front } }
+abbrev pub point_memory_of : Kept → PointMemory
+point_memory_of h = record { reserved_at = 8 * h.reserved; buffer = record { from = h.front; count = h.following - h.front } }
 
 abbrev pub some_address : ℕ → Option ℕ
 some_address place = Some (8 * place)
@@ -85,8 +86,8 @@ some_address place = Some (8 * place)
 -- the world made of these parts: nothing is registered, no collection ran
 abbrev pub world_with :
     (grains limit : ℕ) → List NamedThing → List Object → List (Option Slots) → List (Option Point) → List Pool → List Segment
-    → List (Option ℕ) → List PointPlace → World
-world_with grains limit names objects tables points pools segments places point_places = record {
+    → List (Option ℕ) → List PointMemory → World
+world_with grains limit names objects tables points pools segments addresses point_memories = record {
   graph = record {
     objects = objects;
     tables = tables;
@@ -103,8 +104,8 @@ world_with grains limit names objects tables points pools segments places point_
   pools = pools;
   chains = [];
   segments = segments;
-  places = places;
-  point_places = point_places;
+  addresses = addresses;
+  point_memories = point_memories;
   tails = [];
   state = Unclamped;
   flips = [];
@@ -114,12 +115,12 @@ world_with grains limit names objects tables points pools segments places point_
 
 abbrev pub world_of : Kept → Past → World
 world_of h p =
-    world_with h.grains h.limit p.names (map (object_in h.words) p.places) (one_where (is_some h.table) (Some p.ids))
+    world_with h.grains h.limit p.names (map (object_in h.words) p.addresses) (one_where (is_some h.table) (Some p.ids))
     (one_where (is_some h.point) (Some (point_with (some_where h.is_open (reservation_in h.words h.reserved)))))
     (one_where (is_some h.pool) front_pool)
     (segments_from 1 p.segments)
-    (map some_address p.places)
-    (one_where (is_some h.point) (point_place_of h))
+    (map some_address p.addresses)
+    (one_where (is_some h.point) (point_memory_of h))
 
 -- ---- what holds of it
 
@@ -132,8 +133,8 @@ thing_of h name =
 
 -- the place of the object that a slot refers to, 0 for null
 abbrev pub place_in_slot : List ℕ → Option ℕ → ℕ
-place_in_slot places None = 0
-place_in_slot places (Some id) = slice_index places id
+place_in_slot addresses None = 0
+place_in_slot addresses (Some id) = slice_index addresses id
 
 -- null, or one of n objects
 abbrev pub is_null_or_below : ℕ → Option ℕ → Bool
@@ -162,14 +163,14 @@ pub record Agrees (h : Kept) (p : Past) : Type 0 where
   -- each name stands for what the heap says
   pub names : (name : Name) → thing_in p.names name ≡ thing_of h name
   -- the slots hold the places of their ids
-  pub slots : h.slots ≡ map (place_in_slot p.places) p.ids
-  pub ids : IsTrue (list_all (is_null_or_below (length p.places)) p.ids)
+  pub slots : h.slots ≡ map (place_in_slot p.addresses) p.ids
+  pub ids : IsTrue (list_all (is_null_or_below (length p.addresses)) p.ids)
   -- the segments are what is held
   pub held : h.held ≡ sum p.segments
   pub in_arena : h.held ≤ h.grains
   pub arena : 0 < h.grains → length h.words ≡ 512 * (h.grains + 1)
   -- whole blocks lie at the places, below what is reserved or at hand
-  pub blocks : AllByRecursion (IsBlockAt h.words (bound_of h)) p.places
+  pub blocks : AllByRecursion (IsBlockAt h.words (bound_of h)) p.addresses
   -- so does the open reservation, up to what is at hand
   pub reservation : h.is_open ≡ true → IsBlockAt h.words h.front h.reserved
   -- what is at hand lies in what is held, and all after its front is zero
@@ -195,7 +196,7 @@ moves_of (Some move) = move ∷ []
 
 -- the step of a call in a line that came to this
 abbrev pub step_of : (line : ℕ) → Call → Done → Step
-step_of line call done = record { line = line; call = call; moves = moves_of done.moved; answer = Said done.reply }
+step_of line call done = record { line = line; call = call; moves = moves_of done.moved; answer = Replied done.reply }
 
 a_block_with_a_reference :
     cells_at (0 ∷ 0x100000301 ∷ 0 ∷ 7 ∷ 9 ∷ []) 1 ≡ HeadCell ∷ ReferenceCell None 0 ∷ NumberCell 7 ∷ []
@@ -204,5 +205,5 @@ a_block_with_a_reference = refl
 the_second_segment_lies_after_the_first : segments_from 1 (2 ∷ 3 ∷ []) ≡ segment_from 1 2 ∷ segment_from 3 3 ∷ []
 the_second_segment_lies_after_the_first = refl
 
-the_empty_world : world_of nothing_kept (record { ids = []; places = []; segments = []; names = [] }) ≡ empty_world
+the_empty_world : world_of nothing_kept (record { ids = []; addresses = []; segments = []; names = [] }) ≡ empty_world
 the_empty_world = refl

@@ -6,7 +6,7 @@ use Rattle.mps_base.specs.declared.refusal.Refusal.TheVariants as refusal
 use Rattle.mps_model.specs.declared.reply.Reply.TheVariants as reply
 use Rattle.mps_model.specs.Graph.{Graph, NumberCell, AreaWord, PlainWord, Hold, graph_with_cells, with_target}
 use Rattle.mps_model.specs.Collection.{Collection, is_condemned, is_settled}
-use Rattle.mps_model.specs.World.{World, place_of, block_of_word, is_copying_object, shown_word}
+use Rattle.mps_model.specs.World.{World, address_of, block_of_word, is_copying_object, shown_word}
 use Rattle.mps_model.specs.Checked.{Act, Checked, Found, ◌>>=◌, ◌>>◌, says, done, tells, slot_in, word_in, object_in, cells_of_body, head_of_body, number_at, reference_at, with_graph}
 use Rattle.mps_model.specs.Allocating.{with_slot}
 
@@ -80,14 +80,14 @@ act_head w slot = do
   says (reply.Head (head_of_body object.value.body)) w
 
 -- the address of a live object; a client never holds another
-abbrev pub address_of : World → (id : ℕ) → ℕ
-address_of w id = option_map_or (λ place. place) (place_of w id) 0
+abbrev pub address_or_null : World → (id : ℕ) → ℕ
+address_or_null w id = option_map_or (λ at. at) (address_of w id) 0
 
 abbrev pub act_address : World → Slot → Checked Act
 act_address w slot = do
   from ← slot_in w slot
   object ← object_in w from.value
-  says (reply.Word (address_of w object.number)) w
+  says (reply.Word (address_or_null w object.number)) w
 
 -- ---- areas
 
@@ -116,7 +116,7 @@ poked w id = poked_in w id w.collection
 
 -- an area word that holds an object, by a word that lies in it
 abbrev pub hold_of : World → (id word : ℕ) → AreaWord
-hold_of w id word = Hold id (word - address_of w id)
+hold_of w id word = Hold id (word - address_or_null w id)
 
 abbrev pub act_poked : World → Found AreaWord → (id word : ℕ) → Poked → (marked : Bool) → Checked Act
 act_poked w at id word AsBlock marked = says reply.Block (with_graph w (with_word w.graph at (hold_of w id word)))

@@ -81,7 +81,7 @@ buffer_after w number p words =
 abbrev pub with_reserved : World → Numbered Point → Reservation → (address : ℕ) → World
 with_reserved w point r address = record w {
   graph = with_reservation w.graph point (Some r);
-  point_places = slice_set w.point_places point.number (record {
+  point_memories = slice_set w.point_memories point.number (record {
     reserved_at = address;
     buffer = buffer_after w point.number point.value (length r.cells);
   });

@@ -8,37 +8,37 @@ use Rattle.mps_model.specs.declared.reply.Reply.TheVariants as reply
 
 pub data Answer : Type 0 where
   -- any reply but that of an accepted `dump`
-  Said : (said : Reply) → Answer
+  Replied : (given : Reply) → Answer
   -- the words that a `dump` prints
   Dumped : (words : List ℕ) → Answer
 
 -- the answer that a reply stands for, where the arena has these words, its word 0 at address 0
 abbrev pub answer_of : (arena : List ℕ) → Reply → Answer
 answer_of arena (reply.Words at count) = Dumped (take count (drop (word_of at.0) arena))
-answer_of arena said = Said said
+answer_of arena given = Replied given
 
 -- the answer of a refused call
 abbrev pub refused : Refusal → Answer
-refused why = Said (reply.Refused why)
+refused why = Replied (reply.Refused why)
 
 -- whether the answer is `ok`
 abbrev pub is_accepted : Answer → Bool
-is_accepted (Said reply.Ok) = true
+is_accepted (Replied reply.Ok) = true
 is_accepted _ = false
 
 -- whether the answer is `block`
 abbrev pub is_block : Answer → Bool
-is_block (Said reply.Block) = true
+is_block (Replied reply.Block) = true
 is_block _ = false
 
 -- whether the answer is `unsupported`
 abbrev pub is_unsupported : Answer → Bool
-is_unsupported (Said reply.Unsupported) = true
+is_unsupported (Replied reply.Unsupported) = true
 is_unsupported _ = false
 
 -- whether the answer is a refusal
 abbrev pub is_refused : Answer → Bool
-is_refused (Said (reply.Refused why)) = true
+is_refused (Replied (reply.Refused why)) = true
 is_refused _ = false
 
 pub a_dump_has_its_words : answer_of (0 ∷ 0x201 ∷ 7 ∷ 9 ∷ []) (reply.Words (record { 0 = 8 }) 2) ≡ Dumped (0x201 ∷ 7 ∷ [])

@@ -6,7 +6,7 @@ use Rattle.mps_base.specs.declared.refusal.Refusal.{Refusal}
 use Rattle.mps_base.specs.declared.refusal.Refusal.TheVariants as refusal
 use Rattle.mps_model.specs.declared.reply.Reply.{Reply}
 use Rattle.mps_model.specs.declared.reply.Reply.TheVariants as reply
-use Rattle.mps_model.specs.Answer.{Answer, Said}
+use Rattle.mps_model.specs.Answer.{Answer, Replied}
 use Rattle.mps_model.specs.Graph.{Graph, Cell, HeadCell, NumberCell, ReferenceCell, Body, Automatic, Manual, Object, Point, AreaWord, Thing, ChainThing, PoolThing, TableThing, AreaThing, BlocksThing, PointThing, DependencyThing, thing_named, entry_at, object_at, with_last}
 use Rattle.mps_model.specs.World.{World, Pool, Dependency}
 
@@ -41,7 +41,7 @@ refuse_when false why = Ok tt
 
 -- accepted, with this reply and this world
 abbrev pub says : Reply → World → Checked Act
-says said w = Ok (record { answer = Said said; world = w })
+says given w = Ok (record { answer = Replied given; world = w })
 
 -- accepted with `ok`
 abbrev pub done : World → Checked Act
@@ -116,16 +116,16 @@ dependency_named w name = do
   number ← required (number_named w name as_dependency) refusal.BadName
   numbered number (slice_get w.dependencies number)
 
--- a place in a list of lists: the number of the list, the list, the index, and what stands there
+-- an entry of a list in a list of lists: the number of the list, the list, the index, and what stands there
 pub record Found (A : Type 0) : Type 0 where
   pub number : ℕ
   pub list : List A
   pub index : ℕ
   pub value : A
 
--- the place of an index in a numbered list
-abbrev pub place_in : {A : Type 0} → Numbered (List A) → (index : ℕ) → Checked (Found A)
-place_in {A} from index = do
+-- the entry at an index of a numbered list
+abbrev pub entry_in : {A : Type 0} → Numbered (List A) → (index : ℕ) → Checked (Found A)
+entry_in {A} from index = do
   value ← required (slice_get from.value index) refusal.BadIndex
   Ok (record { number = from.number; list = from.value; index = index; value = value })
 
@@ -134,21 +134,21 @@ abbrev pub slot_in : World → Slot → Checked (Found (Option ℕ))
 slot_in w slot = do
   number ← required (number_named w slot.name as_table) refusal.BadName
   table ← numbered number (entry_at w.graph.tables number)
-  place_in table slot.index
+  entry_in table slot.index
 
 -- a word of an area
 abbrev pub word_in : World → Slot → Checked (Found AreaWord)
 word_in w slot = do
   number ← required (number_named w slot.name as_area) refusal.BadName
   area ← numbered number (entry_at w.graph.areas number)
-  place_in area slot.index
+  entry_in area slot.index
 
 -- a place of a table of blocks
 abbrev pub block_place_in : World → Slot → Checked (Found (Option ℕ))
 block_place_in w slot = do
   number ← required (number_named w slot.name as_blocks) refusal.BadName
   blocks ← numbered number (slice_get w.graph.blocks number)
-  place_in blocks slot.index
+  entry_in blocks slot.index
 
 -- ---- objects and cells
 

@@ -6,7 +6,7 @@ use Rattle.mps_base.specs.declared.names.Slot.{Slot}
 use Rattle.mps_base.specs.declared.refusal.Refusal.TheVariants as refusal
 use Rattle.mps_model.specs.declared.reply.Reply.TheVariants as reply
 use Rattle.mps_model.specs.Answer.{Dumped}
-use Rattle.mps_model.specs.Graph.{with_last, first_place, without_first, object_at, size_of}
+use Rattle.mps_model.specs.Graph.{with_last, position_of_first, without_first, object_at, size_of}
 use Rattle.mps_model.specs.Collection.{Collection}
 use Rattle.mps_model.specs.World.{World, ArenaState, Unclamped, Clamped, Parked, is_running, is_unclamped, live_ids, id_at}
 use Rattle.mps_model.specs.Image.{image_of}
@@ -71,25 +71,25 @@ act_finalize w slot = do
   refuse_when (nat_le most_registrations (length w.graph.registered + length w.graph.messages)) (refusal.TooMany most_registrations)
   done (with_graph w (record w.graph { registered = with_last w.graph.registered object.number }))
 
--- one less where a place before it was taken away
-abbrev pub without_place : (count place : ℕ) → ℕ
-without_place count place = if nat_lt place count then count - 1 else count
+-- one less where a position before it was taken away
+abbrev pub without_position : (count position : ℕ) → ℕ
+without_position count position = if nat_lt position count then count - 1 else count
 
--- a running collection, where the registration at this place was taken away
-abbrev pub without_registration : (place : ℕ) → Collection → Collection
-without_registration place c = record c {
-  registered_before = without_place c.registered_before place;
-  examined = without_place c.examined place;
+-- a running collection, where the registration at this position was taken away
+abbrev pub without_registration : (position : ℕ) → Collection → Collection
+without_registration position c = record c {
+  registered_before = without_position c.registered_before position;
+  examined = without_position c.examined position;
 }
 
 abbrev pub act_definalize : World → Slot → Checked Act
 act_definalize w slot = do
   from ← slot_in w slot
   object ← object_in w from.value
-  place ← required (first_place w.graph.registered object.number) refusal.NotRegistered
+  position ← required (position_of_first w.graph.registered object.number) refusal.NotRegistered
   done (record w {
     graph = record w.graph { registered = without_first w.graph.registered object.number };
-    collection = option_map (without_registration place) w.collection;
+    collection = option_map (without_registration position) w.collection;
   })
 
 -- the first message goes into a slot

@@ -8,7 +8,7 @@ use Rattle.mps_model.specs.Graph.{DependencyThing, with_last}
 use Rattle.mps_model.specs.World.{World, Dependency}
 use Rattle.mps_model.specs.Checked.{Act, Checked, ◌>>=◌, ◌>>◌, done, tells, dependency_named, slot_in, object_in, named}
 use Rattle.mps_model.specs.Making.{refuse_taken, refuse_at_limit, most_dependencies}
-use Rattle.mps_model.specs.Accessing.{address_of}
+use Rattle.mps_model.specs.Accessing.{address_or_null}
 
 -- a dependency is stale where something in its zones may have moved since its epoch
 abbrev pub IsStale : World → Dependency → Type 0
@@ -41,7 +41,7 @@ act_dependency_add w name slot = do
   d ← dependency_named w name
   from ← slot_in w slot
   object ← object_in w from.value
-  done (with_dependency w d.number (with_added d.value object.number (address_of w object.number)))
+  done (with_dependency w d.number (with_added d.value object.number (address_or_null w object.number)))
 
 -- the earlier epoch, and the zones and blocks of both
 abbrev pub merged : Dependency → Dependency → Dependency

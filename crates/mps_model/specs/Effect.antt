@@ -11,10 +11,11 @@ use Rattle.mps_base.specs.declared.names.Rank.{Rank}
 use Rattle.mps_base.specs.declared.names.Rank.TheVariants as rank
 use Rattle.mps_model.specs.declared.call.Call.{Call}
 use Rattle.mps_model.specs.declared.call.Call.TheVariants as call
-use Rattle.mps_model.specs.Graph.{Graph, Point, Reservation, contains, first_place, without_first, entry_at, object_at, size_of, is_automatic, with_last, with_target, graph_with_cells, ids_in_slots}
+use Rattle.mps_model.specs.Graph.{Graph, Point, Reservation, contains, position_of_first, without_first, entry_at, object_at, size_of, is_automatic, with_last, with_target, graph_with_cells, ids_in_slots}
 use Rattle.mps_model.specs.Collection.{Collection, Tracing, Splatting, Reclaiming}
 use Rattle.mps_model.specs.Checked.{number_named, as_point}
-use Rattle.mps_model.specs.World.{World, Segment, Pool, PointPlace, is_automatic_kind, pool_is, is_copying_pool, pool_at, place_of, id_at, object_is, live_automatic_ids, has_area_word, is_in_segment, segment_of, with_segment, without_segment, words_of_segment, grains_of_segment, end_of_segment, with_tail, target_of, generation_of, empty_run}
+use Rattle.mps_base.specs.Segment.{Segment, is_in_segment, with_segment, without_segment, words_of_segment, grains_of_segment, end_of_segment}
+use Rattle.mps_model.specs.World.{World, Pool, PointMemory, is_automatic_kind, pool_is, is_copying_pool, pool_at, address_of, id_at, object_is, live_automatic_ids, has_area_word, segment_of, with_tail, target_of, generation_of, empty_run}
 
 -- ---- what a flip condemns
 
@@ -61,7 +62,7 @@ condemned_zones w what =
 -- whether a live object lies in one of these segments
 abbrev pub lies_in_one : World → List Segment → (id : ℕ) → Bool
 lies_in_one w [] id = false
-lies_in_one w (s ∷ ss) id = option_map_or (is_in_segment s) (place_of w id) false || lies_in_one w ss id
+lies_in_one w (s ∷ ss) id = option_map_or (is_in_segment s) (address_of w id) false || lies_in_one w ss id
 
 -- the automatic objects that a flip condemns
 abbrev pub condemned_ids : World → Condemnation → List ℕ
@@ -78,8 +79,8 @@ abbrev pub doomed_graph : Graph → Graph
 doomed_graph g = record g { points = map doomed g.points }
 
 -- nothing is at hand any more at a point
-abbrev pub without_buffer : PointPlace → PointPlace
-without_buffer place = record place { buffer = empty_run }
+abbrev pub without_buffer : PointMemory → PointMemory
+without_buffer memory = record memory { buffer = empty_run }
 
 -- live automatic objects, registrations and segments of automatic pools: the units that a collection may take
 abbrev pub units_of : World → ℕ
@@ -114,7 +115,7 @@ collection_at_flip w what = record {
 abbrev pub world_flipped : World → (zones : ℕ) → World
 world_flipped w zones = record w {
   graph = doomed_graph w.graph;
-  point_places = map without_buffer w.point_places;
+  point_memories = map without_buffer w.point_memories;
   tails = [];
   flips = with_last w.flips zones;
 }
@@ -143,11 +144,11 @@ rank_of_point w point = option_map_or (λ p. p.rank) (entry_at w.graph.points po
 -- a point has these words at hand
 abbrev pub with_buffer : World → (point : ℕ) → Run → World
 with_buffer w point words = record w {
-  point_places =
+  point_memories =
       option_map_or
-      (λ (place : PointPlace). slice_set w.point_places point (record place { buffer = words }))
-      (slice_get w.point_places point)
-      w.point_places;
+      (λ (memory : PointMemory). slice_set w.point_memories point (record memory { buffer = words }))
+      (slice_get w.point_memories point)
+      w.point_memories;
 }
 
 -- the world with one more segment
@@ -199,21 +200,21 @@ giving_back base c =
     if contains c.condemned_segments base then reclaiming base (record c { condemned_segments = without_first c.condemned_segments base })
     else c
 
--- an object was posted, whose registration stood at this place, in a graph as it is after the post
-abbrev pub posting : Graph → (id place : ℕ) → Collection → Collection
-posting g id place c = record c {
+-- an object was posted, whose registration stood at this position, in a graph as it is after the post
+abbrev pub posting : Graph → (id position : ℕ) → Collection → Collection
+posting g id position c = record c {
   had = id ∷ c.had;
   origins = record { graph = g; ids = id ∷ [] } ∷ c.origins;
   registered_before = c.registered_before - 1;
-  examined = place;
+  examined = position;
 }
 
 -- ---- blocks
 
--- an object at another place, or at none
-abbrev pub with_place : World → Option ℕ → (place : Option ℕ) → World
-with_place w None place = w
-with_place w (Some id) place = record w { places = slice_set w.places id place }
+-- an object at another address, or at none
+abbrev pub with_address : World → Option ℕ → (at : Option ℕ) → World
+with_address w None at = w
+with_address w (Some id) at = record w { addresses = slice_set w.addresses id at }
 
 -- the words of a segment from an address on
 abbrev pub rest_of_segment : Segment → (address : ℕ) → Run
@@ -227,7 +228,7 @@ words_after w address words = option_map_or (λ s. rest_of_segment s (address + 
 abbrev pub after_moved_of : World → (id to : ℕ) → World
 after_moved_of w id to =
     option_map_or
-    (λ o. with_tail (with_collection (with_place w (Some id) (Some to)) (placing (Some id))) o.pool
+    (λ o. with_tail (with_collection (with_address w (Some id) (Some to)) (placing (Some id))) o.pool
     (target_of w o.pool (generation_of w id)) (words_after w to (size_of o)))
     (object_at w.graph id)
     w
@@ -250,7 +251,7 @@ abbrev pub after_post : World → Option ℕ → World
 after_post w None = w
 after_post w (Some id) =
     with_collection (record w { graph = graph_posted w.graph id })
-    (posting (graph_posted w.graph id) id (option_map_or (λ place. place) (first_place w.graph.registered id) 0))
+    (posting (graph_posted w.graph id) id (option_map_or (λ position. position) (position_of_first w.graph.registered id) 0))
 
 -- the base of the segment in which an address lies
 abbrev pub base_of : World → (address : ℕ) → ℕ
@@ -260,12 +261,12 @@ base_of w address = option_map_or (λ (s : Segment). s.base) (segment_of w addre
 abbrev pub after_free : World → Option ℕ → (at : ℕ) → World
 after_free w None at = w
 after_free w (Some id) at =
-    if object_is is_automatic w id then with_collection (with_place w (Some id) None) (reclaiming (base_of w at))
-    else with_place w (Some id) None
+    if object_is is_automatic w id then with_collection (with_address w (Some id) None) (reclaiming (base_of w at))
+    else with_address w (Some id) None
 
--- the object that the call is about to make, the next one, has this place
+-- the object that the call is about to make, the next one, has this address
 abbrev pub with_next_place : World → (address : ℕ) → World
-with_next_place w address = record w { places = with_last w.places (Some address) }
+with_next_place w address = record w { addresses = with_last w.addresses (Some address) }
 
 -- the world after a move of a call, where the move after it in the call is this one
 abbrev pub world_after_move : Call → World → Move → (next : Option Move) → World

@@ -96,9 +96,9 @@ abbrev pub contains : List ℕ → ℕ → Bool
 contains ns n = list_any (λ m. m == n) ns
 
 -- where in a list a number first stands
-abbrev pub first_place : List ℕ → ℕ → Option ℕ
-first_place [] n = None
-first_place (m ∷ ms) n = if m == n then Some 0 else option_map (λ place. place + 1) (first_place ms n)
+abbrev pub position_of_first : List ℕ → ℕ → Option ℕ
+position_of_first [] n = None
+position_of_first (m ∷ ms) n = if m == n then Some 0 else option_map (λ position. position + 1) (position_of_first ms n)
 
 -- a list without the first occurrence of a number
 abbrev pub without_first : List ℕ → ℕ → List ℕ

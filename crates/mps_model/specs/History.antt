@@ -17,11 +17,12 @@ use Rattle.mps_model.specs.Step.{Step, History}
 use Rattle.mps_model.specs.Replay.{Store, Block, with_block}
 use Rattle.mps_model.specs.Graph.{contains, ids_of_client, ids_in_blocks, targets, object_at, size_of}
 use Rattle.mps_model.specs.Collection.{Collection, is_condemned, is_kept_in_place, MaySurvive}
-use Rattle.mps_model.specs.World.{World, Segment, empty_world, is_live, is_running, is_unclamped, live_ids, place_of, segment_of, is_copying_object, is_any_size_kind, is_empty_segment, pool_is, block_of_word}
+use Rattle.mps_base.specs.Segment.{Segment}
+use Rattle.mps_model.specs.World.{World, empty_world, is_live, is_running, is_unclamped, live_ids, address_of, segment_of, is_copying_object, is_any_size_kind, is_empty_segment, pool_is, block_of_word}
 use Rattle.mps_model.specs.Placement.{ForReserve, placement_of}
 use Rattle.mps_model.specs.Checked.{Checked, Found, Numbered, chain_named, slot_in, block_place_in}
 use Rattle.mps_model.specs.Allocating.{Reserving, check_reserve}
-use Rattle.mps_model.specs.Accessing.{Poked, AsBlock, AsNumber, AsMarked, poked, address_of}
+use Rattle.mps_model.specs.Accessing.{Poked, AsBlock, AsNumber, AsMarked, poked, address_or_null}
 use Rattle.mps_model.specs.Collecting.{with_spent}
 use Rattle.mps_model.specs.Reply.{act, reply_to, world_from}
 use Rattle.mps_model.specs.Effect.{Everything, Generations, with_collection, world_after_moves}
@@ -128,7 +129,7 @@ pub record AreMovesOfReserve (call : Call) (w : World) (point : Name) (head : �
 
 -- the segment in which the object of a slot lies
 abbrev pub segment_of_found : World → Checked (Found (Option ℕ)) → Option Segment
-segment_of_found w (Ok found) = option_and_then (segment_of w) (option_and_then (place_of w) found.value)
+segment_of_found w (Ok found) = option_and_then (segment_of w) (option_and_then (address_of w) found.value)
 segment_of_found w (Err why) = None
 
 abbrev pub segment_read : World → Slot → Option Segment
@@ -168,8 +169,8 @@ free_at address = moves.Free (at_address address) ∷ []
 -- a block is freed, and its segment given back where that is due
 abbrev pub moves_of_free : Call → World → (id : ℕ) → List Move
 moves_of_free call w id =
-    free_at (address_of w id)
-    ++ give_back_empty (world_after_moves call w (free_at (address_of w id))) (segment_of w (address_of w id))
+    free_at (address_or_null w id)
+    ++ give_back_empty (world_after_moves call w (free_at (address_or_null w id))) (segment_of w (address_or_null w id))
 
 abbrev pub id_in_found : Checked (Found (Option ℕ)) → Option ℕ
 id_in_found (Ok found) = found.value
@@ -296,7 +297,7 @@ world_after_history history = world_after_steps empty_world history
 
 abbrev pub block_of : World → (id : ℕ) → Block
 block_of w id = record {
-  at = address_of w id;
+  at = address_or_null w id;
   words = option_map_or size_of (object_at w.graph id) 0;
   pool = pool_of w id;
 }

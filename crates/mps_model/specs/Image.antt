@@ -2,14 +2,14 @@
 use Rattle.std.specs.Prelude.{ℕ, ◌≡◌, ◌+◌, false, Option, Some, None, List, [], ◌∷◌, map, refl}
 use Rattle.std.specs.Option.{option_map_or}
 use Rattle.mps_model.specs.Graph.{Cell, HeadCell, NumberCell, ReferenceCell, Body, Automatic, Manual, object_at, empty_graph}
-use Rattle.mps_model.specs.World.{World, place_of, empty_world}
+use Rattle.mps_model.specs.World.{World, address_of, empty_world}
 
 -- the address of what a reference leads to; 0 is null
 abbrev pub address_of_target : World → Option ℕ → ℕ
 address_of_target w None = 0
-address_of_target w (Some id) = option_map_or (λ place. place) (place_of w id) 0
+address_of_target w (Some id) = option_map_or (λ at. at) (address_of w id) 0
 
--- the word of a cell of a block with this head: a reference is its tag, plus the place of its target
+-- the word of a cell of a block with this head: a reference is its tag, plus the address of its target
 abbrev pub image_of_cell : World → (head : ℕ) → Cell → ℕ
 image_of_cell w head HeadCell = head
 image_of_cell w head (NumberCell number) = number
@@ -33,7 +33,7 @@ three_objects = record empty_world {
         ∷ record { pool = 1; body = Manual (5 ∷ 6 ∷ []) }
         ∷ [];
   };
-  places = Some 0x1000 ∷ Some 0x1020 ∷ None ∷ [];
+  addresses = Some 0x1000 ∷ Some 0x1020 ∷ None ∷ [];
 }
 
 pub references_are_addresses_and_tags : image_of three_objects 0 ≡ 0x200000401 ∷ 0x1023 ∷ 1 ∷ 7 ∷ []

@@ -8,10 +8,11 @@ use Rattle.mps_base.specs.declared.moves.Move.{Move}
 use Rattle.mps_base.specs.declared.moves.Move.TheVariants as moves
 use Rattle.mps_model.specs.declared.call.Call.{Call}
 use Rattle.mps_model.specs.declared.call.Call.TheVariants as call
-use Rattle.mps_model.specs.Graph.{Point, Reservation, contains, first_place, object_at, is_automatic, is_weak_object, target_of_cell}
+use Rattle.mps_model.specs.Graph.{Point, Reservation, contains, position_of_first, object_at, is_automatic, is_weak_object, target_of_cell}
 use Rattle.mps_model.specs.Reachable.{IsReachable}
 use Rattle.mps_model.specs.Collection.{Collection, Phase, Tracing, Splatting, Reclaiming, is_condemned, is_kept_in_place, is_settled, MaySurvive}
-use Rattle.mps_model.specs.World.{World, Segment, is_running, is_live, id_at, segment_at, object_is, is_copying_object, is_any_size_kind, pool_is, is_in_segment, is_empty_segment, target_of, generation_of}
+use Rattle.mps_base.specs.Segment.{Segment, is_in_segment}
+use Rattle.mps_model.specs.World.{World, is_running, is_live, id_at, segment_at, object_is, is_copying_object, is_any_size_kind, pool_is, is_empty_segment, target_of, generation_of}
 use Rattle.mps_model.specs.Placement.{ForReserve, ForMove, ForAlloc, placement_of}
 use Rattle.mps_model.specs.Checked.{Checked, Numbered, point_named, pool_named, block_place_in, cells_of_body}
 use Rattle.mps_model.specs.Allocating.{Reserving, check_reserve}
@@ -39,7 +40,7 @@ may_splat Reclaiming = false
 
 -- ---- what a placement is
 
--- there is a place, and it is this address
+-- there is an address, and it is this one
 abbrev pub IsPlaceAt : Placement → (address : ℕ) → Type 0
 IsPlaceAt (Place word) address = address_of_word word ≡ address
 IsPlaceAt (NewSegment grain grains) address = ⊥
@@ -109,15 +110,15 @@ keeps_at address (moves.Stay at) = at.0 == address
 keeps_at address _ = false
 
 -- a registration that was made before the flip and isn't examined yet
-abbrev pub is_due_place : Collection → (place : ℕ) → Bool
-is_due_place c place = nat_le c.examined place && nat_lt place c.registered_before
+abbrev pub is_due : Collection → (position : ℕ) → Bool
+is_due c position = nat_le c.examined position && nat_lt position c.registered_before
 
 -- a message is posted for a registered object that isn't reachable, and takes its first registration with it
 pub record IsLegalPost (w : World) (c : Collection) (before : Option Move) (id at : ℕ) : Type 0 where
   pub tracing : IsTrue (is_tracing c.phase)
   pub condemned : IsTrue (is_condemned c id)
   pub not_reachable : ¬ IsReachable w.graph id
-  pub registered : ForOne (first_place w.graph.registered id) (λ place. IsTrue (is_due_place c place))
+  pub registered : ForOne (position_of_first w.graph.registered id) (λ position. IsTrue (is_due c position))
   -- the object isn't settled, or the move just before kept it for this post
   pub just_found : IsTrue (not (is_settled c id) || option_map_or (keeps_at at) before false)
 
@@ -192,7 +193,7 @@ pub record IsLegalUnseg (w : World) (before : Option Move) (s : Segment) : Type 
 
 -- the block that a reservation becomes
 pub record IsReserved (w : World) (at words pool : ℕ) (p : Numbered Point) (r : Reservation) : Type 0 where
-  pub at_place : ForOne (slice_get w.point_places p.number) (λ place. place.reserved_at ≡ at)
+  pub at_address : ForOne (slice_get w.point_memories p.number) (λ memory. memory.reserved_at ≡ at)
   pub of_words : length r.cells ≡ words
   pub of_pool : p.value.pool ≡ pool
 

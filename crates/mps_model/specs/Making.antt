@@ -149,15 +149,15 @@ act_area w name words = do
   done (with_graph w (graph_with_area w.graph name words))
 
 -- the graph with one more table of blocks, of empty places
-abbrev pub graph_with_blocks : Graph → Name → (places : ℕ) → Graph
-graph_with_blocks g name places =
-    record (named g name (BlocksThing (length g.blocks))) { blocks = with_last g.blocks (replicate places None) }
+abbrev pub graph_with_blocks : Graph → Name → (addresses : ℕ) → Graph
+graph_with_blocks g name addresses =
+    record (named g name (BlocksThing (length g.blocks))) { blocks = with_last g.blocks (replicate addresses None) }
 
-abbrev pub act_blocks : World → Name → (places : ℕ) → Checked Act
-act_blocks w name places = do
+abbrev pub act_blocks : World → Name → (addresses : ℕ) → Checked Act
+act_blocks w name addresses = do
   refuse_taken w name
-  refuse_root w places
-  done (with_graph w (graph_with_blocks w.graph name places))
+  refuse_root w addresses
+  done (with_graph w (graph_with_blocks w.graph name addresses))
 
 -- drops a table or an area; its name is free again
 abbrev pub graph_without_root : Graph → Name → Option Thing → Option Graph
@@ -188,7 +188,7 @@ with_point w name pool at_rank = record w {
   graph = record (named w.graph name (PointThing (length w.graph.points))) {
     points = with_last w.graph.points (Some (record { pool = pool; rank = at_rank; reservation = None }));
   };
-  point_places = with_last w.point_places (record { reserved_at = 0; buffer = empty_run });
+  point_memories = with_last w.point_memories (record { reserved_at = 0; buffer = empty_run });
 }
 
 abbrev pub act_point : World → Name → (pool : Name) → Rank → Checked Act
@@ -203,7 +203,7 @@ act_point w name pool at_rank = do
 abbrev pub without_point : World → Name → (number : ℕ) → World
 without_point w name number = record w {
   graph = record w.graph { points = slice_set w.graph.points number None; names = without_name w.graph.names name };
-  point_places = slice_set w.point_places number (record { reserved_at = 0; buffer = empty_run });
+  point_memories = slice_set w.point_memories number (record { reserved_at = 0; buffer = empty_run });
 }
 
 abbrev pub act_drop_point : World → Name → Checked Act

@@ -1,14 +1,13 @@
 -- Where a block is placed: a function of the extents of blocks, reservations and segments.
-use Rattle.std.specs.Prelude.{ℕ, Bool, true, false, ◌&&◌, ◌==◌, nat_le, if◌then◌else◌, List, filter, slice_get}
-use Rattle.std.specs.List.{flat_map}
+use Rattle.std.specs.Prelude.{ℕ, nat_le, if◌then◌else◌, List, slice_get}
 use Rattle.std.specs.Option.{option_map_or}
 use Rattle.mps_base.specs.Address.{grains_needed}
 use Rattle.mps_base.specs.Run.{Run, lowest_fitting}
 use Rattle.mps_base.specs.Placement.{Placement, Place, run_placement}
-use Rattle.mps_base.specs.declared.names.Rank.{Rank}
 use Rattle.mps_base.specs.declared.names.Rank.TheVariants as rank
 use Rattle.mps_model.specs.Graph.{Point, entry_at, object_at, size_of}
-use Rattle.mps_model.specs.World.{World, Segment, is_copying_pool, is_weak_kind, pool_is, held_grains, gaps_in, tail_of, target_of, generation_of, empty_run}
+use Rattle.mps_base.specs.Segment.{gaps_of}
+use Rattle.mps_model.specs.World.{World, is_copying_pool, held_grains, covered, tail_of, target_of, generation_of, empty_run}
 
 -- what is to be placed
 pub data Request : Type 0 where
@@ -18,19 +17,6 @@ pub data Request : Type 0 where
   ForMove : (id : ℕ) → Request
   -- a block of n words of a manual pool
   ForAlloc : (pool words : ℕ) → Request
-
-abbrev pub same_rank : Rank → Rank → Bool
-same_rank rank.Exact rank.Exact = true
-same_rank rank.Weak rank.Weak = true
-same_rank _ _ = false
-
--- whether a segment is one in whose gaps a block of a pool may lie: in a pool of weak references it has the point's rank
-abbrev pub is_open_to : World → (pool : ℕ) → Rank → Segment → Bool
-is_open_to w pool at_rank s = s.pool == pool && (if pool_is is_weak_kind w pool then same_rank s.rank at_rank else true)
-
--- the gaps in which a block of a pool may lie, in ascending order
-abbrev pub gaps_of : World → (pool : ℕ) → Rank → List Run
-gaps_of w pool at_rank = flat_map (gaps_in w) (filter (is_open_to w pool at_rank) w.segments)
 
 -- at the lowest free run of grains, where there is no place in what is held
 abbrev pub new_segment_for : World → (words : ℕ) → Placement
@@ -46,13 +32,13 @@ placement_at_front w at_hand words = if nat_le words at_hand.count then Place at
 
 -- the words at hand at a point
 abbrev pub buffer_of : World → (point : ℕ) → Run
-buffer_of w point = option_map_or (λ place. place.buffer) (slice_get w.point_places point) empty_run
+buffer_of w point = option_map_or (λ memory. memory.buffer) (slice_get w.point_memories point) empty_run
 
 -- where a reservation of a pool is placed
 abbrev pub placement_at_point : World → (number : ℕ) → Point → (words : ℕ) → Placement
 placement_at_point w number p words =
     if is_copying_pool w p.pool then placement_at_front w (buffer_of w number) words
-    else placement_in_gaps w (gaps_of w p.pool p.rank) words
+    else placement_in_gaps w (gaps_of (covered w) w.segments p.pool p.rank) words
 
 -- where something is placed in a world
 abbrev pub placement_of : World → Request → Placement
@@ -62,4 +48,4 @@ placement_of w (ForMove id) =
     option_map_or (λ o. placement_at_front w (tail_of w o.pool (target_of w o.pool (generation_of w id))) (size_of o))
     (object_at w.graph id)
     (new_segment_for w 0)
-placement_of w (ForAlloc pool words) = placement_in_gaps w (gaps_of w pool rank.Exact) words
+placement_of w (ForAlloc pool words) = placement_in_gaps w (gaps_of (covered w) w.segments pool rank.Exact) words

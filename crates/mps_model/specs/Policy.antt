@@ -5,7 +5,8 @@ use Rattle.mps_base.specs.Generation.{Load, Due, due_generation}
 use Rattle.mps_base.specs.Placement.{Placement, Place, NewSegment, OverLimit, NoFreeRun}
 use Rattle.mps_model.specs.declared.call.Call.{Call}
 use Rattle.mps_model.specs.declared.call.Call.TheVariants as call
-use Rattle.mps_model.specs.World.{World, Segment, pool_at, is_unclamped}
+use Rattle.mps_base.specs.Segment.{Segment}
+use Rattle.mps_model.specs.World.{World, pool_at, is_unclamped}
 use Rattle.mps_model.specs.Placement.{ForReserve, placement_of}
 use Rattle.mps_model.specs.Checked.{Checked}
 use Rattle.mps_model.specs.Allocating.{Reserving, check_reserve}

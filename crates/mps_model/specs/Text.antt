@@ -1,16 +1,17 @@
 -- The text of an answer: one line, with its line feed.
-use Rattle.std.specs.Prelude.{◌≡◌, ℕ, ◌==◌, if◌then◌else◌, List, [], ◌∷◌, ◌++◌, codes, decimal, false, refl}
+use Rattle.std.specs.Prelude.{◌≡◌, ℕ, ◌==◌, if◌then◌else◌, List, [], ◌∷◌, ◌++◌, codes, decimal, refl}
 use Rattle.std.specs.Fmt.{digits}
 use Rattle.mps_base.specs.declared.refusal.Refusal.{Refusal}
 use Rattle.mps_base.specs.declared.refusal.Refusal.TheVariants as refusal
+use Rattle.mps_numerals.specs.Hexadecimal.{hexadecimal}
 use Rattle.mps_format.specs.Fields.{tag_field, size_field, extra_field}
 use Rattle.mps_model.specs.declared.reply.Reply.{Reply}
 use Rattle.mps_model.specs.declared.reply.Reply.TheVariants as reply
-use Rattle.mps_model.specs.Answer.{Answer, Said, Dumped}
+use Rattle.mps_model.specs.Answer.{Answer, Replied, Dumped}
 
 -- `0x` and the lower-case hexadecimal digits of a word, without leading zeros
-abbrev pub hexadecimal : ℕ → List ℕ
-hexadecimal word = codes "0x" ++ digits 16 false word
+abbrev pub word_text : (word : ℕ) → List ℕ
+word_text word = codes "0x" ++ hexadecimal word
 
 -- a space, and a number
 abbrev pub and_number : ℕ → List ℕ
@@ -52,15 +53,15 @@ refusal_text refusal.OutOfMemory = codes "19"
 -- the words of a dump, separated by one space
 abbrev pub words_text : List ℕ → List ℕ
 words_text [] = []
-words_text (word ∷ []) = hexadecimal word
-words_text (word ∷ next ∷ words) = hexadecimal word ++ 32 ∷ words_text (next ∷ words)
+words_text (word ∷ []) = word_text word
+words_text (word ∷ next ∷ words) = word_text word ++ 32 ∷ words_text (next ∷ words)
 
 -- the text of a reply, without its line feed. The words of a dump stand in the answer
 abbrev pub reply_text : Reply → List ℕ
 reply_text reply.Ok = codes "ok"
 reply_text reply.Flipped = codes "flipped"
 reply_text (reply.Number number) = decimal number
-reply_text (reply.Word word) = hexadecimal word
+reply_text (reply.Word word) = word_text word
 reply_text reply.Yes = codes "yes"
 reply_text reply.No = codes "no"
 reply_text reply.Block = codes "block"
@@ -75,7 +76,7 @@ reply_text (reply.Refused why) = codes "refused " ++ refusal_text why
 reply_text reply.Unsupported = codes "unsupported"
 
 abbrev pub text_of_answer : Answer → List ℕ
-text_of_answer (Said said) = reply_text said
+text_of_answer (Replied said) = reply_text said
 text_of_answer (Dumped words) = words_text words
 
 -- what is printed for an answer
@@ -83,7 +84,7 @@ abbrev pub line_of_answer : Answer → List ℕ
 line_of_answer answer = text_of_answer answer ++ 10 ∷ []
 
 pub a_refusal_prints_its_numbers :
-    line_of_answer (Said (reply.Refused (refusal.CommitLimit 1 2 30))) ≡ codes "refused 10 1 2 30\n"
+    line_of_answer (Replied (reply.Refused (refusal.CommitLimit 1 2 30))) ≡ codes "refused 10 1 2 30\n"
 unfolding digits
 a_refusal_prints_its_numbers = refl
 

@@ -7,7 +7,8 @@ use Rattle.mps_base.specs.declared.moves.Move.TheVariants as moves
 use Rattle.mps_model.specs.declared.call.Call.{Call}
 use Rattle.mps_model.specs.Graph.{contains, targets, is_automatic, is_weak_object}
 use Rattle.mps_model.specs.Collection.{Collection}
-use Rattle.mps_model.specs.World.{World, Segment, is_live, id_at, place_of, object_is, segment_at, is_in_segment, is_empty_segment}
+use Rattle.mps_base.specs.Segment.{Segment, is_in_segment}
+use Rattle.mps_model.specs.World.{World, is_live, id_at, address_of, object_is, segment_at, is_empty_segment}
 use Rattle.mps_model.specs.Effect.{first_move, is_move_next, world_after_move, world_after_moves}
 use Rattle.mps_model.specs.LegalMove.{ForOne, MayBeScanned}
 use Rattle.mps_model.specs.Flip.{at_address, end_where}
@@ -160,7 +161,7 @@ pub record AreUnitsToEnd (call : Call) (w : World) (all : List Move) : Type 0 wh
 -- some live object in a segment refers to this one
 pub record IsTargetOfSome (w : World) (s : Segment) (target : ℕ) : Type 0 where
   pub holder : ℕ
-  pub in_segment : IsTrue (option_map_or (is_in_segment s) (place_of w holder) false && object_is is_automatic w holder)
+  pub in_segment : IsTrue (option_map_or (is_in_segment s) (address_of w holder) false && object_is is_automatic w holder)
   pub scanned : ForOne w.collection (λ c. MayBeScanned c holder)
   pub refers : IsTrue (contains (targets w.graph holder) target)
 

@@ -1,14 +1,14 @@
--- The world: an object graph with the places of its objects in an arena, and what the arena and its collector remember.
+-- The world: an object graph with the addresses of its objects in an arena, and what the arena and its collector remember.
 -- Addresses are in bytes, runs in words or grains as they say.
 use Rattle.std.specs.Prelude.{ℕ, ◌+◌, ◌*◌, Bool, true, false, not, ◌&&◌, ◌==◌, nat_lt, nat_le, if◌then◌else◌, Option, Some, None, option_map, option_and_then, is_some, List, [], ◌∷◌, ◌++◌, map, length, slice_get, find, sum_by, filter}
 use Rattle.std.specs.List.{list_any, flat_map}
 use Rattle.std.specs.Option.{option_map_or}
-use Rattle.mps_base.specs.Address.{word_of, grain_of}
-use Rattle.mps_base.specs.Run.{Run, gaps}
+use Rattle.mps_base.specs.Address.{word_of, bytes_of_word, address_of_word}
+use Rattle.mps_base.specs.Run.{Run, in_order}
+use Rattle.mps_base.specs.Segment.{Segment, is_in_segment, segment_over, grains_of_segment}
 use Rattle.mps_base.specs.Generation.{target_generation}
 use Rattle.mps_base.specs.declared.names.Kind.{Kind}
 use Rattle.mps_base.specs.declared.names.Kind.TheVariants as kind
-use Rattle.mps_base.specs.declared.names.Rank.{Rank}
 use Rattle.mps_format.specs.Layout.{Layout}
 use Rattle.mps_format.specs.Any.{numbered_layout}
 use Rattle.mps_model.specs.Graph.{Graph, Object, Point, Reservation, AreaWord, PlainWord, Hold, entry_at, object_at, size_of, is_automatic, is_live_reservation, empty_graph}
@@ -31,18 +31,8 @@ pub record Pool : Type 0 where
   -- the number of its chain
   pub chain : Option ℕ
 
--- a run of whole grains that the arena holds for a pool
-pub record Segment : Type 0 where
-  -- the address at which it begins
-  pub base : ℕ
-  pub grains : ℕ
-  pub pool : ℕ
-  pub generation : ℕ
-  -- the rank of the point whose reserve took it; exact where no reserve took it
-  pub rank : Rank
-
--- where a point allocates
-pub record PointPlace : Type 0 where
+-- what a point has in the arena
+pub record PointMemory : Type 0 where
   -- the address of its open reservation, where it has one
   pub reserved_at : ℕ
   -- the words at hand: what is left of the segment that its last new segment gave, in a copying pool
@@ -82,9 +72,9 @@ pub record World : Type 0 where
   -- the held segments, in ascending order
   pub segments : List Segment
   -- the address of each object, by its id; none where it isn't live
-  pub places : List (Option ℕ)
+  pub addresses : List (Option ℕ)
   -- by the number of the point
-  pub point_places : List PointPlace
+  pub point_memories : List PointMemory
   pub tails : List Tail
   pub state : ArenaState
   -- the zones of all flips since the arena was made, the first flip first
@@ -106,8 +96,8 @@ empty_world = record {
   pools = [];
   chains = [];
   segments = [];
-  places = [];
-  point_places = [];
+  addresses = [];
+  point_memories = [];
   tails = [];
   state = Unclamped;
   flips = [];
@@ -176,37 +166,13 @@ target_of w pool generation = target_generation (generations_of w pool) generati
 
 -- ---- segments
 
--- the address after a segment
-abbrev pub end_of_segment : Segment → ℕ
-end_of_segment s = s.base + 4096 * s.grains
-
--- whether an address lies in a segment
-abbrev pub is_in_segment : Segment → (address : ℕ) → Bool
-is_in_segment s address = nat_le s.base address && nat_lt address (end_of_segment s)
-
 -- the held segment that begins at an address
 abbrev pub segment_at : World → (base : ℕ) → Option Segment
 segment_at w base = find (λ s. s.base == base) w.segments
 
 -- the held segment in which an address lies
 abbrev pub segment_of : World → (address : ℕ) → Option Segment
-segment_of w address = find (λ s. is_in_segment s address) w.segments
-
--- one more held segment, in ascending order
-abbrev pub with_segment : Segment → List Segment → List Segment
-with_segment new [] = new ∷ []
-with_segment new (s ∷ ss) = if nat_lt new.base s.base then new ∷ s ∷ ss else s ∷ with_segment new ss
-
-abbrev pub without_segment : List Segment → (base : ℕ) → List Segment
-without_segment ss base = filter (λ s. not (s.base == base)) ss
-
--- the words of a segment
-abbrev pub words_of_segment : Segment → Run
-words_of_segment s = record { from = word_of s.base; count = 512 * s.grains }
-
--- the grains of a segment
-abbrev pub grains_of_segment : Segment → Run
-grains_of_segment s = record { from = grain_of s.base; count = s.grains }
+segment_of w address = segment_over w.segments address
 
 -- the runs of grains that are held, in ascending order
 abbrev pub held_grains : World → List Run
@@ -219,15 +185,15 @@ committed w = sum_by (λ s. s.grains) w.segments
 -- ---- blocks and reservations
 
 -- the address of an object, where it is live
-abbrev pub place_of : World → (id : ℕ) → Option ℕ
-place_of w id = entry_at w.places id
+abbrev pub address_of : World → (id : ℕ) → Option ℕ
+address_of w id = entry_at w.addresses id
 
 abbrev pub is_live : World → (id : ℕ) → Bool
-is_live w id = is_some (place_of w id)
+is_live w id = is_some (address_of w id)
 
 abbrev pub is_at : (address : ℕ) → Option ℕ → Bool
 is_at address None = false
-is_at address (Some place) = place == address
+is_at address (Some other) = other == address
 
 -- the numbers, from the first one on, of the entries that pass a test
 abbrev pub numbers_of : {X : Type 0} → (X → Bool) → (first : ℕ) → List X → List ℕ
@@ -236,7 +202,7 @@ numbers_of test first (x ∷ xs) = if test x then first ∷ numbers_of test (fir
 
 -- the ids of all live objects, in ascending order
 abbrev pub live_ids : World → List ℕ
-live_ids w = numbers_of is_some 0 w.places
+live_ids w = numbers_of is_some 0 w.addresses
 
 abbrev pub first_of : List ℕ → Option ℕ
 first_of [] = None
@@ -244,7 +210,7 @@ first_of (n ∷ ns) = Some n
 
 -- the live object at an address
 abbrev pub id_at : World → (address : ℕ) → Option ℕ
-id_at w address = first_of (numbers_of (is_at address) 0 w.places)
+id_at w address = first_of (numbers_of (is_at address) 0 w.addresses)
 
 -- whether the object passes a test
 abbrev pub object_is : (Object → Bool) → World → (id : ℕ) → Bool
@@ -261,50 +227,32 @@ is_copying_object w id = object_is (λ o. is_copying_pool w o.pool) w id
 abbrev pub extent : (address words : ℕ) → Run
 extent address words = record { from = word_of address; count = words }
 
--- the words of the live blocks, of these objects at these places
+-- the words of the live blocks, of these objects at these addresses
 abbrev pub extents_of : List Object → List (Option ℕ) → List Run
-extents_of [] places = []
+extents_of [] addresses = []
 extents_of (o ∷ os) [] = []
-extents_of (o ∷ os) (None ∷ places) = extents_of os places
-extents_of (o ∷ os) (Some place ∷ places) = extent place (size_of o) ∷ extents_of os places
+extents_of (o ∷ os) (None ∷ addresses) = extents_of os addresses
+extents_of (o ∷ os) (Some at ∷ addresses) = extent at (size_of o) ∷ extents_of os addresses
 
--- the words of a live reservation at a place
-abbrev pub extent_of_reservation : Option Reservation → PointPlace → List Run
-extent_of_reservation None place = []
-extent_of_reservation (Some r) place = if is_live_reservation r then extent place.reserved_at (length r.cells) ∷ [] else []
+-- the words of a live reservation, with what its point has in the arena
+abbrev pub extent_of_reservation : Option Reservation → PointMemory → List Run
+extent_of_reservation None memory = []
+extent_of_reservation (Some r) memory = if is_live_reservation r then extent memory.reserved_at (length r.cells) ∷ [] else []
 
--- the words of the live reservations, of these points at these places
-abbrev pub reserved_extents : List (Option Point) → List PointPlace → List Run
-reserved_extents [] places = []
+-- the words of the live reservations, of these points
+abbrev pub reserved_extents : List (Option Point) → List PointMemory → List Run
+reserved_extents [] memories = []
 reserved_extents (p ∷ ps) [] = []
-reserved_extents (None ∷ ps) (place ∷ places) = reserved_extents ps places
-reserved_extents (Some p ∷ ps) (place ∷ places) = extent_of_reservation p.reservation place ++ reserved_extents ps places
+reserved_extents (None ∷ ps) (memory ∷ memories) = reserved_extents ps memories
+reserved_extents (Some p ∷ ps) (memory ∷ memories) = extent_of_reservation p.reservation memory ++ reserved_extents ps memories
 
--- the words of all live blocks and live reservations
+-- the words of all live blocks and live reservations, in ascending order
 abbrev pub covered : World → List Run
-covered w = extents_of w.graph.objects w.places ++ reserved_extents w.graph.points w.point_places
-
--- one more run, in ascending order
-abbrev pub with_run : Run → List Run → List Run
-with_run new [] = new ∷ []
-with_run new (r ∷ rs) = if nat_lt new.from r.from then new ∷ r ∷ rs else r ∷ with_run new rs
-
--- runs in ascending order
-abbrev pub in_order : List Run → List Run
-in_order [] = []
-in_order (r ∷ rs) = with_run r (in_order rs)
+covered w = in_order (extents_of w.graph.objects w.addresses ++ reserved_extents w.graph.points w.point_memories)
 
 -- whether a run of words begins in a segment. A block or reservation lies in one segment
 abbrev pub begins_in : Segment → Run → Bool
-begins_in s r = is_in_segment s (8 * r.from)
-
--- the words that blocks and reservations cover in a segment, in ascending order
-abbrev pub covered_in : World → Segment → List Run
-covered_in w s = in_order (filter (begins_in s) (covered w))
-
--- the gaps of a segment, in ascending order
-abbrev pub gaps_in : World → Segment → List Run
-gaps_in w s = gaps (word_of s.base) (word_of (end_of_segment s)) (covered_in w s)
+begins_in s r = is_in_segment s (address_of_word r.from)
 
 -- whether no live block and no live reservation lies in a segment
 abbrev pub is_empty_segment : World → Segment → Bool
@@ -312,14 +260,14 @@ is_empty_segment w s = not (list_any (begins_in s) (covered w))
 
 -- the generation of a live object: that of its segment
 abbrev pub generation_of : World → (id : ℕ) → ℕ
-generation_of w id = option_map_or (λ s. s.generation) (option_and_then (segment_of w) (place_of w id)) 0
+generation_of w id = option_map_or (λ s. s.generation) (option_and_then (segment_of w) (address_of w id)) 0
 
 -- ---- area words
 
 -- the number that an area word shows: of a hold, the address that it holds
 abbrev pub shown_word : World → AreaWord → ℕ
 shown_word w (PlainWord number) = number
-shown_word w (Hold id offset) = option_map_or (λ place. place + offset) (place_of w id) 0
+shown_word w (Hold id offset) = option_map_or (λ at. at + offset) (address_of w id) 0
 
 abbrev pub shown_words : World → Option (List AreaWord) → List ℕ
 shown_words w None = []
@@ -330,15 +278,15 @@ abbrev pub area_words : World → List ℕ
 area_words w = flat_map (shown_words w) w.graph.areas
 
 -- whether a word lies in a block of n words: in a copying pool by bytes, else exactly at its address
-abbrev pub is_word_in : (is_copying : Bool) → (place words word : ℕ) → Bool
-is_word_in true place words word = nat_le place word && nat_lt word (place + 8 * words)
-is_word_in false place words word = word == place
+abbrev pub is_word_in : (is_copying : Bool) → (at words word : ℕ) → Bool
+is_word_in true at words word = nat_le at word && nat_lt word (at + bytes_of_word * words)
+is_word_in false at words word = word == at
 
 -- whether a word lies in an object. It never lies in a manual block or in a reservation
 abbrev pub lies_in : World → (word id : ℕ) → Bool
 lies_in w word id =
     object_is is_automatic w id
-    && option_map_or (λ place. object_is (λ o. is_word_in (is_copying_pool w o.pool) place (size_of o) word) w id) (place_of w id) false
+    && option_map_or (λ at. object_is (λ o. is_word_in (is_copying_pool w o.pool) at (size_of o) word) w id) (address_of w id) false
 
 -- the live object in which a word lies
 abbrev pub block_of_word : World → (word : ℕ) → Option ℕ

@@ -1,6 +1,7 @@
 use Rattle.std.proofs.Common.{◌≡◌, refl, [], ◌∷◌, ◌++◌, inl, inr, false, List, Some, None, arith}
 use Rattle.mps_base.specs.declared.moves.Move.TheVariants as moves
-use Rattle.mps_model.specs.World.{World, Segment, Tail, Unclamped, Clamped, empty_world}
+use Rattle.mps_base.specs.Segment.{Segment}
+use Rattle.mps_model.specs.World.{World, Tail, Unclamped, Clamped, empty_world}
 use Rattle.mps_model.specs.History.{IsLegalFrom, IsLegalHistory, world_after_steps}
 use Rattle.mps_model.specs.Units.{scans, reclaims}
 use Rattle.mps_model.proofs.Appending.{IsLegalFrom-then}

@@ -1,7 +1,7 @@
 use Rattle.std.proofs.Common.{◌≡◌}
 use Rattle.mps_base.specs.declared.refusal.Refusal.{Refusal}
 use Rattle.mps_model.specs.declared.reply.Reply.TheVariants as reply
-use Rattle.mps_model.specs.Answer.{Said}
+use Rattle.mps_model.specs.Answer.{Replied}
 use Rattle.mps_model_examples.specs.OneBlock.{prelude}
 use Rattle.mps_base.specs.declared.refusal.Refusal.TheVariants as refusal
 use Rattle.mps_model_examples.specs.WrongAnswers as steps
@@ -11,19 +11,19 @@ use Rattle.mps_model_examples.specs.FillingGaps.{one_grain}
 use Rattle.mps_model_examples.specs.Depending.{depending}
 use Rattle.mps_model_examples.proofs.Refusing.{false_is_not_true, cannot_follow}
 
-not_flipped : Said reply.Flipped ≡ Said reply.Ok → ⊥
+not_flipped : Replied reply.Flipped ≡ Replied reply.Ok → ⊥
 not_flipped h = absurd cc
 
-not_ok : Said reply.Ok ≡ Said reply.Flipped → ⊥
+not_ok : Replied reply.Ok ≡ Replied reply.Flipped → ⊥
 not_ok h = absurd cc
 
-not_refused : (why : Refusal) → Said (reply.Refused why) ≡ Said reply.Ok → ⊥
+not_refused : (why : Refusal) → Replied (reply.Refused why) ≡ Replied reply.Ok → ⊥
 not_refused why h = absurd cc
 
-not_yes : Said reply.Yes ≡ Said reply.No → ⊥
+not_yes : Replied reply.Yes ≡ Replied reply.No → ⊥
 not_yes h = absurd cc
 
-not_no : Said reply.No ≡ Said reply.Yes → ⊥
+not_no : Replied reply.No ≡ Replied reply.Yes → ⊥
 not_no h = absurd cc
 
 pub flipped_without_flip : FlippedWithoutFlip

@@ -83,8 +83,8 @@ weak_and_linked_world = record {
   pools = record { kind = Collected kind.Amc; format = 1; chain = None } ∷ record { kind = Collected kind.Awl; format = 1; chain = None } ∷ [];
   chains = [];
   segments = grain_segment 0x1000 0 ∷ record { base = 0x2000; grains = 1; pool = 1; generation = 0; rank = rank.Weak } ∷ [];
-  places = Some 0x1000 ∷ Some 0x1018 ∷ Some 0x2000 ∷ Some 0x2010 ∷ [];
-  point_places = record { reserved_at = 0x1018; buffer = words 518 506 } ∷ record { reserved_at = 0x2010; buffer = empty_run } ∷ [];
+  addresses = Some 0x1000 ∷ Some 0x1018 ∷ Some 0x2000 ∷ Some 0x2010 ∷ [];
+  point_memories = record { reserved_at = 0x1018; buffer = words 518 506 } ∷ record { reserved_at = 0x2010; buffer = empty_run } ∷ [];
   tails = [];
   state = Unclamped;
   flips = [];

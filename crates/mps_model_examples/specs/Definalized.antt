@@ -10,7 +10,8 @@ use Rattle.mps_model.specs.declared.reply.Reply.TheVariants as reply
 use Rattle.mps_model.specs.Step.{History}
 use Rattle.mps_model.specs.Graph.{Graph, HeadCell, NumberCell, Automatic, TableThing, PoolThing, PointThing}
 use Rattle.mps_model.specs.Collection.{Collection, Tracing}
-use Rattle.mps_model.specs.World.{World, Segment, Tail, Collected, Unclamped, empty_world}
+use Rattle.mps_base.specs.Segment.{Segment}
+use Rattle.mps_model.specs.World.{World, Tail, Collected, Unclamped, empty_world}
 use Rattle.mps_model.specs.History.{IsLegalHistory}
 use Rattle.mps_model_examples.specs.Script.{p, t, x, at_index, address, zones, step}
 use Rattle.mps_model_examples.specs.OneBlock.{prelude}
@@ -72,8 +73,8 @@ registered_world held segments place buffer tails flips collection = record {
   pools = record { kind = Collected kind.Amc; format = 1; chain = None } ∷ [];
   chains = [];
   segments = segments;
-  places = Some place ∷ [];
-  point_places = record { reserved_at = 0x1000; buffer = buffer } ∷ [];
+  addresses = Some place ∷ [];
+  point_memories = record { reserved_at = 0x1000; buffer = buffer } ∷ [];
   tails = tails;
   state = Unclamped;
   flips = flips;

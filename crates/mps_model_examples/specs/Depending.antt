@@ -66,8 +66,8 @@ depending_world = record {
   pools = record { kind = Collected kind.Amc; format = 1; chain = None } ∷ [];
   chains = [];
   segments = grain_segment 0x1000 0 ∷ [];
-  places = Some 0x1000 ∷ [];
-  point_places = record { reserved_at = 0x1000; buffer = words 515 509 } ∷ [];
+  addresses = Some 0x1000 ∷ [];
+  point_memories = record { reserved_at = 0x1000; buffer = words 515 509 } ∷ [];
   tails = [];
   state = Unclamped;
   flips = [];

@@ -48,8 +48,8 @@ abbrev pub block_of_four : Object
 block_of_four = record { pool = 0; body = Automatic 0x403 (HeadCell ∷ NumberCell 0 ∷ NumberCell 0 ∷ NumberCell 0 ∷ []) false }
 
 -- the world of blocks at these places, the last of which the slot holds
-abbrev pub world_of_grain : List Object → (held : ℕ) → (places : List (Option ℕ)) → (reserved_at : ℕ) → World
-world_of_grain objects held places reserved_at = record {
+abbrev pub world_of_grain : List Object → (held : ℕ) → (addresses : List (Option ℕ)) → (reserved_at : ℕ) → World
+world_of_grain objects held addresses reserved_at = record {
   graph = record {
     objects = objects;
     tables = Some (Some held ∷ []) ∷ [];
@@ -70,8 +70,8 @@ world_of_grain objects held places reserved_at = record {
   pools = record { kind = Collected kind.Lo; format = 3; chain = None } ∷ [];
   chains = [];
   segments = grain_segment 0x1000 0 ∷ [];
-  places = places;
-  point_places = record { reserved_at = reserved_at; buffer = empty_run } ∷ [];
+  addresses = addresses;
+  point_memories = record { reserved_at = reserved_at; buffer = empty_run } ∷ [];
   tails = [];
   state = Unclamped;
   flips = [];

@@ -93,8 +93,8 @@ dropped_block registered messages place buffer tails flips state = record {
   pools = record { kind = Collected kind.Amc; format = 1; chain = None } ∷ [];
   chains = [];
   segments = record { base = place; grains = 1; pool = 0; generation = 0; rank = rank.Exact } ∷ [];
-  places = Some place ∷ [];
-  point_places = record { reserved_at = 0x1000; buffer = buffer } ∷ [];
+  addresses = Some place ∷ [];
+  point_memories = record { reserved_at = 0x1000; buffer = buffer } ∷ [];
   tails = tails;
   state = state;
   flips = flips;

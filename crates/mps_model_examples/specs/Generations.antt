@@ -11,7 +11,8 @@ use Rattle.mps_model.specs.declared.reply.Reply.TheVariants as reply
 use Rattle.mps_model.specs.Step.{History}
 use Rattle.mps_model.specs.Graph.{Graph, HeadCell, NumberCell, Automatic, ChainThing, TableThing, PoolThing, PointThing}
 use Rattle.mps_model.specs.Collection.{Collection, Tracing}
-use Rattle.mps_model.specs.World.{World, Segment, Tail, ArenaState, Collected, empty_world}
+use Rattle.mps_base.specs.Segment.{Segment}
+use Rattle.mps_model.specs.World.{World, Tail, ArenaState, Collected, empty_world}
 use Rattle.mps_model.specs.History.{IsLegalHistory}
 use Rattle.mps_model_examples.specs.Script.{p, q, t, x, at_index, address, zones, step, words}
 
@@ -95,8 +96,8 @@ generations_world segments place buffer tails state flips collection = record {
   pools = record { kind = Collected kind.Amc; format = 3; chain = Some 0 } ∷ [];
   chains = (1 ∷ 1 ∷ []) ∷ [];
   segments = segments;
-  places = Some place ∷ [];
-  point_places = record { reserved_at = 0x1000; buffer = buffer } ∷ [];
+  addresses = Some place ∷ [];
+  point_memories = record { reserved_at = 0x1000; buffer = buffer } ∷ [];
   tails = tails;
   state = state;
   flips = flips;

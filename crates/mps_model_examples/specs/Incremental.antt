@@ -11,7 +11,8 @@ use Rattle.mps_model.specs.declared.reply.Reply.TheVariants as reply
 use Rattle.mps_model.specs.Step.{Step, History}
 use Rattle.mps_model.specs.Graph.{Graph, HeadCell, NumberCell, ReferenceCell, Automatic, TableThing, PoolThing, PointThing}
 use Rattle.mps_model.specs.Collection.{Collection, Tracing}
-use Rattle.mps_model.specs.World.{World, Segment, Tail, Collected, Unclamped, empty_world}
+use Rattle.mps_base.specs.Segment.{Segment}
+use Rattle.mps_model.specs.World.{World, Tail, Collected, Unclamped, empty_world}
 use Rattle.mps_model.specs.History.{IsLegalHistory}
 use Rattle.mps_model_examples.specs.Script.{p, t, x, at_index, address, zones, step}
 use Rattle.mps_model_examples.specs.OneBlock.{prelude, pair_head}
@@ -84,8 +85,8 @@ linked_world second segments place of_first buffer tails flips collection = reco
   pools = record { kind = Collected kind.Amc; format = 1; chain = None } ∷ [];
   chains = [];
   segments = segments;
-  places = Some place ∷ Some of_first ∷ [];
-  point_places = record { reserved_at = 0x1018; buffer = buffer } ∷ [];
+  addresses = Some place ∷ Some of_first ∷ [];
+  point_memories = record { reserved_at = 0x1018; buffer = buffer } ∷ [];
   tails = tails;
   state = Unclamped;
   flips = flips;

@@ -6,7 +6,8 @@ use Rattle.mps_model.specs.declared.call.Call.TheVariants as call
 use Rattle.mps_model.specs.declared.reply.Reply.TheVariants as reply
 use Rattle.mps_model.specs.Step.{History}
 use Rattle.mps_model.specs.Graph.{Object, Manual, PoolThing, BlocksThing}
-use Rattle.mps_model.specs.World.{World, Segment, AnySize, Unclamped, empty_world}
+use Rattle.mps_base.specs.Segment.{Segment}
+use Rattle.mps_model.specs.World.{World, AnySize, Unclamped, empty_world}
 use Rattle.mps_model.specs.History.{IsLegalHistory}
 use Rattle.mps_model_examples.specs.Script.{b, v, at_index, address, step}
 
@@ -66,8 +67,8 @@ blocks_world first segments place = record {
   pools = record { kind = AnySize; format = 0; chain = None } ∷ [];
   chains = [];
   segments = segments;
-  places = place ∷ Some 0x2000 ∷ [];
-  point_places = [];
+  addresses = place ∷ Some 0x2000 ∷ [];
+  point_memories = [];
   tails = [];
   state = Unclamped;
   flips = [];

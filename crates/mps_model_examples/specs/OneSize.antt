@@ -50,8 +50,8 @@ one_size_world = record {
   pools = record { kind = OneSize 2; format = 0; chain = None } ∷ [];
   chains = [];
   segments = grain_segment 0x1000 0 ∷ [];
-  places = Some 0x1000 ∷ [];
-  point_places = [];
+  addresses = Some 0x1000 ∷ [];
+  point_memories = [];
   tails = [];
   state = Unclamped;
   flips = [];

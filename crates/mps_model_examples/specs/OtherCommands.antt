@@ -94,8 +94,8 @@ mapped_world cells second area = record {
   pools = record { kind = Collected kind.Amc; format = 2; chain = None } ∷ [];
   chains = [];
   segments = grain_segment 0x1000 0 ∷ [];
-  places = Some 0x1000 ∷ [];
-  point_places = record { reserved_at = 0x1000; buffer = words 516 508 } ∷ [];
+  addresses = Some 0x1000 ∷ [];
+  point_memories = record { reserved_at = 0x1000; buffer = words 516 508 } ∷ [];
   tails = [];
   state = Unclamped;
   flips = [];

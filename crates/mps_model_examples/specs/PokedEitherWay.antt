@@ -89,8 +89,8 @@ linked_in_place_world = record {
   pools = record { kind = Collected kind.Ams; format = 1; chain = None } ∷ [];
   chains = [];
   segments = grain_segment 0x1000 0 ∷ [];
-  places = Some 0x1000 ∷ Some 0x1018 ∷ [];
-  point_places = record { reserved_at = 0x1018; buffer = empty_run } ∷ [];
+  addresses = Some 0x1000 ∷ Some 0x1018 ∷ [];
+  point_memories = record { reserved_at = 0x1018; buffer = empty_run } ∷ [];
   tails = [];
   state = Unclamped;
   flips = [];

@@ -10,7 +10,8 @@ use Rattle.mps_model.specs.declared.reply.Reply.TheVariants as reply
 use Rattle.mps_model.specs.Step.{Step, History}
 use Rattle.mps_model.specs.Graph.{Graph, Object, Cell, Reservation, HeadCell, NumberCell, Automatic, ChainThing, TableThing, PoolThing, PointThing}
 use Rattle.mps_model.specs.Collection.{Collection, Tracing}
-use Rattle.mps_model.specs.World.{World, Segment, Tail, Collected, PointPlace, ArenaState, empty_world}
+use Rattle.mps_base.specs.Segment.{Segment}
+use Rattle.mps_model.specs.World.{World, Tail, Collected, PointMemory, ArenaState, empty_world}
 use Rattle.mps_model.specs.History.{IsLegalHistory}
 use Rattle.mps_model_examples.specs.Script.{p, q, t, x, at_index, address, zones, step}
 
@@ -101,8 +102,8 @@ polled_graph objects held reservation = record {
 }
 
 -- the world of a graph, with where its blocks lie, what is at hand, and what flips left
-abbrev pub polled_world : Graph → List Segment → (places : List (Option ℕ)) → PointPlace → List Tail → ArenaState → (flips : List ℕ) → Option Collection → World
-polled_world graph segments places at_point tails state flips collection = record {
+abbrev pub polled_world : Graph → List Segment → (addresses : List (Option ℕ)) → PointMemory → List Tail → ArenaState → (flips : List ℕ) → Option Collection → World
+polled_world graph segments addresses at_point tails state flips collection = record {
   graph = graph;
   grains = 8;
   limit = 8;
@@ -110,8 +111,8 @@ polled_world graph segments places at_point tails state flips collection = recor
   pools = record { kind = Collected kind.Amc; format = 3; chain = Some 0 } ∷ [];
   chains = (1 ∷ []) ∷ [];
   segments = segments;
-  places = places;
-  point_places = at_point ∷ [];
+  addresses = addresses;
+  point_memories = at_point ∷ [];
   tails = tails;
   state = state;
   flips = flips;

@@ -75,8 +75,8 @@ row_world = record {
   pools = record { kind = Collected kind.Amc; format = 1; chain = None } ∷ [];
   chains = [];
   segments = grain_segment 0x1000 0 ∷ [];
-  places = Some 0x1000 ∷ Some 0x1018 ∷ Some 0x1030 ∷ [];
-  point_places = record { reserved_at = 0x1030; buffer = words 521 503 } ∷ [];
+  addresses = Some 0x1000 ∷ Some 0x1018 ∷ Some 0x1030 ∷ [];
+  point_memories = record { reserved_at = 0x1030; buffer = words 521 503 } ∷ [];
   tails = [];
   state = Unclamped;
   flips = [];
@@ -86,11 +86,11 @@ row_world = record {
 
 -- the world while the collection runs, with the places of the blocks, what is at hand after them, which were moved, and the
 -- units asked of it
-abbrev pub row_collected : (places : List (Option ℕ)) → List Tail → (placed : List ℕ) → (spent : ℕ) → World
-row_collected places tails placed spent = record row_world {
+abbrev pub row_collected : (addresses : List (Option ℕ)) → List Tail → (placed : List ℕ) → (spent : ℕ) → World
+row_collected addresses tails placed spent = record row_world {
   segments = grain_segment 0x1000 0 ∷ grain_segment 0x2000 0 ∷ [];
-  places = places;
-  point_places = record { reserved_at = 0x1030; buffer = empty_run } ∷ [];
+  addresses = addresses;
+  point_memories = record { reserved_at = 0x1030; buffer = empty_run } ∷ [];
   tails = tails;
   flips = 2 ∷ [];
   collection = Some (record {

@@ -10,7 +10,8 @@ use Rattle.mps_model.specs.declared.reply.Reply.TheVariants as reply
 use Rattle.mps_model.specs.Step.{Step, History}
 use Rattle.mps_model.specs.Graph.{Graph, Object, HeadCell, NumberCell, Automatic, TableThing, PoolThing, PointThing}
 use Rattle.mps_model.specs.Collection.{Collection, Phase}
-use Rattle.mps_model.specs.World.{World, Segment, Collected, Unclamped, empty_run, empty_world}
+use Rattle.mps_base.specs.Segment.{Segment}
+use Rattle.mps_model.specs.World.{World, Collected, Unclamped, empty_run, empty_world}
 use Rattle.mps_model.specs.History.{IsLegalHistory}
 use Rattle.mps_model_examples.specs.Script.{p, q, t, x, y, at_index, address, zones, step}
 
@@ -89,8 +90,8 @@ dropped_world segments first collection = record {
   pools = record { kind = Collected kind.Ams; format = 1; chain = None } ∷ record { kind = Collected kind.Ams; format = 1; chain = None } ∷ [];
   chains = [];
   segments = segments;
-  places = first ∷ Some 0x2000 ∷ [];
-  point_places = record { reserved_at = 0x1000; buffer = empty_run } ∷ record { reserved_at = 0x2000; buffer = empty_run } ∷ [];
+  addresses = first ∷ Some 0x2000 ∷ [];
+  point_memories = record { reserved_at = 0x1000; buffer = empty_run } ∷ record { reserved_at = 0x2000; buffer = empty_run } ∷ [];
   tails = [];
   state = Unclamped;
   flips = 0 ∷ [];

@@ -9,9 +9,10 @@ use Rattle.mps_base.specs.declared.names.Rank.TheVariants as rank
 use Rattle.mps_base.specs.declared.moves.Move.{Move}
 use Rattle.mps_model.specs.declared.call.Call.{Call}
 use Rattle.mps_model.specs.declared.reply.Reply.{Reply}
-use Rattle.mps_model.specs.Answer.{Said}
+use Rattle.mps_model.specs.Answer.{Replied}
 use Rattle.mps_model.specs.Step.{Step}
-use Rattle.mps_model.specs.World.{Segment, Tail}
+use Rattle.mps_base.specs.Segment.{Segment}
+use Rattle.mps_model.specs.World.{Tail}
 
 -- the name of one letter
 abbrev pub letter : (code : ℕ) → Name
@@ -56,7 +57,7 @@ address n = record { 0 = n }
 
 -- a step that said this
 abbrev pub step : (line : ℕ) → Call → List Move → Reply → Step
-step line call moves said = record { line = line; call = call; moves = moves; answer = Said said }
+step line call moves said = record { line = line; call = call; moves = moves; answer = Replied said }
 
 abbrev pub zones : ℕ → ZoneSet
 zones set = record { 0 = set }

@@ -60,8 +60,8 @@ weak_world first second flips state = record {
       record { base = 0x1000; grains = 1; pool = 0; generation = 0; rank = rank.Exact }
       ∷ record { base = 0x2000; grains = 1; pool = 0; generation = 0; rank = rank.Weak }
       ∷ [];
-  places = Some 0x1000 ∷ Some 0x2000 ∷ [];
-  point_places = record { reserved_at = 0x1000; buffer = empty_run } ∷ record { reserved_at = 0x2000; buffer = empty_run } ∷ [];
+  addresses = Some 0x1000 ∷ Some 0x2000 ∷ [];
+  point_memories = record { reserved_at = 0x1000; buffer = empty_run } ∷ record { reserved_at = 0x2000; buffer = empty_run } ∷ [];
   tails = [];
   state = state;
   flips = flips;

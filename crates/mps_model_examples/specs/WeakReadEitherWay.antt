@@ -10,7 +10,8 @@ use Rattle.mps_model.specs.declared.reply.Reply.TheVariants as reply
 use Rattle.mps_model.specs.Step.{Step, History}
 use Rattle.mps_model.specs.Graph.{Graph, HeadCell, NumberCell, ReferenceCell, Automatic, TableThing, PoolThing, PointThing}
 use Rattle.mps_model.specs.Collection.{Phase}
-use Rattle.mps_model.specs.World.{World, Segment, Tail, Collected, Unclamped, empty_run, empty_world}
+use Rattle.mps_base.specs.Segment.{Segment}
+use Rattle.mps_model.specs.World.{World, Tail, Collected, Unclamped, empty_run, empty_world}
 use Rattle.mps_model.specs.History.{IsLegalHistory}
 use Rattle.mps_model_examples.specs.Script.{t, p, w, x, y, at_index, address, zones, step}
 use Rattle.mps_model_examples.specs.OneBlock.{prelude}
@@ -94,8 +95,8 @@ weakly_world graph segments place tails placed had phase = record {
   pools = record { kind = Collected kind.Amc; format = 1; chain = None } ∷ record { kind = Collected kind.Awl; format = 1; chain = None } ∷ [];
   chains = [];
   segments = segments;
-  places = Some place ∷ Some 0x2000 ∷ [];
-  point_places = record { reserved_at = 0x1000; buffer = empty_run } ∷ record { reserved_at = 0x2000; buffer = empty_run } ∷ [];
+  addresses = Some place ∷ Some 0x2000 ∷ [];
+  point_memories = record { reserved_at = 0x1000; buffer = empty_run } ∷ record { reserved_at = 0x2000; buffer = empty_run } ∷ [];
   tails = tails;
   state = Unclamped;
   flips = 2 ∷ [];

@@ -120,8 +120,8 @@ unreachable_world = record {
   pools = record { kind = Collected kind.Ams; format = 1; chain = None } ∷ [];
   chains = [];
   segments = record { base = 0x1000; grains = 1; pool = 0; generation = 0; rank = rank.Exact } ∷ [];
-  places = Some 0x1000 ∷ [];
-  point_places = record { reserved_at = 0x1000; buffer = empty_run } ∷ [];
+  addresses = Some 0x1000 ∷ [];
+  point_memories = record { reserved_at = 0x1000; buffer = empty_run } ∷ [];
   tails = [];
   state = Unclamped;
   flips = [];

@@ -2,7 +2,7 @@
 use Rattle.std.specs.Prelude.{ℕ, Bool, true, false, List}
 use Rattle.mps_model.specs.declared.reply.Reply.{Reply}
 use Rattle.mps_model.specs.declared.reply.Reply.TheVariants as reply
-use Rattle.mps_model.specs.Answer.{Said}
+use Rattle.mps_model.specs.Answer.{Replied}
 use Rattle.mps_model.specs.Text.{line_of_answer}
 
 -- whether the text of a reply is told by the reply alone, as it is but for the words of a dump
@@ -12,4 +12,4 @@ is_printable _ = true
 
 -- the answer line of a reply
 abbrev pub text_of : Reply → List ℕ
-text_of r = line_of_answer (Said r)
+text_of r = line_of_answer (Replied r)

@@ -1,7 +1,7 @@
 // The answer line of a reply.
 ghost use Rattle.std.specs.Prelude.{◌≡◌, ◌+◌, ◌≤◌, ◌++◌, length, take, decimal, true};
-ghost use Rattle.mps_model.specs.Answer.{Said};
-ghost use Rattle.mps_model.specs.Text.{hexadecimal, and_number, refusal_text, reply_text, line_of_answer};
+ghost use Rattle.mps_model.specs.Answer.{Replied};
+ghost use Rattle.mps_model.specs.Text.{word_text, and_number, refusal_text, reply_text, line_of_answer};
 ghost use Rattle.mps_script.specs.Text.{is_printable};
 
 use itoa::Buffer;
@@ -27,7 +27,7 @@ fn put_spaced(out: &mut [u8], at: usize, n: u64) -> usize
 fn put_word(out: &mut [u8], at: usize, n: u64) -> usize
     requires { at + 18 ≤ length out.old }
     ensures after { result ≤ at + 18 }
-    ensures written { take result out.new ≡ take at out.old ++ hexadecimal n }
+    ensures written { take result out.new ≡ take at out.old ++ word_text n }
 {
     let at = put(b"0x", out, at);
     put_hexadecimal(n, out, at)
@@ -144,7 +144,7 @@ pub fn put_text(out: &mut [u8], reply: &Reply) -> usize
     requires room { 64 ≤ length out.old }
     requires printable { is_printable reply.now ≡ true }
     ensures within { result ≤ 64 }
-    ensures written { take result out.new ≡ line_of_answer (Said reply.now) }
+    ensures written { take result out.new ≡ line_of_answer (Replied reply.now) }
 {
     let at = put_plain(out, reply);
     put(b"\n", out, at)

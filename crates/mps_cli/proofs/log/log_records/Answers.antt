@@ -2,7 +2,7 @@ use Rattle.mps_cli.proofs.log.log_records.Goals.{in-Some+in_ok-log_move, in_defa
 use Rattle.std.proofs.Common.{subst, sym, ap, ◌∙◌}
 use Rattle.mps_cli.specs.Write.{LogTakes}
 use Rattle.mps_base.specs.Record.{records_bytes}
-use Rattle.mps_model.specs.Answer.{Said}
+use Rattle.mps_model.specs.Answer.{Replied}
 use Rattle.mps_model.specs.Log.{records_of_command}
 use Rattle.mps_log_reader.specs.PutOut.{PutsPart}
 use Rattle.mps_cli.proofs.Fronts.{on_failed, where_failed, part_of_move, part_after_move, part_without_move}
@@ -33,5 +33,5 @@ returns-clause-part g c =
           (ap (λ d. (g.D.Desk.outside d).logged) w.desk-is ∙ w.in_ok-log_move.ensures.logged) p
       | in_default w ↦ part_without_move c.args.line c.args.pools c.args.call.now c.args.done.now
           (g.D.Desk.outside c.args.desk.now).logged (g.D.Desk.outside c.log_command.new.desk).logged w.in_default.is
-          (subst (λ d. PutsPart (g.D.Desk.outside d).logged (g.D.Desk.outside c.log_command.new.desk).logged (records_bytes (records_of_command c.args.pools c.args.call.now (Said c.args.done.now.reply) c.args.line))) w.desk-is p)
+          (subst (λ d. PutsPart (g.D.Desk.outside d).logged (g.D.Desk.outside c.log_command.new.desk).logged (records_bytes (records_of_command c.args.pools c.args.call.now (Replied c.args.done.now.reply) c.args.line))) w.desk-is p)
     ])
