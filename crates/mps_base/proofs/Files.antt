@@ -4,25 +4,25 @@ use Rattle.std.proofs.lemmas.Slice.Eq.{bytes_eq-Decides}
 use Rattle.mps_base.specs.Desk.{File, file_named, with_file, with_more, text_in}
 use Rattle.mps_base.specs.MemDesk.{place_of}
 
-pub file_named-at_place : (fs : List File) (name : List ℕ) (d : File) → place_of fs name < length fs → file_named fs name ≡ Some (get_or fs (place_of fs name) d).bytes
-file_named-at_place [] name d short = absurd (omega (arith, short))
-file_named-at_place (f ∷ fs) name d short = grind (arith, file_named-at_place fs name d)
+pub file_named-at_address : (fs : List File) (name : List ℕ) (d : File) → place_of fs name < length fs → file_named fs name ≡ Some (get_or fs (place_of fs name) d).bytes
+file_named-at_address [] name d short = absurd (omega (arith, short))
+file_named-at_address (f ∷ fs) name d short = grind (arith, file_named-at_address fs name d)
 
 pub file_named-absent : (fs : List File) (name : List ℕ) → length fs ≤ place_of fs name → file_named fs name ≡ None
 file_named-absent [] name long = refl
 file_named-absent (f ∷ fs) name long = grind (arith, file_named-absent fs name)
 
-pub with_file-at_place : (fs : List File) (name bytes : List ℕ) (d : File) → place_of fs name < length fs → with_file fs name bytes ≡ set fs (place_of fs name) (record (get_or fs (place_of fs name) d) { bytes = bytes })
-with_file-at_place [] name bytes d short = absurd (omega (arith, short))
-with_file-at_place (f ∷ fs) name bytes d short = grind (arith, with_file-at_place fs name bytes d)
+pub with_file-at_address : (fs : List File) (name bytes : List ℕ) (d : File) → place_of fs name < length fs → with_file fs name bytes ≡ set fs (place_of fs name) (record (get_or fs (place_of fs name) d) { bytes = bytes })
+with_file-at_address [] name bytes d short = absurd (omega (arith, short))
+with_file-at_address (f ∷ fs) name bytes d short = grind (arith, with_file-at_address fs name bytes d)
 
 pub with_file-new : (fs : List File) (name bytes : List ℕ) → length fs ≤ place_of fs name → with_file fs name bytes ≡ fs ++ record { name = name; bytes = bytes } ∷ []
 with_file-new [] name bytes long = refl
 with_file-new (f ∷ fs) name bytes long = grind (arith, with_file-new fs name bytes)
 
-pub with_more-at_place : (fs : List File) (name bytes : List ℕ) (d : File) → place_of fs name < length fs → with_more fs name bytes ≡ set fs (place_of fs name) (record (get_or fs (place_of fs name) d) { bytes = (get_or fs (place_of fs name) d).bytes ++ bytes })
-with_more-at_place [] name bytes d short = absurd (omega (arith, short))
-with_more-at_place (f ∷ fs) name bytes d short = grind (arith, with_more-at_place fs name bytes d)
+pub with_more-at_address : (fs : List File) (name bytes : List ℕ) (d : File) → place_of fs name < length fs → with_more fs name bytes ≡ set fs (place_of fs name) (record (get_or fs (place_of fs name) d) { bytes = (get_or fs (place_of fs name) d).bytes ++ bytes })
+with_more-at_address [] name bytes d short = absurd (omega (arith, short))
+with_more-at_address (f ∷ fs) name bytes d short = grind (arith, with_more-at_address fs name bytes d)
 
 pub with_more-absent : (fs : List File) (name bytes : List ℕ) → length fs ≤ place_of fs name → with_more fs name bytes ≡ fs
 with_more-absent [] name bytes long = refl
@@ -42,4 +42,4 @@ pub text_stays : (fs : List File) (name other bytes : List ℕ) → other ≢ na
 text_stays fs name other bytes differ = let same = file_named-with_file_other fs name other bytes differ in cc
 
 -- what a place says
-pub ruleset at_places = (file_named-at_place, file_named-absent, with_file-at_place, with_file-new, with_more-at_place, with_more-absent, place_of-le)
+pub ruleset at_places = (file_named-at_address, file_named-absent, with_file-at_address, with_file-new, with_more-at_address, with_more-absent, place_of-le)

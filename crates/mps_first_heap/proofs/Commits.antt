@@ -160,7 +160,7 @@ legal_commit : (h : Kept) (p : Past) (name : Name) (slot : Slot) → Agrees h p 
 legal_commit h p name slot a point o =
     subst (λ (c : Checked (Numbered Point)). ForChecked c (λ at. ForOne at.value.reservation (IsReserved (whole h p) (8 * h.reserved) (words_of_head (head_at h h.reserved)) 0 at)))
     (sym (point_there h p name (point_named_there h p a name point)))
-    (record { at_place = refl; of_words = reserved_block h p a (is_point_some h name point) o; of_pool = refl })
+    (record { at_address = refl; of_words = reserved_block h p a (is_point_some h name point) o; of_pool = refl })
 
 -- ---- the step is right
 

@@ -22,7 +22,7 @@ added_is_legal = (
           (
             answered tt refl refl tt refl refl refl refl refl,
             (
-              answered (record { at_place = refl; of_words = refl; of_pool = refl }, tt) refl refl tt refl refl refl refl refl,
+              answered (record { at_address = refl; of_words = refl; of_pool = refl }, tt) refl refl tt refl refl refl refl refl,
               (
                 answered tt refl refl tt refl refl refl refl refl,
                 (

@@ -36,7 +36,7 @@ one_is_legal = (
         (
           answered (record { placement = (refl, refl); of_pool = refl; of_generation = refl }, tt) (record { poll = refl; segment = refl }) refl tt refl refl refl refl refl,
           (
-            answered (record { at_place = refl; of_words = refl; of_pool = refl }, tt) refl refl tt refl refl refl refl refl,
+            answered (record { at_address = refl; of_words = refl; of_pool = refl }, tt) refl refl tt refl refl refl refl refl,
             tt,
           ),
         ),
@@ -51,7 +51,7 @@ two_is_legal = (
   (
     answered tt (record { poll = refl; segment = refl }) refl tt refl refl refl refl refl,
     (
-      answered (record { at_place = refl; of_words = refl; of_pool = refl }, tt) refl refl tt refl refl refl refl refl,
+      answered (record { at_address = refl; of_words = refl; of_pool = refl }, tt) refl refl tt refl refl refl refl refl,
       tt,
     ),
   ),
@@ -92,7 +92,7 @@ lowest_is_legal = (
   (
     answered tt (record { poll = refl; segment = refl }) refl tt refl refl refl refl refl,
     (
-      answered (record { at_place = refl; of_words = refl; of_pool = refl }, tt) refl refl tt refl refl refl refl refl,
+      answered (record { at_address = refl; of_words = refl; of_pool = refl }, tt) refl refl tt refl refl refl refl refl,
       (
         answered tt refl refl tt refl refl refl refl refl,
         tt,

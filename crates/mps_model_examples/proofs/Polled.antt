@@ -68,7 +68,7 @@ clamped_is_legal = (
           (
             answered (record { placement = (refl, refl); of_pool = refl; of_generation = refl }, tt) (record { poll = refl; segment = refl }) refl tt refl refl refl refl refl,
             (
-              answered (record { at_place = refl; of_words = refl; of_pool = refl }, tt) refl refl tt refl refl refl refl refl,
+              answered (record { at_address = refl; of_words = refl; of_pool = refl }, tt) refl refl tt refl refl refl refl refl,
               (answered tt refl refl tt refl refl refl refl refl, tt),
             ),
           ),
@@ -82,7 +82,7 @@ released_is_legal : IsLegalFrom held released
 released_is_legal = (
   answered (record { placement = (refl, refl); of_pool = refl; of_generation = refl }, tt) (record { poll = refl; segment = refl }) refl tt refl refl refl refl refl,
   (
-    answered (record { at_place = refl; of_words = refl; of_pool = refl }, tt) refl refl tt refl refl refl refl refl,
+    answered (record { at_address = refl; of_words = refl; of_pool = refl }, tt) refl refl tt refl refl refl refl refl,
     (answered tt refl refl tt refl refl refl refl refl, tt),
   ),
 )
@@ -105,7 +105,7 @@ flip_is_legal = (
 
 commit_is_legal : IsLegalFrom flipped (grain_committed ∷ [])
 commit_is_legal = (
-  answered (record { at_place = refl; of_words = refl; of_pool = refl }, tt) refl refl tt refl refl refl refl refl,
+  answered (record { at_address = refl; of_words = refl; of_pool = refl }, tt) refl refl tt refl refl refl refl refl,
   tt,
 )
 

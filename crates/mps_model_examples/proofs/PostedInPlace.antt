@@ -19,7 +19,7 @@ posted_in_place_is_legal = (
         (
           answered (record { placement = (refl, refl); of_pool = refl; of_generation = refl }, tt) (record { poll = refl; segment = refl }) refl tt refl refl refl refl refl,
           (
-            answered (record { at_place = refl; of_words = refl; of_pool = refl }, tt) refl refl tt refl refl refl refl refl,
+            answered (record { at_address = refl; of_words = refl; of_pool = refl }, tt) refl refl tt refl refl refl refl refl,
             (
               answered tt refl refl tt refl refl refl refl refl,
               (
