@@ -20,7 +20,7 @@ use Rattle.mps_model.specs.History.{live_blocks, with_client_remembered}
 use Rattle.mps_model.specs.Reply.{answer_from, world_from}
 use Rattle.mps_model.specs.Effect.{with_next_place}
 use Rattle.mps_first_heap.specs.Kept.{Kept, is_name, is_point, has_slot, head_at, words_of_head}
-use Rattle.mps_first_heap.specs.Outcome.{unsupported, commit_move, after_commit}
+use Rattle.mps_first_heap.specs.Outcome.{ok_with_move, unsupported, commit_move, after_commit}
 use Rattle.mps_first_heap.specs.StandsFor.{Past, Agrees, world_of, world_with, step_of, object_in, cells_at, segments_from, some_address, one_where, point_with, reservation_in, front_pool, point_memory_of, place_in_slot, is_null_or_below, bound_of}
 use Rattle.mps_first_heap.specs.RightStep.{IsRightStep}
 use Rattle.mps_first_heap.proofs.Lists.{length-cells_in, length-block_words, blocks_later, blocks_push}
@@ -45,7 +45,7 @@ pub is_whole : (h : Kept) (p : Past) → is_some h.table ≡ true → is_some h.
 is_whole h p t q o = world_of-parts h p true true (is_some h.pool) true t q refl o
 
 abbrev step_committed : Kept → (line : ℕ) → (name : Name) → Slot → Rattle.mps_model.specs.Step.Step
-step_committed h line name slot = step_of line (call.Commit name slot) (record { reply = reply.Ok; moved = Some (commit_move h) })
+step_committed h line name slot = step_of line (call.Commit name slot) (ok_with_move (commit_move h))
 
 -- ---- the world after it
 
@@ -191,8 +191,8 @@ right_committed h p line name slot a point o there =
     (λ pools. replayed h p line name slot pools a t q o)
 
 commit_where : (h : Kept) (p : Past) (line : ℕ) (name : Name) (slot : Slot) → Agrees h p → (b : Bool) → (is_point h name && h.is_open && has_slot h slot) ≡ b
-    → IsRightStep (world_of h p) (step_of line (call.Commit name slot) (if b then record { done = record { reply = reply.Ok; moved = Some (commit_move h) }; kept = committed h slot } else unsupported h).done)
-    (if b then record { done = record { reply = reply.Ok; moved = Some (commit_move h) }; kept = committed h slot } else unsupported h).kept
+    → IsRightStep (world_of h p) (step_of line (call.Commit name slot) (if b then record { done = ok_with_move (commit_move h); kept = committed h slot } else unsupported h).done)
+    (if b then record { done = ok_with_move (commit_move h); kept = committed h slot } else unsupported h).kept
 commit_where h p line name slot a false e = unsupported_step h p line (call.Commit name slot) a
 commit_where h p line name slot a true e =
     let both = and_parts (is_point h name && h.is_open) (has_slot h slot) e in

@@ -15,7 +15,7 @@ use Rattle.mps_model.specs.Checked.{Act, Checked, Numbered, pool_named, refuse_w
 use Rattle.mps_model.specs.Making.{act_table, act_pool, act_point}
 use Rattle.mps_model.specs.World.{World, Pool}
 use Rattle.mps_first_heap.specs.Kept.{Kept, is_taken, is_pool}
-use Rattle.mps_first_heap.specs.Outcome.{accepted_where, is_made, may_make, is_amc, is_built_pool, is_exact, after_arena, after_table, after_pool, after_point}
+use Rattle.mps_first_heap.specs.Outcome.{accepted_where, pool_made_where, is_made, may_make, is_amc, is_built_pool, is_exact, after_arena, after_table, after_pool, after_point}
 use Rattle.mps_first_heap.specs.StandsFor.{Past, Agrees, world_of, object_in, segments_from, some_address, one_where, point_with, some_where, reservation_in, front_pool, point_memory_of}
 use Rattle.mps_first_heap.specs.Unsupported.{is_built, is_unknown}
 use Rattle.mps_first_heap.proofs.Worlds.{world_of-parts}
@@ -31,6 +31,10 @@ made_reply b = if b then reply.Ok else reply.Unsupported
 accepted_reply : (h after : Kept) (b : Bool) → (accepted_where b h after).done.reply ≡ made_reply b
 accepted_reply h after true = refl
 accepted_reply h after false = refl
+
+pool_reply : (h after : Kept) (b : Bool) → (pool_made_where b h after).done.reply ≡ made_reply b
+pool_reply h after true = refl
+pool_reply h after false = refl
 
 -- why a first thing may not be made
 pub data MayNotMake (h : Kept) (there : Option Name) (name : Name) : Type 0 where
@@ -128,7 +132,7 @@ exact_pool_where h p name k format a false e =
 
 pub exact_pool : (h : Kept) (p : Past) (name : Name) (k : Kind) (format : ℕ) → Agrees h p → IsExact (world_of h p) (call.Pool name k format) (after_pool h name k format).done.reply
 exact_pool h p name k format a =
-    subst (λ (r : Reply). IsExact (world_of h p) (call.Pool name k format) r) (sym (accepted_reply h (record h { pool = Some name }) (is_built_pool k format && may_make h h.pool name)))
+    subst (λ (r : Reply). IsExact (world_of h p) (call.Pool name k format) r) (sym (pool_reply h (record h { pool = Some name }) (is_built_pool k format && may_make h h.pool name)))
     (exact_pool_where h p name k format a (is_built_pool k format) refl)
 
 -- ---- point

@@ -18,7 +18,7 @@ use Rattle.mps_model.specs.Graph.{Point, new_cells}
 use Rattle.mps_model.specs.Allocating.{act_reserve, check_reserve, Reserving, refuse_without_place, layout_of, takes_head}
 use Rattle.mps_model.specs.World.{World, pool_at}
 use Rattle.mps_first_heap.specs.Kept.{Kept, is_point}
-use Rattle.mps_first_heap.specs.Outcome.{after_reserve, reserve_placed, reserve_after, segment_taken, unsupported}
+use Rattle.mps_first_heap.specs.Outcome.{ok_with_move, after_reserve, reserve_placed, reserve_after, segment_taken, unsupported}
 use Rattle.mps_first_heap.specs.StandsFor.{Past, Agrees, world_of, object_in, segments_from, some_address, one_where, point_with, reservation_in, point_memory_of}
 use Rattle.mps_first_heap.specs.Unsupported.{is_unknown, is_known}
 use Rattle.mps_first_heap.proofs.Worlds.{world_of-parts, made_with_pool, pool_with_point}
@@ -131,7 +131,7 @@ exact_at h p name head a false point =
 -- ---- the reply of what comes
 
 after_reply : (h : Kept) (head need : ℕ) (over past : Bool)
-    → (if over then Rattle.mps_first_heap.specs.Outcome.answered h (reply.Refused (refusal.CommitLimit h.held need h.limit)) else (if past then unsupported h else record { done = record { reply = reply.Ok; moved = Some (Rattle.mps_first_heap.specs.Outcome.segment_move h need) }; kept = Rattle.mps_first_heap.specs.Outcome.reserved_at_front (segment_taken h need) head })).done.reply
+    → (if over then Rattle.mps_first_heap.specs.Outcome.answered h (reply.Refused (refusal.CommitLimit h.held need h.limit)) else (if past then unsupported h else record { done = ok_with_move (Rattle.mps_first_heap.specs.Outcome.segment_move h need); kept = Rattle.mps_first_heap.specs.Outcome.reserved_at_front (segment_taken h need) head })).done.reply
     ≡ (if over then reply.Refused (refusal.CommitLimit h.held need h.limit) else (if past then reply.Unsupported else reply.Ok))
 after_reply h head need true past = refl
 after_reply h head need false true = refl

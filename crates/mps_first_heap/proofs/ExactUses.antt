@@ -15,7 +15,7 @@ use Rattle.mps_model.specs.Accessing.{act_number}
 use Rattle.mps_model.specs.Allocating.{act_init_number, act_commit, act_reserve, check_reserve, graph_committed, with_reserved_cells, Reserving}
 use Rattle.mps_model.specs.World.{World}
 use Rattle.mps_first_heap.specs.Kept.{Kept, is_name, is_point, has_slot, is_number_cell, head_at}
-use Rattle.mps_first_heap.specs.Outcome.{may_init, after_init, after_commit, number_at as number_known_at, number_reply, after_reserve, reserve_placed, reserve_after}
+use Rattle.mps_first_heap.specs.Outcome.{ok_with_move, may_init, after_init, after_commit, number_at as number_known_at, number_reply, after_reserve, reserve_placed, reserve_after}
 use Rattle.mps_first_heap.specs.StandsFor.{Past, Agrees, world_of, object_in as object_of, cells_at, segments_from, some_address, one_where, point_with, some_where, reservation_in, front_pool, point_memory_of, place_in_slot, bound_of}
 use Rattle.mps_first_heap.specs.Unsupported.{is_unknown}
 use Rattle.mps_first_heap.proofs.Worlds.{world_of-parts, is_name_some, made_with_table, made_with_pool, pool_with_point, at_hand_within, bound_of-le, block_there_at, slot_there, id_there, number_cell_at, object_there}
@@ -229,7 +229,7 @@ exact_commit_at h p name slot a false point =
     exact_unsupported (world_of h p) (call.Commit name slot)
     (by_unknown (world_of h p) (call.Commit name slot) refusal.BadName (ap (λ (c : Checked (Numbered Point)). c >>= commit_from (world_of h p) slot) (no_point h p name a point)) refl)
 
-commit_replies : (h : Kept) (slot : Slot) (b : Bool) → (if b then record { done = record { reply = reply.Ok; moved = Some (Rattle.mps_first_heap.specs.Outcome.commit_move h) }; kept = record h { slots = Rattle.std.specs.Prelude.slice_set h.slots slot.index h.reserved; is_open = false } } else Rattle.mps_first_heap.specs.Outcome.unsupported h).done.reply ≡ commit_reply b
+commit_replies : (h : Kept) (slot : Slot) (b : Bool) → (if b then record { done = ok_with_move (Rattle.mps_first_heap.specs.Outcome.commit_move h); kept = record h { slots = Rattle.std.specs.Prelude.slice_set h.slots slot.index h.reserved; is_open = false } } else Rattle.mps_first_heap.specs.Outcome.unsupported h).done.reply ≡ commit_reply b
 commit_replies h slot true = refl
 commit_replies h slot false = refl
 

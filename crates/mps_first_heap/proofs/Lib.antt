@@ -10,6 +10,7 @@ pub mod Segments
 pub mod Reserves
 pub mod NameLemmas
 pub mod Makings
+pub mod PoolNumbers
 pub mod Refused
 pub mod Unsupporting
 pub mod ExactUses

@@ -16,7 +16,7 @@ use Rattle.mps_model.specs.World.{World, PointMemory}
 use Rattle.mps_model.specs.History.{live_blocks, with_client_remembered}
 use Rattle.mps_model.specs.Reply.{answer_from, world_from}
 use Rattle.mps_first_heap.specs.Kept.{Kept, is_name, is_taken, is_pool}
-use Rattle.mps_first_heap.specs.Outcome.{said, accepted_where, is_made, may_make, is_amc, is_built_pool, is_exact, arena_made, after_arena, after_table, after_pool, after_point}
+use Rattle.mps_first_heap.specs.Outcome.{said, accepted_where, pool_made_where, is_made, may_make, is_amc, is_built_pool, is_exact, arena_made, after_arena, after_table, after_pool, after_point}
 use Rattle.mps_first_heap.specs.StandsFor.{Past, Agrees, world_of, world_with, step_of, object_in, segments_from, some_address, one_where, point_with, some_where, reservation_in, front_pool, point_memory_of, place_in_slot, is_null_or_below, bound_of, IsBlockAt, thing_of}
 use Rattle.mps_first_heap.specs.RightStep.{IsRightStep}
 use Rattle.mps_first_heap.proofs.Worlds.{world_by, world_of-parts, is_name_some, live_blocks-world_of}
@@ -192,7 +192,7 @@ pool_built h p line name a may kind.Awl format k f = absurd (false≢true k)
 pool_built h p line name a may kind.Lo format k f = absurd (false≢true k)
 
 pool_where : (h : Kept) (p : Past) (line : ℕ) (name : Name) (kind : Kind) (format : ℕ) → Agrees h p → (b : Bool) → (is_built_pool kind format && may_make h h.pool name) ≡ b
-    → IsRightStep (world_of h p) (step_of line (call.Pool name kind format) (accepted_where b h (pooled h name)).done) (accepted_where b h (pooled h name)).kept
+    → IsRightStep (world_of h p) (step_of line (call.Pool name kind format) (pool_made_where b h (pooled h name)).done) (pool_made_where b h (pooled h name)).kept
 pool_where h p line name kind format a false e = unsupported_step h p line (call.Pool name kind format) a
 pool_where h p line name kind format a true e =
     let both = and_parts (is_built_pool kind format) (may_make h h.pool name) e in

@@ -27,7 +27,7 @@ use Rattle.mps_model.specs.Step.{Step}
 use Rattle.mps_model.specs.History.{IsPoll, segment_taken, segment_of_reserve, live_blocks, with_client_remembered}
 use Rattle.mps_model.specs.Reply.{answer_from, world_from}
 use Rattle.mps_first_heap.specs.Kept.{Kept, is_point}
-use Rattle.mps_first_heap.specs.Outcome.{Outcome, answered, said, unsupported, reserved_at_front, segment_move, reserve_after, reserve_placed, after_reserve}
+use Rattle.mps_first_heap.specs.Outcome.{Outcome, answered, ok_with_move, said, unsupported, reserved_at_front, segment_move, reserve_after, reserve_placed, after_reserve}
 use Rattle.mps_first_heap.specs.Outcome as outcome
 use Rattle.mps_first_heap.specs.StandsFor.{Past, Agrees, world_of, world_with, step_of, object_in, cells_in, segment_from, segments_from, some_address, one_where, point_with, reservation_in, front_pool, bound_of}
 use Rattle.mps_first_heap.specs.RightStep.{IsRightStep}
@@ -293,7 +293,7 @@ legal_segment h p name head need named valid placed =
     })
 
 abbrev step_after : (h : Kept) → (line : ℕ) → (name : Name) → (head need : ℕ) → Step
-step_after h line name head need = step_of line (call.Reserve name head) (record { reply = reply.Ok; moved = Some (segment_move h need) })
+step_after h line name head need = step_of line (call.Reserve name head) (ok_with_move (segment_move h need))
 
 right_taken : (h : Kept) (p : Past) (line : ℕ) (name : Name) (head : ℕ) → Agrees h p → is_point h name ≡ true → h.is_open ≡ false → is_front head ≡ true → nat_le (size_field head) (h.following - h.front) ≡ false
     → nat_lt h.limit (h.held + grains_needed (size_field head)) ≡ false → h.held + grains_needed (size_field head) ≤ h.grains
@@ -331,7 +331,7 @@ is_right h p line name head o = IsRightStep (world_of h p) (step_of line (call.R
 
 right_in_arena : (h : Kept) (p : Past) (line : ℕ) (name : Name) (head : ℕ) → Agrees h p → is_point h name ≡ true → h.is_open ≡ false → is_front head ≡ true → nat_le (size_field head) (h.following - h.front) ≡ false
     → nat_lt h.limit (h.held + grains_needed (size_field head)) ≡ false → (b : Bool) → nat_lt h.grains (h.held + grains_needed (size_field head)) ≡ b
-    → is_right h p line name head (if b then unsupported h else record { done = record { reply = reply.Ok; moved = Some (segment_move h (grains_needed (size_field head))) }; kept = reserved_at_front (outcome.segment_taken h (grains_needed (size_field head))) head })
+    → is_right h p line name head (if b then unsupported h else record { done = ok_with_move (segment_move h (grains_needed (size_field head))); kept = reserved_at_front (outcome.segment_taken h (grains_needed (size_field head))) head })
 right_in_arena h p line name head a point o valid fits limit true e = unsupported_step h p line (call.Reserve name head) a
 right_in_arena h p line name head a point o valid fits limit false e =
     let need = grains_needed (size_field head) in
@@ -340,7 +340,7 @@ right_in_arena h p line name head a point o valid fits limit false e =
 
 right_in_limit : (h : Kept) (p : Past) (line : ℕ) (name : Name) (head : ℕ) → Agrees h p → is_point h name ≡ true → h.is_open ≡ false → is_front head ≡ true → nat_le (size_field head) (h.following - h.front) ≡ false
     → (b : Bool) → nat_lt h.limit (h.held + grains_needed (size_field head)) ≡ b
-    → is_right h p line name head (if b then answered h (known_limit h (grains_needed (size_field head))) else (if nat_lt h.grains (h.held + grains_needed (size_field head)) then unsupported h else record { done = record { reply = reply.Ok; moved = Some (segment_move h (grains_needed (size_field head))) }; kept = reserved_at_front (outcome.segment_taken h (grains_needed (size_field head))) head }))
+    → is_right h p line name head (if b then answered h (known_limit h (grains_needed (size_field head))) else (if nat_lt h.grains (h.held + grains_needed (size_field head)) then unsupported h else record { done = ok_with_move (segment_move h (grains_needed (size_field head))); kept = reserved_at_front (outcome.segment_taken h (grains_needed (size_field head))) head }))
 right_in_limit h p line name head a point o valid fits true e =
     subst (λ (w : World). IsRightStep w (step_refused h line name head (grains_needed (size_field head))) h) (sym (is_closed h p a (is_point_some h name point) o))
     (right_refused h p line name head a point o valid fits e)

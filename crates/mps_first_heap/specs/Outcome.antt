@@ -25,7 +25,11 @@ pub record Outcome : Type 0 where
   pub kept : Kept
 
 abbrev pub said : Reply → Done
-said reply = record { reply = reply; moved = None }
+said reply = record { reply = reply; moved = None; pool = None }
+
+-- accepted, with a move and no pool
+abbrev pub ok_with_move : Move → Done
+ok_with_move move = record { reply = reply.Ok; moved = Some move; pool = None }
 
 -- nothing changes
 abbrev pub answered : Kept → Reply → Outcome
@@ -64,13 +68,23 @@ abbrev pub is_amc : Kind → Bool
 is_amc kind.Amc = true
 is_amc _ = false
 
+-- the number of the only pool
+abbrev pub the_pool : ℕ
+the_pool = 0
+
 -- whether a pool is copying, of the format `front`
 abbrev pub is_built_pool : Kind → (format : ℕ) → Bool
 is_built_pool kind format = is_amc kind && format == 1
 
+-- the pool is made where this holds
+abbrev pub pool_made_where : Bool → Kept → (after : Kept) → Outcome
+pool_made_where true h after =
+    record { done = record { reply = reply.Ok; moved = None; pool = Some the_pool }; kept = after }
+pool_made_where false h after = unsupported h
+
 abbrev pub after_pool : Kept → Name → Kind → (format : ℕ) → Outcome
 after_pool h name kind format =
-    accepted_where (is_built_pool kind format && may_make h h.pool name) h (record h { pool = Some name })
+    pool_made_where (is_built_pool kind format && may_make h h.pool name) h (record h { pool = Some name })
 
 abbrev pub is_exact : Rank → Bool
 is_exact rank.Exact = true
@@ -109,7 +123,7 @@ reserve_after h head need =
     if nat_lt h.limit (h.held + need) then answered h (reply.Refused (refusal.CommitLimit h.held need h.limit))
     else (if nat_lt h.grains (h.held + need) then unsupported h
     else record {
-      done = record { reply = reply.Ok; moved = Some (segment_move h need) };
+      done = ok_with_move (segment_move h need);
       kept = reserved_at_front (segment_taken h need) head;
     })
 
@@ -139,7 +153,7 @@ commit_move h = moves.Commit (record { 0 = 8 * h.reserved }) (words_of_head (hea
 abbrev pub after_commit : Kept → Name → Slot → Outcome
 after_commit h name slot =
     if is_point h name && h.is_open && has_slot h slot then record {
-      done = record { reply = reply.Ok; moved = Some (commit_move h) };
+      done = ok_with_move (commit_move h);
       kept = record h { slots = slice_set h.slots slot.index h.reserved; is_open = false };
     } else unsupported h
 

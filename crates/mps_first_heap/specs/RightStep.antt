@@ -1,15 +1,16 @@
 -- What is promised of a call, in each world for which the heap stands, and whichever its line is.
-use Rattle.std.specs.Prelude.{◌≡◌, ◌↔◌, ℕ, IsTrue, Some}
+use Rattle.std.specs.Prelude.{◌≡◌, ◌↔◌, ℕ, ◌+◌, nat_lt, IsTrue, Option, Some, length}
 use Rattle.mps_model.specs.declared.call.Call.{Call}
 use Rattle.mps_model.specs.declared.reply.Reply.TheVariants as reply
+use Rattle.mps_model.specs.Answer.{Answer, Replied}
 use Rattle.mps_model.specs.Step.{Step}
 use Rattle.mps_model.specs.World.{World}
-use Rattle.mps_model.specs.Log.{records_of_step}
+use Rattle.mps_model.specs.Log.{records_of_step, pools_made_by}
 use Rattle.mps_model.specs.Replay.{replay_from}
 use Rattle.mps_model.specs.History.{IsLegalStep, world_after, live_blocks}
 use Rattle.mps_first_heap.specs.declared.done.Done.{Done}
 use Rattle.mps_first_heap.specs.Kept.{Kept}
-use Rattle.mps_first_heap.specs.StandsFor.{StandsFor, step_of}
+use Rattle.mps_first_heap.specs.StandsFor.{StandsFor, step_of, some_where}
 use Rattle.mps_first_heap.specs.Unsupported.{is_unsupported_call}
 
 -- the records of the step, replayed from the live blocks before it, give those after it, however many pools there were
@@ -37,3 +38,18 @@ IsReplayedCall old call done = (w : World) (line : ℕ) → StandsFor old w → 
 -- the reply is `unsupported` exactly where that is said of the call
 abbrev pub IsUnsupportedWhereDue : (old : Kept) → Call → Done → Type 0
 IsUnsupportedWhereDue old call done = (w : World) → StandsFor old w → (done.reply ≡ reply.Unsupported) ↔ IsTrue (is_unsupported_call w call)
+
+-- the number of the pool that a call makes, by its answer: the model numbers pools from 0, in the order of making
+abbrev pub number_of_new_pool : World → Call → Answer → Option ℕ
+number_of_new_pool w call answer = some_where (nat_lt 0 (pools_made_by call answer)) (length w.pools)
+
+-- the number of the pool that the call made is the one that the model gives it
+abbrev pub IsNewPoolNumber : (old : Kept) → Call → Done → Type 0
+IsNewPoolNumber old call done =
+    (w : World) → StandsFor old w → done.pool ≡ number_of_new_pool w call (Replied done.reply)
+
+-- the world has as many pools more as the call made
+abbrev pub ArePoolsCounted : (old : Kept) → Call → Done → Type 0
+ArePoolsCounted old call done =
+    (w : World) (line : ℕ) → StandsFor old w
+    → length (world_after w (step_of line call done)).pools ≡ length w.pools + pools_made_by call (Replied done.reply)

@@ -26,7 +26,7 @@ impl FirstHeap {
     ghost use Rattle.std.specs.Prelude.{◌≡◌, IfOk, OnErr, IsTrue};
     ghost use Rattle.mps_model.specs.World.{empty_world};
     ghost use Rattle.mps_first_heap.specs.StandsFor.{StandsFor};
-    ghost use Rattle.mps_first_heap.specs.RightStep.{IsLegalCall, StandsAfter, IsReplayedCall, IsUnsupportedWhereDue};
+    ghost use Rattle.mps_first_heap.specs.RightStep.{IsLegalCall, StandsAfter, IsReplayedCall, IsUnsupportedWhereDue, IsNewPoolNumber, ArePoolsCounted};
     ghost use Rattle.mps_first_heap.specs.Unsupported.{IsInRange, takes_memory};
 
     /// The heap before its arena is made. It takes no memory.
@@ -58,6 +58,8 @@ impl FirstHeap {
         ensures stands { IfOk result (λ done. StandsAfter self.old call.now done self.new) }
         ensures replayed { IfOk result (λ done. IsReplayedCall self.old call.now done) }
         ensures unsupported { IfOk result (λ done. IsUnsupportedWhereDue self.old call.now done) }
+        ensures pool { IfOk result (λ done. IsNewPoolNumber self.old call.now done) }
+        ensures counted { IfOk result (λ done. ArePoolsCounted self.old call.now done) }
         ensures err { OnErr result (self.new ≡ self.old) }
         ensures memory { OnErr result (IsTrue (takes_memory call.now)) }
     {

@@ -5,17 +5,21 @@ ghost use Rattle.mps_first_heap.specs.View.{kept_of};
 ghost use Rattle.mps_first_heap.specs.Comes.{ComesTo};
 
 use crate::arena::Arena;
-use crate::done::Done;
+use crate::done::{Done, THE_POOL};
 use crate::names::{is_pool, is_taken};
 use mps_base::{Kind, Name, Rank};
 use mps_model::Reply;
 use std::alloc::{AllocError, Global};
 
-/// A reply, and no move.
+/// A reply alone: no move, and no pool.
 pub fn said(reply: Reply) -> Done
     ensures { result ≡ said reply }
 {
-    Done { reply, moved: None }
+    Done {
+        reply,
+        moved: None,
+        pool: None,
+    }
 }
 
 /// Whether the arena was made.
@@ -85,7 +89,11 @@ pub fn make_pool(heap: &mut Arena, name: Name, kind: Kind, format: u64) -> Done
         return said(Reply::Unsupported);
     }
     heap.pool = Some(name);
-    said(Reply::Ok)
+    Done {
+        reply: Reply::Ok,
+        moved: None,
+        pool: Some(THE_POOL),
+    }
 }
 
 /// Makes the point, where there is none yet.

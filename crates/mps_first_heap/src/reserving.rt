@@ -8,7 +8,7 @@ ghost use Rattle.mps_first_heap.specs.View.{kept_of};
 ghost use Rattle.mps_first_heap.specs.Comes.{ComesTo};
 
 use crate::arena::Arena;
-use crate::done::Done;
+use crate::done::{Done, THE_POOL};
 use crate::making::said;
 use crate::names::is_point;
 use mps_base::{Addr, Move, Name, Refusal};
@@ -47,7 +47,7 @@ fn take_segment(heap: &mut Arena, need: u16) -> Move
     Move::Seg {
         base: Addr(8 * u64::from(GRAIN * first)),
         grains: u32::from(need),
-        pool: 0,
+        pool: THE_POOL,
         generation: 0,
     }
 }
@@ -75,6 +75,7 @@ fn reserve_after(heap: &mut Arena, head: u64, need: u64) -> Done
     Done {
         reply: Reply::Ok,
         moved: Some(moved),
+        pool: None,
     }
 }
 

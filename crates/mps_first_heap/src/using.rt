@@ -5,7 +5,7 @@ ghost use Rattle.mps_first_heap.specs.View.{kept_of};
 ghost use Rattle.mps_first_heap.specs.Comes.{ComesTo};
 
 use crate::arena::Arena;
-use crate::done::Done;
+use crate::done::{Done, THE_POOL};
 use crate::heads::{is_number_cell, word_at, words_of_head};
 use crate::making::said;
 use crate::names::{has_slot, is_point};
@@ -42,7 +42,7 @@ fn commit_move(heap: &Arena) -> Move
     Move::Commit {
         at: Addr(8 * u64::from(heap.reserved)),
         words: words_of_head(head),
-        pool: 0,
+        pool: THE_POOL,
     }
 }
 
@@ -59,6 +59,7 @@ pub fn commit(heap: &mut Arena, name: Name, slot: Slot) -> Done
     Done {
         reply: Reply::Ok,
         moved: Some(moved),
+        pool: None,
     }
 }
 
