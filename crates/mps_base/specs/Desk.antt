@@ -1,4 +1,4 @@
--- What a desk tells of the outside world, and how its calls change it. A desk is where a program gets its input and
+-- What is known of the outside world through a desk, and how its calls change it. A desk is where a program gets its input and
 -- leaves its output: it opens one input at a time, writes one log, and prints and reports.
 use Rattle.std.specs.Prelude.{ℕ, ◌≡◌, ◌≢◌, ◌-◌, ◌^◌, ◌<◌, ◌≤◌, ◌⊎◌, if◌then◌else◌, Option, Some, None, unwrap_or, List, [], ◌∷◌, ◌++◌, take, refl}
 use Rattle.std.specs.Option.{option_map}
@@ -15,7 +15,7 @@ pub record Files : Type 0 where
   -- the name of the one that the log goes to, where one was made for it
   pub log : Option (List ℕ)
 
--- All that a desk tells. A desk may tell some of it and not the rest: what it doesn't tell is None.
+-- All that a desk knows. A desk may know some of it and not the rest: what it doesn't know is None.
 pub record Outside : Type 0 where
   pub files : Option Files
   -- what an accepted open of a name gives as the input
@@ -71,7 +71,7 @@ abbrev pub text_in : List File → List ℕ → Option (List ℕ)
 text_in files name =
     if bytes_eq name standard_input then Some (unwrap_or (file_named files name) []) else file_named files name
 
--- the bytes told, and the first n of a piece after them
+-- the bytes that are known, and the first n of a piece after them
 abbrev pub added : Option (List ℕ) → List ℕ → ℕ → Option (List ℕ)
 added known piece n = option_map (λ before. before ++ take n piece) known
 

@@ -9,17 +9,17 @@ pub record Waiting : Type 0 where
   pub room : ℕ
 
 -- the most bytes that wait
-abbrev pub most_held : ℕ
-most_held = 65536
+abbrev pub max_held_bytes : ℕ
+max_held_bytes = 65536
 
 -- n bytes more need no memory and aren't too many, and no write failed
 pub record HasRoom (before : Waiting) (count : ℕ) : Type 0 where
   pub going : before.failed ≡ false
   pub memory : length before.bytes + count ≤ before.room
-  pub most : length before.bytes + count ≤ most_held
+  pub most : length before.bytes + count ≤ max_held_bytes
 
--- What a writer has, and the bytes that wait after it, are those of before and then the piece. Of a writer that
--- doesn't tell what it has nothing is said.
+-- What a writer has, and the bytes that wait after it, are those of before and then the piece. Nothing is said
+-- of a writer whose content isn't known.
 abbrev pub IsCarriedOn : Option (List ℕ) → List ℕ → List ℕ → Option (List ℕ) → List ℕ → Type 0
 IsCarriedOn None waiting piece now left = Unit {0}
 IsCarriedOn (Some before) waiting piece None left = ⊥

@@ -1,4 +1,4 @@
--- A desk over real files tells how often each of its sides failed, and nothing else.
+-- A desk over real files knows how often each of its sides failed, and nothing else.
 use Rattle.std.specs.Prelude.{ℕ}
 
 -- faults at opening and reading, at the log, at printing and at reporting

@@ -65,7 +65,7 @@ one_more_call calls = record calls { made = next_count calls.made }
 abbrev pub IsNextListed : Calls → Type 0
 IsNextListed calls = Contains calls.failing (next_count calls.made)
 
--- the desk tells all of it
+-- the desk knows all of it
 abbrev pub outside_of : DeskInMemory → Outside
 outside_of d = record {
   files = Some d.files;
@@ -80,10 +80,10 @@ outside_of d = record {
   err_faults = d.err_faults;
 }
 
--- the place of the first file of this name, or after the last where there is none
-abbrev pub place_of : List File → List ℕ → ℕ
-place_of [] name = 0
-place_of (f ∷ fs) name = if bytes_eq f.name name then 0 else place_of fs name + 1
+-- the index of the first file of this name, or after the last where there is none
+abbrev pub index_of_file : List File → List ℕ → ℕ
+index_of_file [] name = 0
+index_of_file (f ∷ fs) name = if bytes_eq f.name name then 0 else index_of_file fs name + 1
 
 abbrev pub one_more_failing : Calls → ℕ → Calls
 one_more_failing calls number = record calls { failing = calls.failing ++ number ∷ [] }
@@ -101,8 +101,8 @@ with_failing d Err number = record d { errs = one_more_failing d.errs number }
 abbrev two_files : List File
 two_files = record { name = 97 ∷ []; bytes = 1 ∷ [] } ∷ record { name = 98 ∷ []; bytes = 2 ∷ [] } ∷ []
 
-pub a_place_counts_from_0 : place_of two_files (98 ∷ []) ≡ 1
-a_place_counts_from_0 = refl
+pub an_index_counts_from_0 : index_of_file two_files (98 ∷ []) ≡ 1
+an_index_counts_from_0 = refl
 
-pub a_new_file_comes_last : place_of two_files (99 ∷ []) ≡ 2
+pub a_new_file_comes_last : index_of_file two_files (99 ∷ []) ≡ 2
 a_new_file_comes_last = refl

@@ -5,7 +5,7 @@ use Rattle.std.specs.Prelude.{◌≡◌, ℕ, List, [], ◌∷◌, ◌++◌, len
 use Rattle.std.specs.Int.{bytes_low_first}
 use Rattle.std.specs.List.{flat_map}
 
--- one record: the line of its command, what it tells, and the numbers that it tells
+-- one record: the line of its command, what it records, and the numbers of that
 pub record Record : Type 0 where
   pub line : ℕ
   pub code : ℕ

@@ -43,7 +43,7 @@ abbrev pub longest : List Run → ℕ
 longest [] = 0
 longest (r ∷ rs) = max r.count (longest rs)
 
--- a run put at its place among ascending runs
+-- one more run among ascending runs
 abbrev pub with_run : Run → List Run → List Run
 with_run r [] = r ∷ []
 with_run r (s ∷ rs) = if nat_lt r.from s.from then r ∷ s ∷ rs else s ∷ with_run r rs

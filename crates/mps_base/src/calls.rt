@@ -33,7 +33,7 @@ impl CallList {
     /// Lists a call that is to fail.
     pub fn list(&mut self, number: u64) -> Result<(), AllocError>
         ensures ok { OnOk result (self.new ≡ one_more_failing self.old number) }
-        ensures err { OnErr result (self.new ≡ self.old) }
+        ensures unchanged { OnErr result (self.new ≡ self.old) }
     {
         self.failing.push(number)?;
         Ok(())

@@ -13,16 +13,16 @@ pub struct Failed;
 /// Where a program gets its input and leaves its output.
 ///
 /// A call answers `Failed` only where the count of its faults rose, or stands at the last value of a u64, and it then
-/// leaves the bytes told as they are. Counts never fall. What a desk doesn't tell of the outside it never tells.
+/// leaves the known bytes as they are. Counts never fall. What a desk doesn't know of the outside it never knows.
 pub trait Desk {
-    /// What the desk tells of the outside.
+    /// What the desk knows of the outside.
     ghost outside: { Self → Outside };
 
     /// Opens a file as the input, in place of an earlier one. The name `-` is standard input.
     fn open(&mut self, name: &str) -> Result<(), Failed>
         ensures input { OnOk result ((outside self.new).input ≡ (outside self.old).text name.now) }
         ensures known { IsSome (outside self.new).input ↔ IsSome (outside self.old).input }
-        ensures failed { OnErr result ((outside self.new).input ≡ (outside self.old).input) }
+        ensures unchanged { OnErr result ((outside self.new).input ≡ (outside self.old).input) }
         ensures counted { (outside self.old).in_faults ≤ (outside self.new).in_faults }
         ensures cause { OnErr result (HasRisen (outside self.old).in_faults (outside self.new).in_faults) }
         ensures others { OnlyReads (outside self.old) (outside self.new) };
@@ -30,12 +30,12 @@ pub trait Desk {
     /// Reads some bytes of the input into a prefix of the buffer. What the buffer holds after them is left open,
     /// and so is the whole buffer where the call fails. At a buffer that isn't empty, 0 is the end of the input.
     fn read(&mut self, buf: &mut [u8]) -> Result<usize, Failed>
-        ensures within { IfOk result (λ n. n ≤ length buf.new) }
-        ensures front { IfOk result (λ n. (outside self.old).input
+        ensures at_most { IfOk result (λ n. n ≤ length buf.new) }
+        ensures prefix { IfOk result (λ n. (outside self.old).input
             ≡ option_map (λ rest. take n buf.new ++ rest) (outside self.new).input) }
         ensures end { IfOk result (λ n. n ≡ 0 → 0 < length buf.new
             → IfSome (outside self.old).input (λ left. left ≡ [])) }
-        ensures failed { OnErr result ((outside self.new).input ≡ (outside self.old).input) }
+        ensures unchanged { OnErr result ((outside self.new).input ≡ (outside self.old).input) }
         ensures counted { (outside self.old).in_faults ≤ (outside self.new).in_faults }
         ensures cause { OnErr result (HasRisen (outside self.old).in_faults (outside self.new).in_faults) }
         ensures others { OnlyReads (outside self.old) (outside self.new) };
@@ -47,46 +47,46 @@ pub trait Desk {
             ≡ option_map (made_for_log name.now) (outside self.old).files) }
         ensures elsewhere { SameElsewhere name.now (outside self.old) (outside self.new) }
         ensures logged { (outside self.new).logged ≡ (outside self.old).logged }
-        ensures failed { OnErr result (SameFiles (outside self.old) (outside self.new)) }
+        ensures unchanged { OnErr result (SameFiles (outside self.old) (outside self.new)) }
         ensures counted { (outside self.old).log_faults ≤ (outside self.new).log_faults }
         ensures cause { OnErr result (HasRisen (outside self.old).log_faults (outside self.new).log_faults) }
         ensures others { OnlyLogs (outside self.old) (outside self.new) };
 
-    /// Writes to the log: answers how many bytes at a prefix of the piece it took, at least one where there is one. They
+    /// Writes a prefix of the piece to the log, and answers its length: at least one byte where there is one. The bytes
     /// go after what the log's file holds, and no other file changes.
     fn log(&mut self, bytes: &[u8]) -> Result<usize, Failed>
-        ensures within { IfOk result (λ n. n ≤ length bytes.now) }
-        ensures some { IfOk result (λ n. 0 < length bytes.now → 0 < n) }
+        ensures at_most { IfOk result (λ n. n ≤ length bytes.now) }
+        ensures nonzero { IfOk result (λ n. 0 < length bytes.now → 0 < n) }
         ensures logged { IfOk result (λ n. (outside self.new).logged ≡ added (outside self.old).logged bytes.now n) }
         ensures filed { IfOk result (λ n. (outside self.new).files
             ≡ option_map (after_log (take n bytes.now)) (outside self.old).files) }
-        ensures failed { OnErr result ((outside self.new).logged ≡ (outside self.old).logged) }
+        ensures unchanged { OnErr result ((outside self.new).logged ≡ (outside self.old).logged) }
         ensures files { OnErr result (SameFiles (outside self.old) (outside self.new)) }
         ensures counted { (outside self.old).log_faults ≤ (outside self.new).log_faults }
         ensures cause { OnErr result (HasRisen (outside self.old).log_faults (outside self.new).log_faults) }
         ensures others { OnlyLogs (outside self.old) (outside self.new) };
 
-    /// Prints: answers how many bytes at a prefix of the piece it took, at least one where there is one.
+    /// Prints a prefix of the piece, and answers its length: at least one byte where there is one.
     fn out(&mut self, bytes: &[u8]) -> Result<usize, Failed>
-        ensures within { IfOk result (λ n. n ≤ length bytes.now) }
-        ensures some { IfOk result (λ n. 0 < length bytes.now → 0 < n) }
+        ensures at_most { IfOk result (λ n. n ≤ length bytes.now) }
+        ensures nonzero { IfOk result (λ n. 0 < length bytes.now → 0 < n) }
         ensures printed { IfOk result (λ n. (outside self.new).printed ≡ added (outside self.old).printed bytes.now n) }
-        ensures failed { OnErr result ((outside self.new).printed ≡ (outside self.old).printed) }
+        ensures unchanged { OnErr result ((outside self.new).printed ≡ (outside self.old).printed) }
         ensures counted { (outside self.old).out_faults ≤ (outside self.new).out_faults }
         ensures cause { OnErr result (HasRisen (outside self.old).out_faults (outside self.new).out_faults) }
         ensures others { OnlyPrints (outside self.old) (outside self.new) };
 
-    /// Reports: answers how many bytes at a prefix of the piece it took, at least one where there is one.
+    /// Reports a prefix of the piece, and answers its length: at least one byte where there is one.
     fn err(&mut self, bytes: &[u8]) -> Result<usize, Failed>
-        ensures within { IfOk result (λ n. n ≤ length bytes.now) }
-        ensures some { IfOk result (λ n. 0 < length bytes.now → 0 < n) }
+        ensures at_most { IfOk result (λ n. n ≤ length bytes.now) }
+        ensures nonzero { IfOk result (λ n. 0 < length bytes.now → 0 < n) }
         ensures reported { IfOk result (λ n. (outside self.new).reported ≡ added (outside self.old).reported bytes.now n) }
-        ensures failed { OnErr result ((outside self.new).reported ≡ (outside self.old).reported) }
+        ensures unchanged { OnErr result ((outside self.new).reported ≡ (outside self.old).reported) }
         ensures counted { (outside self.old).err_faults ≤ (outside self.new).err_faults }
         ensures cause { OnErr result (HasRisen (outside self.old).err_faults (outside self.new).err_faults) }
         ensures others { OnlyReports (outside self.old) (outside self.new) };
 
-    /// Where the files are told, so is what opening a name gives.
+    /// Where the files are known, so is what opening a name gives.
     ghost text_of_files: { (desk : Self) (name : List ℕ)
         → IfSome (outside desk).files (λ files. (outside desk).text name ≡ text_in files.all name) };
 }

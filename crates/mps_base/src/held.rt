@@ -1,14 +1,14 @@
 // Bytes that wait to be written.
 ghost use Rattle.std.specs.Prelude.{◌≡◌, ◌<◌, ◌≤◌, [], ◌++◌, true, false, length, take, IsTrue, IfNone, IfSome, OnSome};
 ghost use Rattle.std.specs.Io.KnownBytes.{Appends};
-ghost use Rattle.mps_base.specs.Held.{IsCarriedOn, HasRoom, most_held};
+ghost use Rattle.mps_base.specs.Held.{IsCarriedOn, HasRoom, max_held_bytes};
 
 use std::alloc::Global;
 use std::io::Write;
 use std::marker::Model;
 
 /// The most bytes that wait.
-const MOST_HELD: usize = 65_536;
+const MAX_HELD_BYTES: usize = 65_536;
 
 /// Bytes that were taken and aren't written yet. Once a write failed they are let go, and no more are taken.
 #[derive(Drop)]
@@ -47,16 +47,16 @@ impl Held {
     }
 
     /// Takes the piece, where there is room for it beside the bytes that wait: in memory that is there already it always
-    /// fits, up to the most bytes that wait; more memory may be wanting.
+    /// fits, up to the most bytes that wait; for more there may be no memory.
     pub fn hold(&mut self, piece: &[u8]) -> bool
         ensures held { IsTrue result → self.new.bytes ≡ self.old.bytes ++ piece.now }
         ensures going { IsTrue result → self.old.failed ≡ false }
-        ensures bounded { IsTrue result → length self.new.bytes ≤ most_held }
+        ensures bounded { IsTrue result → length self.new.bytes ≤ max_held_bytes }
         ensures fits { HasRoom self.old (length piece.now) → result ≡ true }
         ensures left { result ≡ false → self.new.bytes ≡ self.old.bytes }
         ensures failed { self.new.failed ≡ self.old.failed }
     {
-        let left = MOST_HELD.saturating_sub(self.bytes.len());
+        let left = MAX_HELD_BYTES.saturating_sub(self.bytes.len());
         if self.failed || piece.len() > left {
             return false;
         }
@@ -65,8 +65,8 @@ impl Held {
 
     /// Takes some of the piece, and writes the bytes that wait where that needs room. None where a write failed.
     pub fn take<W: Write>(&mut self, piece: &[u8], to: &mut W) -> Option<usize>
-        ensures within { IfSome result (λ n. n ≤ length piece.now) }
-        ensures some { IfSome result (λ n. 0 < length piece.now → 0 < n) }
+        ensures at_most { IfSome result (λ n. n ≤ length piece.now) }
+        ensures nonzero { IfSome result (λ n. 0 < length piece.now → 0 < n) }
         ensures failed { IfNone result (self.new.failed ≡ true) }
         ensures going { OnSome result (self.new.failed ≡ false) }
         ensures in_order { IfSome result (λ n. IsCarriedOn (W.contents to.old) self.old.bytes (take n piece.now)

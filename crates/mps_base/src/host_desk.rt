@@ -9,7 +9,7 @@ use std::fs::File;
 use std::io::{Read, Stdin, Write};
 use std::marker::Model;
 
-/// A desk over real files and the standard streams. It tells no content: what a real file holds, no clause can say.
+/// A desk over real files and the standard streams. It knows no content: what a real file holds, no clause can say.
 ///
 /// It holds back what is logged and printed and writes it in large pieces: before a read, before a report, where too
 /// many bytes wait, and in `finish`. The log's bytes are written first, and once that failed nothing more is printed,
@@ -89,7 +89,7 @@ impl HostDesk {
         failed
     }
 
-    // Writes the log's bytes and then, unless the log failed, what is to be printed.
+    /// Writes the log's bytes and then, unless the log failed, what is to be printed.
     fn write_held(&mut self)
         ensures { self.new ≡ self.old }
     {

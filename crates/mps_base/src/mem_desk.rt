@@ -4,7 +4,7 @@ ghost use Rattle.std.specs.Option.{option_copied};
 ghost use Rattle.mps_base.specs.Desk.{text_in};
 
 use crate::calls::CallList;
-use crate::stored_file::{StoredFile, add_to_log, find_bytes, make_file, put_file};
+use crate::stored_file::{StoredFile, add_to_log, bytes_of_file, make_file, put_file};
 use crate::{Desk, Failed};
 use std::alloc::{AllocError, Global};
 use std::marker::Model;
@@ -109,7 +109,7 @@ impl MemDesk {
     pub fn add_file(&mut self, name: &str, bytes: &[u8]) -> Result<(), AllocError>
         ensures ok { OnOk result (self.new
             ≡ record self.old { files = record self.old.files { all = with_file self.old.files.all name.now bytes.now } }) }
-        ensures err { OnErr result (self.new ≡ self.old) }
+        ensures unchanged { OnErr result (self.new ≡ self.old) }
     {
         put_file(self.alloc, &mut self.files, name, bytes)?;
         Ok(())
@@ -118,7 +118,7 @@ impl MemDesk {
     /// Lists a call that is to fail, by its kind and its number, which counts the calls of that kind from 1.
     pub fn fail(&mut self, call: DeskCall, number: u64) -> Result<(), AllocError>
         ensures ok { OnOk result (self.new ≡ with_failing self.old call number) }
-        ensures err { OnErr result (self.new ≡ self.old) }
+        ensures unchanged { OnErr result (self.new ≡ self.old) }
     {
         match call {
             DeskCall::Open => self.opens.list(number),
@@ -142,7 +142,7 @@ impl MemDesk {
     pub fn file(&self, name: &str) -> Option<&[u8]>
         ensures { option_copied result ≡ file_named self.now.files.all name.now }
     {
-        find_bytes(&self.files, name)
+        bytes_of_file(&self.files, name)
     }
 
     /// All that was printed.
@@ -177,7 +177,7 @@ impl Desk for MemDesk {
             ≡ record self.old { opens = one_more_call self.old.opens; in_faults = next_count self.old.in_faults }) }
     {
         let listed = self.opens.next_fails();
-        let text = find_text(&self.files, name).filter(|_| !listed);
+        let text = text_of_name(&self.files, name).filter(|_| !listed);
         let input = text.and_then(|text| Vec::from_slice(self.alloc, text).ok());
         let Some(input) = input else {
             self.in_faults = self.in_faults.saturating_add(1);
@@ -191,7 +191,7 @@ impl Desk for MemDesk {
     fn read(&mut self, buf: &mut [u8]) -> Result<usize, Failed>
         ensures listed { IsErr result ↔ IsNextListed self.old.reads }
         ensures count { IfOk result (λ n. n ≡ min (length buf.new) (min self.old.most (length self.old.input))) }
-        ensures front { IfOk result (λ n. take n buf.new ≡ take n self.old.input) }
+        ensures prefix { IfOk result (λ n. take n buf.new ≡ take n self.old.input) }
         ensures end { IfOk result (λ n. n ≡ 0 → 0 < length buf.new → self.old.input ≡ []) }
         ensures ok { IfOk result (λ n. self.new
             ≡ record self.old { input = drop n self.old.input; reads = one_more_call self.old.reads }) }
@@ -203,7 +203,7 @@ impl Desk for MemDesk {
             return Err(Failed);
         }
         let left = &self.input[self.position..];
-        let count = copy_front(&left[..left.len().min(self.most)], buf);
+        let count = copy_prefix(&left[..left.len().min(self.most)], buf);
         self.position += count;
         Ok(count)
     }
@@ -234,7 +234,7 @@ impl Desk for MemDesk {
     fn log(&mut self, bytes: &[u8]) -> Result<usize, Failed>
         ensures listed { IsNextListed self.old.logs → IsErr result }
         ensures count { IfOk result (λ n. n ≡ min (length bytes.now) self.old.most) }
-        ensures some { IfOk result (λ n. 0 < length bytes.now → 0 < n) }
+        ensures nonzero { IfOk result (λ n. 0 < length bytes.now → 0 < n) }
         ensures ok { IfOk result (λ n. self.new ≡ record self.old {
           files = after_log (take n bytes.now) self.old.files;
           logged = self.old.logged ++ take n bytes.now;
@@ -260,7 +260,7 @@ impl Desk for MemDesk {
     fn out(&mut self, bytes: &[u8]) -> Result<usize, Failed>
         ensures listed { IsNextListed self.old.outs → IsErr result }
         ensures count { IfOk result (λ n. n ≡ min (length bytes.now) self.old.most) }
-        ensures some { IfOk result (λ n. 0 < length bytes.now → 0 < n) }
+        ensures nonzero { IfOk result (λ n. 0 < length bytes.now → 0 < n) }
         ensures ok { IfOk result (λ n. self.new ≡ record self.old {
           printed = self.old.printed ++ take n bytes.now;
           outs = one_more_call self.old.outs;
@@ -281,7 +281,7 @@ impl Desk for MemDesk {
     fn err(&mut self, bytes: &[u8]) -> Result<usize, Failed>
         ensures listed { IsNextListed self.old.errs → IsErr result }
         ensures count { IfOk result (λ n. n ≡ min (length bytes.now) self.old.most) }
-        ensures some { IfOk result (λ n. 0 < length bytes.now → 0 < n) }
+        ensures nonzero { IfOk result (λ n. 0 < length bytes.now → 0 < n) }
         ensures ok { IfOk result (λ n. self.new ≡ record self.old {
           reported = self.old.reported ++ take n bytes.now;
           errs = one_more_call self.old.errs;
@@ -302,20 +302,20 @@ impl Desk for MemDesk {
     ghost text_of_files = { λ desk name. refl };
 }
 
-// What the name opens as: standard input is empty where there is no file `-`.
-fn find_text<'a>(files: &'a [StoredFile], name: &str) -> Option<&'a [u8]>
+/// What the name opens as: standard input is empty where there is no file `-`.
+fn text_of_name<'a>(files: &'a [StoredFile], name: &str) -> Option<&'a [u8]>
     ensures { option_copied result ≡ text_in files.now name.now }
 {
-    match find_bytes(files, name) {
+    match bytes_of_file(files, name) {
         None if name == "-" => Some(&[]),
         found => found,
     }
 }
 
-// Copies as much as both hold to a prefix of the buffer.
-fn copy_front(left: &[u8], buf: &mut [u8]) -> usize
+/// Copies as much as both hold to a prefix of the buffer.
+fn copy_prefix(left: &[u8], buf: &mut [u8]) -> usize
     ensures count { result ≡ min (length buf.new) (length left.now) }
-    ensures front { take result buf.new ≡ take result left.now }
+    ensures prefix { take result buf.new ≡ take result left.now }
 {
     let count = buf.len().min(left.len());
     buf[..count].copy_from_slice(&left[..count]);

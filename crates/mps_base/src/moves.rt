@@ -1,7 +1,7 @@
 // The moves by which a heap changes: what a log records.
 use crate::{Addr, ZoneSet};
 
-/// One change of the arena that a log tells. Sizes are in words or grains, as the field says.
+/// One change of the arena, as a log records it. Sizes are in words or grains, as the field says.
 #[derive(Clone, Copy, Debug, PartialEq, Eq)]
 pub enum Move {
     /// The arena holds a new segment of `grains` grains for a pool.

@@ -7,7 +7,8 @@ pub struct Name {
     pub bytes: [u8; 16],
 }
 
-/// One place of a table, an area or a block table, counted from 0.
+/// An entry of a table, an area or a table of blocks, by its index, counted from 0. An entry of a table of blocks is a
+/// place.
 #[derive(Clone, Copy, Debug, PartialEq, Eq)]
 pub struct Slot {
     pub name: Name,

@@ -13,9 +13,9 @@ pub struct QuietDesk<'a> {
 }
 
 impl<'a> Model for QuietDesk<'a> {
-    ghost use Rattle.mps_base.specs.QuietDesk.{LentText};
+    ghost use Rattle.mps_base.specs.QuietDesk.{BorrowedText};
 
-    ghost Value = { LentText };
+    ghost Value = { BorrowedText };
 
     ghost view = { λ d. record { text = d.text.now; left = d.left.now } };
 }

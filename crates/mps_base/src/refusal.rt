@@ -31,14 +31,14 @@ pub enum Refusal {
     /// The point has no open reservation.
     #[error("NotOpen")]
     NotOpen,
-    /// No place in what the pool holds, and `need` more grains would pass the commit limit. All in grains.
+    /// No room in what the pool holds, and `need` more grains would pass the commit limit. All in grains.
     #[error("CommitLimit")]
     CommitLimit {
         committed: u32,
         need: u32,
         limit: u32,
     },
-    /// No place, the limit allows it, and no run of `need` free grains exists; `longest` is the longest free run.
+    /// No room in what the pool holds, the limit allows more, and no run of `need` free grains exists; `longest` is the longest free run.
     #[error("NoRun")]
     NoRun {
         need: u32,

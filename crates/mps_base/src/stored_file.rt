@@ -3,7 +3,7 @@ ghost use Rattle.std.specs.Prelude.{◌≡◌, [], ◌++◌, string_bytes, IfOk,
 ghost use Rattle.std.specs.Option.{option_copied, option_map};
 ghost use Rattle.std.specs.Str.{bytes_eq};
 ghost use Rattle.mps_base.specs.Desk.{file_named, with_file, with_more, with_logged};
-ghost use Rattle.mps_base.specs.MemDesk.{place_of};
+ghost use Rattle.mps_base.specs.MemDesk.{index_of_file};
 
 use std::alloc::{AllocError, Global};
 use std::marker::Model;
@@ -48,7 +48,7 @@ impl StoredFile {
 
     pub fn extend(&mut self, bytes: &[u8]) -> Result<(), AllocError>
         ensures ok { OnOk result (self.new ≡ record self.old { bytes = self.old.bytes ++ bytes.now }) }
-        ensures err { OnErr result (self.new ≡ self.old) }
+        ensures unchanged { OnErr result (self.new ≡ self.old) }
     {
         self.bytes.extend_from_slice(bytes)
     }
@@ -60,33 +60,33 @@ impl StoredFile {
     }
 }
 
-/// The place of the first file of this name, or after the last where there is none.
-pub fn find_place(files: &[StoredFile], name: &str) -> usize
-    ensures { result ≡ place_of files.now name.now }
+/// The index of the first file of this name, or after the last where there is none.
+pub fn index_of(files: &[StoredFile], name: &str) -> usize
+    ensures { result ≡ index_of_file files.now name.now }
 {
-    for (place, file) in files.iter().enumerate() {
+    for (index, file) in files.iter().enumerate() {
         if file.is_named(name) {
-            return place;
+            return index;
         }
     }
     files.len()
 }
 
 /// The bytes of the file of this name, where there is one.
-#[tactic(auto, using(crate::proofs::Files::at_places))]
-pub fn find_bytes<'a>(files: &'a [StoredFile], name: &str) -> Option<&'a [u8]>
+#[tactic(auto, using(crate::proofs::Files::at_index))]
+pub fn bytes_of_file<'a>(files: &'a [StoredFile], name: &str) -> Option<&'a [u8]>
     ensures { option_copied result ≡ file_named files.now name.now }
 {
-    let place = find_place(files, name);
-    if place >= files.len() {
+    let index = index_of(files, name);
+    if index >= files.len() {
         return None;
     }
-    let file = &files[place];
+    let file = &files[index];
     Some(file.bytes())
 }
 
 /// Makes these the bytes of the file of this name.
-#[tactic(auto, using(crate::proofs::Files::at_places))]
+#[tactic(auto, using(crate::proofs::Files::at_index))]
 pub fn put_file(
     alloc: Global,
     files: &mut Vec<StoredFile>,
@@ -94,12 +94,12 @@ pub fn put_file(
     bytes: &[u8],
 ) -> Result<(), AllocError>
     ensures put { OnOk result (files.new.items ≡ with_file files.old.items name.now bytes.now) }
-    ensures err { OnErr result (files.new.items ≡ files.old.items) }
+    ensures unchanged { OnErr result (files.new.items ≡ files.old.items) }
 {
-    let place = find_place(files, name);
-    if place < files.len() {
+    let index = index_of(files, name);
+    if index < files.len() {
         let bytes = Vec::from_slice(alloc, bytes)?;
-        let file = &mut files[place];
+        let file = &mut files[index];
         file.replace(bytes);
     } else {
         files.push(StoredFile::new(alloc, name, bytes)?)?;
@@ -115,7 +115,7 @@ pub fn make_file(
 ) -> Result<String, AllocError>
     ensures name { IfOk result (λ copy. string_bytes copy ≡ name.now) }
     ensures made { OnOk result (files.new.items ≡ with_file files.old.items name.now []) }
-    ensures err { OnErr result (files.new.items ≡ files.old.items) }
+    ensures unchanged { OnErr result (files.new.items ≡ files.old.items) }
 {
     let copy = String::from_str(alloc, name)?;
     put_file(alloc, files, name, &[])?;
@@ -123,7 +123,7 @@ pub fn make_file(
 }
 
 /// Adds the bytes to all that was logged, and to the log's file where there is one.
-#[tactic(auto, using(crate::proofs::Files::at_places))]
+#[tactic(auto, using(crate::proofs::Files::at_index))]
 pub fn add_to_log(
     logged: &mut Vec<u8>,
     files: &mut Vec<StoredFile>,
@@ -133,8 +133,8 @@ pub fn add_to_log(
     ensures logged { OnOk result (logged.new.items ≡ logged.old.items ++ bytes.now) }
     ensures filed { OnOk result (files.new.items
         ≡ with_logged files.old.items (option_map string_bytes (option_copied log_file.entry)) bytes.now) }
-    ensures err { OnErr result (logged.new.items ≡ logged.old.items) }
-    ensures err_files { OnErr result (files.new.items ≡ files.old.items) }
+    ensures unchanged { OnErr result (logged.new.items ≡ logged.old.items) }
+    ensures files_unchanged { OnErr result (files.new.items ≡ files.old.items) }
 {
     let before = logged.len();
     logged.extend_from_slice(bytes)?;
@@ -151,15 +151,15 @@ pub fn add_to_log(
 }
 
 /// Adds the bytes to those of the file of this name, where there is one.
-#[tactic(auto, using(crate::proofs::Files::at_places))]
+#[tactic(auto, using(crate::proofs::Files::at_index))]
 fn extend_file(files: &mut Vec<StoredFile>, name: &str, bytes: &[u8]) -> Result<(), AllocError>
     ensures ok { OnOk result (files.new.items ≡ with_more files.old.items name.now bytes.now) }
-    ensures err { OnErr result (files.new.items ≡ files.old.items) }
+    ensures unchanged { OnErr result (files.new.items ≡ files.old.items) }
 {
-    let place = find_place(files, name);
-    if place >= files.len() {
+    let index = index_of(files, name);
+    if index >= files.len() {
         return Ok(());
     }
-    let file = &mut files[place];
+    let file = &mut files[index];
     file.extend(bytes)
 }

@@ -7,7 +7,7 @@ use Rattle.mps_cli.proofs.write.err_all.Goals as goal
 pub loop-written-preserved : goal.loop-written-preserved
 loop-written-preserved g c =
     let short : c.in_ok-written.field-0 ≤ length c.args.piece.now - c.loop-written.written =
-    grind (arith, common_steps, c.in_ok-written.ensures.within) in
+    grind (arith, common_steps, c.in_ok-written.ensures.at_most) in
     record {
       within = omega arith;
       known = appended_more (g.D.Desk.outside c.args.desk.now).reported (g.D.Desk.outside c.loop-written.desk).reported

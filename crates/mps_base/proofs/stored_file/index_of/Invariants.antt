@@ -1,0 +1,7 @@
+use Rattle.std.proofs.Common.{◌≡◌, ◌+◌, drop}
+use Rattle.mps_base.specs.MemDesk.{index_of_file}
+use Rattle.mps_base.proofs.stored_file.index_of.Given as goal
+
+-- the index is the same, counted from where the search stands
+abbrev pub invariant-loop-index : goal.invariant-loop-index
+invariant-loop-index l = index_of_file l.files l.name ≡ index_of_file (drop l.index l.files) l.name + l.index
