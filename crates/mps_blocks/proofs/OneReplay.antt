@@ -14,7 +14,7 @@ use Rattle.mps_report.specs.declared.stop.Stop.{Stop}
 use Rattle.mps_report.specs.declared.stop.Stop.TheVariants as stop
 use Rattle.mps_log_reader.specs.Ending.{EndsAt}
 use Rattle.mps_log_reader.specs.Opening.{HasNoHeader}
-use Rattle.mps_log_reader.proofs.TwoReadings.{Behind, split, no_record, one_of, one_ending, same_version}
+use Rattle.mps_log_reader.proofs.TwoReadings.{Extends, split, no_record, one_of, one_ending, same_version}
 use Rattle.mps_blocks.specs.Replayed.{State, at_the_start, replayed_after, replayed_from, replayed}
 use Rattle.mps_blocks.specs.Listing.{listing}
 use Rattle.mps_blocks.specs.Ending.{IsBadReplay, StopsAt, Replays}
@@ -74,7 +74,7 @@ replayed-append s (r ∷ rs) more = step (replayed_after s r) rs more (λ t. rep
     step None rs more h = refl
     step (Some t) rs more h = h t
 
-same_of_after : (version : Version) (ending : Ending) (offset : ℕ) (s t : State) (first second : List Record) (x y : List ℕ) → Behind version first second x y
+same_of_after : (version : Version) (ending : Ending) (offset : ℕ) (s t : State) (first second : List Record) (x y : List ℕ) → Extends version first second x y
     → StopsAt version s ending (length first) offset x → replayed first ≡ Some s → replayed second ≡ Some t → length second < 4294967296 → (second ≡ first) × (x ≡ y)
 same_of_after version ending offset s t first second x y h e before after few =
     let size : length first + length h.more < 4294967296 = omega (arith, few, ap (λ (rs : List Record). length rs) h.longer, length-append first h.more) in
@@ -83,7 +83,7 @@ same_of_after version ending offset s t first second x y h e before after few =
     let none = no_more_replayed version s t ending (length first) offset h.more y h.each (subst (λ (z : List ℕ). StopsAt version s ending (length first) offset z) h.rest e) replay size in
     (h.longer ∙ ap (λ (rs : List Record). first ++ rs) none ∙ append-nil first, h.rest ∙ ap (λ (rs : List Record). records_bytes rs ++ y) none)
 
-same_records : (version : Version) (e f : Ending) (m n : ℕ) (s t : State) (first second : List Record) (x y : List ℕ) → Behind version first second x y ⊎ Behind version second first y x
+same_records : (version : Version) (e f : Ending) (m n : ℕ) (s t : State) (first second : List Record) (x y : List ℕ) → Extends version first second x y ⊎ Extends version second first y x
     → StopsAt version s e (length first) m x → StopsAt version t f (length second) n y → replayed first ≡ Some s → replayed second ≡ Some t
     → length first < 4294967296 → length second < 4294967296 → (second ≡ first) × (x ≡ y)
 same_records version e f m n s t first second x y (inl h) a b before after few fewer = same_of_after version e m s t first second x y h a before after fewer

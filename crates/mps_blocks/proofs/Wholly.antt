@@ -11,7 +11,7 @@ use Rattle.mps_report.specs.declared.stop.Stop.{Stop}
 use Rattle.mps_report.specs.declared.stop.Stop.TheVariants as stop
 use Rattle.mps_report.specs.Reports.{status_of, report_of}
 use Rattle.mps_report.specs.Streams.{Prints, PrintsPart, Reports}
-use Rattle.mps_log_reader.specs.Ending.{is_whole_status}
+use Rattle.mps_log_reader.specs.Ending.{is_input_verdict}
 use Rattle.mps_log_reader.proofs.Opening.{size_with_header, header_known}
 use Rattle.mps_log_reader.proofs.Reported.{has_reported}
 use Rattle.mps_blocks.specs.Replayed.{State, at_the_start}
@@ -114,10 +114,10 @@ says_stop why text status a b c quiet faults is reports printed = record {
   reported = has_reported (report_of why) a b c quiet faults reports.reported;
 }
 
-not_whole : (status other : ℕ) → status ≡ other → is_whole_status status ≡ true → is_whole_status other ≡ false → ⊥
-not_whole status other is whole broken = absurd (let e : true ≡ false = sym whole ∙ ap is_whole_status is ∙ broken in cc)
+not_whole : (status other : ℕ) → status ≡ other → is_input_verdict status ≡ true → is_input_verdict other ≡ false → ⊥
+not_whole status other is whole broken = absurd (let e : true ≡ false = sym whole ∙ ap is_input_verdict is ∙ broken in cc)
 
-pub listed_with : (bytes : List ℕ) (status : ℕ) (ending : Result (Unit {0}) Stop) (a b c : Outside) → is_whole_status status ≡ true → b.reported ≡ a.reported → b.err_faults ≡ a.err_faults
+pub listed_with : (bytes : List ℕ) (status : ℕ) (ending : Result (Unit {0}) Stop) (a b c : Outside) → is_input_verdict status ≡ true → b.reported ≡ a.reported → b.err_faults ≡ a.err_faults
     → HasListed bytes ending a b → OnOk ending (status ≡ 0) → OnOk ending (c ≡ b)
     → IfErr ending (λ why. status ≡ status_of why) → IfErr ending (λ why. Reports b c (report_of why)) → ListedWith bytes status a c
 listed_with bytes status (Ok value) a b c whole quiet faults h zero same is reports =

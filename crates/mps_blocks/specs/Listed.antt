@@ -5,7 +5,7 @@ use Rattle.mps_base.specs.Desk.{Outside}
 use Rattle.mps_report.specs.declared.stop.Stop.{Stop}
 use Rattle.mps_report.specs.declared.stop.Stop.TheVariants as stop
 use Rattle.mps_log_reader.specs.Opening.{HasNoHeader}
-use Rattle.mps_log_reader.specs.Ending.{status_of_ending, HasReported}
+use Rattle.mps_report.specs.Reports.{status_of_ending, HasReportedEnding}
 use Rattle.mps_blocks.specs.Ending.{Replays}
 use Rattle.mps_blocks.specs.Listing.{listing}
 
@@ -26,7 +26,7 @@ Lists bytes (Err stop.OutOfMemory) text = ⊥
 pub record Says (ending : Result (Unit {0}) Stop) (text : List ℕ) (status : ℕ) (old new : Outside) : Type 0 where
   pub status_is : status ≡ status_of_ending ending
   pub printed : new.printed ≡ option_map (λ before. before ++ text) old.printed
-  pub reported : HasReported ending old new
+  pub reported : HasReportedEnding ending old new
 
 -- the replay of these bytes ends in some way, and the program says so
 pub record ListedWith (bytes : List ℕ) (status : ℕ) (old new : Outside) : Type 0 where

@@ -1,12 +1,13 @@
 // `blocks`: the blocks that are live at the end of a log.
 
 ghost use Rattle.std.specs.Prelude.{◌≡◌, ◌≢◌, ◌≤◌, ◌<◌, ◌+◌, ◌⊎◌, ℕ, List, Some, true, length, IfOk, IfSome, OnOk};
-ghost use Rattle.mps_log_reader.specs.Causes.{IsCaused, IsTold, Works, Answers};
+ghost use Rattle.mps_log_reader.specs.Causes.{IsCaused, StopIsJustified, WorksOnInput, StatusIsJustified};
 ghost use Rattle.mps_log_reader.specs.Input.{IsAtEnd};
 ghost use Rattle.mps_log_reader.specs.Left.{left_of};
 ghost use Rattle.mps_log_reader.specs.Opening.{OpensNothing};
-ghost use Rattle.mps_log_reader.specs.Ending.{is_whole_status, IsUnopened, ReportsStatus};
-ghost use Rattle.mps_report.specs.Streams.{Runs};
+ghost use Rattle.mps_report.specs.Reports.{ReportsStatus};
+ghost use Rattle.mps_log_reader.specs.Ending.{is_input_verdict, IsUnopened};
+ghost use Rattle.mps_report.specs.Streams.{LeavesLogAlone};
 ghost use Rattle.mps_blocks.specs.Replayed.{at_the_start};
 ghost use Rattle.mps_blocks.specs.Listed.{ListedWith, IsOnly, ListsPart, HasListed, IsSilent};
 ghost use Rattle.mps_blocks.specs.Replaying.{PendingReplays, NextReplays, AllReplay, HasReplayed};
@@ -15,22 +16,22 @@ use crate::listing::print_listing;
 use crate::replaying::{Replay, ReplayFault};
 use mps_base::Desk;
 use mps_event::{RecordRef, Version, first};
-use mps_report::{Output, Stop, finish};
-use mps_log_reader::{Input, MOST_OF_A_RECORD, after_the_last, open_log};
+use mps_report::{Output, Stop, report_ending};
+use mps_log_reader::{Input, MAX_RECORD_BYTES, after_the_last, open_log};
 use std::alloc::Global;
 
 /// Prints the blocks that are live at the end of the log of this name, after all of it was read, in ascending order of
 /// their addresses, and answers the status of the program: 0, or with a report 3 where a read failed, 4 where a write
 /// failed, 6 at the first record that is wrong or cannot be replayed, 7 where record 2^32 begins, 8 for out of memory.
 pub fn blocks<D: Desk>(alloc: Global, log: &str, desk: &mut D) -> u8
-    ensures answers { Answers (D.outside desk.old) (D.outside desk.new) result }
+    ensures answers { StatusIsJustified (D.outside desk.old) (D.outside desk.new) result }
     // With any status its ending was reported, and nothing with 0.
     ensures reported { ReportsStatus result (D.outside desk.old) (D.outside desk.new) }
     // Where the opened file is told, and the status is none of a fault or for out of memory: exactly this was printed.
-    ensures listed { is_whole_status result ≡ true → (bytes : List ℕ) → (D.outside desk.old).text log.now ≡ Some bytes
+    ensures listed { is_input_verdict result ≡ true → (bytes : List ℕ) → (D.outside desk.old).text log.now ≡ Some bytes
         → ListedWith bytes result (D.outside desk.old) (D.outside desk.new) }
     // And nothing else: a whole log gives 0 and its live blocks, one that is damaged 6 at its first bad place.
-    ensures only { is_whole_status result ≡ true → (bytes : List ℕ) → (D.outside desk.old).text log.now ≡ Some bytes
+    ensures only { is_input_verdict result ≡ true → (bytes : List ℕ) → (D.outside desk.old).text log.now ≡ Some bytes
         → IsOnly bytes result (D.outside desk.old) (D.outside desk.new) }
     // Nothing is printed before all was read and replayed.
     ensures silent { result ≢ 0 → result ≢ 4 → (D.outside desk.new).printed ≡ (D.outside desk.old).printed }
@@ -41,12 +42,12 @@ pub fn blocks<D: Desk>(alloc: Global, log: &str, desk: &mut D) -> u8
     ensures missing { OpensNothing (D.outside desk.old) log.now → IsUnopened result (D.outside desk.old) (D.outside desk.new) }
 {
     let ending = list_blocks(alloc, log, desk);
-    finish(ending, desk)
+    report_ending(ending, desk)
 }
 
 fn list_blocks<D: Desk>(alloc: Global, log: &str, desk: &mut D) -> Result<(), Stop>
     ensures cause { IsCaused (D.outside desk.old) (D.outside desk.new) result }
-    ensures runs { Runs (D.outside desk.old) (D.outside desk.new) }
+    ensures runs { LeavesLogAlone (D.outside desk.old) (D.outside desk.new) }
     ensures reported { (D.outside desk.new).reported ≡ (D.outside desk.old).reported }
     ensures err_faults { (D.outside desk.new).err_faults ≡ (D.outside desk.old).err_faults }
     ensures silent { IsSilent result → (D.outside desk.new).printed ≡ (D.outside desk.old).printed }
@@ -68,7 +69,7 @@ fn list_blocks<D: Desk>(alloc: Global, log: &str, desk: &mut D) -> Result<(), St
 // Replays the log of this name from its header to its end.
 fn replay_log<D: Desk>(alloc: Global, log: &str, desk: &mut D) -> Result<Replay, Stop>
     ensures cause { IsCaused (D.outside desk.old) (D.outside desk.new) result }
-    ensures runs { Runs (D.outside desk.old) (D.outside desk.new) }
+    ensures runs { LeavesLogAlone (D.outside desk.old) (D.outside desk.new) }
     ensures printed { (D.outside desk.new).printed ≡ (D.outside desk.old).printed }
     ensures reported { (D.outside desk.new).reported ≡ (D.outside desk.old).reported }
     ensures err_faults { (D.outside desk.new).err_faults ≡ (D.outside desk.old).err_faults }
@@ -93,7 +94,7 @@ fn replay_records<D: Desk>(
 ) -> Result<(), Stop>
     requires at_end { IsAtEnd (D.outside desk.old) input.old }
     requires start { replay.old ≡ at_the_start }
-    ensures works { Works (D.outside desk.old) (D.outside desk.new) input.old input.new result }
+    ensures works { WorksOnInput (D.outside desk.old) (D.outside desk.new) input.old input.new result }
     ensures printed { (D.outside desk.new).printed ≡ (D.outside desk.old).printed }
     ensures reported { (D.outside desk.new).reported ≡ (D.outside desk.old).reported }
     ensures err_faults { (D.outside desk.new).err_faults ≡ (D.outside desk.old).err_faults }
@@ -120,7 +121,7 @@ fn replay_next<D: Desk>(
 ) -> Result<Option<usize>, Stop>
     requires at_end { IsAtEnd (D.outside desk.old) input.old }
     requires room { replay.old.interned < 4294967296 }
-    ensures works { Works (D.outside desk.old) (D.outside desk.new) input.old input.new result }
+    ensures works { WorksOnInput (D.outside desk.old) (D.outside desk.new) input.old input.new result }
     ensures size { IfOk result (λ o. IfSome o (λ size. size ≤ 40)) }
     ensures replays { NextReplays version offset (left_of (D.outside desk.old) input.old) (left_of (D.outside desk.new) input.new)
         replay.old replay.new result }
@@ -129,7 +130,7 @@ fn replay_next<D: Desk>(
     ensures reported { (D.outside desk.new).reported ≡ (D.outside desk.old).reported }
     ensures err_faults { (D.outside desk.new).err_faults ≡ (D.outside desk.old).err_faults }
 {
-    input.fill(MOST_OF_A_RECORD, desk);
+    input.fill(MAX_RECORD_BYTES, desk);
     let size = replay_record(version, replay, input, offset)?;
     input.take(size.unwrap_or(0));
     Ok(size)
@@ -143,7 +144,7 @@ fn replay_record(
     offset: u64,
 ) -> Result<Option<usize>, Stop>
     requires { replay.old.interned < 4294967296 }
-    ensures known { IsTold input.now result }
+    ensures known { StopIsJustified input.now result }
     ensures size { IfOk result (λ o. IfSome o (λ size. (size ≤ 40) × (size ≤ length input.now.pending))) }
     ensures replays { PendingReplays version offset input.now replay.old replay.new result }
 {

@@ -6,7 +6,7 @@ use Rattle.std.proofs.lemmas.Slice.Eq.{bytes_eq-Decides}
 use Rattle.mps_base.specs.Desk.{Outside, File, Files, OnlyReads, OnlyReports, file_named, with_file, with_more, with_logged, made_for_log, after_log}
 use Rattle.mps_base.proofs.Files.{file_named-with_file_other}
 use Rattle.mps_model.specs.Log.{log_bytes}
-use Rattle.mps_log_reader.specs.Ending.{is_whole_status, IsUnopened}
+use Rattle.mps_log_reader.specs.Ending.{is_input_verdict, IsUnopened}
 use Rattle.mps_cli.specs.Write.{appended, LogTakes}
 use Rattle.mps_cli.specs.Ending.{status_of}
 use Rattle.mps_cli.specs.Asked.{RunsScript}
@@ -119,7 +119,7 @@ same_piece before first second e = append_cancel_left before first second (let s
 
 -- what a whole run leaves in the file of the log, where the files and what was logged are told
 pub log_in_its_file : (log script : List ℕ) (status : ℕ) (old new : Outside) → RunsScript log script status old new
-    → is_whole_status status ≡ true → (files : Files) → old.files ≡ Some files → (before : List ℕ) → old.logged ≡ Some before
+    → is_input_verdict status ≡ true → (files : Files) → old.files ≡ Some files → (before : List ℕ) → old.logged ≡ Some before
     → (bytes : List ℕ) → old.text script ≡ Some bytes → HoldsLog log bytes files new
 log_in_its_file log script status old new r whole files known before logged bytes e =
     let ran = (r.ran whole bytes e).ran in

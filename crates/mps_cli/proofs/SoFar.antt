@@ -15,7 +15,7 @@ use Rattle.mps_model.proofs.Appending.{log_from-append, IsLegalFrom-append, worl
 use Rattle.mps_first_heap.specs.Kept.{Kept}
 use Rattle.mps_first_heap.specs.StandsFor.{StandsFor}
 use Rattle.mps_script.specs.Line.{lines_of, call_of_line, longest_line, is_line_feed}
-use Rattle.mps_log_reader.specs.Ending.{is_whole_status}
+use Rattle.mps_log_reader.specs.Ending.{is_input_verdict}
 use Rattle.mps_cli.specs.Write.{appended}
 use Rattle.mps_cli.specs.Ending.{CountsGrow, HasCause, IsQuiet, Reports, report_of, status_of}
 use Rattle.mps_cli.specs.Buffer.{ComesNextOf, length_of_line}
@@ -315,7 +315,7 @@ ran_then_reported ends script old mid new r o = record {
   ends_at = r.ends_at;
 }
 
-pub whole_status : (ends : Ending) → is_whole_status (status_of ends) ≡ true → is_whole ends ≡ true
+pub whole_status : (ends : Ending) → is_input_verdict (status_of ends) ≡ true → is_whole ends ≡ true
 whole_status ending.Done h = refl
 whole_status (ending.BadLine line) h = refl
 whole_status ending.TooLong h = refl
@@ -326,7 +326,7 @@ whole_status ending.LogFailed h = h
 whole_status ending.OutOfMemory h = h
 
 pub complete_ending : (ends : Ending) (old new : Outside) → HasCause ends old new → NoFaultRose old new
-    → (ends ≡ ending.NoMeaning → ⊥) → (status_of ends ≡ 8 → ⊥) → is_whole_status (status_of ends) ≡ true
+    → (ends ≡ ending.NoMeaning → ⊥) → (status_of ends ≡ 8 → ⊥) → is_input_verdict (status_of ends) ≡ true
 complete_ending ending.Done old new h f m o = refl
 complete_ending (ending.BadLine line) old new h f m o = refl
 complete_ending ending.TooLong old new h f m o = refl

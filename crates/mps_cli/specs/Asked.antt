@@ -5,8 +5,9 @@ use Rattle.mps_base.specs.Desk.{Outside, OnlyReports}
 use Rattle.mps_report.specs.declared.stop.Stop.TheVariants as stop
 use Rattle.mps_report.specs.Reports.{report_of}
 use Rattle.mps_report.specs.Streams.{Prints, Reports as ReportsText}
-use Rattle.mps_log_reader.specs.Causes.{Answers}
-use Rattle.mps_log_reader.specs.Ending.{ReportsStatus, IsUnopened, is_whole_status}
+use Rattle.mps_log_reader.specs.Causes.{StatusIsJustified}
+use Rattle.mps_report.specs.Reports.{ReportsStatus}
+use Rattle.mps_log_reader.specs.Ending.{IsUnopened, is_input_verdict}
 use Rattle.mps_log_reader.specs.Opening.{OpensNothing}
 use Rattle.mps_blocks.specs.Listed.{ListedWith, IsOnly as IsOnlyList, ListsPart}
 use Rattle.mps_txt.specs.Text.{ReadWith, IsCutShort as IsCutShortText, IsOnlyReading}
@@ -34,7 +35,7 @@ pub record RunsScript (log script : List ℕ) (status : ℕ) (old new : Outside)
   -- to the line that is reported. It is legal, and a command is `unsupported` exactly where it isn't built. What
   -- was printed is the answer line of each step and nothing else; what was logged is the header and the records of that
   -- history, and replaying them gives the live blocks of the world after it.
-  pub ran : is_whole_status status ≡ true → (bytes : List ℕ) → old.text script ≡ Some bytes → RanWith status bytes old new
+  pub ran : is_input_verdict status ≡ true → (bytes : List ℕ) → old.text script ≡ Some bytes → RanWith status bytes old new
   -- Where printing didn't fail, what was printed is in any case the answer line of each step of a history of the first
   -- lines, and nothing else.
   pub answered : status ≢ 4 → (bytes : List ℕ) → old.text script ≡ Some bytes → Answered bytes old new
@@ -43,7 +44,7 @@ pub record RunsScript (log script : List ℕ) (status : ℕ) (old new : Outside)
   -- front of its answer.
   pub leaves : (bytes : List ℕ) → old.text script ≡ Some bytes → LeavesWith status bytes old new
   -- what was logged is exactly what the log's file holds, and no other file has changed
-  pub in_file : is_whole_status status ≡ true → IsInFile log old new
+  pub in_file : is_input_verdict status ≡ true → IsInFile log old new
   -- that holds with any status, unless nothing was logged and no file has changed
   pub filed : LogsInto log old new
   -- a script that is not there is not run: nothing is printed or logged, and no file changes
@@ -51,12 +52,12 @@ pub record RunsScript (log script : List ℕ) (status : ℕ) (old new : Outside)
 
 -- `cnv`
 pub record ConvertsLog (log : List ℕ) (kinds : ℕ) (status : ℕ) (old new : Outside) : Type 0 where
-  pub answers : Answers old new status
+  pub answers : StatusIsJustified old new status
   -- a log that the desk tells: the portable text of its records of these kinds was printed, up to the end or to the fault
   -- that is reported
-  pub converted : is_whole_status status ≡ true → (bytes : List ℕ) → old.text log ≡ Some bytes → ConvertedWith kinds bytes status old new
+  pub converted : is_input_verdict status ≡ true → (bytes : List ℕ) → old.text log ≡ Some bytes → ConvertedWith kinds bytes status old new
   -- and nothing else
-  pub only : is_whole_status status ≡ true → (bytes : List ℕ) → old.text log ≡ Some bytes → IsOnly kinds bytes status old new
+  pub only : is_input_verdict status ≡ true → (bytes : List ℕ) → old.text log ≡ Some bytes → IsOnly kinds bytes status old new
   -- where a read failed, the text of the whole records that had come was printed; a prefix of that, where a write failed too
   pub broken : status ≡ 3 → (bytes : List ℕ) → old.text log ≡ Some bytes → Fails kinds bytes old new
   -- a log that is not there is not read, and nothing is printed
@@ -70,11 +71,11 @@ pub record ConvertsLog (log : List ℕ) (kinds : ℕ) (status : ℕ) (old new : 
 
 -- `txt`
 pub record ReadsText (text : List ℕ) (status : ℕ) (old new : Outside) : Type 0 where
-  pub answers : Answers old new status
+  pub answers : StatusIsJustified old new status
   -- a text that the desk tells: its readable text was printed, line by line, up to the end or to the line that is reported
   pub readable : (bytes : List ℕ) → old.text text ≡ Some bytes → ReadWith bytes status old new
   -- and nothing else
-  pub only : is_whole_status status ≡ true → (bytes : List ℕ) → old.text text ≡ Some bytes → IsOnlyReading bytes status old new
+  pub only : is_input_verdict status ≡ true → (bytes : List ℕ) → old.text text ≡ Some bytes → IsOnlyReading bytes status old new
   -- where a write failed, a prefix of the readable text of some lines at a prefix of the text was printed
   pub cut : status ≡ 4 → (bytes : List ℕ) → old.text text ≡ Some bytes → IsCutShortText bytes old new
   -- a text that is not there is not read, and nothing is printed
@@ -84,11 +85,11 @@ pub record ReadsText (text : List ℕ) (status : ℕ) (old new : Outside) : Type
 
 -- `blocks`
 pub record ListsBlocks (log : List ℕ) (status : ℕ) (old new : Outside) : Type 0 where
-  pub answers : Answers old new status
+  pub answers : StatusIsJustified old new status
   -- a log that the desk tells: the blocks that its replay leaves live were printed, or nothing and the fault is reported
-  pub listed : is_whole_status status ≡ true → (bytes : List ℕ) → old.text log ≡ Some bytes → ListedWith bytes status old new
+  pub listed : is_input_verdict status ≡ true → (bytes : List ℕ) → old.text log ≡ Some bytes → ListedWith bytes status old new
   -- and nothing else
-  pub only : is_whole_status status ≡ true → (bytes : List ℕ) → old.text log ≡ Some bytes → IsOnlyList bytes status old new
+  pub only : is_input_verdict status ≡ true → (bytes : List ℕ) → old.text log ≡ Some bytes → IsOnlyList bytes status old new
   -- nothing is printed before all was read and replayed
   pub silent : status ≢ 0 → status ≢ 4 → new.printed ≡ old.printed
   -- where a write failed, a prefix of the list was printed

@@ -1,7 +1,7 @@
 // The top call.
 ghost use Rattle.std.specs.Prelude.{◌≡◌, ◌≢◌, ◌↔◌, None, Some, true};
 ghost use Rattle.mps_base.specs.Desk.{HasRisen};
-ghost use Rattle.mps_log_reader.specs.Ending.{is_whole_status};
+ghost use Rattle.mps_log_reader.specs.Ending.{is_input_verdict};
 ghost use Rattle.mps_args.specs.Runnable.{IsRunnable};
 ghost use Rattle.mps_args.specs.Seen.{meaning_of, texts};
 ghost use Rattle.mps_args.specs.Words.{meaning};
@@ -32,7 +32,7 @@ pub fn mps<D: Desk>(alloc: Global, words: &[String], desk: &mut D) -> u8
 
     // Words with a meaning, no fault and no out of memory: the status is 0, 6 or 7.
     ensures complete { meaning (texts words.now) ≢ None → NoFaultRose (D.outside desk.old) (D.outside desk.new)
-        → result ≢ 8 → is_whole_status result ≡ true }
+        → result ≢ 8 → is_input_verdict result ≡ true }
 {
     match command_of(words) {
         Some(command) => run_command(alloc, command, desk),
@@ -59,7 +59,7 @@ fn run_command<D: Desk>(alloc: Global, command: Command<'_>, desk: &mut D) -> u8
     ensures write_failed { result ≡ 4 → HasRisen (D.outside desk.old).out_faults (D.outside desk.new).out_faults }
     ensures log_failed { result ≡ 5 → HasRisen (D.outside desk.old).log_faults (D.outside desk.new).log_faults }
     ensures counts { CountsGrow (D.outside desk.old) (D.outside desk.new) }
-    ensures complete { NoFaultRose (D.outside desk.old) (D.outside desk.new) → result ≢ 8 → is_whole_status result ≡ true }
+    ensures complete { NoFaultRose (D.outside desk.old) (D.outside desk.new) → result ≢ 8 → is_input_verdict result ≡ true }
 {
     match command {
         Command::Run { log, script } => run_script(alloc, log, script, desk),
@@ -78,7 +78,7 @@ fn run_script<D: Desk>(alloc: Global, log: &str, script: &str, desk: &mut D) -> 
     ensures write_failed { result ≡ 4 → HasRisen (D.outside desk.old).out_faults (D.outside desk.new).out_faults }
     ensures log_failed { result ≡ 5 → HasRisen (D.outside desk.old).log_faults (D.outside desk.new).log_faults }
     ensures counts { CountsGrow (D.outside desk.old) (D.outside desk.new) }
-    ensures complete { NoFaultRose (D.outside desk.old) (D.outside desk.new) → result ≢ 8 → is_whole_status result ≡ true }
+    ensures complete { NoFaultRose (D.outside desk.old) (D.outside desk.new) → result ≢ 8 → is_input_verdict result ≡ true }
 {
     let ending = run(alloc, log, script, desk);
     report(desk, ending);

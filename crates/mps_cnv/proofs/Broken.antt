@@ -11,12 +11,12 @@ use Rattle.mps_event.specs.Reading.{first_of}
 use Rattle.mps_report.specs.declared.stop.Stop.{Stop}
 use Rattle.mps_report.specs.declared.stop.Stop.TheVariants as stop
 use Rattle.mps_report.specs.Reports.{status_of, report_of}
-use Rattle.mps_report.specs.Streams.{Kept, Reports}
+use Rattle.mps_report.specs.Streams.{FlushedPrefix, Reports}
 use Rattle.mps_log_reader.specs.Input.{Buffered, ReadsMore}
 use Rattle.mps_log_reader.specs.Left.{left_of}
 use Rattle.mps_log_reader.specs.PutOut.{put_out, Grows, PrintsAsFar}
 use Rattle.mps_log_reader.specs.Opening.{first_line, IsCutHeader}
-use Rattle.mps_log_reader.proofs.Behind.{none_short}
+use Rattle.mps_log_reader.proofs.Extension.{none_short}
 use Rattle.mps_log_reader.proofs.Left.{left_same, left_after_known}
 use Rattle.mps_log_reader.proofs.PutOut.{put_same}
 use Rattle.mps_log_reader.proofs.PartPut.{as_far_of_text, as_far_later}
@@ -50,7 +50,7 @@ cut_record version ended pending bytes (Some rest) known none = record {
 abbrev pub NextBreaks : Version → (left unread before after : Option (List ℕ)) → Type 0
 NextBreaks version left unread before after = ((bytes : List ℕ) → left ≡ Some bytes → IsCutRecord version bytes unread) × (after ≡ before)
 
-pub next_breaks : (version : Version) (a b c : Outside) (x y : Buffered) (p q r : List ℕ) → ReadsMore a b x y → Kept b c p q → c.input ≡ b.input
+pub next_breaks : (version : Version) (a b c : Outside) (x y : Buffered) (p q r : List ℕ) → ReadsMore a b x y → FlushedPrefix b c p q → c.input ≡ b.input
     → (first_of version y.ended y.pending ≡ Ok None) × (r ≡ q) → NextBreaks version (left_of a x) c.input (put_out a p) (put_out c r)
 next_breaks version a b c x y p q r reads kept same gives = (
   (λ bytes known. subst (λ (o : Option (List ℕ)). IsCutRecord version bytes o) (sym same) (cut_record version y.ended y.pending bytes b.input (left_same a b x y reads ∙ known) gives.0)),

@@ -11,7 +11,7 @@ use Rattle.mps_event.specs.Grammar.{IsRecord}
 use Rattle.mps_event.specs.Reading.{first_of}
 use Rattle.mps_report.specs.declared.stop.Stop.{Stop}
 use Rattle.mps_report.specs.declared.stop.Stop.TheVariants as stop
-use Rattle.mps_report.specs.Streams.{Kept}
+use Rattle.mps_report.specs.Streams.{FlushedPrefix}
 use Rattle.mps_log_reader.specs.Input.{Buffered, ReadsMore, IsAtEnd}
 use Rattle.mps_log_reader.specs.Left.{left_of, LastGives}
 use Rattle.mps_log_reader.specs.PutOut.{put_out, PutsOut}
@@ -25,7 +25,7 @@ use Rattle.mps_cnv.specs.Converting.{PendingGives, NextGives, AllGive}
 
 -- the next record, from what is pending: the pieces before it were read and printed
 pub next_gives : (version : Version) (kinds offset : ℕ) (a b c : Outside) (x y : Buffered) (p q r : List ℕ) (size : Option ℕ)
-    → IsAtEnd a x → ReadsMore a b x y → (y.ended ≡ false → y.failed ≡ false → 40 ≤ length y.pending) → Kept b c p q → c.input ≡ b.input
+    → IsAtEnd a x → ReadsMore a b x y → (y.ended ≡ false → y.failed ≡ false → 40 ≤ length y.pending) → FlushedPrefix b c p q → c.input ≡ b.input
     → PendingGives version kinds offset y q r (Ok size)
     → NextGives version kinds offset (left_of a x) (left_of c (record y { pending = drop (unwrap_or size 0) y.pending })) (put_out a p) (put_out c r) (Ok size)
 next_gives version kinds offset a b c x y p q r None at_end reads enough kept same gives =
@@ -50,7 +50,7 @@ next_gives version kinds offset a b c x y p q r (Some size) at_end reads enough 
     }
 
 pub next_stops : (version : Version) (kinds offset : ℕ) (a b c : Outside) (x y : Buffered) (left_after : Option (List ℕ)) (p q r : List ℕ) (why : Stop)
-    → IsAtEnd a x → ReadsMore a b x y → Kept b c p q
+    → IsAtEnd a x → ReadsMore a b x y → FlushedPrefix b c p q
     → PendingGives version kinds offset y q r (Err why)
     → NextGives version kinds offset (left_of a x) left_after (put_out a p) (put_out c r) (Err why)
 next_stops version kinds offset a b c x y left_after p q r (stop.BadRecord at fault) at_end reads kept gives =

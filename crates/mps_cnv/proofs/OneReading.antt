@@ -10,7 +10,8 @@ use Rattle.mps_event.specs.Event.{number_of_version}
 use Rattle.mps_event.specs.Grammar.{IsRecord, log_bytes}
 use Rattle.mps_report.specs.declared.stop.Stop.{Stop}
 use Rattle.mps_report.specs.declared.stop.Stop.TheVariants as stop
-use Rattle.mps_log_reader.specs.Ending.{EndsAt, HasReported, is_whole_status, status_of_ending}
+use Rattle.mps_report.specs.Reports.{HasReportedEnding, status_of_ending}
+use Rattle.mps_log_reader.specs.Ending.{EndsAt, is_input_verdict}
 use Rattle.mps_log_reader.proofs.TwoReadings.{split, same_records, one_of, one_ending, same_version}
 use Rattle.mps_cnv.specs.Portable.{portable}
 use Rattle.mps_cnv.specs.Converted.{EndsWith, Tells, Converts, HasConverted, ConvertedWith, IsOnly}
@@ -45,7 +46,7 @@ one_reading v w first second e f bytes a b =
 
 -- ---- so a conversion is the only one
 
-tells : (kinds : ℕ) (bytes : List ℕ) (status : ℕ) (ending : Result (Unit {0}) Stop) (old new : Outside) → status ≡ status_of_ending ending → Converts kinds bytes ending old new → HasReported ending old new
+tells : (kinds : ℕ) (bytes : List ℕ) (status : ℕ) (ending : Result (Unit {0}) Stop) (old new : Outside) → status ≡ status_of_ending ending → Converts kinds bytes ending old new → HasReportedEnding ending old new
     → (version : Version) (records : List Record) (other : Result (Unit {0}) Stop) → EndsWith version records other bytes → Tells kinds version records other status old new
 tells kinds bytes status ending old new is c reported version records other h =
     let mine : EndsWith c.version c.records ending bytes = record { rest = c.rest; each = c.each; few = c.few; spelled = c.spelled; ends_at = c.ends_at } in
@@ -55,11 +56,11 @@ tells kinds bytes status ending old new is c reported version records other h =
       printed = c.printed
           ∙ ap (λ (v : Version). option_map (λ before. before ++ portable v kinds c.records) old.printed) s.version
           ∙ ap (λ (rs : List Record). option_map (λ before. before ++ portable version kinds rs) old.printed) s.records;
-      reported = subst (λ (e : Result (Unit {0}) Stop). HasReported e old new) s.ending reported;
+      reported = subst (λ (e : Result (Unit {0}) Stop). HasReportedEnding e old new) s.ending reported;
     }
 
 -- bytes that a conversion took begin with a header
-only_of : (kinds : ℕ) (bytes : List ℕ) (status : ℕ) (ending : Result (Unit {0}) Stop) (old new : Outside) → status ≡ status_of_ending ending → Converts kinds bytes ending old new → HasReported ending old new
+only_of : (kinds : ℕ) (bytes : List ℕ) (status : ℕ) (ending : Result (Unit {0}) Stop) (old new : Outside) → status ≡ status_of_ending ending → Converts kinds bytes ending old new → HasReportedEnding ending old new
     → IsOnly kinds bytes status old new
 only_of kinds bytes status ending old new is c reported = record {
   with_header = tells kinds bytes status ending old new is c reported;
@@ -67,11 +68,11 @@ only_of kinds bytes status ending old new is c reported = record {
       absurd (none c.version (records_bytes c.records ++ c.rest) (c.spelled ∙ append_assoc (header_bytes (number_of_version c.version)) (records_bytes c.records) c.rest));
 }
 
-not_whole : (status other : ℕ) → status ≡ other → is_whole_status status ≡ true → is_whole_status other ≡ false → ⊥
-not_whole status other is whole broken = absurd (let e : true ≡ false = sym whole ∙ ap is_whole_status is ∙ broken in cc)
+not_whole : (status other : ℕ) → status ≡ other → is_input_verdict status ≡ true → is_input_verdict other ≡ false → ⊥
+not_whole status other is whole broken = absurd (let e : true ≡ false = sym whole ∙ ap is_input_verdict is ∙ broken in cc)
 
-only_ending : (kinds : ℕ) (bytes : List ℕ) (status : ℕ) (ending : Result (Unit {0}) Stop) (old new : Outside) → is_whole_status status ≡ true → status ≡ status_of_ending ending → HasConverted kinds bytes ending old new
-    → HasReported ending old new → IsOnly kinds bytes status old new
+only_ending : (kinds : ℕ) (bytes : List ℕ) (status : ℕ) (ending : Result (Unit {0}) Stop) (old new : Outside) → is_input_verdict status ≡ true → status ≡ status_of_ending ending → HasConverted kinds bytes ending old new
+    → HasReportedEnding ending old new → IsOnly kinds bytes status old new
 only_ending kinds bytes status (Ok value) old new whole is h reported = only_of kinds bytes status (Ok value) old new is h reported
 only_ending kinds bytes status (Err (stop.BadRecord at fault)) old new whole is h reported = only_of kinds bytes status (Err (stop.BadRecord at fault)) old new is h reported
 only_ending kinds bytes status (Err stop.TooLong) old new whole is h reported = only_of kinds bytes status (Err stop.TooLong) old new is h reported
@@ -86,5 +87,5 @@ only_ending kinds bytes status (Err stop.OutOfMemory) old new whole is h reporte
 only_ending kinds bytes status (Err (stop.BadReplay at)) old new whole is h reported = absurd h
 only_ending kinds bytes status (Err (stop.BadLine line)) old new whole is h reported = absurd h
 
-pub only : (kinds : ℕ) (bytes : List ℕ) (status : ℕ) (old new : Outside) → is_whole_status status ≡ true → ConvertedWith kinds bytes status old new → IsOnly kinds bytes status old new
+pub only : (kinds : ℕ) (bytes : List ℕ) (status : ℕ) (old new : Outside) → is_input_verdict status ≡ true → ConvertedWith kinds bytes status old new → IsOnly kinds bytes status old new
 only kinds bytes status old new whole c = only_ending kinds bytes status c.ending old new whole c.status_is c.converted c.reported

@@ -9,7 +9,8 @@ use Rattle.mps_event.specs.Reading.{first_of}
 use Rattle.mps_report.specs.declared.stop.Stop.{Stop}
 use Rattle.mps_report.specs.declared.stop.Stop.TheVariants as stop
 use Rattle.mps_log_reader.specs.Opening.{HasNoHeader, IsCutHeader}
-use Rattle.mps_log_reader.specs.Ending.{EndsAt, status_of_ending, HasReported}
+use Rattle.mps_report.specs.Reports.{status_of_ending, HasReportedEnding}
+use Rattle.mps_log_reader.specs.Ending.{EndsAt}
 use Rattle.mps_log_reader.specs.PutOut.{PrintsAsFar}
 use Rattle.mps_cnv.specs.Portable.{portable}
 
@@ -82,7 +83,7 @@ pub record ConvertedWith (kinds : ℕ) (bytes : List ℕ) (status : ℕ) (old ne
   pub ending : Result (Unit {0}) Stop
   pub status_is : status ≡ status_of_ending ending
   pub converted : HasConverted kinds bytes ending old new
-  pub reported : HasReported ending old new
+  pub reported : HasReportedEnding ending old new
 
 -- the bytes are the header of a version, these records and a rest at which the reading ends so
 pub record EndsWith (version : Version) (records : List Record) (ending : Result (Unit {0}) Stop) (bytes : List ℕ) : Type 0 where
@@ -96,13 +97,13 @@ pub record EndsWith (version : Version) (records : List Record) (ending : Result
 pub record Tells (kinds : ℕ) (version : Version) (records : List Record) (ending : Result (Unit {0}) Stop) (status : ℕ) (old new : Outside) : Type 0 where
   pub status_is : status ≡ status_of_ending ending
   pub printed : new.printed ≡ option_map (λ before. before ++ portable version kinds records) old.printed
-  pub reported : HasReported ending old new
+  pub reported : HasReportedEnding ending old new
 
 -- bytes that begin with no header are told so, and nothing is printed
 pub record TellsNoHeader (status : ℕ) (old new : Outside) : Type 0 where
   pub status_is : status ≡ 6
   pub printed : new.printed ≡ old.printed
-  pub reported : HasReported {T = Unit {0}} (Err stop.BadHeader) old new
+  pub reported : HasReportedEnding {T = Unit {0}} (Err stop.BadHeader) old new
 
 -- In whatever way the bytes end, the program tells just that.
 pub record IsOnly (kinds : ℕ) (bytes : List ℕ) (status : ℕ) (old new : Outside) : Type 0 where

@@ -1,7 +1,7 @@
 // `cnv`: the portable text of a log.
 
 ghost use Rattle.std.specs.Prelude.{◌≡◌, ◌≢◌, ◌≤◌, ◌<◌, ◌+◌, ◌*◌, ◌++◌, ◌⊎◌, ℕ, List, Some, true, length, IfOk, IfSome};
-ghost use Rattle.mps_log_reader.specs.Causes.{IsCaused, IsTold, Works, Answers};
+ghost use Rattle.mps_log_reader.specs.Causes.{IsCaused, StopIsJustified, WorksOnInput, StatusIsJustified};
 ghost use Rattle.std.specs.List.{flat_map};
 ghost use Rattle.mps_event.specs.Event.{event_of};
 ghost use Rattle.mps_event.specs.Reading.{first_of};
@@ -10,21 +10,22 @@ ghost use Rattle.mps_log_reader.specs.RecordLine.{record_line, field_text};
 ghost use Rattle.mps_log_reader.specs.Input.{IsAtEnd};
 ghost use Rattle.mps_log_reader.specs.Left.{left_of};
 ghost use Rattle.mps_log_reader.specs.PutOut.{put_out, Grows, PutsPart};
-ghost use Rattle.mps_log_reader.specs.Ending.{is_whole_status, IsUnopened, ReportsStatus};
+ghost use Rattle.mps_report.specs.Reports.{ReportsStatus};
+ghost use Rattle.mps_log_reader.specs.Ending.{is_input_verdict, IsUnopened};
 ghost use Rattle.mps_log_reader.specs.Opening.{OpensNothing};
 ghost use Rattle.mps_cnv.specs.Converted.{ConvertedWith, HasConverted, IsCutRecord, IsCutShort, Fails, IsOnly};
 ghost use Rattle.mps_cnv.specs.Converting.{ConvertsPart, ConvertsFront, PendingGives, NextGives, AllGive};
 ghost use Rattle.mps_event.specs.KindSet.{bits_of};
 ghost use Rattle.mps_report.specs.Reports.{report_of};
-ghost use Rattle.mps_report.specs.Streams.{Runs, Reports};
+ghost use Rattle.mps_report.specs.Streams.{LeavesLogAlone, Reports};
 ghost use Rattle.mps_report.specs.declared.stop.Stop.TheVariants.{OutOfMemory};
 
 
 use mps_base::Desk;
 use mps_event::{Event, Kinds, RecordRef, Version, first};
-use mps_report::{Output, Stop, finish};
+use mps_report::{Output, Stop, report_ending};
 use mps_log_reader::{
-    Input, MOST_OF_A_RECORD, after_the_last, flush_after, make_room, open_log, put_first_line,
+    Input, MAX_RECORD_BYTES, after_the_last, flush_after, make_room, open_log, put_first_line,
 };
 use std::alloc::Global;
 
@@ -32,11 +33,11 @@ use std::alloc::Global;
 /// program: 0, or with a report 3 where a read failed, 4 where a write failed, 6 at the first record that is wrong, 7
 /// where record 2^32 begins, 8 for out of memory.
 pub fn cnv<D: Desk>(alloc: Global, log: &str, kinds: Kinds, desk: &mut D) -> u8
-    ensures answers { Answers (D.outside desk.old) (D.outside desk.new) result }
+    ensures answers { StatusIsJustified (D.outside desk.old) (D.outside desk.new) result }
     // With any status its ending was reported, and nothing with 0.
     ensures reported { ReportsStatus result (D.outside desk.old) (D.outside desk.new) }
     // Where the opened file is told, and the status is none of a fault or for out of memory: exactly this was printed.
-    ensures converted { is_whole_status result ≡ true → (bytes : List ℕ) → (D.outside desk.old).text log.now ≡ Some bytes
+    ensures converted { is_input_verdict result ≡ true → (bytes : List ℕ) → (D.outside desk.old).text log.now ≡ Some bytes
         → ConvertedWith (bits_of kinds) bytes result (D.outside desk.old) (D.outside desk.new) }
     // Where the log could not be read: the whole records that had come were printed; a prefix of that, where a write failed
     // too.
@@ -50,16 +51,16 @@ pub fn cnv<D: Desk>(alloc: Global, log: &str, kinds: Kinds, desk: &mut D) -> u8
     ensures cut { result ≡ 4 → (bytes : List ℕ) → (D.outside desk.old).text log.now ≡ Some bytes
         → IsCutShort (bits_of kinds) bytes (D.outside desk.old) (D.outside desk.new) }
     // And nothing else: a whole log gives 0 and all of its text, one with a bad record gives 6 and the text before it.
-    ensures only { is_whole_status result ≡ true → (bytes : List ℕ) → (D.outside desk.old).text log.now ≡ Some bytes
+    ensures only { is_input_verdict result ≡ true → (bytes : List ℕ) → (D.outside desk.old).text log.now ≡ Some bytes
         → IsOnly (bits_of kinds) bytes result (D.outside desk.old) (D.outside desk.new) }
 {
     let ending = convert(alloc, log, kinds, desk);
-    finish(ending, desk)
+    report_ending(ending, desk)
 }
 
 fn convert<D: Desk>(alloc: Global, log: &str, kinds: Kinds, desk: &mut D) -> Result<(), Stop>
     ensures cause { IsCaused (D.outside desk.old) (D.outside desk.new) result }
-    ensures runs { Runs (D.outside desk.old) (D.outside desk.new) }
+    ensures runs { LeavesLogAlone (D.outside desk.old) (D.outside desk.new) }
     ensures reported { (D.outside desk.new).reported ≡ (D.outside desk.old).reported }
     ensures err_faults { (D.outside desk.new).err_faults ≡ (D.outside desk.old).err_faults }
     ensures broken { result ≡ Err Stop.ReadFailed → (bytes : List ℕ) → (D.outside desk.old).text log.now ≡ Some bytes
@@ -94,7 +95,7 @@ fn convert_records<D: Desk>(
     desk: &mut D,
 ) -> Result<(), Stop>
     requires { IsAtEnd (D.outside desk.old) input.old }
-    ensures works { Works (D.outside desk.old) (D.outside desk.new) input.old input.new result }
+    ensures works { WorksOnInput (D.outside desk.old) (D.outside desk.new) input.old input.new result }
     ensures reported { (D.outside desk.new).reported ≡ (D.outside desk.old).reported }
     ensures err_faults { (D.outside desk.new).err_faults ≡ (D.outside desk.old).err_faults }
     ensures broken { result ≡ Err Stop.ReadFailed → (bytes : List ℕ) → left_of (D.outside desk.old) input.old ≡ Some bytes
@@ -126,7 +127,7 @@ fn convert_next<D: Desk>(
     desk: &mut D,
 ) -> Result<Option<usize>, Stop>
     requires { IsAtEnd (D.outside desk.old) input.old }
-    ensures works { Works (D.outside desk.old) (D.outside desk.new) input.old input.new result }
+    ensures works { WorksOnInput (D.outside desk.old) (D.outside desk.new) input.old input.new result }
     ensures size { IfOk result (λ o. IfSome o (λ size. size ≤ 40)) }
     ensures gives { NextGives version (bits_of kinds) offset (left_of (D.outside desk.old) input.old) (left_of (D.outside desk.new) input.new)
         (put_out (D.outside desk.old) output.old) (put_out (D.outside desk.new) output.new) result }
@@ -138,7 +139,7 @@ fn convert_next<D: Desk>(
     ensures reported { (D.outside desk.new).reported ≡ (D.outside desk.old).reported }
     ensures err_faults { (D.outside desk.new).err_faults ≡ (D.outside desk.old).err_faults }
 {
-    input.fill(MOST_OF_A_RECORD, desk);
+    input.fill(MAX_RECORD_BYTES, desk);
     make_room(output, desk)?;
     let size = convert_record(version, kinds, input, offset, output)?;
     input.take(size.unwrap_or(0));
@@ -154,7 +155,7 @@ fn convert_record(
     output: &mut Output,
 ) -> Result<Option<usize>, Stop>
     requires { length output.old + 512 ≤ 65536 }
-    ensures known { IsTold input.now result }
+    ensures known { StopIsJustified input.now result }
     ensures size { IfOk result (λ o. IfSome o (λ size. (size ≤ 40) × (size ≤ length input.now.pending))) }
     ensures broken { result ≡ Err Stop.ReadFailed → (first_of version input.now.ended input.now.pending ≡ Ok None) × (output.new ≡ output.old) }
     ensures gives { PendingGives version (bits_of kinds) offset input.now output.old output.new result }

@@ -1,4 +1,4 @@
--- Runs one after the other, and the causes of their stops.
+-- LeavesLogAlone one after the other, and the causes of their stops.
 use Rattle.std.proofs.Common.{◌≡◌, ℕ, ◌≤◌, true, List, Result, Ok, Err, refl, sym, subst, ◌∙◌, arith, inl, inr}
 use Rattle.std.specs.Prelude.{OnOk, IfErr}
 use Rattle.mps_base.specs.Desk.{Outside, HasRisen, OnlyReads}
@@ -6,14 +6,14 @@ use Rattle.mps_report.specs.declared.stop.Stop.{Stop}
 use Rattle.mps_report.specs.declared.stop.Stop.TheVariants as stop
 use Rattle.mps_log_reader.specs.Input.{Buffered, ReadsMore}
 use Rattle.mps_report.specs.Reports.{status_of, report_of}
-use Rattle.mps_report.specs.Streams.{Runs, Prints, Reports}
-use Rattle.mps_log_reader.specs.Causes.{IsFaulty, CauseOf, IsCaused, CauseFrom, IsCausedFrom, IsTold, IsStatus, Works, Answers}
+use Rattle.mps_report.specs.Streams.{LeavesLogAlone, Prints, Reports}
+use Rattle.mps_log_reader.specs.Causes.{IsFaulty, CauseOfReader, IsCaused, CauseFrom, IsCausedFrom, StopIsJustified, IsStatus, WorksOnInput, StatusIsJustified}
 use Rattle.mps_report.proofs.Outside.{risen_later, risen_earlier}
 
-pub runs-none : (o : Outside) → Runs o o
+pub runs-none : (o : Outside) → LeavesLogAlone o o
 runs-none o = record { in_counted = omega arith; out_counted = omega arith; err_counted = omega arith; files = refl; text = refl; logged = refl; log_faults = refl }
 
-pub runs-then : (a b c : Outside) → Runs a b → Runs b c → Runs a c
+pub runs-then : (a b c : Outside) → LeavesLogAlone a b → LeavesLogAlone b c → LeavesLogAlone a c
 runs-then a b c e f = record {
   in_counted = omega (arith, e.in_counted, f.in_counted);
   out_counted = omega (arith, e.out_counted, f.out_counted);
@@ -27,7 +27,7 @@ runs-then a b c e f = record {
 same-le : (a b : ℕ) → b ≡ a → a ≤ b
 same-le a b e = omega (arith, e)
 
-pub runs_reading : (a b : Outside) → a.in_faults ≤ b.in_faults → OnlyReads a b → Runs a b
+pub runs_reading : (a b : Outside) → a.in_faults ≤ b.in_faults → OnlyReads a b → LeavesLogAlone a b
 runs_reading a b counted o = record {
   in_counted = counted;
   out_counted = same-le _ _ o.out_faults;
@@ -38,7 +38,7 @@ runs_reading a b counted o = record {
   log_faults = o.log_faults;
 }
 
-pub runs_printing : (a b : Outside) (text : List ℕ) → Prints a b text → Runs a b
+pub runs_printing : (a b : Outside) (text : List ℕ) → Prints a b text → LeavesLogAlone a b
 runs_printing a b text p = record {
   in_counted = same-le _ _ p.others.in_faults;
   out_counted = p.counted;
@@ -49,7 +49,7 @@ runs_printing a b text p = record {
   log_faults = p.others.log_faults;
 }
 
-pub runs_reports : (a b : Outside) (text : List ℕ) → Reports a b text → Runs a b
+pub runs_reports : (a b : Outside) (text : List ℕ) → Reports a b text → LeavesLogAlone a b
 runs_reports a b text r = record {
   in_counted = same-le _ _ r.others.in_faults;
   out_counted = same-le _ _ r.others.out_faults;
@@ -62,64 +62,48 @@ runs_reports a b text r = record {
 
 -- ---- causes
 
-pub cause_later : (a b c : Outside) (why : Stop) → CauseOf a b why → Runs b c → CauseOf a c why
+pub cause_later : {E : Type 0} (a b c : Outside) (why : Stop E) → CauseOfReader a b why → LeavesLogAlone b c → CauseOfReader a c why
 cause_later a b c stop.ReadFailed h r = risen_later a.in_faults b.in_faults c.in_faults h r.in_counted
 cause_later a b c stop.WriteFailed h r = risen_later a.out_faults b.out_faults c.out_faults h r.out_counted
-cause_later a b c stop.BadHeader h r = tt
-cause_later a b c (stop.BadRecord offset fault) h r = tt
-cause_later a b c (stop.BadReplay offset) h r = tt
-cause_later a b c (stop.BadLine line) h r = tt
-cause_later a b c stop.TooLong h r = tt
-cause_later a b c stop.OutOfMemory h r = tt
+cause_later a b c stop.LogFailed h r = absurd h
+cause_later a b c why h r = tt
 
 -- an input that had failed had a fault since the start
-fault_since : (a b c : Outside) (x : Buffered) → Runs a b → (x.failed ≡ true → HasRisen a.in_faults b.in_faults) → Runs b c → IsFaulty b c x → HasRisen a.in_faults c.in_faults
+fault_since : (a b c : Outside) (x : Buffered) → LeavesLogAlone a b → (x.failed ≡ true → HasRisen a.in_faults b.in_faults) → LeavesLogAlone b c → IsFaulty b c x → HasRisen a.in_faults c.in_faults
 fault_since a b c x r h s (inl failed) = risen_later a.in_faults b.in_faults c.in_faults (h failed) s.in_counted
 fault_since a b c x r h s (inr risen) = risen_earlier a.in_faults b.in_faults c.in_faults r.in_counted risen
 
-cause_since : (a b c : Outside) (x : Buffered) (why : Stop) → Runs a b → (x.failed ≡ true → HasRisen a.in_faults b.in_faults) → Runs b c → CauseFrom b c x why → CauseOf a c why
+cause_since : {E : Type 0} (a b c : Outside) (x : Buffered) (why : Stop E) → LeavesLogAlone a b → (x.failed ≡ true → HasRisen a.in_faults b.in_faults) → LeavesLogAlone b c → CauseFrom b c x why → CauseOfReader a c why
 cause_since a b c x stop.ReadFailed r h s f = fault_since a b c x r h s f
 cause_since a b c x stop.WriteFailed r h s f = risen_earlier a.out_faults b.out_faults c.out_faults r.out_counted f
-cause_since a b c x stop.BadHeader r h s f = tt
-cause_since a b c x (stop.BadRecord offset fault) r h s f = tt
-cause_since a b c x (stop.BadReplay offset) r h s f = tt
-cause_since a b c x (stop.BadLine line) r h s f = tt
-cause_since a b c x stop.TooLong r h s f = tt
-cause_since a b c x stop.OutOfMemory r h s f = tt
+cause_since a b c x stop.LogFailed r h s f = absurd f
+cause_since a b c x why r h s f = tt
 
-pub caused_since : {T : Type 0} (a b c : Outside) (x : Buffered) (ending : Result T Stop) → Runs a b → (x.failed ≡ true → HasRisen a.in_faults b.in_faults) → Runs b c
+pub caused_since : {T E : Type 0} (a b c : Outside) (x : Buffered) (ending : Result T (Stop E)) → LeavesLogAlone a b → (x.failed ≡ true → HasRisen a.in_faults b.in_faults) → LeavesLogAlone b c
     → IsCausedFrom b c x ending → IsCaused a c ending
 caused_since a b c x (Ok value) r h s f = tt
 caused_since a b c x (Err why) r h s f = cause_since a b c x why r h s f
 
 -- what was told of an input
-fault_known : (T : Type 0) (a b : Outside) (x y : Buffered) (why : Stop) → (y.failed ≡ true → IsFaulty a b x) → IsTold {T = T} y (Err why) → CauseFrom a b x why
+fault_known : {E : Type 0} (T : Type 0) (a b : Outside) (x y : Buffered) (why : Stop E) → (y.failed ≡ true → IsFaulty a b x) → StopIsJustified {T = T} y (Err why) → CauseFrom a b x why
 fault_known T a b x y stop.ReadFailed f h = f h
 fault_known T a b x y stop.WriteFailed f h = absurd h
-fault_known T a b x y stop.BadHeader f h = tt
-fault_known T a b x y (stop.BadRecord offset fault) f h = tt
-fault_known T a b x y (stop.BadReplay offset) f h = tt
-fault_known T a b x y (stop.BadLine line) f h = tt
-fault_known T a b x y stop.TooLong f h = tt
-fault_known T a b x y stop.OutOfMemory f h = tt
+fault_known T a b x y stop.LogFailed f h = absurd h
+fault_known T a b x y why f h = tt
 
-pub caused_known : {T : Type 0} (a b : Outside) (x y : Buffered) (ending : Result T Stop) → (y.failed ≡ true → IsFaulty a b x) → IsTold y ending → IsCausedFrom a b x ending
+pub caused_known : {T E : Type 0} (a b : Outside) (x y : Buffered) (ending : Result T (Stop E)) → (y.failed ≡ true → IsFaulty a b x) → StopIsJustified y ending → IsCausedFrom a b x ending
 caused_known a b x y (Ok value) f h = tt
 caused_known {T = T} a b x y (Err why) f h = fault_known T a b x y why f h
 
-pub known_of_fault : {T : Type 0} (a b : Outside) (y : Buffered) (ending : Result T Stop) → (y.failed ≡ true → HasRisen a.in_faults b.in_faults) → IsTold y ending → IsCaused a b ending
+pub known_of_fault : {T E : Type 0} (a b : Outside) (y : Buffered) (ending : Result T (Stop E)) → (y.failed ≡ true → HasRisen a.in_faults b.in_faults) → StopIsJustified y ending → IsCaused a b ending
 known_of_fault a b y (Ok value) f h = tt
 known_of_fault a b y (Err stop.ReadFailed) f h = f h
 known_of_fault a b y (Err stop.WriteFailed) f h = absurd h
-known_of_fault a b y (Err stop.BadHeader) f h = tt
-known_of_fault a b y (Err (stop.BadRecord offset fault)) f h = tt
-known_of_fault a b y (Err (stop.BadReplay offset)) f h = tt
-known_of_fault a b y (Err (stop.BadLine line)) f h = tt
-known_of_fault a b y (Err stop.TooLong) f h = tt
-known_of_fault a b y (Err stop.OutOfMemory) f h = tt
+known_of_fault a b y (Err stop.LogFailed) f h = absurd h
+known_of_fault a b y ending f h = tt
 
 -- what is still to be read cannot have failed before
-pub faulty_since : (a b c : Outside) (x y z : Buffered) → Runs a b → (y.failed ≡ true → IsFaulty a b x) → Runs b c → (z.failed ≡ true → IsFaulty b c y) → z.failed ≡ true → IsFaulty a c x
+pub faulty_since : (a b c : Outside) (x y z : Buffered) → LeavesLogAlone a b → (y.failed ≡ true → IsFaulty a b x) → LeavesLogAlone b c → (z.failed ≡ true → IsFaulty b c y) → z.failed ≡ true → IsFaulty a c x
 faulty_since a b c x y z r f s g failed = first (g failed)
   where
     earlier : IsFaulty a b x → IsFaulty a c x
@@ -132,50 +116,46 @@ faulty_since a b c x y z r f s g failed = first (g failed)
 
 -- ---- work
 
-cause_after : (a b c : Outside) (x y : Buffered) (why : Stop) → Runs a b → (y.failed ≡ true → IsFaulty a b x) → Runs b c → CauseFrom b c y why → CauseFrom a c x why
+cause_after : {E : Type 0} (a b c : Outside) (x y : Buffered) (why : Stop E) → LeavesLogAlone a b → (y.failed ≡ true → IsFaulty a b x) → LeavesLogAlone b c → CauseFrom b c y why → CauseFrom a c x why
 cause_after a b c x y stop.ReadFailed r f s h = faulty_since a b c x y (record y { failed = true }) r f s (λ _. h) refl
 cause_after a b c x y stop.WriteFailed r f s h = risen_earlier a.out_faults b.out_faults c.out_faults r.out_counted h
-cause_after a b c x y stop.BadHeader r f s h = tt
-cause_after a b c x y (stop.BadRecord offset fault) r f s h = tt
-cause_after a b c x y (stop.BadReplay offset) r f s h = tt
-cause_after a b c x y (stop.BadLine line) r f s h = tt
-cause_after a b c x y stop.TooLong r f s h = tt
-cause_after a b c x y stop.OutOfMemory r f s h = tt
+cause_after a b c x y stop.LogFailed r f s h = absurd h
+cause_after a b c x y why r f s h = tt
 
-caused_after : (T : Type 0) (a b c : Outside) (x y : Buffered) (ending : Result T Stop) → Runs a b → (y.failed ≡ true → IsFaulty a b x) → Runs b c → IsCausedFrom b c y ending → IsCausedFrom a c x ending
+caused_after : {E : Type 0} (T : Type 0) (a b c : Outside) (x y : Buffered) (ending : Result T (Stop E)) → LeavesLogAlone a b → (y.failed ≡ true → IsFaulty a b x) → LeavesLogAlone b c → IsCausedFrom b c y ending → IsCausedFrom a c x ending
 caused_after T a b c x y (Ok value) r f s h = tt
 caused_after T a b c x y (Err why) r f s h = cause_after a b c x y why r f s h
 
 -- one piece of work after another
-pub works-then : {T U : Type 0} (a b c : Outside) (x y z : Buffered) (first : Result U Stop) (ending : Result T Stop) → Works a b x y first → Works b c y z ending → Works a c x z ending
+pub works-then : {T U E : Type 0} (a b c : Outside) (x y z : Buffered) (first : Result U (Stop E)) (ending : Result T (Stop E)) → WorksOnInput a b x y first → WorksOnInput b c y z ending → WorksOnInput a c x z ending
 works-then {T = T} a b c x y z first ending e f = record {
   runs = runs-then a b c e.runs f.runs;
   fault = faulty_since a b c x y z e.runs e.fault f.runs f.fault;
   cause = caused_after T a b c x y ending e.runs e.fault f.runs f.cause;
 }
 
-pub works-none : {T : Type 0} (o : Outside) (x : Buffered) (value : T) → Works o o x x (Ok value)
+pub works-none : {T E : Type 0} (o : Outside) (x : Buffered) (value : T) → WorksOnInput {E = E} o o x x (Ok value)
 works-none o x value = record { runs = runs-none o; fault = λ h. inl h; cause = tt }
 
 -- the same stop of a value of another type
-pub works-at : {T U : Type 0} (a b : Outside) (x y : Buffered) (why : Stop) → Works {T = T} a b x y (Err why) → Works {T = U} a b x y (Err why)
+pub works-at : {T U E : Type 0} (a b : Outside) (x y : Buffered) (why : Stop E) → WorksOnInput {T = T} a b x y (Err why) → WorksOnInput {T = U} a b x y (Err why)
 works-at a b x y why e = record { runs = e.runs; fault = e.fault; cause = e.cause }
 
-pub works_value : {T U : Type 0} (a b : Outside) (x y : Buffered) (v : T) (u : U) → Works a b x y (Ok v) → Works a b x y (Ok u)
+pub works_value : {T U E : Type 0} (a b : Outside) (x y : Buffered) (v : T) (u : U) → WorksOnInput {E = E} a b x y (Ok v) → WorksOnInput {E = E} a b x y (Ok u)
 works_value a b x y v u e = record { runs = e.runs; fault = e.fault; cause = tt }
 
-pub works_reading : {T : Type 0} (a b : Outside) (x y : Buffered) (value : T) → ReadsMore a b x y → Works a b x y (Ok value)
+pub works_reading : {T E : Type 0} (a b : Outside) (x y : Buffered) (value : T) → ReadsMore a b x y → WorksOnInput {E = E} a b x y (Ok value)
 works_reading a b x y value r = record { runs = runs_reading a b r.counted r.others; fault = r.fault; cause = tt }
 
 -- what does not touch the input
-pub works_beside : {T : Type 0} (a b : Outside) (x : Buffered) (value : T) → Runs a b → Works a b x x (Ok value)
+pub works_beside : {T E : Type 0} (a b : Outside) (x : Buffered) (value : T) → LeavesLogAlone a b → WorksOnInput {E = E} a b x x (Ok value)
 works_beside a b x value r = record { runs = r; fault = λ h. inl h; cause = tt }
 
-pub works_write_failed : {T : Type 0} (a b : Outside) (x : Buffered) → Runs a b → HasRisen a.out_faults b.out_faults → Works {T = T} a b x x (Err stop.WriteFailed)
+pub works_write_failed : {T E : Type 0} (a b : Outside) (x : Buffered) → LeavesLogAlone a b → HasRisen a.out_faults b.out_faults → WorksOnInput {T = T} {E = E} a b x x (Err stop.WriteFailed)
 works_write_failed a b x r h = record { runs = r; fault = λ f. inl f; cause = h }
 
 -- what was told of an input that stays as it is, or of which something was taken
-pub works_known : {T : Type 0} (o : Outside) (x y : Buffered) (ending : Result T Stop) → y.failed ≡ x.failed → IsTold x ending → Works o o x y ending
+pub works_known : {T E : Type 0} (o : Outside) (x y : Buffered) (ending : Result T (Stop E)) → y.failed ≡ x.failed → StopIsJustified x ending → WorksOnInput o o x y ending
 works_known o x y ending same is_known = record {
   runs = runs-none o;
   fault = λ f. inl (sym same ∙ f);
@@ -184,50 +164,36 @@ works_known o x y ending same is_known = record {
 
 -- ---- the status
 
-status_known : (why : Stop) → IsStatus (status_of why)
-status_known stop.ReadFailed = inr (inl refl)
-status_known stop.WriteFailed = inr (inr (inl refl))
-status_known stop.BadHeader = inr (inr (inr (inl refl)))
-status_known (stop.BadRecord offset fault) = inr (inr (inr (inl refl)))
-status_known (stop.BadReplay offset) = inr (inr (inr (inl refl)))
-status_known (stop.BadLine line) = inr (inr (inr (inl refl)))
-status_known stop.TooLong = inr (inr (inr (inr (inl refl))))
-status_known stop.OutOfMemory = inr (inr (inr (inr (inr refl))))
+status_known : {E : Type 0} (a b : Outside) (why : Stop E) → CauseOfReader a b why → IsStatus (status_of why)
+status_known a b stop.ReadFailed h = inr (inl refl)
+status_known a b stop.WriteFailed h = inr (inr (inl refl))
+status_known a b stop.LogFailed h = absurd h
+status_known a b (stop.Bad place) h = inr (inr (inr (inl refl)))
+status_known a b stop.TooLong h = inr (inr (inr (inr (inl refl))))
+status_known a b stop.OutOfMemory h = inr (inr (inr (inr (inr refl))))
 
-read_status : (a b : Outside) (why : Stop) → CauseOf a b why → status_of why ≡ 3 → HasRisen a.in_faults b.in_faults
+read_status : {E : Type 0} (a b : Outside) (why : Stop E) → CauseOfReader a b why → status_of why ≡ 3 → HasRisen a.in_faults b.in_faults
 read_status a b stop.ReadFailed h e = h
-read_status a b stop.WriteFailed h e = absurd (omega (arith, e))
-read_status a b stop.BadHeader h e = absurd (omega (arith, e))
-read_status a b (stop.BadRecord offset fault) h e = absurd (omega (arith, e))
-read_status a b (stop.BadReplay offset) h e = absurd (omega (arith, e))
-read_status a b (stop.BadLine line) h e = absurd (omega (arith, e))
-read_status a b stop.TooLong h e = absurd (omega (arith, e))
-read_status a b stop.OutOfMemory h e = absurd (omega (arith, e))
+read_status a b why h e = absurd (omega (arith, e))
 
-write_status : (a b : Outside) (why : Stop) → CauseOf a b why → status_of why ≡ 4 → HasRisen a.out_faults b.out_faults
-write_status a b stop.ReadFailed h e = absurd (omega (arith, e))
+write_status : {E : Type 0} (a b : Outside) (why : Stop E) → CauseOfReader a b why → status_of why ≡ 4 → HasRisen a.out_faults b.out_faults
 write_status a b stop.WriteFailed h e = h
-write_status a b stop.BadHeader h e = absurd (omega (arith, e))
-write_status a b (stop.BadRecord offset fault) h e = absurd (omega (arith, e))
-write_status a b (stop.BadReplay offset) h e = absurd (omega (arith, e))
-write_status a b (stop.BadLine line) h e = absurd (omega (arith, e))
-write_status a b stop.TooLong h e = absurd (omega (arith, e))
-write_status a b stop.OutOfMemory h e = absurd (omega (arith, e))
+write_status a b why h e = absurd (omega (arith, e))
 
--- what the program answers after an ending and its report
-pub answers : {T : Type 0} (a b c : Outside) (ending : Result T Stop) (status : ℕ) → Runs a b → IsCaused a b ending → OnOk ending (status ≡ 0) → OnOk ending (c ≡ b)
-    → IfErr ending (λ why. status ≡ status_of why) → IfErr ending (λ why. Reports b c (report_of why)) → Answers a c status
-answers a b c (Ok value) status r f zero same is reports = record {
+-- what the status of the program says after an ending and its report
+pub status_is_justified : {T E : Type 0} (a b c : Outside) (text : E → List ℕ) (ending : Result T (Stop E)) (status : ℕ) → LeavesLogAlone a b → IsCaused a b ending → OnOk ending (status ≡ 0) → OnOk ending (c ≡ b)
+    → IfErr ending (λ why. status ≡ status_of why) → IfErr ending (λ why. Reports b c (report_of text why)) → StatusIsJustified a c status
+status_is_justified a b c text (Ok value) status r f zero same is reports = record {
   known = inl zero;
   read_fault = λ e. absurd (omega (arith, zero, e));
   write_fault = λ e. absurd (omega (arith, zero, e));
-  runs = subst (λ (o : Outside). Runs a o) (sym same) r;
+  runs = subst (λ (o : Outside). LeavesLogAlone a o) (sym same) r;
 }
-answers a b c (Err why) status r f zero same is reports =
-    let s = runs_reports b c (report_of why) reports in
+status_is_justified a b c text (Err why) status r f zero same is reports =
+    let s = runs_reports b c (report_of text why) reports in
     let g = cause_later a b c why f s in
     record {
-      known = subst (λ (n : ℕ). IsStatus n) (sym is) (status_known why);
+      known = subst (λ (n : ℕ). IsStatus n) (sym is) (status_known a b why f);
       read_fault = λ e. read_status a c why g (sym is ∙ e);
       write_fault = λ e. write_status a c why g (sym is ∙ e);
       runs = runs-then a b c r s;

@@ -8,7 +8,7 @@ use Rattle.mps_event.specs.declared.fault.LogFault.{LogFault}
 use Rattle.mps_event.specs.Reading.{first_of}
 use Rattle.mps_log_reader.specs.Input.{Buffered, ReadsMore}
 use Rattle.mps_log_reader.specs.Left.{left_of}
-use Rattle.mps_log_reader.proofs.Behind.{fault_stays, none_short}
+use Rattle.mps_log_reader.proofs.Extension.{fault_stays, none_short}
 
 more_pending : (p q read : List ℕ) (i j : Option (List ℕ)) → q ≡ p ++ read → i ≡ option_map (λ left. read ++ left) j
     → option_map (λ left. q ++ left) j ≡ option_map (λ left. p ++ left) i

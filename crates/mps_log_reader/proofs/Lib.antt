@@ -1,7 +1,7 @@
 pub mod Pending
 pub mod Causes
-pub mod Fronts
-pub mod Behind
+pub mod FirstRecord
+pub mod Extension
 pub mod Left
 pub mod PutOut
 pub mod PartPut

@@ -51,21 +51,16 @@ untouched_left a x e = ap (left_of a) e ∙ sym (nothing_in_front a.input)
 untouched_end : (a : Outside) (x : Buffered) → x ≡ untouched → IsAtEnd a x
 untouched_end a x e h = absurd (let f : x.ended ≡ false = ap (λ (b : Buffered). b.ended) e in let g : true ≡ false = sym h ∙ f in cc)
 
-pub opens : (a b : Outside) (x y z : Buffered) (bytes : List ℕ) (text : Option (List ℕ)) (result : Result Version Stop) → x ≡ untouched → a.input ≡ text → ReadsMore a b x y
+pub opens : {E : Type 0} (a b : Outside) (x y z : Buffered) (bytes : List ℕ) (text : Option (List ℕ)) (result : Result Version (Stop E)) → x ≡ untouched → a.input ≡ text → ReadsMore a b x y
     → (y.ended ≡ false → y.failed ≡ false → 8 ≤ length y.pending) → TakesHeader y z result → text ≡ Some bytes → OpensWith bytes (left_of b z) result
 opens a b x y z bytes text (Ok version) start given reads enough takes known =
     let left : left_of b y ≡ Some bytes = left_same a b x y reads ∙ untouched_left a x start ∙ given ∙ known in
     sym left ∙ split_pending (header_bytes (number_of_version version)) y.pending z.pending b.input takes.0
-opens a b x y z bytes text (Err stop.BadHeader) start given reads enough takes known =
+opens a b x y z bytes text (Err (stop.Bad place)) start given reads enough takes known =
     let left : left_of b y ≡ Some bytes = left_same a b x y reads ∙ untouched_left a x start ∙ given ∙ known in
     no_header_of y.pending bytes y.ended y.failed b.input left takes.0 takes.1 enough (reads.end (untouched_end a x start))
 opens a b x y z bytes text (Err stop.ReadFailed) start given reads enough takes known = tt
-opens a b x y z bytes text (Err stop.WriteFailed) start given reads enough takes known = absurd takes
-opens a b x y z bytes text (Err (stop.BadRecord at fault)) start given reads enough takes known = absurd takes
-opens a b x y z bytes text (Err (stop.BadReplay at)) start given reads enough takes known = absurd takes
-opens a b x y z bytes text (Err (stop.BadLine line)) start given reads enough takes known = absurd takes
-opens a b x y z bytes text (Err stop.TooLong) start given reads enough takes known = absurd takes
-opens a b x y z bytes text (Err stop.OutOfMemory) start given reads enough takes known = absurd takes
+opens a b x y z bytes text result start given reads enough takes known = absurd takes
 
 -- ---- a header that had not come whole
 
@@ -74,11 +69,11 @@ cut_of pending bytes None e short = absurd (let f : None ≡ Some bytes = e in c
 cut_of pending bytes (Some rest) e short =
     record { part = pending; others = rest; split = (let f : Some (pending ++ rest) ≡ Some bytes = e in cc); short = short; still = refl }
 
-pub cut_header : (a b : Outside) (x y z : Buffered) (bytes : List ℕ) (text : Option (List ℕ)) (result : Result Version Stop) → x ≡ untouched → a.input ≡ text → ReadsMore a b x y
+pub cut_header : {E : Type 0} (a b : Outside) (x y z : Buffered) (bytes : List ℕ) (text : Option (List ℕ)) (result : Result Version (Stop E)) → x ≡ untouched → a.input ≡ text → ReadsMore a b x y
     → TakesHeader y z result → text ≡ Some bytes → result ≡ Err stop.ReadFailed → IsCutHeader bytes b.input
-cut_header a b x y z bytes text result start given reads takes known failed =
+cut_header {E = E} a b x y z bytes text result start given reads takes known failed =
     let left : left_of b y ≡ Some bytes = left_same a b x y reads ∙ untouched_left a x start ∙ given ∙ known in
-    cut_of y.pending bytes b.input left (subst (λ (r : Result Version Stop). TakesHeader y z r) failed takes)
+    cut_of y.pending bytes b.input left (subst (λ (r : Result Version (Stop E)). TakesHeader y z r) failed takes)
 
 -- ---- the header of a log and what follows it
 

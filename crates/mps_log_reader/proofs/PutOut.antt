@@ -3,7 +3,7 @@ use Rattle.std.proofs.Common.{◌≡◌, ℕ, List, [], ◌++◌, Option, Some, 
 use Rattle.std.specs.Option.{option_map}
 use Rattle.std.proofs.lemmas.List.{append-nil}
 use Rattle.mps_base.specs.Desk.{Outside}
-use Rattle.mps_report.specs.Streams.{Kept}
+use Rattle.mps_report.specs.Streams.{FlushedPrefix}
 use Rattle.mps_log_reader.specs.PutOut.{put_out}
 
 puts_kept : (text gathered_before gathered : List ℕ) (p q : Option (List ℕ)) → q ≡ option_map (λ before. before ++ text) p → gathered_before ≡ text ++ gathered
@@ -12,7 +12,7 @@ puts_kept text gathered_before gathered None q e f = rw e refl
 puts_kept text gathered_before gathered (Some before) q e f = rw (e, f) (ap Some (append_assoc before text gathered))
 
 -- so does printing what was put out
-pub put_same : (a b : Outside) (x y : List ℕ) → Kept a b x y → put_out b y ≡ put_out a x
+pub put_same : (a b : Outside) (x y : List ℕ) → FlushedPrefix a b x y → put_out b y ≡ put_out a x
 put_same a b x y k = puts_kept k.text x y a.printed b.printed k.printed.printed k.same
 
 pub put_more : (gathered text : List ℕ) (p : Option (List ℕ)) → option_map (λ printed. printed ++ (gathered ++ text)) p

@@ -12,18 +12,20 @@ use Rattle.mps_event.specs.Reading.{first_of}
 use Rattle.mps_event.proofs.Records.{one_front, read_again}
 use Rattle.mps_report.specs.declared.stop.Stop.{Stop}
 use Rattle.mps_report.specs.declared.stop.Stop.TheVariants as stop
-use Rattle.mps_log_reader.specs.Ending.{EndsAt}
+use Rattle.mps_log_reader.specs.declared.bad_log.BadLog.{BadLog}
+use Rattle.mps_log_reader.specs.declared.bad_log.BadLog.TheVariants as bad_log
+use Rattle.mps_log_reader.specs.Ending.{max_records, EndsAt}
 
 -- ---- records in front of the same bytes
 
 -- the second are the first and some more
-pub record Behind (version : Version) (first second : List Record) (x y : List ℕ) : Type 0 where
+pub record Extends (version : Version) (first second : List Record) (x y : List ℕ) : Type 0 where
   pub more : List Record
   pub each : AllByRecursion (IsRecord version) more
   pub longer : second ≡ first ++ more
   pub rest : x ≡ records_bytes more ++ y
 
-after_one_more : (version : Version) (a b : Record) (first second : List Record) (x y : List ℕ) → a ≡ b → Behind version first second x y → Behind version (a ∷ first) (b ∷ second) x y
+after_one_more : (version : Version) (a b : Record) (first second : List Record) (x y : List ℕ) → a ≡ b → Extends version first second x y → Extends version (a ∷ first) (b ∷ second) x y
 after_one_more version a b first second x y same h = record {
   more = h.more;
   each = h.each;
@@ -31,13 +33,13 @@ after_one_more version a b first second x y same h = record {
   rest = h.rest;
 }
 
-both_one_more : (version : Version) (a b : Record) (first second : List Record) (x y : List ℕ) → a ≡ b → Behind version first second x y ⊎ Behind version second first y x
-    → Behind version (a ∷ first) (b ∷ second) x y ⊎ Behind version (b ∷ second) (a ∷ first) y x
+both_one_more : (version : Version) (a b : Record) (first second : List Record) (x y : List ℕ) → a ≡ b → Extends version first second x y ⊎ Extends version second first y x
+    → Extends version (a ∷ first) (b ∷ second) x y ⊎ Extends version (b ∷ second) (a ∷ first) y x
 both_one_more version a b first second x y same (inl h) = inl (after_one_more version a b first second x y same h)
 both_one_more version a b first second x y same (inr h) = inr (after_one_more version b a second first y x (sym same) h)
 
 pub split : (version : Version) (first second : List Record) (x y : List ℕ) → AllByRecursion (IsRecord version) first → AllByRecursion (IsRecord version) second
-    → records_bytes first ++ x ≡ records_bytes second ++ y → Behind version first second x y ⊎ Behind version second first y x
+    → records_bytes first ++ x ≡ records_bytes second ++ y → Extends version first second x y ⊎ Extends version second first y x
 split version [] second x y f s e = inl (record { more = second; each = s; longer = refl; rest = e })
 split version (a ∷ first) [] x y f s e = inr (record { more = a ∷ first; each = f; longer = refl; rest = sym e })
 split version (a ∷ first) (b ∷ second) x y f s e =
@@ -48,11 +50,11 @@ split version (a ∷ first) (b ∷ second) x y f s e =
 
 -- ---- where a reading ends no record begins
 
-pub no_record : (version : Version) (ending : Result (Unit {0}) Stop) (count offset : ℕ) (r : Record) (rs : List Record) (y : List ℕ) → IsRecord version r
+pub no_record : (version : Version) (ending : Result (Unit {0}) (Stop BadLog)) (count offset : ℕ) (r : Record) (rs : List Record) (y : List ℕ) → IsRecord version r
     → EndsAt version ending count offset (records_bytes (r ∷ rs) ++ y) → count + length (r ∷ rs) < 4294967296 → ⊥
 no_record version (Ok value) count offset r rs y h e few =
     omega (arith, ap (λ (x : List ℕ). length x) e, length-append (records_bytes (r ∷ rs)) y, length-append (record_bytes r) (records_bytes rs))
-no_record version (Err (stop.BadRecord at fault)) count offset r rs y h e few =
+no_record version (Err (stop.Bad (bad_log.Record at fault))) count offset r rs y h e few =
     let read : first_of version true (records_bytes (r ∷ rs) ++ y) ≡ Ok (Some r) =
     ap (first_of version true) (append_assoc (record_bytes r) (records_bytes rs) y) ∙ read_again version true r (records_bytes rs ++ y) h in
     differs r fault (sym read ∙ e.1)
@@ -63,26 +65,21 @@ no_record version (Err (stop.BadRecord at fault)) count offset r rs y h e few =
     differs : (r : Record) (fault : LogFault) → answered (Some r) ≡ Err fault → ⊥
     differs r fault e = absurd cc
 no_record version (Err stop.TooLong) count offset r rs y h e few = omega (arith, e.0, few)
-no_record version (Err stop.ReadFailed) count offset r rs y h e few = e
-no_record version (Err stop.WriteFailed) count offset r rs y h e few = e
-no_record version (Err stop.BadHeader) count offset r rs y h e few = e
-no_record version (Err (stop.BadReplay at)) count offset r rs y h e few = e
-no_record version (Err (stop.BadLine line)) count offset r rs y h e few = e
-no_record version (Err stop.OutOfMemory) count offset r rs y h e few = e
+no_record version ending count offset r rs y h e few = e
 
-pub no_more : (version : Version) (ending : Result (Unit {0}) Stop) (count offset : ℕ) (more : List Record) (y : List ℕ) → AllByRecursion (IsRecord version) more
+pub no_more : (version : Version) (ending : Result (Unit {0}) (Stop BadLog)) (count offset : ℕ) (more : List Record) (y : List ℕ) → AllByRecursion (IsRecord version) more
     → EndsAt version ending count offset (records_bytes more ++ y) → count + length more < 4294967296 → more ≡ []
 no_more version ending count offset [] y h e few = refl
 no_more version ending count offset (r ∷ rs) y h e few = absurd (no_record version ending count offset r rs y h.0 e few)
 
-same_of_after : (version : Version) (ending : Result (Unit {0}) Stop) (offset : ℕ) (first second : List Record) (x y : List ℕ) → Behind version first second x y
+same_of_after : (version : Version) (ending : Result (Unit {0}) (Stop BadLog)) (offset : ℕ) (first second : List Record) (x y : List ℕ) → Extends version first second x y
     → EndsAt version ending (length first) offset x → length second < 4294967296 → (second ≡ first) × (x ≡ y)
 same_of_after version ending offset first second x y h e few =
     let size : length first + length h.more < 4294967296 = omega (arith, few, ap (λ (rs : List Record). length rs) h.longer, length-append first h.more) in
     let none = no_more version ending (length first) offset h.more y h.each (subst (λ (z : List ℕ). EndsAt version ending (length first) offset z) h.rest e) size in
     (h.longer ∙ ap (λ (rs : List Record). first ++ rs) none ∙ append-nil first, h.rest ∙ ap (λ (rs : List Record). records_bytes rs ++ y) none)
 
-pub same_records : (version : Version) (e f : Result (Unit {0}) Stop) (m n : ℕ) (first second : List Record) (x y : List ℕ) → Behind version first second x y ⊎ Behind version second first y x
+pub same_records : (version : Version) (e f : Result (Unit {0}) (Stop BadLog)) (m n : ℕ) (first second : List Record) (x y : List ℕ) → Extends version first second x y ⊎ Extends version second first y x
     → EndsAt version e (length first) m x → EndsAt version f (length second) n y → length first < 4294967296 → length second < 4294967296
     → (second ≡ first) × (x ≡ y)
 same_records version e f m n first second x y (inl h) a b few fewer = same_of_after version e m first second x y h a fewer
@@ -92,31 +89,26 @@ same_records version e f m n first second x y (inr h) a b few fewer =
 
 -- ---- one ending
 
-pub record IsWrongAt (version : Version) (ending : Result (Unit {0}) Stop) (count offset : ℕ) (x : List ℕ) : Type 0 where
+pub record IsWrongAt (version : Version) (ending : Result (Unit {0}) (Stop BadLog)) (count offset : ℕ) (x : List ℕ) : Type 0 where
   pub fault : LogFault
-  pub is : ending ≡ Err (stop.BadRecord offset fault)
+  pub is : ending ≡ Err (stop.Bad (bad_log.Record offset fault))
   pub read : first_of version true x ≡ Err fault
-  pub few : count < 4294967295
+  pub few : count < max_records
 
-pub record IsTooLong (ending : Result (Unit {0}) Stop) (count : ℕ) (x : List ℕ) : Type 0 where
+pub record IsTooLong (ending : Result (Unit {0}) (Stop BadLog)) (count : ℕ) (x : List ℕ) : Type 0 where
   pub is : ending ≡ Err stop.TooLong
-  pub full : count ≡ 4294967295
+  pub full : count ≡ max_records
   pub some : 0 < length x
 
-abbrev pub IsOneOf : Version → Result (Unit {0}) Stop → (count offset : ℕ) → List ℕ → Type 0
+abbrev pub IsOneOf : Version → Result (Unit {0}) (Stop BadLog) → (count offset : ℕ) → List ℕ → Type 0
 IsOneOf version ending count offset x = ((ending ≡ Ok tt) × (x ≡ [])) ⊎ (IsWrongAt version ending count offset x ⊎ IsTooLong ending count x)
 
-pub one_of : (version : Version) (ending : Result (Unit {0}) Stop) (count offset : ℕ) (x : List ℕ) → EndsAt version ending count offset x → IsOneOf version ending count offset x
+pub one_of : (version : Version) (ending : Result (Unit {0}) (Stop BadLog)) (count offset : ℕ) (x : List ℕ) → EndsAt version ending count offset x → IsOneOf version ending count offset x
 one_of version (Ok value) count offset x e = inl (refl, e)
-one_of version (Err (stop.BadRecord at fault)) count offset x e =
-    inr (inl (record { fault = fault; is = ap (λ (n : ℕ). Err (stop.BadRecord n fault)) e.0; read = e.1; few = e.2 }))
+one_of version (Err (stop.Bad (bad_log.Record at fault))) count offset x e =
+    inr (inl (record { fault = fault; is = ap (λ (n : ℕ). Err (stop.Bad (bad_log.Record n fault))) e.0; read = e.1; few = e.2 }))
 one_of version (Err stop.TooLong) count offset x e = inr (inr (record { is = refl; full = e.0; some = e.1 }))
-one_of version (Err stop.ReadFailed) count offset x e = absurd e
-one_of version (Err stop.WriteFailed) count offset x e = absurd e
-one_of version (Err stop.BadHeader) count offset x e = absurd e
-one_of version (Err (stop.BadReplay at)) count offset x e = absurd e
-one_of version (Err (stop.BadLine line)) count offset x e = absurd e
-one_of version (Err stop.OutOfMemory) count offset x e = absurd e
+one_of version ending count offset x e = absurd e
 
 not_wrong : (version : Version) (x : List ℕ) (fault : LogFault) → x ≡ [] → first_of version true x ≡ Err fault → ⊥
 not_wrong version [] fault e h = absurd cc
@@ -131,13 +123,13 @@ same_fault version x f g a b = fault_is f g (sym a ∙ b)
     fault_is : (f g : LogFault) → failed f ≡ failed g → f ≡ g
     fault_is f g e = cc
 
-pub one_ending : (version : Version) (e f : Result (Unit {0}) Stop) (count offset : ℕ) (x : List ℕ) → IsOneOf version e count offset x → IsOneOf version f count offset x → e ≡ f
+pub one_ending : (version : Version) (e f : Result (Unit {0}) (Stop BadLog)) (count offset : ℕ) (x : List ℕ) → IsOneOf version e count offset x → IsOneOf version f count offset x → e ≡ f
 one_ending version e f count offset x (inl a) (inl b) = a.0 ∙ sym b.0
 one_ending version e f count offset x (inl a) (inr (inl b)) = absurd (not_wrong version x b.fault a.1 b.read)
 one_ending version e f count offset x (inl a) (inr (inr b)) = absurd (omega (arith, ap (λ (z : List ℕ). length z) a.1, b.some))
 one_ending version e f count offset x (inr (inl a)) (inl b) = absurd (not_wrong version x a.fault b.1 a.read)
 one_ending version e f count offset x (inr (inl a)) (inr (inl b)) =
-    a.is ∙ ap (λ (g : LogFault). Err (stop.BadRecord offset g)) (same_fault version x a.fault b.fault a.read b.read) ∙ sym b.is
+    a.is ∙ ap (λ (g : LogFault). Err (stop.Bad (bad_log.Record offset g))) (same_fault version x a.fault b.fault a.read b.read) ∙ sym b.is
 one_ending version e f count offset x (inr (inl a)) (inr (inr b)) = absurd (omega (arith, a.few, b.full))
 one_ending version e f count offset x (inr (inr a)) (inl b) = absurd (omega (arith, ap (λ (z : List ℕ). length z) b.1, a.some))
 one_ending version e f count offset x (inr (inr a)) (inr (inl b)) = absurd (omega (arith, b.few, a.full))

@@ -11,25 +11,15 @@ abbrev pub left_of : Outside → Buffered → Option (List ℕ)
 left_of o b = option_map (λ rest. b.pending ++ rest) o.input
 
 -- the end after the last record that can be counted
-abbrev pub LastGives : {T : Type 0} → (left : Option (List ℕ)) → Result T Stop → Type 0
+abbrev pub LastGives : {T E : Type 0} → (left : Option (List ℕ)) → Result T (Stop E) → Type 0
 LastGives left (Ok value) = IfSome left (λ bytes. bytes ≡ [])
 LastGives left (Err stop.TooLong) = IfSome left (λ bytes. 0 < length bytes)
 LastGives left (Err stop.ReadFailed) = Unit {0}
-LastGives left (Err stop.WriteFailed) = ⊥
-LastGives left (Err stop.BadHeader) = ⊥
-LastGives left (Err (stop.BadRecord at fault)) = ⊥
-LastGives left (Err (stop.BadReplay at)) = ⊥
-LastGives left (Err (stop.BadLine line)) = ⊥
-LastGives left (Err stop.OutOfMemory) = ⊥
+LastGives left result = ⊥
 
 -- the same of what is pending
-abbrev pub EndGives : {T : Type 0} → Buffered → Result T Stop → Type 0
+abbrev pub EndGives : {T E : Type 0} → Buffered → Result T (Stop E) → Type 0
 EndGives b (Ok value) = (b.pending ≡ []) × (b.failed ≡ false)
 EndGives b (Err stop.TooLong) = 0 < length b.pending
 EndGives b (Err stop.ReadFailed) = Unit {0}
-EndGives b (Err stop.WriteFailed) = ⊥
-EndGives b (Err stop.BadHeader) = ⊥
-EndGives b (Err (stop.BadRecord at fault)) = ⊥
-EndGives b (Err (stop.BadReplay at)) = ⊥
-EndGives b (Err (stop.BadLine line)) = ⊥
-EndGives b (Err stop.OutOfMemory) = ⊥
+EndGives b result = ⊥

@@ -1,3 +1,4 @@
+pub mod BadLog
 pub mod Input
 pub mod Causes
 pub mod Left

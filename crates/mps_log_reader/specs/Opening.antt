@@ -19,17 +19,12 @@ abbrev pub HasNoHeader : List ℕ → Type 0
 HasNoHeader bytes = (version : Version) (rest : List ℕ) → bytes ≢ header_bytes (number_of_version version) ++ rest
 
 -- the header was taken from what is pending, or there is none
-abbrev pub TakesHeader : (before after : Buffered) → Result Version Stop → Type 0
+abbrev pub TakesHeader : {E : Type 0} → (before after : Buffered) → Result Version (Stop E) → Type 0
 TakesHeader before after (Ok version) =
     (before.pending ≡ header_bytes (number_of_version version) ++ after.pending) × (after.ended ≡ before.ended)
-TakesHeader before after (Err stop.BadHeader) = HasNoHeader before.pending × ((before.failed ≡ true) → 8 ≤ length before.pending)
+TakesHeader before after (Err (stop.Bad place)) = HasNoHeader before.pending × ((before.failed ≡ true) → 8 ≤ length before.pending)
 TakesHeader before after (Err stop.ReadFailed) = length before.pending < 8
-TakesHeader before after (Err stop.WriteFailed) = ⊥
-TakesHeader before after (Err (stop.BadRecord at fault)) = ⊥
-TakesHeader before after (Err (stop.BadReplay at)) = ⊥
-TakesHeader before after (Err (stop.BadLine line)) = ⊥
-TakesHeader before after (Err stop.TooLong) = ⊥
-TakesHeader before after (Err stop.OutOfMemory) = ⊥
+TakesHeader before after result = ⊥
 
 -- fewer of these bytes had come than a header has, and what follows is still unread
 pub record IsCutHeader (bytes : List ℕ) (unread : Option (List ℕ)) : Type 0 where
@@ -40,16 +35,11 @@ pub record IsCutHeader (bytes : List ℕ) (unread : Option (List ℕ)) : Type 0 
   pub still : unread ≡ Some others
 
 -- a log of these bytes was opened, and this is left after its header, or it has none
-abbrev pub OpensWith : (bytes : List ℕ) → (left : Option (List ℕ)) → Result Version Stop → Type 0
+abbrev pub OpensWith : {E : Type 0} → (bytes : List ℕ) → (left : Option (List ℕ)) → Result Version (Stop E) → Type 0
 OpensWith bytes left (Ok version) = Some bytes ≡ option_map (λ rest. header_bytes (number_of_version version) ++ rest) left
-OpensWith bytes left (Err stop.BadHeader) = HasNoHeader bytes
+OpensWith bytes left (Err (stop.Bad place)) = HasNoHeader bytes
 OpensWith bytes left (Err stop.ReadFailed) = Unit {0}
-OpensWith bytes left (Err stop.WriteFailed) = ⊥
-OpensWith bytes left (Err (stop.BadRecord at fault)) = ⊥
-OpensWith bytes left (Err (stop.BadReplay at)) = ⊥
-OpensWith bytes left (Err (stop.BadLine line)) = ⊥
-OpensWith bytes left (Err stop.TooLong) = ⊥
-OpensWith bytes left (Err stop.OutOfMemory) = ⊥
+OpensWith bytes left result = ⊥
 
 -- the first line
 abbrev pub first_line : Version → List ℕ

@@ -28,13 +28,7 @@ PrintsAsFar old new text =
     ⊎ (HasRisen old.out_faults new.out_faults × PutsPart old.printed new.printed text)
 
 -- an ending at which all that was put out is to be printed
-abbrev pub IsToFlush : {T : Type 0} → Result T Stop → Type 0
-IsToFlush (Ok value) = Unit {0}
-IsToFlush (Err (stop.BadRecord at fault)) = Unit {0}
-IsToFlush (Err stop.TooLong) = Unit {0}
+abbrev pub IsToFlush : {T E : Type 0} → Result T (Stop E) → Type 0
 IsToFlush (Err stop.ReadFailed) = ⊥
 IsToFlush (Err stop.WriteFailed) = ⊥
-IsToFlush (Err stop.BadHeader) = ⊥
-IsToFlush (Err (stop.BadReplay at)) = ⊥
-IsToFlush (Err (stop.BadLine line)) = Unit {0}
-IsToFlush (Err stop.OutOfMemory) = Unit {0}
+IsToFlush ending = Unit {0}

@@ -2,8 +2,8 @@
 
 ghost use Rattle.std.specs.Prelude.{◌≡◌, ◌≢◌, ◌≤◌, ◌+◌, ◌++◌, ◌⊎◌, ℕ, List, [], Some, true, false, length, IfErr, OnOk, OnErr};
 ghost use Rattle.mps_base.specs.Desk.{HasRisen};
-ghost use Rattle.mps_log_reader.specs.Causes.{IsCaused, IsTold, Works};
-ghost use Rattle.mps_report.specs.Streams.{Runs, Kept, PrintsPart};
+ghost use Rattle.mps_log_reader.specs.Causes.{IsCaused, StopIsJustified, WorksOnInput};
+ghost use Rattle.mps_report.specs.Streams.{LeavesLogAlone, FlushedPrefix, PrintsPart};
 ghost use Rattle.mps_log_reader.specs.Input.{IsAtEnd, IsComplete};
 ghost use Rattle.mps_log_reader.specs.Left.{left_of, LastGives, EndGives};
 ghost use Rattle.mps_log_reader.specs.PutOut.{put_out, IsToFlush, PrintsAsFar};
@@ -14,17 +14,22 @@ use mps_base::Desk;
 use mps_event::{Version, header};
 use mps_report::{Output, Stop};
 
-/// The most bytes of a record.
-pub const MOST_OF_A_RECORD: usize = 40;
+/// The bytes of the longest record.
+pub const MAX_RECORD_BYTES: usize = 40;
 
-/// Opens the log of this name and takes its header. `ReadFailed` where it could not be opened or read, `BadHeader` where
-/// it does not begin with the header of a version.
-pub fn open_log<D: Desk>(log: &str, input: &mut Input, desk: &mut D) -> Result<Version, Stop>
+/// Opens the log of this name and takes its header. `ReadFailed` where it could not be opened or read, `Bad(no_header)`
+/// where it does not begin with the header of a version.
+pub fn open_log<E: Copy, D: Desk>(
+    log: &str,
+    no_header: E,
+    input: &mut Input,
+    desk: &mut D,
+) -> Result<Version, Stop<E>>
     requires { input.old ≡ record { pending = []; ended = false; failed = false } }
     ensures opened { (bytes : List ℕ) → (D.outside desk.old).text log.now ≡ Some bytes → OpensWith bytes (left_of (D.outside desk.new) input.new) result }
     // There are no other stops.
-    ensures stops { IfErr result (λ why. (why ≡ Stop.ReadFailed) ⊎ (why ≡ Stop.BadHeader)) }
-    // Where the desk tells what it opens, a name that opens nothing could not be opened.
+    ensures stops { IfErr result (λ why. (why ≡ Stop.ReadFailed) ⊎ (why ≡ Stop.Bad no_header)) }
+    // Where it is known what the desk opens, a name that opens nothing could not be opened.
     ensures missing { OpensNothing (D.outside desk.old) log.now → result ≡ Err Stop.ReadFailed }
     // Where it could not be opened, or a read failed, the header had not come whole.
     ensures early { result ≡ Err Stop.ReadFailed → (bytes : List ℕ) → (D.outside desk.old).text log.now ≡ Some bytes
@@ -35,18 +40,20 @@ pub fn open_log<D: Desk>(log: &str, input: &mut Input, desk: &mut D) -> Result<V
     ensures printed { (D.outside desk.new).printed ≡ (D.outside desk.old).printed }
     ensures cause { IsCaused (D.outside desk.old) (D.outside desk.new) result }
     ensures fault { input.new.failed ≡ true → HasRisen (D.outside desk.old).in_faults (D.outside desk.new).in_faults }
-    ensures runs { Runs (D.outside desk.old) (D.outside desk.new) }
+    ensures runs { LeavesLogAlone (D.outside desk.old) (D.outside desk.new) }
 {
     let Ok(()) = desk.open(log) else {
         return Err(Stop::ReadFailed);
     };
     input.fill(8, desk);
-    take_header(input)
+    take_header(no_header, input)
 }
 
-// Takes the header at the front.
-fn take_header(input: &mut Input) -> Result<Version, Stop>
-    ensures known { IsTold input.old result }
+/// Takes the header at the front.
+fn take_header<E: Copy>(no_header: E, input: &mut Input) -> Result<Version, Stop<E>>
+    // There are no other stops.
+    ensures stops { IfErr result (λ why. (why ≡ Stop.ReadFailed) ⊎ (why ≡ Stop.Bad no_header)) }
+    ensures known { StopIsJustified input.old result }
     ensures taken { TakesHeader input.old input.new result }
     ensures failed { input.new.failed ≡ input.old.failed }
 {
@@ -56,7 +63,7 @@ fn take_header(input: &mut Input) -> Result<Version, Stop>
             Ok(version)
         }
         Err(_) if input.has_failed() && input.pending().len() < 8 => Err(Stop::ReadFailed),
-        Err(_) => Err(Stop::BadHeader),
+        Err(_) => Err(Stop::Bad(no_header)),
     }
 }
 
@@ -72,16 +79,16 @@ pub fn put_first_line(version: Version, output: &mut Output)
 }
 
 /// Makes room for a line, of 512 bytes. `WriteFailed` where what was gathered could not be printed.
-pub fn make_room<D: Desk>(output: &mut Output, desk: &mut D) -> Result<(), Stop>
+pub fn make_room<E: Copy, D: Desk>(output: &mut Output, desk: &mut D) -> Result<(), Stop<E>>
     ensures room { OnOk result (length output.new + 512 ≤ 65536) }
-    ensures kept { OnOk result (Kept (D.outside desk.old) (D.outside desk.new) output.old output.new) }
+    ensures kept { OnOk result (FlushedPrefix (D.outside desk.old) (D.outside desk.new) output.old output.new) }
     ensures part { OnErr result (PrintsPart (D.outside desk.old) (D.outside desk.new) output.old) }
     ensures input { (D.outside desk.new).input ≡ (D.outside desk.old).input }
     ensures reported { (D.outside desk.new).reported ≡ (D.outside desk.old).reported }
     ensures err_faults { (D.outside desk.new).err_faults ≡ (D.outside desk.old).err_faults }
     ensures cause { OnErr result (result ≡ Err Stop.WriteFailed) }
     ensures fault { OnErr result (HasRisen (D.outside desk.old).out_faults (D.outside desk.new).out_faults) }
-    ensures runs { Runs (D.outside desk.old) (D.outside desk.new) }
+    ensures runs { LeavesLogAlone (D.outside desk.old) (D.outside desk.new) }
 {
     match output.make_room(desk) {
         Ok(()) => Ok(()),
@@ -91,8 +98,8 @@ pub fn make_room<D: Desk>(output: &mut Output, desk: &mut D) -> Result<(), Stop>
 
 /// The end of a log or text whose last record or line has the greatest number. `TooLong` where more follows, `ReadFailed`
 /// where that could not be read.
-pub fn after_the_last<D: Desk>(input: &mut Input, desk: &mut D) -> Result<(), Stop>
-    ensures works { Works (D.outside desk.old) (D.outside desk.new) input.old input.new result }
+pub fn after_the_last<E: Copy, D: Desk>(input: &mut Input, desk: &mut D) -> Result<(), Stop<E>>
+    ensures works { WorksOnInput (D.outside desk.old) (D.outside desk.new) input.old input.new result }
     ensures gives { IsAtEnd (D.outside desk.old) input.old → LastGives (left_of (D.outside desk.old) input.old) result }
     // Where a read fails, nothing more had come.
     ensures unread { result ≡ Err Stop.ReadFailed → (D.outside desk.new).input ≡ left_of (D.outside desk.old) input.old }
@@ -106,8 +113,9 @@ pub fn after_the_last<D: Desk>(input: &mut Input, desk: &mut D) -> Result<(), St
     end_of(input)
 }
 
-fn end_of(input: &Input) -> Result<(), Stop>
-    ensures known { IsTold input.now result }
+/// The end, where no more can be counted.
+fn end_of<E: Copy>(input: &Input) -> Result<(), Stop<E>>
+    ensures known { StopIsJustified input.now result }
     ensures gives { EndGives input.now result }
     ensures unread { result ≡ Err Stop.ReadFailed → input.now.pending ≡ [] }
 {
@@ -122,11 +130,11 @@ fn end_of(input: &Input) -> Result<(), Stop>
 
 /// Prints what was gathered, after the end or a stop. Of two faults the first counts; `WriteFailed` where this printing
 /// fails, unless a read had failed.
-pub fn flush_after<D: Desk>(
-    ending: Result<(), Stop>,
+pub fn flush_after<E: Copy, D: Desk>(
+    ending: Result<(), Stop<E>>,
     output: &mut Output,
     desk: &mut D,
-) -> Result<(), Stop>
+) -> Result<(), Stop<E>>
     ensures reported { (D.outside desk.new).reported ≡ (D.outside desk.old).reported }
     ensures err_faults { (D.outside desk.new).err_faults ≡ (D.outside desk.old).err_faults }
     ensures printed { IsToFlush result → (D.outside desk.new).printed ≡ put_out (D.outside desk.old) output.old }
@@ -137,7 +145,7 @@ pub fn flush_after<D: Desk>(
     ensures no_more { ending ≡ Err Stop.WriteFailed → D.outside desk.new ≡ D.outside desk.old }
     ensures input { (D.outside desk.new).input ≡ (D.outside desk.old).input }
     ensures first { (result ≡ ending) ⊎ ((result ≡ Err Stop.WriteFailed) × HasRisen (D.outside desk.old).out_faults (D.outside desk.new).out_faults) }
-    ensures runs { Runs (D.outside desk.old) (D.outside desk.new) }
+    ensures runs { LeavesLogAlone (D.outside desk.old) (D.outside desk.new) }
 {
     match ending {
         Err(Stop::WriteFailed) => ending,

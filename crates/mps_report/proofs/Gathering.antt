@@ -3,7 +3,7 @@ use Rattle.std.proofs.Common.{◌≡◌, ℕ, List, [], ◌∷◌, ◌++◌, ref
 use Rattle.std.specs.List.{flat_map}
 use Rattle.std.proofs.lemmas.List.{append-nil}
 use Rattle.mps_base.specs.Desk.{Outside}
-use Rattle.mps_report.specs.Streams.{Prints, Kept, Gathers}
+use Rattle.mps_report.specs.Streams.{Prints, FlushedPrefix, Gathers}
 use Rattle.mps_report.proofs.Outside.{prints-none, prints-then, prints-as}
 
 -- the lines one after the other
@@ -21,7 +21,7 @@ gathers-then a b c x y z t u e f = record {
 }
 
 -- room was made, and a text was gathered
-pub gathers_text : (a b : Outside) (x y text : List ℕ) → Kept a b x y → Gathers a b x (y ++ text) text
+pub gathers_text : (a b : Outside) (x y text : List ℕ) → FlushedPrefix a b x y → Gathers a b x (y ++ text) text
 gathers_text a b x y text k = record {
   front = k.text;
   printed = k.printed;

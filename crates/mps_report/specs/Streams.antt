@@ -15,20 +15,24 @@ pub record PrintsPart (old new : Outside) (text : List ℕ) : Type 0 where
   pub part : Prints old new (take count text)
   pub fault : HasRisen old.out_faults new.out_faults
 
--- a text was reported, if no fault came
+-- a text stands reported after what stood there before, or a fault came
+abbrev pub HasReported : (old new : Outside) → (text : List ℕ) → Type 0
+HasReported old new text = HasRisen old.err_faults new.err_faults ⊎ (new.reported ≡ option_map (λ before. before ++ text) old.reported)
+
+-- a text was reported, if no fault came, and nothing else happened
 pub record Reports (old new : Outside) (text : List ℕ) : Type 0 where
-  pub reported : HasRisen old.err_faults new.err_faults ⊎ (new.reported ≡ option_map (λ before. before ++ text) old.reported)
+  pub reported : HasReported old new text
   pub counted : old.err_faults ≤ new.err_faults
   pub others : OnlyReports old new
 
 -- some of what was gathered was printed, and what is printed and gathered together stays the same
-pub record Kept (old new : Outside) (gathered_before gathered : List ℕ) : Type 0 where
+pub record FlushedPrefix (old new : Outside) (gathered_before gathered : List ℕ) : Type 0 where
   pub text : List ℕ
   pub printed : Prints old new text
   pub same : gathered_before ≡ text ++ gathered
 
 -- a tool ran: counts don't fall, and the files, what opening a name gives, and the log stay as they are
-pub record Runs (old new : Outside) : Type 0 where
+pub record LeavesLogAlone (old new : Outside) : Type 0 where
   pub in_counted : old.in_faults ≤ new.in_faults
   pub out_counted : old.out_faults ≤ new.out_faults
   pub err_counted : old.err_faults ≤ new.err_faults

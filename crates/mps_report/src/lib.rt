@@ -6,5 +6,6 @@ mod notice;
 mod output;
 mod stop;
 
+pub use notice::Notice;
 pub use output::Output;
-pub use stop::{Stop, finish};
+pub use stop::{BadPlace, NoBadPlace, Stop, notice_of_stop, report_ending, status_of_stop};

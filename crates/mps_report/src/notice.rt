@@ -1,4 +1,4 @@
-// Short texts that a tool reports.
+// Short texts that a program reports.
 
 ghost use Rattle.std.specs.Prelude.{◌≡◌, ◌≤◌, ◌+◌, ◌++◌, length, take, decimal};
 ghost use Rattle.mps_report.specs.Streams.{Reports};
@@ -7,9 +7,9 @@ use mps_base::Desk;
 use mps_numerals::{put_decimal, put_text};
 use std::marker::Model;
 
-// A text of at most 96 bytes.
+/// A text of at most 96 bytes that is reported.
 #[derive(Drop)]
-pub(crate) struct Notice {
+pub struct Notice {
     bytes: [u8; 96],
     used: usize,
 }
@@ -25,8 +25,8 @@ impl Model for Notice {
 }
 
 impl Notice {
-    // A text alone.
-    pub(crate) fn plain(text: &[u8]) -> Notice
+    /// A text alone.
+    pub fn plain(text: &[u8]) -> Notice
         requires { length text.now ≤ 96 }
         ensures { result ≡ text.now }
     {
@@ -35,8 +35,8 @@ impl Notice {
         Notice { bytes, used }
     }
 
-    // A decimal number between two texts.
-    pub(crate) fn with_number(before: &[u8], number: u64, after: &[u8]) -> Notice
+    /// A decimal number between two texts.
+    pub fn with_number(before: &[u8], number: u64, after: &[u8]) -> Notice
         requires { length before.now + 20 + length after.now ≤ 96 }
         ensures { result ≡ before.now ++ decimal number ++ after.now }
     {
@@ -47,8 +47,8 @@ impl Notice {
         Notice { bytes, used }
     }
 
-    // Reports it. A fault ends the reporting.
-    pub(crate) fn report<D: Desk>(&self, desk: &mut D)
+    /// Reports it. A fault ends the reporting.
+    pub fn report<D: Desk>(&self, desk: &mut D)
         ensures { Reports (D.outside desk.old) (D.outside desk.new) self.now }
     {
         report_all(&self.bytes[..self.used], desk);

@@ -2,7 +2,7 @@
 
 ghost use Rattle.std.specs.Prelude.{◌≡◌, ◌≤◌, ◌<◌, ◌+◌, ◌++◌, ◌⊎◌, ℕ, [], length, take, decimal, OnOk, OnErr, IfOk};
 ghost use Rattle.mps_numerals.specs.Hexadecimal.{hexadecimal};
-ghost use Rattle.mps_report.specs.Streams.{Prints, PrintsPart, Kept};
+ghost use Rattle.mps_report.specs.Streams.{Prints, PrintsPart, FlushedPrefix};
 
 use mps_base::{Desk, Failed};
 use mps_numerals::{put_decimal, put_hexadecimal, put_text};
@@ -45,7 +45,7 @@ impl Output {
     /// gathered then stays.
     pub fn make_room<D: Desk>(&mut self, desk: &mut D) -> Result<(), Failed>
         ensures room { OnOk result (length self.new + 512 ≤ 65536) }
-        ensures kept { OnOk result (Kept (D.outside desk.old) (D.outside desk.new) self.old self.new) }
+        ensures kept { OnOk result (FlushedPrefix (D.outside desk.old) (D.outside desk.new) self.old self.new) }
         ensures failed { OnErr result (PrintsPart (D.outside desk.old) (D.outside desk.new) self.old) }
         ensures stays { OnErr result (self.new ≡ self.old) }
     {

@@ -6,7 +6,7 @@ use Rattle.mps_base.specs.Desk.{Outside}
 use Rattle.mps_event.specs.declared.version.Version.{Version}
 use Rattle.mps_report.specs.declared.stop.Stop.{Stop}
 use Rattle.mps_report.specs.declared.stop.Stop.TheVariants as stop
-use Rattle.mps_report.specs.Streams.{Kept}
+use Rattle.mps_report.specs.Streams.{FlushedPrefix}
 use Rattle.mps_log_reader.specs.Input.{Buffered, ReadsMore, IsAtEnd}
 use Rattle.mps_log_reader.specs.Left.{left_of}
 use Rattle.mps_log_reader.specs.PutOut.{put_out}
@@ -22,7 +22,7 @@ use Rattle.mps_txt.specs.TextSteps.{PendingLine, IsWholeOrLast, NextLine}
 use Rattle.mps_txt.proofs.Fronts.{front_closed, line_feed_after, whole_in_front, wrong_front, memory_front}
 
 -- before something was put out
-put_before : (a b c : Outside) (p q : List ℕ) → b.printed ≡ a.printed → Kept b c p q → put_out c q ≡ put_out a p
+put_before : (a b c : Outside) (p q : List ℕ) → b.printed ≡ a.printed → FlushedPrefix b c p q → put_out c q ≡ put_out a p
 put_before a b c p q same kept = put_same b c p q kept ∙ ap (λ (o : Option (List ℕ)). option_map (λ printed. printed ++ p) o) same
 
 pub end_known : (ended : Bool) (input : Option (List ℕ)) (more : List ℕ) → input ≡ Some more → (ended ≡ true → IfSome input (λ left. left ≡ [])) → ended ≡ true → more ≡ []
@@ -52,7 +52,7 @@ broken_left pending input unread lacks short same =
 
 -- the next line, from what is pending: the pieces before it were read and printed
 pub next_line : (version : Version) (number : ℕ) (s t : Naming) (a b c : Outside) (x y : Buffered) (p q r : List ℕ) (size : Option ℕ)
-    → IsAtEnd a x → ReadsMore a b x y → (y.ended ≡ false → y.failed ≡ false → 4097 ≤ length y.pending) → Kept b c p q → c.input ≡ b.input
+    → IsAtEnd a x → ReadsMore a b x y → (y.ended ≡ false → y.failed ≡ false → 4097 ≤ length y.pending) → FlushedPrefix b c p q → c.input ≡ b.input
     → PendingLine version number s t y q r (Ok size)
     → NextLine version number s t (left_of a x) (left_of c (record y { pending = drop (unwrap_or size 0) y.pending })) (record y { pending = drop (unwrap_or size 0) y.pending }) c.input (put_out a p) (put_out c r) (Ok (is_some size))
 next_line version number s t a b c x y p q r None at_end reads enough kept same gives =
@@ -79,7 +79,7 @@ next_line version number s t a b c x y p q r (Some size) at_end reads enough kep
     }
 
 pub next_stops : (version : Version) (number : ℕ) (s t : Naming) (a b c : Outside) (x y following : Buffered) (left_after : Option (List ℕ)) (p q r : List ℕ) (why : Stop)
-    → IsAtEnd a x → ReadsMore a b x y → (y.ended ≡ false → y.failed ≡ false → 4097 ≤ length y.pending) → Kept b c p q → c.input ≡ b.input
+    → IsAtEnd a x → ReadsMore a b x y → (y.ended ≡ false → y.failed ≡ false → 4097 ≤ length y.pending) → FlushedPrefix b c p q → c.input ≡ b.input
     → PendingLine version number s t y q r (Err why)
     → NextLine version number s t (left_of a x) left_after following c.input (put_out a p) (put_out c r) (Err why)
 next_stops version number s t a b c x y following left_after p q r (stop.BadLine line) at_end reads enough kept same gives =

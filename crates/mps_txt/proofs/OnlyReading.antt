@@ -14,7 +14,8 @@ use Rattle.mps_event.specs.Grammar.{IsRecord}
 use Rattle.mps_report.specs.declared.stop.Stop.{Stop}
 use Rattle.mps_report.specs.declared.stop.Stop.TheVariants as stop
 use Rattle.mps_log_reader.specs.Opening.{first_line}
-use Rattle.mps_log_reader.specs.Ending.{status_of_ending, is_whole_status, HasReported}
+use Rattle.mps_report.specs.Reports.{status_of_ending, HasReportedEnding}
+use Rattle.mps_log_reader.specs.Ending.{is_input_verdict}
 use Rattle.mps_log_reader.specs.RecordLine.{record_line}
 use Rattle.mps_txt.specs.Line.{record_text}
 use Rattle.mps_txt.specs.Labels.{Naming, no_names, after_record, after_records}
@@ -197,7 +198,7 @@ one_reading v w first second e f bytes a b =
 
 -- ---- so a reading is the only one
 
-tells : (bytes : List ℕ) (status : ℕ) (ending : Result (Unit {0}) Stop) (old new : Outside) → status ≡ status_of_ending ending → HasReported ending old new → Reads bytes ending old new
+tells : (bytes : List ℕ) (status : ℕ) (ending : Result (Unit {0}) Stop) (old new : Outside) → status ≡ status_of_ending ending → HasReportedEnding ending old new → Reads bytes ending old new
     → (version : Version) (records : List Record) (other : Result (Unit {0}) Stop) → TextEndsWith version records other bytes → Tells version records other status old new
 tells bytes status ending old new is reported c version records other h =
     let mine : TextEndsWith c.version c.records ending bytes = record { named = c.named; rest = c.rest; begins = c.begins; ends_at = c.ends_at } in
@@ -207,34 +208,34 @@ tells bytes status ending old new is reported c version records other h =
       printed = c.printed
           ∙ ap (λ (v : Version). option_map (λ before. before ++ readable_text v c.records) old.printed) s.version
           ∙ ap (λ (rs : List Record). option_map (λ before. before ++ readable_text version rs) old.printed) s.records;
-      reported = subst (λ (e : Result (Unit {0}) Stop). HasReported e old new) s.ending reported;
+      reported = subst (λ (e : Result (Unit {0}) Stop). HasReportedEnding e old new) s.ending reported;
     }
 
 -- bytes that were read begin with a first line
 begins_with_one : (version : Version) (records : List Record) (named : Naming) (rest bytes : List ℕ) → BeginsWith version records named rest bytes → HasNoFirstLine bytes → ⊥
 begins_with_one version records named rest bytes b none = none version (flat_map record_line records ++ rest) (b.spelled ∙ append_assoc (first_line version) (flat_map record_line records) rest)
 
-only_of : (bytes : List ℕ) (status : ℕ) (ending : Result (Unit {0}) Stop) (old new : Outside) → status ≡ status_of_ending ending → HasReported ending old new → Reads bytes ending old new → IsOnlyReading bytes status old new
+only_of : (bytes : List ℕ) (status : ℕ) (ending : Result (Unit {0}) Stop) (old new : Outside) → status ≡ status_of_ending ending → HasReportedEnding ending old new → Reads bytes ending old new → IsOnlyReading bytes status old new
 only_of bytes status ending old new is reported c = record {
   with_first_line = tells bytes status ending old new is reported c;
   without_first_line = λ none. absurd (begins_with_one c.version c.records c.named c.rest bytes c.begins none);
 }
 
-only_without : (bytes : List ℕ) (status line : ℕ) (old new : Outside) → status ≡ 6 → HasReported {T = Unit {0}} (Err (stop.BadLine line)) old new → FindsNoFirstLine bytes line old new
+only_without : (bytes : List ℕ) (status line : ℕ) (old new : Outside) → status ≡ 6 → HasReportedEnding {T = Unit {0}} (Err (stop.BadLine line)) old new → FindsNoFirstLine bytes line old new
     → IsOnlyReading bytes status old new
 only_without bytes status line old new is reported h = record {
   with_first_line = λ version records ending e. absurd (begins_with_one version records e.named e.rest bytes e.begins h.none);
   without_first_line = λ none. record {
     status_is = is;
     printed = h.printed;
-    reported = subst (λ (n : ℕ). HasReported {T = Unit {0}} (Err (stop.BadLine n)) old new) h.first reported;
+    reported = subst (λ (n : ℕ). HasReportedEnding {T = Unit {0}} (Err (stop.BadLine n)) old new) h.first reported;
   };
 }
 
-not_whole : (status other : ℕ) → status ≡ other → is_whole_status status ≡ true → is_whole_status other ≡ false → ⊥
-not_whole status other is whole broken = absurd (let e : true ≡ false = sym whole ∙ ap is_whole_status is ∙ broken in cc)
+not_whole : (status other : ℕ) → status ≡ other → is_input_verdict status ≡ true → is_input_verdict other ≡ false → ⊥
+not_whole status other is whole broken = absurd (let e : true ≡ false = sym whole ∙ ap is_input_verdict is ∙ broken in cc)
 
-only_ending : (bytes : List ℕ) (status : ℕ) (ending : Result (Unit {0}) Stop) (old new : Outside) → is_whole_status status ≡ true → status ≡ status_of_ending ending → HasReported ending old new → HasRead bytes ending old new → IsOnlyReading bytes status old new
+only_ending : (bytes : List ℕ) (status : ℕ) (ending : Result (Unit {0}) Stop) (old new : Outside) → is_input_verdict status ≡ true → status ≡ status_of_ending ending → HasReportedEnding ending old new → HasRead bytes ending old new → IsOnlyReading bytes status old new
 only_ending bytes status (Ok value) old new whole is reported h = only_of bytes status (Ok value) old new is reported h
 only_ending bytes status (Err (stop.BadLine line)) old new whole is reported (inl h) = only_without bytes status line old new is reported h
 only_ending bytes status (Err (stop.BadLine line)) old new whole is reported (inr h) = only_of bytes status (Err (stop.BadLine line)) old new is reported h
@@ -246,5 +247,5 @@ only_ending bytes status (Err stop.BadHeader) old new whole is reported h = absu
 only_ending bytes status (Err (stop.BadRecord at fault)) old new whole is reported h = absurd h
 only_ending bytes status (Err (stop.BadReplay at)) old new whole is reported h = absurd h
 
-pub only_reading : (bytes : List ℕ) (status : ℕ) (old new : Outside) → is_whole_status status ≡ true → ReadWith bytes status old new → IsOnlyReading bytes status old new
+pub only_reading : (bytes : List ℕ) (status : ℕ) (old new : Outside) → is_input_verdict status ≡ true → ReadWith bytes status old new → IsOnlyReading bytes status old new
 only_reading bytes status old new whole c = only_ending bytes status c.ending old new whole c.status_is c.reported c.read

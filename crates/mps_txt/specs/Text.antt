@@ -11,7 +11,7 @@ use Rattle.mps_event.specs.Grammar.{IsRecord}
 use Rattle.mps_report.specs.declared.stop.Stop.{Stop}
 use Rattle.mps_report.specs.declared.stop.Stop.TheVariants as stop
 use Rattle.mps_log_reader.specs.Opening.{first_line}
-use Rattle.mps_log_reader.specs.Ending.{status_of_ending, HasReported}
+use Rattle.mps_report.specs.Reports.{status_of_ending, HasReportedEnding}
 use Rattle.mps_log_reader.specs.PutOut.{PrintsAsFar}
 use Rattle.mps_log_reader.specs.RecordLine.{record_line}
 use Rattle.mps_txt.specs.Cuts.{Lacks}
@@ -155,7 +155,7 @@ pub record ReadWith (bytes : List ℕ) (status : ℕ) (old new : Outside) : Type
   pub ending : Result (Unit {0}) Stop
   pub status_is : status ≡ status_of_ending ending
   pub read : HasRead bytes ending old new
-  pub reported : HasReported ending old new
+  pub reported : HasReportedEnding ending old new
 
 -- the bytes are the lines of these records and a rest at which the reading ends so
 pub record TextEndsWith (version : Version) (records : List Record) (ending : Result (Unit {0}) Stop) (bytes : List ℕ) : Type 0 where
@@ -169,13 +169,13 @@ pub record TextEndsWith (version : Version) (records : List Record) (ending : Re
 pub record Tells (version : Version) (records : List Record) (ending : Result (Unit {0}) Stop) (status : ℕ) (old new : Outside) : Type 0 where
   pub status_is : status ≡ status_of_ending ending
   pub printed : new.printed ≡ option_map (λ before. before ++ readable_text version records) old.printed
-  pub reported : HasReported ending old new
+  pub reported : HasReportedEnding ending old new
 
 -- bytes that begin with no first line are told so, and nothing is printed
 pub record TellsNoFirstLine (status : ℕ) (old new : Outside) : Type 0 where
   pub status_is : status ≡ 6
   pub printed : new.printed ≡ old.printed
-  pub reported : HasReported {T = Unit {0}} (Err (stop.BadLine 1)) old new
+  pub reported : HasReportedEnding {T = Unit {0}} (Err (stop.BadLine 1)) old new
 
 -- in whatever way the bytes end, the program tells just that
 pub record IsOnlyReading (bytes : List ℕ) (status : ℕ) (old new : Outside) : Type 0 where

@@ -4,13 +4,14 @@ ghost use Rattle.std.specs.Prelude.{◌≡◌, ◌≢◌, ◌≤◌, ◌+◌, �
 ghost use Rattle.mps_base.specs.Record.{Record};
 ghost use Rattle.mps_base.specs.Desk.{HasRisen};
 ghost use Rattle.mps_event.specs.declared.version.Version.{Version};
-ghost use Rattle.mps_log_reader.specs.Causes.{IsCaused, IsTold, Works, Answers};
-ghost use Rattle.mps_log_reader.specs.Ending.{is_whole_status, IsUnopened, ReportsStatus};
+ghost use Rattle.mps_log_reader.specs.Causes.{IsCaused, StopIsJustified, WorksOnInput, StatusIsJustified};
+ghost use Rattle.mps_report.specs.Reports.{ReportsStatus};
+ghost use Rattle.mps_log_reader.specs.Ending.{is_input_verdict, IsUnopened};
 ghost use Rattle.mps_log_reader.specs.Opening.{OpensNothing};
 ghost use Rattle.mps_log_reader.specs.Input.{IsAtEnd, IsComplete};
 ghost use Rattle.mps_log_reader.specs.Left.{left_of};
 ghost use Rattle.mps_log_reader.specs.PutOut.{put_out, Grows, PutsPart};
-ghost use Rattle.mps_report.specs.Streams.{Runs};
+ghost use Rattle.mps_report.specs.Streams.{LeavesLogAlone};
 ghost use Rattle.mps_txt.specs.Labels.{no_names, after_record, record_takes_memory};
 ghost use Rattle.mps_txt.specs.Line.{Spells};
 ghost use Rattle.mps_txt.specs.NextLine.{IsFront, HasNoLine, PutsLine};
@@ -23,7 +24,7 @@ use crate::readable::{label_before, put_readable};
 use crate::record_line::record_of_line;
 use mps_base::Desk;
 use mps_event::Version;
-use mps_report::{Output, Stop, finish};
+use mps_report::{Output, Stop, report_ending};
 use mps_log_reader::{Input, after_the_last, flush_after, make_room, put_first_line};
 use std::alloc::Global;
 
@@ -34,7 +35,7 @@ const LONGEST_LINE: usize = 4096;
 /// or with a report 3 where a read failed, 4 where a write failed, 6 at the first line that is wrong, 7 where line 2^32
 /// begins, 8 for out of memory.
 pub fn txt<D: Desk>(alloc: Global, text: &str, desk: &mut D) -> u8
-    ensures answers { Answers (D.outside desk.old) (D.outside desk.new) result }
+    ensures answers { StatusIsJustified (D.outside desk.old) (D.outside desk.new) result }
     // Where the opened file is told: this was read, printed and reported. After a failed read the lines that had come whole,
     // each with its line feed, are printed, and a prefix of that, where a write failed too. Memory runs out before the desk
     // is called, or at a line that names a label, sets one or moves one along, and then the lines before it are printed.
@@ -42,7 +43,7 @@ pub fn txt<D: Desk>(alloc: Global, text: &str, desk: &mut D) -> u8
         → ReadWith bytes result (D.outside desk.old) (D.outside desk.new) }
     // And nothing else, where the status is none of a fault or for out of memory: a whole text gives 0 and all of its
     // readable text, one with a wrong line gives 6, its number and the text before it.
-    ensures only { is_whole_status result ≡ true → (bytes : List ℕ) → (D.outside desk.old).text text.now ≡ Some bytes
+    ensures only { is_input_verdict result ≡ true → (bytes : List ℕ) → (D.outside desk.old).text text.now ≡ Some bytes
         → IsOnlyReading bytes result (D.outside desk.old) (D.outside desk.new) }
     // Where a write failed, a prefix of the readable text of some lines at a prefix of the text was printed.
     ensures cut { result ≡ 4 → (bytes : List ℕ) → (D.outside desk.old).text text.now ≡ Some bytes
@@ -53,12 +54,12 @@ pub fn txt<D: Desk>(alloc: Global, text: &str, desk: &mut D) -> u8
     ensures reported { ReportsStatus result (D.outside desk.old) (D.outside desk.new) }
 {
     let ending = read_text(alloc, text, desk);
-    finish(ending, desk)
+    report_ending(ending, desk)
 }
 
 fn read_text<D: Desk>(alloc: Global, text: &str, desk: &mut D) -> Result<(), Stop>
     ensures cause { IsCaused (D.outside desk.old) (D.outside desk.new) result }
-    ensures runs { Runs (D.outside desk.old) (D.outside desk.new) }
+    ensures runs { LeavesLogAlone (D.outside desk.old) (D.outside desk.new) }
     ensures reported { (D.outside desk.new).reported ≡ (D.outside desk.old).reported }
     ensures err_faults { (D.outside desk.new).err_faults ≡ (D.outside desk.old).err_faults }
     ensures read { (bytes : List ℕ) → (D.outside desk.old).text text.now ≡ Some bytes
@@ -97,7 +98,7 @@ fn open_text<D: Desk>(text: &str, input: &mut Input, desk: &mut D) -> Result<Ver
     ensures printed { (D.outside desk.new).printed ≡ (D.outside desk.old).printed }
     ensures cause { IsCaused (D.outside desk.old) (D.outside desk.new) result }
     ensures fault { input.new.failed ≡ true → HasRisen (D.outside desk.old).in_faults (D.outside desk.new).in_faults }
-    ensures runs { Runs (D.outside desk.old) (D.outside desk.new) }
+    ensures runs { LeavesLogAlone (D.outside desk.old) (D.outside desk.new) }
 {
     let Ok(()) = desk.open(text) else {
         return Err(Stop::ReadFailed);
@@ -107,7 +108,7 @@ fn open_text<D: Desk>(text: &str, input: &mut Input, desk: &mut D) -> Result<Ver
 }
 
 fn take_first_line(input: &mut Input) -> Result<Version, Stop>
-    ensures known { IsTold input.old result }
+    ensures known { StopIsJustified input.old result }
     ensures taken { TakesFirst input.old input.new result }
     ensures failed { input.new.failed ≡ input.old.failed }
 {
@@ -118,7 +119,7 @@ fn take_first_line(input: &mut Input) -> Result<Version, Stop>
 
 // The version that the first line says, and how many bytes it takes.
 fn first_line(input: &Input) -> Result<(Version, usize), Stop>
-    ensures known { IsTold input.now result }
+    ensures known { StopIsJustified input.now result }
     ensures size { IfOk result (λ found. found.1 ≤ length input.now.pending) }
     ensures found { FindsFirst input.now result }
 {
@@ -145,7 +146,7 @@ fn version_of(line: &[u8]) -> Option<Version>
 
 // The line at the front without its line feed, and how many bytes it takes; None at the end of the text.
 fn next_line(input: &Input, number: u64) -> Result<Option<(&[u8], usize)>, Stop>
-    ensures known { IsTold input.now result }
+    ensures known { StopIsJustified input.now result }
     ensures size { IfOk result (λ o. IfSome o (λ found. found.1 ≤ length input.now.pending)) }
     ensures line { IfOk result (λ o. IfSome o (λ found. IsFront input.now found.0.now found.1)) }
     ensures end { IfOk result (λ o. IfNone o ((input.now.pending ≡ []) × (input.now.failed ≡ false))) }
@@ -171,7 +172,7 @@ fn read_lines<D: Desk>(
 ) -> Result<(), Stop>
     requires at_end { IsAtEnd (D.outside desk.old) input.old }
     requires start { labels.old ≡ no_names }
-    ensures works { Works (D.outside desk.old) (D.outside desk.new) input.old input.new result }
+    ensures works { WorksOnInput (D.outside desk.old) (D.outside desk.new) input.old input.new result }
     ensures reported { (D.outside desk.new).reported ≡ (D.outside desk.old).reported }
     ensures err_faults { (D.outside desk.new).err_faults ≡ (D.outside desk.old).err_faults }
     ensures all { (bytes : List ℕ) → left_of (D.outside desk.old) input.old ≡ Some bytes
@@ -200,7 +201,7 @@ fn read_next<D: Desk>(
     desk: &mut D,
 ) -> Result<bool, Stop>
     requires { IsAtEnd (D.outside desk.old) input.old }
-    ensures works { Works (D.outside desk.old) (D.outside desk.new) input.old input.new result }
+    ensures works { WorksOnInput (D.outside desk.old) (D.outside desk.new) input.old input.new result }
     ensures gives { NextLine version number labels.old labels.new (left_of (D.outside desk.old) input.old) (left_of (D.outside desk.new) input.new)
         input.new (D.outside desk.new).input (put_out (D.outside desk.old) output.old) (put_out (D.outside desk.new) output.new) result }
     // Where all had been read, it stays so, and no read fails.
@@ -227,7 +228,7 @@ fn read_line(
     output: &mut Output,
 ) -> Result<Option<usize>, Stop>
     requires { length output.old + 512 ≤ 65536 }
-    ensures known { IsTold input.now result }
+    ensures known { StopIsJustified input.now result }
     ensures size { IfOk result (λ o. IfSome o (λ size. size ≤ length input.now.pending)) }
     ensures gives { PendingLine version number labels.old labels.new input.now output.old output.new result }
 {

@@ -10,7 +10,7 @@ ghost use Rattle.mps_report.specs.declared.stop.Stop.TheVariants.{OutOfMemory};
 
 use crate::lines::GenLines;
 use mps_base::{Desk, Failed};
-use mps_report::{Output, Stop, finish};
+use mps_report::{Output, Stop, report_ending};
 use std::alloc::Global;
 
 /// Prints the generated script of a seed, of n steps, and answers the status of the program: 0, or with a report 4
@@ -23,7 +23,7 @@ pub fn generate<D: Desk>(alloc: Global, seed: u64, count: u64, desk: &mut D) -> 
     ensures no_memory { result ≡ 8 → Reports (D.outside desk.old) (D.outside desk.new) (report_of OutOfMemory) }
 {
     let ending = print_script(alloc, seed, count, desk);
-    finish(ending, desk)
+    report_ending(ending, desk)
 }
 
 fn print_script<D: Desk>(alloc: Global, seed: u64, count: u64, desk: &mut D) -> Result<(), Stop>

@@ -2,7 +2,7 @@ use Rattle.std.proofs.Common.{◌≡◌, ◌++◌, ◌∙◌, length, drop, ap, 
 use Rattle.mps_base.specs.Record.{record_bytes}
 use Rattle.mps_event.specs.Grammar.{IsRecord}
 use Rattle.mps_event.specs.Reading.{size_of_record}
-use Rattle.mps_log_reader.proofs.Fronts.{at_most_four, lies_within, length-record_bytes, is_at_front}
+use Rattle.mps_log_reader.proofs.FirstRecord.{at_most_four, lies_within, length-record_bytes, is_at_front}
 use Rattle.mps_blocks.proofs.live_blocks.replay_record.Goals as goal
 
 pub returns-in-Ok-clause-size : goal.returns-in-Ok-clause-size

@@ -1,5 +1,5 @@
 use Rattle.std.proofs.Common.{◌∙◌, Ok, arith}
-use Rattle.mps_log_reader.specs.Causes.{Works}
+use Rattle.mps_log_reader.specs.Causes.{WorksOnInput}
 use Rattle.mps_log_reader.specs.Left.{left_of}
 use Rattle.mps_log_reader.proofs.Causes.{works-then}
 use Rattle.mps_blocks.proofs.Stepping.{one_more, interned_more, all_read, all_counted}
@@ -7,7 +7,7 @@ use Rattle.mps_blocks.proofs.live_blocks.replay_records.Goals as goal
 
 pub loop-preserved : goal.loop-preserved
 loop-preserved g c =
-    let works : Works {T = Unit {0}} (g.D.Desk.outside c.args.desk.now) (g.D.Desk.outside c.loop.desk) c.args.input.now c.loop.input (Ok tt) = c.loop.invariant.works in
+    let works : WorksOnInput {T = Unit {0}} (g.D.Desk.outside c.args.desk.now) (g.D.Desk.outside c.loop.desk) c.args.input.now c.loop.input (Ok tt) = c.loop.invariant.works in
     let next = rw c.in-Some.is at c.in_ok-replay_next.ensures.replays in
     let step = c.in_ok-replay_next.ensures.works in
     record {

@@ -1,5 +1,5 @@
 use Rattle.std.proofs.Common.{◌≡◌, ◌≤◌, ◌+◌, ◌*◌, Ok}
-use Rattle.mps_log_reader.specs.Causes.{Works}
+use Rattle.mps_log_reader.specs.Causes.{WorksOnInput}
 use Rattle.mps_log_reader.specs.Input.{IsAtEnd}
 use Rattle.mps_log_reader.specs.Left.{left_of}
 use Rattle.mps_blocks.proofs.Stepping.{SoFar}
@@ -7,7 +7,7 @@ use Rattle.mps_blocks.proofs.live_blocks.replay_records.Given as goal
 
 abbrev pub invariant-loop : goal.invariant-loop
 invariant-loop g l = record {
-  works : Works {T = Unit {0}} (g.D.Desk.outside l.initial.desk) (g.D.Desk.outside l.desk) l.initial.input l.input (Ok tt);
+  works : WorksOnInput {T = Unit {0}} (g.D.Desk.outside l.initial.desk) (g.D.Desk.outside l.desk) l.initial.input l.input (Ok tt);
   offset : l.offset ≤ 8 + 40 * l.counter;
   interned : l.replay.interned ≤ l.counter;
   printed : (g.D.Desk.outside l.desk).printed ≡ (g.D.Desk.outside l.initial.desk).printed;

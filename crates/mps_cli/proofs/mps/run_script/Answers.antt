@@ -1,5 +1,5 @@
 use Rattle.std.proofs.Common.{◌≡◌, ◌∙◌, ap, refl, subst, true}
-use Rattle.mps_log_reader.specs.Ending.{is_whole_status}
+use Rattle.mps_log_reader.specs.Ending.{is_input_verdict}
 use Rattle.mps_cli.specs.Ending.{status_of}
 use Rattle.mps_cli.proofs.SoFar.{answered_between, ran_then_reported, reported_after, whole_status}
 use Rattle.mps_cli.proofs.Leaving.{leaves_then_reported}
@@ -19,7 +19,7 @@ returns-clause-runs g c = record {
     status_is = c.status_of.ensures;
     ran = ran_then_reported c.run-ending.result bytes (g.D.Desk.outside c.args.desk.now)
         (g.D.Desk.outside c.run-ending.new.desk) (g.D.Desk.outside c.report.new.desk)
-        (c.run-ending.ensures.ran (whole_status c.run-ending.result (subst (λ n. is_whole_status n ≡ true) c.status_of.ensures whole)) bytes e)
+        (c.run-ending.ensures.ran (whole_status c.run-ending.result (subst (λ n. is_input_verdict n ≡ true) c.status_of.ensures whole)) bytes e)
         c.report.ensures.others;
     reported = reported_after c.run-ending.result (g.D.Desk.outside c.args.desk.now) (g.D.Desk.outside c.run-ending.new.desk)
         (g.D.Desk.outside c.report.new.desk) c.run-ending.ensures.quiet c.report.ensures.reported;
@@ -37,7 +37,7 @@ returns-clause-runs g c = record {
   };
   in_file = λ whole.
       in_file_then_reported c.args.log.now (g.D.Desk.outside c.args.desk.now) (g.D.Desk.outside c.run-ending.new.desk) (g.D.Desk.outside c.report.new.desk)
-      (c.run-ending.ensures.whole_log (whole_status c.run-ending.result (subst (λ n. is_whole_status n ≡ true) c.status_of.ensures whole)))
+      (c.run-ending.ensures.whole_log (whole_status c.run-ending.result (subst (λ n. is_input_verdict n ≡ true) c.status_of.ensures whole)))
       c.report.ensures.others;
   filed = logs_into_then_reported c.args.log.now (g.D.Desk.outside c.args.desk.now) (g.D.Desk.outside c.run-ending.new.desk)
       (g.D.Desk.outside c.report.new.desk) c.run-ending.ensures.filed c.report.ensures.others;

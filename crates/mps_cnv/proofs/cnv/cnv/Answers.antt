@@ -8,36 +8,36 @@ use Rattle.mps_cnv.proofs.cnv.cnv.Goals as goal
 
 pub returns-clause-converted : goal.returns-clause-converted
 returns-clause-converted g c whole bytes known =
-    converted_with (bits_of c.args.kinds) c.finish.result bytes c.convert-ending.result (g.D.Desk.outside c.args.desk.now) (g.D.Desk.outside c.convert-ending.new.desk) (g.D.Desk.outside c.finish.new.desk)
-    c.convert-ending.ensures.reported c.convert-ending.ensures.err_faults (c.convert-ending.ensures.converted bytes known) c.finish.ensures.done c.finish.ensures.quiet c.finish.ensures.status c.finish.ensures.reported
+    converted_with (bits_of c.args.kinds) c.report_ending.result bytes c.convert-ending.result (g.D.Desk.outside c.args.desk.now) (g.D.Desk.outside c.convert-ending.new.desk) (g.D.Desk.outside c.report_ending.new.desk)
+    c.convert-ending.ensures.reported c.convert-ending.ensures.err_faults (c.convert-ending.ensures.converted bytes known) c.report_ending.ensures.done c.report_ending.ensures.quiet c.report_ending.ensures.status c.report_ending.ensures.reported
 
 pub returns-clause-only : goal.returns-clause-only
 returns-clause-only g c whole bytes known =
-    only (bits_of c.args.kinds) bytes c.finish.result (g.D.Desk.outside c.args.desk.now) (g.D.Desk.outside c.finish.new.desk) whole
-    (converted_with (bits_of c.args.kinds) c.finish.result bytes c.convert-ending.result (g.D.Desk.outside c.args.desk.now) (g.D.Desk.outside c.convert-ending.new.desk) (g.D.Desk.outside c.finish.new.desk)
-    c.convert-ending.ensures.reported c.convert-ending.ensures.err_faults (c.convert-ending.ensures.converted bytes known) c.finish.ensures.done c.finish.ensures.quiet c.finish.ensures.status c.finish.ensures.reported)
+    only (bits_of c.args.kinds) bytes c.report_ending.result (g.D.Desk.outside c.args.desk.now) (g.D.Desk.outside c.report_ending.new.desk) whole
+    (converted_with (bits_of c.args.kinds) c.report_ending.result bytes c.convert-ending.result (g.D.Desk.outside c.args.desk.now) (g.D.Desk.outside c.convert-ending.new.desk) (g.D.Desk.outside c.report_ending.new.desk)
+    c.convert-ending.ensures.reported c.convert-ending.ensures.err_faults (c.convert-ending.ensures.converted bytes known) c.report_ending.ensures.done c.report_ending.ensures.quiet c.report_ending.ensures.status c.report_ending.ensures.reported)
 
 pub returns-clause-reported : goal.returns-clause-reported
 returns-clause-reported g c =
-    reports_status c.finish.result c.convert-ending.result (g.D.Desk.outside c.args.desk.now) (g.D.Desk.outside c.convert-ending.new.desk) (g.D.Desk.outside c.finish.new.desk)
-    c.convert-ending.ensures.reported c.convert-ending.ensures.err_faults c.finish.ensures.done c.finish.ensures.quiet c.finish.ensures.status c.finish.ensures.reported
+    reports_status c.report_ending.result c.convert-ending.result (g.D.Desk.outside c.args.desk.now) (g.D.Desk.outside c.convert-ending.new.desk) (g.D.Desk.outside c.report_ending.new.desk)
+    c.convert-ending.ensures.reported c.convert-ending.ensures.err_faults c.report_ending.ensures.done c.report_ending.ensures.quiet c.report_ending.ensures.status c.report_ending.ensures.reported
 
 pub returns-clause-broken : goal.returns-clause-broken
 returns-clause-broken g c three bytes known =
-    fails_with (bits_of c.args.kinds) c.finish.result bytes c.convert-ending.result (g.D.Desk.outside c.args.desk.now) (g.D.Desk.outside c.convert-ending.new.desk) (g.D.Desk.outside c.finish.new.desk) three
-    (λ e. c.convert-ending.ensures.broken e bytes known) c.finish.ensures.done c.finish.ensures.status c.finish.ensures.reported
+    fails_with (bits_of c.args.kinds) c.report_ending.result bytes c.convert-ending.result (g.D.Desk.outside c.args.desk.now) (g.D.Desk.outside c.convert-ending.new.desk) (g.D.Desk.outside c.report_ending.new.desk) three
+    (λ e. c.convert-ending.ensures.broken e bytes known) c.report_ending.ensures.done c.report_ending.ensures.status c.report_ending.ensures.reported
 
 pub returns-clause-no_memory : goal.returns-clause-no_memory
 returns-clause-no_memory g c eight =
-    reports_no_memory c.finish.result c.convert-ending.result (g.D.Desk.outside c.args.desk.now) (g.D.Desk.outside c.convert-ending.new.desk) (g.D.Desk.outside c.finish.new.desk) eight
-    c.convert-ending.ensures.no_memory c.finish.ensures.done c.finish.ensures.status c.finish.ensures.reported
+    reports_no_memory c.report_ending.result c.convert-ending.result (g.D.Desk.outside c.args.desk.now) (g.D.Desk.outside c.convert-ending.new.desk) (g.D.Desk.outside c.report_ending.new.desk) eight
+    c.convert-ending.ensures.no_memory c.report_ending.ensures.done c.report_ending.ensures.status c.report_ending.ensures.reported
 
 pub returns-clause-cut : goal.returns-clause-cut
 returns-clause-cut g c four bytes known =
-    cut_with (bits_of c.args.kinds) c.finish.result bytes c.convert-ending.result (g.D.Desk.outside c.args.desk.now) (g.D.Desk.outside c.convert-ending.new.desk) (g.D.Desk.outside c.finish.new.desk) four
-    (λ e. c.convert-ending.ensures.cut e bytes known) c.finish.ensures.done c.finish.ensures.status c.finish.ensures.reported
+    cut_with (bits_of c.args.kinds) c.report_ending.result bytes c.convert-ending.result (g.D.Desk.outside c.args.desk.now) (g.D.Desk.outside c.convert-ending.new.desk) (g.D.Desk.outside c.report_ending.new.desk) four
+    (λ e. c.convert-ending.ensures.cut e bytes known) c.report_ending.ensures.done c.report_ending.ensures.status c.report_ending.ensures.reported
 
 pub returns-clause-missing : goal.returns-clause-missing
 returns-clause-missing g c nothing =
-    unopened c.finish.result c.convert-ending.result (g.D.Desk.outside c.args.desk.now) (g.D.Desk.outside c.convert-ending.new.desk) (g.D.Desk.outside c.finish.new.desk)
-    (c.convert-ending.ensures.missing nothing).0 (c.convert-ending.ensures.missing nothing).1 c.finish.ensures.status c.finish.ensures.reported
+    unopened c.report_ending.result c.convert-ending.result (g.D.Desk.outside c.args.desk.now) (g.D.Desk.outside c.convert-ending.new.desk) (g.D.Desk.outside c.report_ending.new.desk)
+    (c.convert-ending.ensures.missing nothing).0 (c.convert-ending.ensures.missing nothing).1 c.report_ending.ensures.status c.report_ending.ensures.reported

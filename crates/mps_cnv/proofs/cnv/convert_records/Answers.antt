@@ -1,7 +1,7 @@
 use Rattle.std.proofs.Common.{◌∙◌, ◌++◌, ℕ, List, Option, Ok, ap, arith}
 use Rattle.std.specs.Option.{option_map}
 use Rattle.std.proofs.lemmas.Result.{err_from_is_err_and}
-use Rattle.mps_log_reader.specs.Causes.{Works}
+use Rattle.mps_log_reader.specs.Causes.{WorksOnInput}
 use Rattle.mps_event.specs.KindSet.{bits_of}
 use Rattle.mps_log_reader.specs.Left.{left_of}
 use Rattle.mps_log_reader.specs.PutOut.{put_out}
@@ -15,7 +15,7 @@ use Rattle.mps_cnv.proofs.cnv.convert_records.Goals as goal
 
 pub loop-preserved : goal.loop-preserved
 loop-preserved g c =
-    let works : Works {T = Unit {0}} (g.D.Desk.outside c.args.desk.now) (g.D.Desk.outside c.loop.desk) c.args.input.now c.loop.input (Ok tt) = c.loop.invariant.works in
+    let works : WorksOnInput {T = Unit {0}} (g.D.Desk.outside c.args.desk.now) (g.D.Desk.outside c.loop.desk) c.args.input.now c.loop.input (Ok tt) = c.loop.invariant.works in
     let next = rw c.in-Some.is at c.in_ok-convert_next.ensures.gives in
     let step = c.in_ok-convert_next.ensures.works in
     record {

@@ -1,7 +1,7 @@
 use Rattle.std.proofs.Common.{◌+◌, ◌∙◌, ◌++◌, ℕ, List, Option, Bool, Ok, true, false, arith, ap, subst}
 use Rattle.std.specs.Option.{option_map}
 use Rattle.std.proofs.lemmas.Result.{err_from_is_err_and}
-use Rattle.mps_log_reader.specs.Causes.{Works}
+use Rattle.mps_log_reader.specs.Causes.{WorksOnInput}
 use Rattle.mps_log_reader.specs.Left.{left_of}
 use Rattle.mps_log_reader.specs.PutOut.{put_out}
 use Rattle.mps_log_reader.proofs.Causes.{works-then}
@@ -71,7 +71,7 @@ returns-clause-cut g c failed bytes known =
 
 pub loop-following-preserved : goal.loop-following-preserved
 loop-following-preserved g c =
-    let works : Works {T = Unit {0}} (g.D.Desk.outside c.args.desk.now) (g.D.Desk.outside c.loop-following.desk) c.args.input.now c.loop-following.input (Ok tt) = c.loop-following.invariant.works in
+    let works : WorksOnInput {T = Unit {0}} (g.D.Desk.outside c.args.desk.now) (g.D.Desk.outside c.loop-following.desk) c.args.input.now c.loop-following.input (Ok tt) = c.loop-following.invariant.works in
     let step = c.in_ok-read_next.ensures.works in
     let next : NextLine c.args.version (c.from.result + 2) c.loop-following.labels c.read_next.new.labels
     (left_of (g.D.Desk.outside c.loop-following.desk) c.loop-following.input) (left_of (g.D.Desk.outside c.read_next.new.desk) c.read_next.new.input) c.read_next.new.input (g.D.Desk.outside c.read_next.new.desk).input

@@ -1,5 +1,5 @@
 use Rattle.std.proofs.Common.{◌≡◌, Ok}
-use Rattle.mps_log_reader.specs.Causes.{Works}
+use Rattle.mps_log_reader.specs.Causes.{WorksOnInput}
 use Rattle.mps_log_reader.specs.Input.{IsAtEnd, IsComplete}
 use Rattle.mps_log_reader.specs.Left.{left_of}
 use Rattle.mps_log_reader.specs.PutOut.{put_out, Grows}
@@ -8,7 +8,7 @@ use Rattle.mps_txt.proofs.textual.read_lines.Given as goal
 
 abbrev pub invariant-loop-following : goal.invariant-loop-following
 invariant-loop-following g l = record {
-  works : Works {T = Unit {0}} (g.D.Desk.outside l.initial.desk) (g.D.Desk.outside l.desk) l.initial.input l.input (Ok tt);
+  works : WorksOnInput {T = Unit {0}} (g.D.Desk.outside l.initial.desk) (g.D.Desk.outside l.desk) l.initial.input l.input (Ok tt);
   reported : (g.D.Desk.outside l.desk).reported ≡ (g.D.Desk.outside l.initial.desk).reported;
   err_faults : (g.D.Desk.outside l.desk).err_faults ≡ (g.D.Desk.outside l.initial.desk).err_faults;
   at_end : IsAtEnd (g.D.Desk.outside l.desk) l.input;
