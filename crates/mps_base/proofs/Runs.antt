@@ -13,7 +13,8 @@ pub between_none : (low high : ℕ) → high ≤ low → between low high ≡ []
 between_none low high h = cond-false (ltb low high) (record { from = low; count = high - low } ∷ []) [] (le-ltb low high h)
 
 -- a gap that is too short is passed over
-pub lowest_fitting_later : (need low high : ℕ) (rest : List Run) → 0 < need → high - low < need → lowest_fitting need (between low high ++ rest) ≡ lowest_fitting need rest
+pub lowest_fitting_later : (need low high : ℕ) (rest : List Run) → 0 < need → high - low < need
+    → lowest_fitting need (between low high ++ rest) ≡ lowest_fitting need rest
 lowest_fitting_later need low high rest some short =
     elim (cases_lt low high) [
       | inl gap ↦
@@ -23,7 +24,8 @@ lowest_fitting_later need low high rest some short =
     ]
 
 -- a front gap that is long enough is the lowest
-pub lowest_fitting_here : (need low high : ℕ) (rest : List Run) → 0 < need → low + need ≤ high → lowest_fitting need (between low high ++ rest) ≡ Some low
+pub lowest_fitting_here : (need low high : ℕ) (rest : List Run) → 0 < need → low + need ≤ high
+    → lowest_fitting need (between low high ++ rest) ≡ Some low
 lowest_fitting_here need low high rest some fits =
     ap (λ (rs : List Run). lowest_fitting need (rs ++ rest)) (between_some low high (omega arith))
     ∙ cond-true (leb need (high - low)) (Some low) (lowest_fitting need rest) (le-leb need (high - low) (omega arith))
@@ -40,7 +42,8 @@ append_none [] = refl
 append_none (r ∷ rs) = ap (λ (x : List Run). r ∷ x) (append_none rs)
 
 -- the gaps above `low` end at the first run, or at `high`
-pub lowest_gap_here : (need low at high : ℕ) (rs : List Run) → 0 < need → low + need ≤ at → IsAscending at high rs → lowest_fitting need (gaps low high rs) ≡ Some low
+pub lowest_gap_here : (need low at high : ℕ) (rs : List Run) → 0 < need → low + need ≤ at → IsAscending at high rs
+    → lowest_fitting need (gaps low high rs) ≡ Some low
 lowest_gap_here need low at high [] some fits ascending =
     ap (lowest_fitting need) (sym (append_none (between low high))) ∙ lowest_fitting_here need low high [] some (omega (arith, ascending))
 lowest_gap_here need low at high (r ∷ rs) some fits ascending =
@@ -81,7 +84,8 @@ pub record IsInGap (low high : ℕ) (rs : List Run) (need place : ℕ) : Type 0 
   pub below : place + need ≤ high
   pub ascending : IsAscending low high (with_run (record { from = place; count = need }) rs)
 
-pub in_lowest_gap : (low high : ℕ) (rs : List Run) (need place : ℕ) → 0 < need → IsAscending low high rs → lowest_fitting need (gaps low high rs) ≡ Some place → IsInGap low high rs need place
+pub in_lowest_gap : (low high : ℕ) (rs : List Run) (need place : ℕ) → 0 < need → IsAscending low high rs
+    → lowest_fitting need (gaps low high rs) ≡ Some place → IsInGap low high rs need place
 in_lowest_gap low high [] need place some ascending is =
     elim (cases_lt (high - low) need) [
       | inl short ↦
@@ -90,11 +94,17 @@ in_lowest_gap low high [] need place some ascending is =
           cc
       | inr fits ↦
           let here : lowest_fitting need (gaps low high []) ≡ Some low =
-          ap (lowest_fitting need) (sym (append_none (between low high))) ∙ lowest_fitting_here need low high [] some (omega (arith, ascending))
+          ap (lowest_fitting need) (sym (append_none (between low high)))
+          ∙ lowest_fitting_here need low high [] some (omega (arith, ascending))
           in
           let both : Some low ≡ Some place = sym here ∙ is in
           let same : low ≡ place = cc in
-          record { above = omega (arith, same); below = omega (arith, same, ascending); ascending = (omega (arith, same), some, omega (arith, same, ascending)) }
+          record {
+            above = omega (arith, same);
+            below = omega (arith, same, ascending);
+            ascending =
+                (omega (arith, same), some, omega (arith, same, ascending));
+          }
     ]
 in_lowest_gap low high (r ∷ rs) need place some ascending is =
     elim (cases_lt (r.from - low) need) [
@@ -161,7 +171,8 @@ contains_none : (r : Run) → ¬ Contains [] r
 contains_none r (k, within, is) = absurd (omega arith)
 
 -- where a run of ascending ones lies
-pub contained_bounds : (low high : ℕ) (rs : List Run) (r : Run) → IsAscending low high rs → Contains rs r → (low ≤ r.from) × (0 < r.count) × (end_of r ≤ high)
+pub contained_bounds : (low high : ℕ) (rs : List Run) (r : Run) → IsAscending low high rs → Contains rs r → (low ≤ r.from) × (0 < r.count)
+    × (end_of r ≤ high)
 contained_bounds low high [] r ascending there = absurd (contains_none r there)
 contained_bounds low high (s ∷ rs) r ascending there =
     elim (contains_cases rs r s there) [
@@ -180,13 +191,15 @@ IsAscending-without_run low high from [] ascending = ascending
 IsAscending-without_run low high from (r ∷ rs) ascending =
     let P : List Run → Type 0 = λ x. IsAscending low high x in
     elim (cases_eq from r.from) [
-      | inl here ↦ subst P (sym (without_run_first from r rs here)) (IsAscending-lower (end_of r) low high rs (omega (arith, ascending.0)) ascending.2)
+      | inl here ↦ subst P (sym (without_run_first from r rs here))
+          (IsAscending-lower (end_of r) low high rs (omega (arith, ascending.0)) ascending.2)
       | inr other ↦
           subst P (sym (without_run_later from r rs other))
           (ascending.0, ascending.1, IsAscending-without_run (end_of r) high from rs ascending.2)
     ]
 
-pub total-without_run : (low high : ℕ) (rs : List Run) (r : Run) → IsAscending low high rs → Contains rs r → total (without_run r.from rs) + r.count ≡ total rs
+pub total-without_run : (low high : ℕ) (rs : List Run) (r : Run) → IsAscending low high rs → Contains rs r
+    → total (without_run r.from rs) + r.count ≡ total rs
 total-without_run low high [] r ascending there = absurd (contains_none r there)
 total-without_run low high (s ∷ rs) r ascending there =
     elim (contains_cases rs r s there) [
@@ -197,5 +210,11 @@ total-without_run low high (s ∷ rs) r ascending there =
       | inr later ↦
           let bounds = contained_bounds (end_of s) high rs r ascending.2 later in
           let other = without_run_later r.from s rs (λ e. omega (arith, bounds.0, ascending.1)) in
-          omega (arith, ap total other, total-cons s (without_run r.from rs), total-cons s rs, total-without_run (end_of s) high rs r ascending.2 later)
+          omega (
+            arith,
+            ap total other,
+            total-cons s (without_run r.from rs),
+            total-cons s rs,
+            total-without_run (end_of s) high rs r ascending.2 later,
+          )
     ]

@@ -68,7 +68,8 @@ example =
     record { base = 0x1000; grains = 2; pool = 1; generation = 0; rank = rank.Exact }
     ∷ record { base = 0x4000; grains = 1; pool = 1; generation = 0; rank = rank.Weak } ∷ []
 
-pub the_last_byte_lies_in_the_segment : segment_over example 0x2fff ≡ Some (record { base = 0x1000; grains = 2; pool = 1; generation = 0; rank = rank.Exact })
+pub the_last_byte_lies_in_the_segment : segment_over example 0x2fff
+    ≡ Some (record { base = 0x1000; grains = 2; pool = 1; generation = 0; rank = rank.Exact })
 the_last_byte_lies_in_the_segment = refl
 
 pub no_segment_between : segment_over example 0x3000 ≡ None
@@ -81,7 +82,8 @@ pub a_segment_between :
     ∷ record { base = 0x4000; grains = 1; pool = 1; generation = 0; rank = rank.Weak } ∷ []
 a_segment_between = refl
 
-pub the_second_is_given_back : without_segment example 0x4000 ≡ record { base = 0x1000; grains = 2; pool = 1; generation = 0; rank = rank.Exact } ∷ []
+pub the_second_is_given_back : without_segment example 0x4000
+    ≡ record { base = 0x1000; grains = 2; pool = 1; generation = 0; rank = rank.Exact } ∷ []
 the_second_is_given_back = refl
 
 -- 24 words are covered, the first of which is word 600

@@ -17,12 +17,14 @@ append_assoc [] ys zs = refl
 append_assoc (x ∷ xs) ys zs = ap (λ rest. x ∷ rest) (append_assoc xs ys zs)
 
 -- the world after a history that goes on
-pub world_after_steps-append : (w : World) (h more : History) → world_after_steps w (h ++ more) ≡ world_after_steps (world_after_steps w h) more
+pub world_after_steps-append : (w : World) (h more : History)
+    → world_after_steps w (h ++ more) ≡ world_after_steps (world_after_steps w h) more
 world_after_steps-append w [] more = refl
 world_after_steps-append w (s ∷ ss) more = world_after_steps-append (world_after w s) ss more
 
 -- a legal history goes on by legal steps
-pub IsLegalFrom-append : (w : World) (h more : History) → IsLegalFrom w h → IsLegalFrom (world_after_steps w h) more → IsLegalFrom w (h ++ more)
+pub IsLegalFrom-append : (w : World) (h more : History) → IsLegalFrom w h → IsLegalFrom (world_after_steps w h) more
+    → IsLegalFrom w (h ++ more)
 IsLegalFrom-append w [] more first then_more = then_more
 IsLegalFrom-append w (s ∷ ss) more first then_more = (first.0, IsLegalFrom-append (world_after w s) ss more first.1 then_more)
 
@@ -31,21 +33,28 @@ pub log_from-append : (pools : ℕ) (h more : History) → log_from pools (h ++ 
 log_from-append pools [] more = ap (λ n. log_from n more) (sym (add-zero pools))
 log_from-append pools (s ∷ ss) more =
     ap (λ rest. records_of_step pools s ++ rest) (log_from-append (pools + pools_made_by s.call s.answer) ss more)
-    ∙ ap (λ n. records_of_step pools s ++ (log_from (pools + pools_made_by s.call s.answer) ss ++ log_from n more)) (add_assoc pools (pools_made_by s.call s.answer) (pools_made ss))
-    ∙ sym (append_assoc (records_of_step pools s) (log_from (pools + pools_made_by s.call s.answer) ss) (log_from (pools + (pools_made_by s.call s.answer + pools_made ss)) more))
+    ∙ ap (λ n. records_of_step pools s ++ (log_from (pools + pools_made_by s.call s.answer) ss ++ log_from n more))
+    (add_assoc pools (pools_made_by s.call s.answer) (pools_made ss))
+    ∙ sym (append_assoc (records_of_step pools s) (log_from (pools + pools_made_by s.call s.answer) ss)
+    (log_from (pools + (pools_made_by s.call s.answer + pools_made ss)) more))
 
 -- replaying what goes on, from the store after a first record
-replay_on : (rs those : List Record) → ((s : Store) → replay_from s (rs ++ those) ≡ option_and_then (λ after. replay_from after those) (replay_from s rs)) → (after : Option Store) → option_and_then (λ s. replay_from s (rs ++ those)) after ≡ option_and_then (λ s. replay_from s those) (option_and_then (λ s. replay_from s rs) after)
+replay_on : (rs those : List Record) → ((s : Store)
+    → replay_from s (rs ++ those) ≡ option_and_then (λ after. replay_from after those) (replay_from s rs)) → (after : Option Store)
+    → option_and_then (λ s. replay_from s (rs ++ those)) after
+    ≡ option_and_then (λ s. replay_from s those) (option_and_then (λ s. replay_from s rs) after)
 replay_on rs those each None = refl
 replay_on rs those each (Some s) = each s
 
 -- replaying records that go on
-pub replay_from-append : (store : Store) (these those : List Record) → replay_from store (these ++ those) ≡ option_and_then (λ after. replay_from after those) (replay_from store these)
+pub replay_from-append : (store : Store) (these those : List Record)
+    → replay_from store (these ++ those) ≡ option_and_then (λ after. replay_from after those) (replay_from store these)
 replay_from-append store [] those = refl
 replay_from-append store (r ∷ rs) those = replay_on rs those (λ s. replay_from-append s rs those) (store_after store r)
 
 -- a legal history goes on by steps that are legal in the world that it leaves
-pub IsLegalFrom-then : (w v : World) (h more : History) → world_after_steps w h ≡ v → IsLegalFrom w h → IsLegalFrom v more → IsLegalFrom w (h ++ more)
+pub IsLegalFrom-then : (w v : World) (h more : History) → world_after_steps w h ≡ v → IsLegalFrom w h → IsLegalFrom v more
+    → IsLegalFrom w (h ++ more)
 IsLegalFrom-then w v h more leaves first then_more =
     IsLegalFrom-append w h more first (subst (λ left. IsLegalFrom left more) (sym leaves) then_more)
 
@@ -55,6 +64,7 @@ IsLegalFrom-later w [] more legal = legal
 IsLegalFrom-later w (s ∷ ss) more legal = IsLegalFrom-later (world_after w s) ss more legal.1
 
 -- a history is not legal where its next step isn't, in the world that it leaves
-pub not_legal_then : (w v : World) (h : History) (s : Step) (more : History) → world_after_steps w h ≡ v → (IsLegalStep v s → ⊥) → IsLegalFrom w (h ++ s ∷ more) → ⊥
+pub not_legal_then : (w v : World) (h : History) (s : Step) (more : History) → world_after_steps w h ≡ v → (IsLegalStep v s → ⊥)
+    → IsLegalFrom w (h ++ s ∷ more) → ⊥
 not_legal_then w v h s more leaves refused legal =
     refused (subst (λ left. IsLegalStep left s) leaves (IsLegalFrom-later w h (s ∷ more) legal).0)

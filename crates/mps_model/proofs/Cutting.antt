@@ -11,7 +11,8 @@ append_nil [] = refl
 append_nil (x ∷ xs) = ap (λ ys. x ∷ ys) (append_nil xs)
 
 module _ (call : Call) (w : World) (all : List Move) where
-  one_of_pieces : (pieces : List (List Move)) → joined pieces ≡ all → IsRow call w pieces → (length pieces ≡ 1) ⊎ ((length pieces < 1) × IsTrue (ends_in_last pieces)) → IsUnitPiece call w all
+  one_of_pieces : (pieces : List (List Move)) → joined pieces ≡ all → IsRow call w pieces → (length pieces ≡ 1)
+      ⊎ ((length pieces < 1) × IsTrue (ends_in_last pieces)) → IsUnitPiece call w all
   one_of_pieces [] cut row (inl e) = absurd cc
   one_of_pieces [] cut row (inr e) = absurd (let h : false ≡ true = e.1 in cc)
   one_of_pieces (p ∷ []) cut row e = subst (λ ms. IsUnitPiece call w ms) (sym (append_nil p) ∙ cut) row

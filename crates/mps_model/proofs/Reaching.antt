@@ -6,7 +6,8 @@ use Rattle.std.specs.List.{list_all}
 use Rattle.mps_model.specs.Graph.{contains}
 use Rattle.mps_model.specs.Reachable.{PathLeads, begins, goes_on}
 
-list_all-step : (p : ℕ → Bool) (x : ℕ) (xs : List ℕ) (y : ℕ) → (list_all p xs ≡ true → contains xs y ≡ true → p y ≡ true) → (b e : Bool) → p x ≡ b → (x == y) ≡ e → (b && list_all p xs) ≡ true → (e || contains xs y) ≡ true → p y ≡ true
+list_all-step : (p : ℕ → Bool) (x : ℕ) (xs : List ℕ) (y : ℕ) → (list_all p xs ≡ true → contains xs y ≡ true → p y ≡ true) → (b e : Bool)
+    → p x ≡ b → (x == y) ≡ e → (b && list_all p xs) ≡ true → (e || contains xs y) ≡ true → p y ≡ true
 list_all-step p x xs y next false e px xy all has = absurd cc
 list_all-step p x xs y next true true px xy all has = subst (λ n. p n ≡ true) (eqb-true x y xy) px
 list_all-step p x xs y next true false px xy all has = next all has
@@ -22,7 +23,8 @@ abbrev pub is_closed : (next : ℕ → List ℕ) → List ℕ → Bool
 is_closed next ids = list_all (λ from. list_all (contains ids) (next from)) ids
 
 -- paths that begin in a closed set stay in it
-pub PathLeads-closed : (next : ℕ → List ℕ) (seeds ids : List ℕ) → IsTrue (list_all (contains ids) seeds) → IsTrue (is_closed next ids) → {id : ℕ} → PathLeads next seeds id → IsTrue (contains ids id)
+pub PathLeads-closed : (next : ℕ → List ℕ) (seeds ids : List ℕ) → IsTrue (list_all (contains ids) seeds) → IsTrue (is_closed next ids)
+    → {id : ℕ} → PathLeads next seeds id → IsTrue (contains ids id)
 PathLeads-closed next seeds ids first closed (begins {id} h) = list_all-contains (contains ids) seeds id first h
 PathLeads-closed next seeds ids first closed (goes_on {from} {to} path h) =
     list_all-contains (contains ids) (next from) to

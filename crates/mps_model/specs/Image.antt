@@ -28,7 +28,11 @@ abbrev three_objects : World
 three_objects = record empty_world {
   graph = record empty_graph {
     objects =
-        record { pool = 0; body = Automatic 0x200000401 (HeadCell ∷ ReferenceCell (Some 1) 3 ∷ ReferenceCell None 1 ∷ NumberCell 7 ∷ []) false }
+        record {
+          pool = 0;
+          body = Automatic 0x200000401 (HeadCell ∷ ReferenceCell (Some 1) 3 ∷ ReferenceCell None 1 ∷ NumberCell 7
+              ∷ []) false;
+        }
         ∷ record { pool = 0; body = Automatic 0x203 (HeadCell ∷ NumberCell 9 ∷ []) false }
         ∷ record { pool = 1; body = Manual (5 ∷ 6 ∷ []) }
         ∷ [];

@@ -158,7 +158,8 @@ is_copying_pool w number = pool_is is_copying_kind w number
 
 -- how many generations the chain of a pool has, where it is on one
 abbrev pub generations_of : World → (pool : ℕ) → Option ℕ
-generations_of w pool = option_map length (option_and_then (λ chain. slice_get w.chains chain) (option_and_then (λ p. p.chain) (pool_at w pool)))
+generations_of w pool = option_map length (option_and_then (λ chain. slice_get w.chains chain)
+    (option_and_then (λ p. p.chain) (pool_at w pool)))
 
 -- the generation to which a block of this pool and generation moves
 abbrev pub target_of : World → (pool generation : ℕ) → ℕ

@@ -50,7 +50,8 @@ registering_is_legal = (
       (
         answered tt refl refl tt refl refl refl refl refl,
         (
-          answered (record { placement = (refl, refl); of_pool = refl; of_generation = refl }, tt) (record { poll = refl; segment = refl }) refl tt refl refl refl refl refl,
+          answered (record { placement = (refl, refl); of_pool = refl; of_generation = refl }, tt)
+              (record { poll = refl; segment = refl }) refl tt refl refl refl refl refl,
           (
             answered (record { at_address = refl; of_words = refl; of_pool = refl }, tt) refl refl tt refl refl refl refl refl,
             (
@@ -93,7 +94,8 @@ first_message_is_legal = (
   )
       (record {
         earlier = [];
-        later = moves.Seg (address 0x2000) 1 0 0 ∷ moves.Moved (address 0x1000) (address 0x2000) ∷ moves.Post (address 0x2000) ∷ moves.Unseg (address 0x1000) ∷ moves.End ∷ [];
+        later = moves.Seg (address 0x2000) 1 0 0 ∷ moves.Moved (address 0x1000) (address 0x2000) ∷ moves.Post (address 0x2000)
+            ∷ moves.Unseg (address 0x1000) ∷ moves.End ∷ [];
         whole = refl;
         earlier_ends = refl;
         later_ends = record {
@@ -105,7 +107,8 @@ first_message_is_legal = (
           row = (
             examines refl,
             refl,
-            reclaims (record { base = 0x1000; freed = []; condemned = refl; in_turn = refl; ascending = refl; in_segment = refl; whole = refl }),
+            reclaims (record { base = 0x1000; freed = []; condemned = refl; in_turn = refl; ascending = refl; in_segment = refl; whole =
+                refl }),
           );
           ends = refl;
         };
@@ -146,7 +149,8 @@ second_message_is_legal = (
   )
       (record {
         earlier = [];
-        later = moves.Seg (address 0x1000) 1 0 0 ∷ moves.Moved (address 0x2000) (address 0x1000) ∷ moves.Post (address 0x1000) ∷ moves.Unseg (address 0x2000) ∷ moves.End ∷ [];
+        later = moves.Seg (address 0x1000) 1 0 0 ∷ moves.Moved (address 0x2000) (address 0x1000) ∷ moves.Post (address 0x1000)
+            ∷ moves.Unseg (address 0x2000) ∷ moves.End ∷ [];
         whole = refl;
         earlier_ends = refl;
         later_ends = record {
@@ -158,7 +162,8 @@ second_message_is_legal = (
           row = (
             examines refl,
             refl,
-            reclaims (record { base = 0x2000; freed = []; condemned = refl; in_turn = refl; ascending = refl; in_segment = refl; whole = refl }),
+            reclaims (record { base = 0x2000; freed = []; condemned = refl; in_turn = refl; ascending = refl; in_segment = refl; whole =
+                refl }),
           );
           ends = refl;
         };
@@ -176,7 +181,8 @@ freeing_is_legal = (
     record { none_runs = refl; of_zones = refl },
     (
       record {
-        gone = record { condemned = refl; not_settled = refl; not_reachable = λ path. false_is_not_true (PathLeads-closed _ _ [] refl refl path) };
+        gone = record { condemned = refl; not_settled = refl; not_reachable =
+            λ path. false_is_not_true (PathLeads-closed _ _ [] refl refl path) };
         not_registered = refl;
       },
       (
@@ -193,7 +199,8 @@ freeing_is_legal = (
         later_ends = record {
           pieces = (moves.Free (address 0x1000) ∷ moves.Unseg (address 0x1000) ∷ moves.End ∷ []) ∷ [];
           cut = refl;
-          row = reclaims (record { base = 0x1000; freed = 0x1000 ∷ []; condemned = refl; in_turn = refl; ascending = refl; in_segment = refl; whole = refl });
+          row = reclaims (record { base = 0x1000; freed = 0x1000 ∷ []; condemned = refl; in_turn = refl; ascending = refl; in_segment =
+              refl; whole = refl });
           ends = refl;
         };
       })

@@ -15,7 +15,8 @@ flipped_is_legal = (
       (
         answered tt refl refl tt refl refl refl refl refl,
         (
-          answered (record { placement = (refl, refl); of_pool = refl; of_generation = refl }, tt) (record { poll = refl; segment = refl }) refl tt refl refl refl refl refl,
+          answered (record { placement = (refl, refl); of_pool = refl; of_generation = refl }, tt)
+              (record { poll = refl; segment = refl }) refl tt refl refl refl refl refl,
           (
             answered (
               record { none_runs = refl; of_zones = refl },
@@ -32,7 +33,8 @@ flipped_is_legal = (
                   later_ends = record {
                     pieces = (moves.Unseg (address 0x1000) ∷ moves.End ∷ []) ∷ [];
                     cut = refl;
-                    row = reclaims (record { base = 0x1000; freed = []; condemned = refl; in_turn = refl; ascending = refl; in_segment = refl; whole = refl });
+                    row = reclaims (record { base = 0x1000; freed = []; condemned = refl; in_turn = refl; ascending = refl; in_segment =
+                        refl; whole = refl });
                     ends = refl;
                   };
                 })

@@ -41,7 +41,8 @@ young_is_legal = (
         (
           answered tt refl refl tt refl refl refl refl refl,
           (
-            answered (record { placement = (refl, refl); of_pool = refl; of_generation = refl }, tt) (record { poll = refl; segment = refl }) refl tt refl refl refl refl refl,
+            answered (record { placement = (refl, refl); of_pool = refl; of_generation = refl }, tt)
+                (record { poll = refl; segment = refl }) refl tt refl refl refl refl refl,
             (
               answered (record { at_address = refl; of_words = refl; of_pool = refl }, tt) refl refl tt refl refl refl refl refl,
               tt,
@@ -78,7 +79,8 @@ first_is_legal = (
             row = (
               scans (record { id = 0; live = refl; not_weak = refl; scanned = inr (inl refl); keeps_targets = refl }),
               refl,
-              reclaims (record { base = 0x1000; freed = []; condemned = refl; in_turn = refl; ascending = refl; in_segment = refl; whole = refl }),
+              reclaims (record { base = 0x1000; freed = []; condemned = refl; in_turn = refl; ascending = refl; in_segment = refl; whole =
+                  refl }),
             );
             ends = refl;
           })
@@ -143,7 +145,8 @@ third_is_legal = (
           row = (
             scans (record { id = 0; live = refl; not_weak = refl; scanned = inr (inl refl); keeps_targets = refl }),
             refl,
-            reclaims (record { base = 0x2000; freed = []; condemned = refl; in_turn = refl; ascending = refl; in_segment = refl; whole = refl }),
+            reclaims (record { base = 0x2000; freed = []; condemned = refl; in_turn = refl; ascending = refl; in_segment = refl; whole =
+                refl }),
           );
           ends = refl;
         };
@@ -156,7 +159,8 @@ third_is_legal = (
           row = (
             scans (record { id = 0; live = refl; not_weak = refl; scanned = inr (inl refl); keeps_targets = refl }),
             refl,
-            reclaims (record { base = 0x1000; freed = []; condemned = refl; in_turn = refl; ascending = refl; in_segment = refl; whole = refl }),
+            reclaims (record { base = 0x1000; freed = []; condemned = refl; in_turn = refl; ascending = refl; in_segment = refl; whole =
+                refl }),
           );
           ends = refl;
         };

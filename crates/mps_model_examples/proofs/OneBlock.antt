@@ -12,7 +12,8 @@ one_block_is_legal = (
       (
         answered tt refl refl tt refl refl refl refl refl,
         (
-          answered ((record { placement = (refl, refl); of_pool = refl; of_generation = refl }, tt)) (record { poll = refl; segment = refl }) refl tt refl refl refl refl refl,
+          answered ((record { placement = (refl, refl); of_pool = refl; of_generation = refl }, tt))
+              (record { poll = refl; segment = refl }) refl tt refl refl refl refl refl,
           (
             answered tt refl refl tt refl refl refl refl refl,
             (

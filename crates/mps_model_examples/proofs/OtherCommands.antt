@@ -43,7 +43,8 @@ made_is_legal = (
           (
             answered tt refl refl tt refl refl refl refl refl,
             (
-              answered (record { placement = (refl, refl); of_pool = refl; of_generation = refl }, tt) (record { poll = refl; segment = refl }) refl tt refl refl refl refl refl,
+              answered (record { placement = (refl, refl); of_pool = refl; of_generation = refl }, tt)
+                  (record { poll = refl; segment = refl }) refl tt refl refl refl refl refl,
               (
                 answered (record { at_address = refl; of_words = refl; of_pool = refl }, tt) refl refl tt refl refl refl refl refl,
                 tt,
@@ -112,7 +113,8 @@ dropped_is_legal = (
 
 pub other_commands_is_legal : OtherCommandsIsLegal
 other_commands_is_legal =
-    IsLegalFrom-then empty_world made one_mapped (commands.written ++ (commands.read ++ (area_written ++ roots_dropped))) made_leaves made_is_legal
+    IsLegalFrom-then empty_world made one_mapped (commands.written
+        ++ (commands.read ++ (area_written ++ roots_dropped))) made_leaves made_is_legal
     (IsLegalFrom-then made written commands.written (commands.read ++ (area_written ++ roots_dropped)) written_leaves written_is_legal
     (IsLegalFrom-then written written commands.read (area_written ++ roots_dropped) read_leaves read_is_legal
     (IsLegalFrom-then written pinned area_written roots_dropped pinned_leaves pinned_is_legal dropped_is_legal)))

@@ -30,7 +30,8 @@ linked_is_legal = (
         (
           answered tt refl refl tt refl refl refl refl refl,
           (
-            answered (record { placement = (refl, refl); of_pool = refl; of_generation = refl }, tt) (record { poll = refl; segment = refl }) refl tt refl refl refl refl refl,
+            answered (record { placement = (refl, refl); of_pool = refl; of_generation = refl }, tt)
+                (record { poll = refl; segment = refl }) refl tt refl refl refl refl refl,
             (
               answered (record { at_address = refl; of_words = refl; of_pool = refl }, tt) refl refl tt refl refl refl refl refl,
               (
@@ -73,7 +74,8 @@ block_is_legal = (
               (moves.End ∷ [])
               ∷ [];
           cut = refl;
-          row = reclaims (record { base = 0x1000; freed = []; condemned = refl; in_turn = refl; ascending = refl; in_segment = refl; whole = refl });
+          row = reclaims (record { base = 0x1000; freed = []; condemned = refl; in_turn = refl; ascending = refl; in_segment = refl;
+              whole = refl });
           enough = inr (omega arith, refl);
         })
         refl tt refl refl refl refl refl,
@@ -90,7 +92,8 @@ number_is_legal = (
   (
     answered (
       record {
-        gone = record { condemned = refl; not_settled = refl; not_reachable = λ path. false_is_not_true (PathLeads-closed _ _ (1 ∷ []) refl refl path) };
+        gone = record { condemned = refl; not_settled = refl; not_reachable =
+            λ path. false_is_not_true (PathLeads-closed _ _ (1 ∷ []) refl refl path) };
         not_registered = refl;
       },
       (record { survivors = (inl refl, tt); copied = refl; segments = refl }, tt),
@@ -100,7 +103,8 @@ number_is_legal = (
               (moves.Free (address 0x1000) ∷ moves.End ∷ [])
               ∷ [];
           cut = refl;
-          row = reclaims (record { base = 0x1000; freed = 0x1000 ∷ []; condemned = refl; in_turn = refl; ascending = refl; in_segment = refl; whole = refl });
+          row = reclaims (record { base = 0x1000; freed = 0x1000 ∷ []; condemned = refl; in_turn = refl; ascending = refl; in_segment =
+              refl; whole = refl });
           enough = inr (omega arith, refl);
         })
         refl tt refl refl refl refl refl,

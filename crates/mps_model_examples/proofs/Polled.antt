@@ -66,7 +66,8 @@ clamped_is_legal = (
         (
           answered tt refl refl tt refl refl refl refl refl,
           (
-            answered (record { placement = (refl, refl); of_pool = refl; of_generation = refl }, tt) (record { poll = refl; segment = refl }) refl tt refl refl refl refl refl,
+            answered (record { placement = (refl, refl); of_pool = refl; of_generation = refl }, tt)
+                (record { poll = refl; segment = refl }) refl tt refl refl refl refl refl,
             (
               answered (record { at_address = refl; of_words = refl; of_pool = refl }, tt) refl refl tt refl refl refl refl refl,
               (answered tt refl refl tt refl refl refl refl refl, tt),
@@ -80,7 +81,8 @@ clamped_is_legal = (
 
 released_is_legal : IsLegalFrom held released
 released_is_legal = (
-  answered (record { placement = (refl, refl); of_pool = refl; of_generation = refl }, tt) (record { poll = refl; segment = refl }) refl tt refl refl refl refl refl,
+  answered (record { placement = (refl, refl); of_pool = refl; of_generation = refl }, tt)
+      (record { poll = refl; segment = refl }) refl tt refl refl refl refl refl,
   (
     answered (record { at_address = refl; of_words = refl; of_pool = refl }, tt) refl refl tt refl refl refl refl refl,
     (answered tt refl refl tt refl refl refl refl refl, tt),
@@ -113,7 +115,8 @@ units_are_legal : IsLegalFrom committed units_polled
 units_are_legal = (
   answered (
     record {
-      gone = record { condemned = refl; not_settled = refl; not_reachable = λ path. false_is_not_true (PathLeads-closed _ _ (2 ∷ []) refl refl path) };
+      gone = record { condemned = refl; not_settled = refl; not_reachable =
+          λ path. false_is_not_true (PathLeads-closed _ _ (2 ∷ []) refl refl path) };
       not_registered = refl;
     },
     (
@@ -143,9 +146,11 @@ units_are_legal = (
               scans (record { id = 2; live = refl; not_weak = refl; scanned = inl refl; keeps_targets = refl }),
               refl,
               (
-                reclaims (record { base = 0x1000; freed = 0x1000 ∷ []; condemned = refl; in_turn = refl; ascending = refl; in_segment = refl; whole = refl }),
+                reclaims (record { base = 0x1000; freed = 0x1000 ∷ []; condemned = refl; in_turn = refl; ascending = refl; in_segment =
+                    refl; whole = refl }),
                 refl,
-                reclaims (record { base = 0x3000; freed = []; condemned = refl; in_turn = refl; ascending = refl; in_segment = refl; whole = refl }),
+                reclaims (record { base = 0x3000; freed = []; condemned = refl; in_turn = refl; ascending = refl; in_segment = refl;
+                    whole = refl }),
               ),
             ),
           );

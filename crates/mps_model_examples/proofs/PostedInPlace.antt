@@ -17,7 +17,8 @@ posted_in_place_is_legal = (
       (
         answered tt refl refl tt refl refl refl refl refl,
         (
-          answered (record { placement = (refl, refl); of_pool = refl; of_generation = refl }, tt) (record { poll = refl; segment = refl }) refl tt refl refl refl refl refl,
+          answered (record { placement = (refl, refl); of_pool = refl; of_generation = refl }, tt)
+              (record { poll = refl; segment = refl }) refl tt refl refl refl refl refl,
           (
             answered (record { at_address = refl; of_words = refl; of_pool = refl }, tt) refl refl tt refl refl refl refl refl,
             (
@@ -52,7 +53,8 @@ posted_in_place_is_legal = (
                           row = (
                             examines refl,
                             refl,
-                            reclaims (record { base = 0x1000; freed = []; condemned = refl; in_turn = refl; ascending = refl; in_segment = refl; whole = refl }),
+                            reclaims (record { base = 0x1000; freed = []; condemned = refl; in_turn = refl; ascending = refl; in_segment =
+                                refl; whole = refl }),
                           );
                           ends = refl;
                         };

@@ -21,7 +21,8 @@ row_is_legal = (
       (
         answered tt refl refl tt refl refl refl refl refl,
         (
-          answered (record { placement = (refl, refl); of_pool = refl; of_generation = refl }, tt) (record { poll = refl; segment = refl }) refl tt refl refl refl refl refl,
+          answered (record { placement = (refl, refl); of_pool = refl; of_generation = refl }, tt)
+              (record { poll = refl; segment = refl }) refl tt refl refl refl refl refl,
           (
             answered (record { at_address = refl; of_words = refl; of_pool = refl }, tt) refl refl tt refl refl refl refl refl,
             (
@@ -70,7 +71,8 @@ read_is_legal = (
   answered (
     record { tracing = refl; condemned = refl; not_settled = refl; copying = refl; at_placement = refl },
     (record { tracing = refl; condemned = refl; not_settled = refl; copying = refl; at_placement = refl }, tt),
-  ) (inl (record { holder = 2; in_segment = refl; scanned = inr (inl refl); refers = refl }, (record { holder = 1; in_segment = refl; scanned = inr (inl refl); refers = refl }, tt))) refl tt refl refl refl refl refl,
+  ) (inl (record { holder = 2; in_segment = refl; scanned = inr (inl refl); refers = refl },
+      (record { holder = 1; in_segment = refl; scanned = inr (inl refl); refers = refl }, tt))) refl tt refl refl refl refl refl,
   (
     answered tt (inl tt) refl tt refl refl refl refl refl,
     (

@@ -41,11 +41,13 @@ begin_is_legal = (
           (
             answered tt refl refl tt refl refl refl refl refl,
             (
-              answered (record { placement = (refl, refl); of_pool = refl; of_generation = refl }, tt) (record { poll = refl; segment = refl }) refl tt refl refl refl refl refl,
+              answered (record { placement = (refl, refl); of_pool = refl; of_generation = refl }, tt)
+                  (record { poll = refl; segment = refl }) refl tt refl refl refl refl refl,
               (
                 answered (record { at_address = refl; of_words = refl; of_pool = refl }, tt) refl refl tt refl refl refl refl refl,
                 (
-                  answered (record { placement = (refl, refl); of_pool = refl; of_generation = refl }, tt) (record { poll = refl; segment = refl }) refl tt refl refl refl refl refl,
+                  answered (record { placement = (refl, refl); of_pool = refl; of_generation = refl }, tt)
+                      (record { poll = refl; segment = refl }) refl tt refl refl refl refl refl,
                   (
                     answered (record { at_address = refl; of_words = refl; of_pool = refl }, tt) refl refl tt refl refl refl refl refl,
                     (
@@ -70,7 +72,8 @@ lower_is_legal : IsLegalFrom begun lower_first
 lower_is_legal = (
   answered (
     record {
-      gone = record { condemned = refl; not_settled = refl; not_reachable = λ path. false_is_not_true (PathLeads-closed _ _ [] refl refl path) };
+      gone = record { condemned = refl; not_settled = refl; not_reachable =
+          λ path. false_is_not_true (PathLeads-closed _ _ [] refl refl path) };
       not_registered = refl;
     },
     (record { empty = refl; due = refl }, tt),
@@ -78,7 +81,8 @@ lower_is_legal = (
       (record {
         pieces = (moves.Free (address 0x1000) ∷ moves.Unseg (address 0x1000) ∷ []) ∷ [];
         cut = refl;
-        row = reclaims (record { base = 0x1000; freed = 0x1000 ∷ []; condemned = refl; in_turn = refl; ascending = refl; in_segment = refl; whole = refl });
+        row = reclaims (record { base = 0x1000; freed = 0x1000 ∷ []; condemned = refl; in_turn = refl; ascending = refl; in_segment =
+            refl; whole = refl });
         enough = inl refl;
       })
       refl tt refl refl refl refl refl,
@@ -98,7 +102,8 @@ upper_is_legal : IsLegalFrom half_reclaimed upper_last
 upper_is_legal = (
   answered (
     record {
-      gone = record { condemned = refl; not_settled = refl; not_reachable = λ path. false_is_not_true (PathLeads-closed _ _ [] refl refl path) };
+      gone = record { condemned = refl; not_settled = refl; not_reachable =
+          λ path. false_is_not_true (PathLeads-closed _ _ [] refl refl path) };
       not_registered = refl;
     },
     (record { empty = refl; due = refl }, (record { survivors = tt; copied = refl; segments = refl }, tt)),
@@ -106,7 +111,8 @@ upper_is_legal = (
       (record {
         pieces = (moves.Free (address 0x2000) ∷ moves.Unseg (address 0x2000) ∷ moves.End ∷ []) ∷ [];
         cut = refl;
-        row = reclaims (record { base = 0x2000; freed = 0x2000 ∷ []; condemned = refl; in_turn = refl; ascending = refl; in_segment = refl; whole = refl });
+        row = reclaims (record { base = 0x2000; freed = 0x2000 ∷ []; condemned = refl; in_turn = refl; ascending = refl; in_segment =
+            refl; whole = refl });
         enough = inl refl;
       })
       refl tt refl refl refl refl refl,

@@ -14,5 +14,6 @@ pub cannot_follow : (history : History) (s : Step) → (IsLegalStep (world_after
 cannot_follow history s refused = not_legal_then empty_world (world_after_history history) history s [] refl refused
 
 -- the same, where the world is told
-pub cannot_follow_from : (v : World) (history : History) (s : Step) → world_after_steps empty_world history ≡ v → (IsLegalStep v s → ⊥) → CannotFollow history s
+pub cannot_follow_from : (v : World) (history : History) (s : Step) → world_after_steps empty_world history ≡ v → (IsLegalStep v s → ⊥)
+    → CannotFollow history s
 cannot_follow_from v history s leaves refused = not_legal_then empty_world v history s [] leaves refused

@@ -10,7 +10,13 @@ use Rattle.mps_model.specs.Reply.{reply_to}
 use Rattle.mps_model.specs.LegalMove.{AreLegalMoves}
 use Rattle.mps_model.specs.History.{AreMovesOf, IsAnsweredStep, IsPossiblyMarked, judged_world, moved_world, world_after, are_held_kept, has_units_left}
 
-pub answered : {w : World} {s : Step} → AreLegalMoves s.call w None s.moves → AreMovesOf w s.call s.answer s.moves → s.answer ≡ reply_to (is_block s.answer) (judged_world w s.call s.moves) (moved_world w s.call s.moves) s.call → IsPossiblyMarked w s.call s.answer → IsTrue (list_all (is_live (world_after w s)) (ids_of_client (world_after w s).graph)) → IsTrue (list_all (is_live (world_after w s)) (ids_in_blocks (world_after w s).graph)) → IsTrue (is_running (world_after w s) || list_all (is_live (world_after w s)) (flat_map (targets (world_after w s).graph) (live_ids (world_after w s)))) → IsTrue (are_held_kept (world_after w s)) → IsTrue (has_units_left (world_after w s)) → IsAnsweredStep w s
+pub answered : {w : World} {s : Step} → AreLegalMoves s.call w None s.moves → AreMovesOf w s.call s.answer s.moves
+    → s.answer ≡ reply_to (is_block s.answer) (judged_world w s.call s.moves) (moved_world w s.call s.moves) s.call
+    → IsPossiblyMarked w s.call s.answer → IsTrue (list_all (is_live (world_after w s)) (ids_of_client (world_after w s).graph))
+    → IsTrue (list_all (is_live (world_after w s)) (ids_in_blocks (world_after w s).graph))
+    → IsTrue (is_running (world_after w s) || list_all (is_live (world_after w s))
+    (flat_map (targets (world_after w s).graph) (live_ids (world_after w s)))) → IsTrue (are_held_kept (world_after w s))
+    → IsTrue (has_units_left (world_after w s)) → IsAnsweredStep w s
 answered legal due said marked client blocks referred kept left = record {
   moves_are_legal = legal;
   moves_are_due = due;

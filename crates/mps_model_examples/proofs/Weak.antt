@@ -39,11 +39,13 @@ pair_is_legal = (
         (
           answered tt refl refl tt refl refl refl refl refl,
           (
-            answered (record { placement = (refl, refl); of_pool = refl; of_generation = refl }, tt) (record { poll = refl; segment = refl }) refl tt refl refl refl refl refl,
+            answered (record { placement = (refl, refl); of_pool = refl; of_generation = refl }, tt)
+                (record { poll = refl; segment = refl }) refl tt refl refl refl refl refl,
             (
               answered (record { at_address = refl; of_words = refl; of_pool = refl }, tt) refl refl tt refl refl refl refl refl,
               (
-                answered (record { placement = (refl, refl); of_pool = refl; of_generation = refl }, tt) (record { poll = refl; segment = refl }) refl tt refl refl refl refl refl,
+                answered (record { placement = (refl, refl); of_pool = refl; of_generation = refl }, tt)
+                    (record { poll = refl; segment = refl }) refl tt refl refl refl refl refl,
                 (
                   answered tt refl refl tt refl refl refl refl refl,
                   (
@@ -74,7 +76,8 @@ dropped_is_legal = (
         later_ends = record {
           pieces = (moves.End ∷ []) ∷ [];
           cut = refl;
-          row = reclaims (record { base = 0x2000; freed = []; condemned = refl; in_turn = refl; ascending = refl; in_segment = refl; whole = refl });
+          row = reclaims (record { base = 0x2000; freed = []; condemned = refl; in_turn = refl; ascending = refl; in_segment = refl;
+              whole = refl });
           ends = refl;
         };
       })
@@ -103,11 +106,13 @@ splatted_is_legal = (
         phase = refl;
         weak = refl;
         scanned = inr (inr (inl (begins refl)));
-        target_is_gone = record { condemned = refl; not_settled = refl; not_reachable = λ path. false_is_not_true (PathLeads-closed _ _ (1 ∷ []) refl refl path) };
+        target_is_gone = record { condemned = refl; not_settled = refl; not_reachable =
+            λ path. false_is_not_true (PathLeads-closed _ _ (1 ∷ []) refl refl path) };
       },
       (
         record {
-          gone = record { condemned = refl; not_settled = refl; not_reachable = λ path. false_is_not_true (PathLeads-closed _ _ (1 ∷ []) refl refl path) };
+          gone = record { condemned = refl; not_settled = refl; not_reachable =
+              λ path. false_is_not_true (PathLeads-closed _ _ (1 ∷ []) refl refl path) };
           not_registered = refl;
         },
         (
@@ -133,9 +138,11 @@ splatted_is_legal = (
             splats_one (0x2000, refl),
             refl,
             (
-              reclaims (record { base = 0x1000; freed = 0x1000 ∷ []; condemned = refl; in_turn = refl; ascending = refl; in_segment = refl; whole = refl }),
+              reclaims (record { base = 0x1000; freed = 0x1000 ∷ []; condemned = refl; in_turn = refl; ascending = refl; in_segment =
+                  refl; whole = refl }),
               refl,
-              reclaims (record { base = 0x2000; freed = []; condemned = refl; in_turn = refl; ascending = refl; in_segment = refl; whole = refl }),
+              reclaims (record { base = 0x2000; freed = []; condemned = refl; in_turn = refl; ascending = refl; in_segment = refl; whole =
+                  refl }),
             ),
           );
           ends = refl;

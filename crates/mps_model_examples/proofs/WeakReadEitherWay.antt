@@ -18,7 +18,8 @@ begun = weakly_world (weakly_graph None (Some 0)) (grain_segment 0x1000 0 ∷ we
 
 abbrev moved : World
 moved =
-    weakly_world (weakly_graph (Some 0) (Some 0)) (grain_segment 0x1000 0 ∷ weak_segment ∷ grain_segment 0x3000 0 ∷ []) 0x3000 (tail 1538 510)
+    weakly_world (weakly_graph (Some 0) (Some 0)) (grain_segment 0x1000 0 ∷ weak_segment ∷ grain_segment 0x3000 0 ∷ []) 0x3000
+        (tail 1538 510)
     (0 ∷ []) (0 ∷ 1 ∷ []) Tracing
 
 abbrev splatted : World
@@ -47,11 +48,13 @@ begin_is_legal = (
           (
             answered tt refl refl tt refl refl refl refl refl,
             (
-              answered (record { placement = (refl, refl); of_pool = refl; of_generation = refl }, tt) (record { poll = refl; segment = refl }) refl tt refl refl refl refl refl,
+              answered (record { placement = (refl, refl); of_pool = refl; of_generation = refl }, tt)
+                  (record { poll = refl; segment = refl }) refl tt refl refl refl refl refl,
               (
                 answered (record { at_address = refl; of_words = refl; of_pool = refl }, tt) refl refl tt refl refl refl refl refl,
                 (
-                  answered (record { placement = (refl, refl); of_pool = refl; of_generation = refl }, tt) (record { poll = refl; segment = refl }) refl tt refl refl refl refl refl,
+                  answered (record { placement = (refl, refl); of_pool = refl; of_generation = refl }, tt)
+                      (record { poll = refl; segment = refl }) refl tt refl refl refl refl refl,
                   (
                     answered tt refl refl tt refl refl refl refl refl,
                     (
@@ -103,9 +106,11 @@ kept_is_legal = (
             scans (record { id = 0; live = refl; not_weak = refl; scanned = inr (inl refl); keeps_targets = refl }),
             refl,
             (
-              reclaims (record { base = 0x1000; freed = []; condemned = refl; in_turn = refl; ascending = refl; in_segment = refl; whole = refl }),
+              reclaims (record { base = 0x1000; freed = []; condemned = refl; in_turn = refl; ascending = refl; in_segment = refl; whole =
+                  refl }),
               refl,
-              reclaims (record { base = 0x2000; freed = []; condemned = refl; in_turn = refl; ascending = refl; in_segment = refl; whole = refl }),
+              reclaims (record { base = 0x2000; freed = []; condemned = refl; in_turn = refl; ascending = refl; in_segment = refl; whole =
+                  refl }),
             ),
           );
           enough = inr (omega arith, refl);
@@ -122,7 +127,8 @@ splatted_is_legal = (
       phase = refl;
       weak = refl;
       scanned = inr (inl refl);
-      target_is_gone = record { condemned = refl; not_settled = refl; not_reachable = λ path. false_is_not_true (PathLeads-closed _ _ (1 ∷ []) refl refl path) };
+      target_is_gone = record { condemned = refl; not_settled = refl; not_reachable =
+          λ path. false_is_not_true (PathLeads-closed _ _ (1 ∷ []) refl refl path) };
     },
     tt,
   ) (inr refl) refl tt refl refl refl refl refl,
@@ -135,7 +141,8 @@ gone_is_legal = (
   (
     answered (
       record {
-        gone = record { condemned = refl; not_settled = refl; not_reachable = λ path. false_is_not_true (PathLeads-closed _ _ (1 ∷ []) refl refl path) };
+        gone = record { condemned = refl; not_settled = refl; not_reachable =
+            λ path. false_is_not_true (PathLeads-closed _ _ (1 ∷ []) refl refl path) };
         not_registered = refl;
       },
       (
@@ -150,9 +157,11 @@ gone_is_legal = (
               ∷ [];
           cut = refl;
           row = (
-            reclaims (record { base = 0x1000; freed = 0x1000 ∷ []; condemned = refl; in_turn = refl; ascending = refl; in_segment = refl; whole = refl }),
+            reclaims (record { base = 0x1000; freed = 0x1000 ∷ []; condemned = refl; in_turn = refl; ascending = refl; in_segment = refl;
+                whole = refl }),
             refl,
-            reclaims (record { base = 0x2000; freed = []; condemned = refl; in_turn = refl; ascending = refl; in_segment = refl; whole = refl }),
+            reclaims (record { base = 0x2000; freed = []; condemned = refl; in_turn = refl; ascending = refl; in_segment = refl; whole =
+                refl }),
           );
           enough = inr (omega arith, refl);
         })
@@ -168,5 +177,6 @@ begun_then more legal = IsLegalFrom-then empty_world begun weakly_held more begi
 pub weak_read_either_way_is_legal : WeakReadEitherWayIsLegal
 weak_read_either_way_is_legal = (
   begun_then (read_moving ∷ kept) (IsLegalFrom-then begun moved (read_moving ∷ []) kept moved_leaves moved_is_legal kept_is_legal),
-  begun_then (read_splatting ∷ gone) (IsLegalFrom-then begun splatted (read_splatting ∷ []) gone splatted_leaves splatted_is_legal gone_is_legal),
+  begun_then (read_splatting ∷ gone) (IsLegalFrom-then begun splatted (read_splatting
+      ∷ []) gone splatted_leaves splatted_is_legal gone_is_legal),
 )

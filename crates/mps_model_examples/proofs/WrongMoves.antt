@@ -15,7 +15,8 @@ use Rattle.mps_model.specs.World.{empty_world}
 use Rattle.mps_model.specs.History.{world_after_steps}
 
 pub splat_of_reachable : SplatOfReachable
-splat_of_reachable = cannot_follow_from held_world weak_pair splat_of_held pair_leaves (λ s. s.moves_are_legal.1.0.target_is_gone.not_reachable (begins {id = 0} refl))
+splat_of_reachable = cannot_follow_from held_world weak_pair splat_of_held pair_leaves
+    (λ s. s.moves_are_legal.1.0.target_is_gone.not_reachable (begins {id = 0} refl))
 
 pub two_posts_for_one : TwoPostsForOne
 two_posts_for_one = cannot_follow one_registration two_posts (λ s. s.moves_are_legal.1.1.1.1.0.registered)
@@ -24,7 +25,8 @@ pub move_of_pinned : MoveOfPinned
 move_of_pinned = cannot_follow poked steps.move_of_pinned (λ s. false_is_not_true s.moves_are_legal.1.1.0.not_settled)
 
 pub free_of_waiting : FreeOfWaiting
-free_of_waiting = cannot_follow_from waiting_world waiting steps.free_of_waiting waiting_leaves (λ s. s.moves_are_legal.1.0.gone.not_reachable (begins {id = 0} refl))
+free_of_waiting = cannot_follow_from waiting_world waiting steps.free_of_waiting waiting_leaves
+    (λ s. s.moves_are_legal.1.0.gone.not_reachable (begins {id = 0} refl))
 
 pub stay_beside_room : StayBesideRoom
 stay_beside_room = cannot_follow one_block steps.stay_beside_room (λ s. false_is_not_true s.moves_are_legal.1.0.no_room)

@@ -80,7 +80,8 @@ weak_and_linked_world = record {
   grains = 8;
   limit = 8;
   formats = empty_world.formats;
-  pools = record { kind = Collected kind.Amc; format = 1; chain = None } ∷ record { kind = Collected kind.Awl; format = 1; chain = None } ∷ [];
+  pools = record { kind = Collected kind.Amc; format = 1; chain = None } ∷ record { kind = Collected kind.Awl; format = 1; chain = None }
+      ∷ [];
   chains = [];
   segments = grain_segment 0x1000 0 ∷ record { base = 0x2000; grains = 1; pool = 1; generation = 0; rank = rank.Weak } ∷ [];
   addresses = Some 0x1000 ∷ Some 0x1018 ∷ Some 0x2000 ∷ Some 0x2010 ∷ [];

@@ -31,7 +31,8 @@ registered_once =
 -- a collection begins; the registration is taken away, another one made, and the block dropped
 abbrev pub registered_anew : History
 registered_anew =
-    step 11 call.Start (moves.Flip (zones 2) 16 0 ∷ moves.Seg (address 0x2000) 1 0 0 ∷ moves.Moved (address 0x1000) (address 0x2000) ∷ []) reply.Ok
+    step 11 call.Start (moves.Flip (zones 2) 16 0 ∷ moves.Seg (address 0x2000) 1 0 0 ∷ moves.Moved (address 0x1000) (address 0x2000)
+        ∷ []) reply.Ok
     ∷ step 12 (call.Definalize (at_index t 0)) [] reply.Ok
     ∷ step 13 (call.Finalize (at_index t 0)) [] reply.Ok
     ∷ step 14 (call.Clear (at_index t 0)) [] reply.Ok
@@ -64,7 +65,8 @@ registered_graph held = record {
       ∷ [];
 }
 
-abbrev pub registered_world : (held : Option ℕ) → List Segment → (place : ℕ) → Run → List Tail → (flips : List ℕ) → Option Collection → World
+abbrev pub registered_world : (held : Option ℕ) → List Segment → (place : ℕ) → Run → List Tail → (flips : List ℕ) → Option Collection
+    → World
 registered_world held segments place buffer tails flips collection = record {
   graph = registered_graph held;
   grains = 8;

@@ -22,7 +22,8 @@ depending =
 
 -- a collection begins, and moves the block
 abbrev pub block_moved : (line : ℕ) → Step
-block_moved line = step line call.Start (moves.Flip (zones 2) 16 0 ∷ moves.Seg (address 0x2000) 1 0 0 ∷ moves.Moved (address 0x1000) (address 0x2000) ∷ []) reply.Ok
+block_moved line = step line call.Start (moves.Flip (zones 2) 16 0 ∷ moves.Seg (address 0x2000) 1 0 0
+    ∷ moves.Moved (address 0x1000) (address 0x2000) ∷ []) reply.Ok
 
 -- fresh before the move, and stale after it. A dependency that is made then is fresh, until the stale one is merged into it
 abbrev pub stale_by_move : History

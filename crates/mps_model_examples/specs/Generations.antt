@@ -31,7 +31,8 @@ in_generation_zero =
 -- its collection moves it to the second one, and is ended by `park`
 abbrev pub first_collected : History
 first_collected =
-    step 8 (call.StartChain q 0) (moves.Flip (zones 2) 0 0 ∷ moves.Seg (address 0x2000) 1 0 1 ∷ moves.Moved (address 0x1000) (address 0x2000) ∷ []) reply.Ok
+    step 8 (call.StartChain q 0) (moves.Flip (zones 2) 0 0 ∷ moves.Seg (address 0x2000) 1 0 1
+        ∷ moves.Moved (address 0x1000) (address 0x2000) ∷ []) reply.Ok
     ∷ step 9 call.Start [] (reply.Refused refusal.Running)
     ∷ step 10 call.Park (moves.Unseg (address 0x1000) ∷ moves.End ∷ []) reply.Ok
     ∷ []
@@ -41,7 +42,8 @@ abbrev pub second_begun : History
 second_begun =
     step 11 (call.StartChain q 0) (moves.Flip (zones 0) 0 0 ∷ moves.End ∷ []) reply.Ok
     ∷ step 12 (call.StartChain q 2) [] (reply.Refused refusal.BadIndex)
-    ∷ step 13 (call.StartChain q 1) (moves.Flip (zones 4) 0 1 ∷ moves.Seg (address 0x1000) 1 0 1 ∷ moves.Moved (address 0x2000) (address 0x1000) ∷ []) reply.Ok
+    ∷ step 13 (call.StartChain q 1) (moves.Flip (zones 4) 0 1 ∷ moves.Seg (address 0x1000) 1 0 1
+        ∷ moves.Moved (address 0x2000) (address 0x1000) ∷ []) reply.Ok
     ∷ []
 
 -- `collect` ends the running collection, and then does a whole one
@@ -87,7 +89,8 @@ generations_graph = record {
 }
 
 -- the world of the block, with its place, what is at hand, what flips left, and the running collection
-abbrev pub generations_world : List Segment → (place : ℕ) → (buffer : Run) → List Tail → ArenaState → (flips : List ℕ) → Option Collection → World
+abbrev pub generations_world : List Segment → (place : ℕ) → (buffer : Run) → List Tail → ArenaState → (flips : List ℕ) → Option Collection
+    → World
 generations_world segments place buffer tails state flips collection = record {
   graph = generations_graph;
   grains = 8;

@@ -32,7 +32,8 @@ linked =
 -- a collection begins, and moves the block in slot 0
 abbrev pub start_step : Step
 start_step =
-    step 11 call.Start (moves.Flip (zones 2) 16 0 ∷ moves.Seg (address 0x2000) 1 0 0 ∷ moves.Moved (address 0x1018) (address 0x2000) ∷ []) reply.Ok
+    step 11 call.Start (moves.Flip (zones 2) 16 0 ∷ moves.Seg (address 0x2000) 1 0 0 ∷ moves.Moved (address 0x1018) (address 0x2000)
+        ∷ []) reply.Ok
 
 abbrev pub linked_started : History
 linked_started = linked ++ start_step ∷ []
@@ -76,7 +77,8 @@ linked_graph second = record {
 }
 
 -- the world of the two blocks, with their places, what is at hand, what flips left, and the running collection
-abbrev pub linked_world : (second : Option ℕ) → List Segment → (place of_first : ℕ) → (buffer : Run) → List Tail → (flips : List ℕ) → Option Collection → World
+abbrev pub linked_world : (second : Option ℕ) → List Segment → (place of_first : ℕ) → (buffer : Run) → List Tail → (flips : List ℕ)
+    → Option Collection → World
 linked_world second segments place of_first buffer tails flips collection = record {
   graph = linked_graph second;
   grains = 8;

@@ -121,4 +121,5 @@ unlinked_world = record linked_in_place_world {
 
 -- both histories are legal
 abbrev pub PokedEitherWayIsLegal : Type 0
-PokedEitherWayIsLegal = IsLegalHistory (linked_in_place ++ (unlinked ++ as_block)) × IsLegalHistory (linked_in_place ++ (unlinked ++ as_number))
+PokedEitherWayIsLegal = IsLegalHistory (linked_in_place ++ (unlinked ++ as_block))
+    × IsLegalHistory (linked_in_place ++ (unlinked ++ as_number))

@@ -102,7 +102,8 @@ polled_graph objects held reservation = record {
 }
 
 -- the world of a graph, with where its blocks lie, what is at hand, and what flips left
-abbrev pub polled_world : Graph → List Segment → (addresses : List (Option ℕ)) → PointMemory → List Tail → ArenaState → (flips : List ℕ) → Option Collection → World
+abbrev pub polled_world : Graph → List Segment → (addresses : List (Option ℕ)) → PointMemory → List Tail → ArenaState → (flips : List ℕ)
+    → Option Collection → World
 polled_world graph segments addresses at_point tails state flips collection = record {
   graph = graph;
   grains = 8;

@@ -87,7 +87,8 @@ dropped_world segments first collection = record {
   grains = 8;
   limit = 8;
   formats = empty_world.formats;
-  pools = record { kind = Collected kind.Ams; format = 1; chain = None } ∷ record { kind = Collected kind.Ams; format = 1; chain = None } ∷ [];
+  pools = record { kind = Collected kind.Ams; format = 1; chain = None } ∷ record { kind = Collected kind.Ams; format = 1; chain = None }
+      ∷ [];
   chains = [];
   segments = segments;
   addresses = first ∷ Some 0x2000 ∷ [];

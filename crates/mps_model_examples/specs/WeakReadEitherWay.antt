@@ -92,7 +92,8 @@ weakly_world graph segments place tails placed had phase = record {
   grains = 8;
   limit = 8;
   formats = empty_world.formats;
-  pools = record { kind = Collected kind.Amc; format = 1; chain = None } ∷ record { kind = Collected kind.Awl; format = 1; chain = None } ∷ [];
+  pools = record { kind = Collected kind.Amc; format = 1; chain = None } ∷ record { kind = Collected kind.Awl; format = 1; chain = None }
+      ∷ [];
   chains = [];
   segments = segments;
   addresses = Some place ∷ Some 0x2000 ∷ [];
