@@ -66,23 +66,23 @@ pub runs_from-set : (grain : ℕ) (counts : List ℕ) (i n : ℕ) → i < length
     → runs_from grain (set counts i n) ≡ with_run (record { from = grain + i; count = n }) (runs_from grain counts)
 runs_from-set grain [] i n within none some = absurd (omega arith)
 runs_from-set grain (c ∷ counts) zero n within none some =
-    let place : grain + 0 ≡ grain = omega arith in
+    let same_grain : grain + 0 ≡ grain = omega arith in
     runs_from-some grain counts n some
     ∙ sym (after_all (suc grain) counts (record { from = grain; count = n }) (omega arith))
     ∙ ap (λ (rs : List Run). with_run (record { from = grain; count = n }) rs) (sym (runs_from-zero grain counts c none))
-    ∙ ap (λ (g : ℕ). with_run (record { from = g; count = n }) (runs_from grain (c ∷ counts))) (sym place)
+    ∙ ap (λ (g : ℕ). with_run (record { from = g; count = n }) (runs_from grain (c ∷ counts))) (sym same_grain)
 runs_from-set grain (zero ∷ counts) (suc i) n within none some =
-    let place : suc grain + i ≡ grain + suc i = omega arith in
+    let same_grain : suc grain + i ≡ grain + suc i = omega arith in
     runs_from-zero grain (set counts i n) 0 refl ∙ runs_from-set (suc grain) counts i n (omega arith) none some
-    ∙ ap (λ (g : ℕ). with_run (record { from = g; count = n }) (runs_from (suc grain) counts)) place
+    ∙ ap (λ (g : ℕ). with_run (record { from = g; count = n }) (runs_from (suc grain) counts)) same_grain
     ∙ ap (λ (rs : List Run). with_run (record { from = grain + suc i; count = n }) rs) (sym (runs_from-zero grain counts 0 refl))
 runs_from-set grain (suc c ∷ counts) (suc i) n within none some =
-    let place : suc grain + i ≡ grain + suc i = omega arith in
+    let same_grain : suc grain + i ≡ grain + suc i = omega arith in
     let first : Run = record { from = grain; count = suc c } in
     let put : Run = record { from = grain + suc i; count = n } in
     runs_from-some grain (set counts i n) (suc c) (omega arith)
     ∙ ap (λ (rs : List Run). first ∷ rs) (runs_from-set (suc grain) counts i n (omega arith) none some)
-    ∙ ap (λ (g : ℕ). first ∷ with_run (record { from = g; count = n }) (runs_from (suc grain) counts)) place
+    ∙ ap (λ (g : ℕ). first ∷ with_run (record { from = g; count = n }) (runs_from (suc grain) counts)) same_grain
     ∙ sym (with_run_later put first (runs_from (suc grain) counts) (omega arith))
     ∙ ap (λ (rs : List Run). with_run put rs) (sym (runs_from-some grain counts (suc c) (omega arith)))
 
@@ -95,15 +95,15 @@ runs_from-empty grain (c ∷ counts) zero within some =
     ∙ sym (without_run_first (grain + 0) first (runs_from (suc grain) counts) (omega arith))
     ∙ ap (λ (rs : List Run). without_run (grain + 0) rs) (sym (runs_from-some grain counts c some))
 runs_from-empty grain (zero ∷ counts) (suc i) within some =
-    let place : suc grain + i ≡ grain + suc i = omega arith in
+    let same_grain : suc grain + i ≡ grain + suc i = omega arith in
     runs_from-zero grain (set counts i 0) 0 refl ∙ runs_from-empty (suc grain) counts i (omega arith) some
-    ∙ ap (λ (g : ℕ). without_run g (runs_from (suc grain) counts)) place
+    ∙ ap (λ (g : ℕ). without_run g (runs_from (suc grain) counts)) same_grain
     ∙ ap (λ (rs : List Run). without_run (grain + suc i) rs) (sym (runs_from-zero grain counts 0 refl))
 runs_from-empty grain (suc c ∷ counts) (suc i) within some =
-    let place : suc grain + i ≡ grain + suc i = omega arith in
+    let same_grain : suc grain + i ≡ grain + suc i = omega arith in
     let first : Run = record { from = grain; count = suc c } in
     runs_from-some grain (set counts i 0) (suc c) (omega arith)
-    ∙ ap (λ (rs : List Run). first ∷ rs) (runs_from-empty (suc grain) counts i (omega arith) some ∙ ap (λ (g : ℕ). without_run g (runs_from (suc grain) counts)) place)
+    ∙ ap (λ (rs : List Run). first ∷ rs) (runs_from-empty (suc grain) counts i (omega arith) some ∙ ap (λ (g : ℕ). without_run g (runs_from (suc grain) counts)) same_grain)
     ∙ sym (without_run_later (grain + suc i) first (runs_from (suc grain) counts) (λ e. omega arith))
     ∙ ap (λ (rs : List Run). without_run (grain + suc i) rs) (sym (runs_from-some grain counts (suc c) (omega arith)))
 

@@ -2,33 +2,37 @@
 use Rattle.std.specs.Prelude.{ℕ, ◌+◌, ◌*◌, ◌≡◌, List, [], ◌∷◌, ◌++◌, Result, Ok, Err, take, drop, length, replicate, refl}
 use Rattle.mps_base.specs.Run.{Run, with_run}
 use Rattle.mps_base.specs.Placement.{Placement, Place, NewSegment, OverLimit, NoFreeRun, run_placement}
-use Rattle.mps_base.specs.Address.{address_of_grain, address_of_word}
+use Rattle.mps_base.specs.Address.{address_of_grain, address_of_word, words_of_grain}
 use Rattle.mps_base.specs.declared.address.Addr.{Addr}
 use Rattle.mps_base.specs.declared.refusal.Refusal.{Refusal}
 use Rattle.mps_base.specs.declared.refusal.Refusal.TheVariants.{CommitLimit, NoRun}
 
--- An arena uses the grains 1 to `grains`. Its words are numbered from those of grain 0, which is never used; `held` are the
--- runs of grains that were taken, in ascending order.
-pub record ArenaState : Type 0 where
+-- the most grains that an arena may have
+abbrev pub max_grains : ℕ
+max_grains = 2048
+
+-- An arena uses the grains 1 to `grains`. Its words are numbered from the first word of grain 0, which is never used. `held` are
+-- the runs of grains that were taken and not given back, in ascending order.
+pub record ArenaMemory : Type 0 where
   pub words : List ℕ
   pub grains : ℕ
   pub limit : ℕ
   pub held : List Run
 
 -- the arena before any run is taken: all words are 0
-abbrev pub new_arena : (grains limit : ℕ) → ArenaState
-new_arena grains limit = record { words = replicate (512 * (grains + 1)) 0; grains = grains; limit = limit; held = [] }
+abbrev pub new_arena : (grains limit : ℕ) → ArenaMemory
+new_arena grains limit = record { words = replicate (words_of_grain * (grains + 1)) 0; grains = grains; limit = limit; held = [] }
 
 -- where a run of `need` grains would be taken
-abbrev pub placement_in : ArenaState → (need : ℕ) → Placement
+abbrev pub placement_in : ArenaMemory → (need : ℕ) → Placement
 placement_in arena need = run_placement arena.grains arena.limit arena.held need
 
 -- the answer of a placement: an address, or the refusal with its numbers
-abbrev pub answer_of : Placement → Result Addr Refusal
-answer_of (Place word) = Ok (record { 0 = address_of_word word })
-answer_of (NewSegment grain grains) = Ok (record { 0 = address_of_grain grain })
-answer_of (OverLimit committed need limit) = Err (CommitLimit committed need limit)
-answer_of (NoFreeRun need longest) = Err (NoRun need longest)
+abbrev pub answer_of_placement : Placement → Result Addr Refusal
+answer_of_placement (Place word) = Ok (record { 0 = address_of_word word })
+answer_of_placement (NewSegment grain grains) = Ok (record { 0 = address_of_grain grain })
+answer_of_placement (OverLimit committed need limit) = Err (CommitLimit committed need limit)
+answer_of_placement (NoFreeRun need longest) = Err (NoRun need longest)
 
 -- the held runs after a placement
 abbrev pub held_after : Placement → List Run → List Run
@@ -37,7 +41,7 @@ held_after (Place word) held = held
 held_after (OverLimit committed need limit) held = held
 held_after (NoFreeRun need longest) held = held
 
--- words with others written over them from a word on; there stay as many
+-- the words with others written over them from a word on; their number stays the same
 abbrev pub with_words : List ℕ → ℕ → List ℕ → List ℕ
 with_words words at new = take (length words) (take at words ++ (new ++ drop (at + length new) words))
 

@@ -9,9 +9,9 @@ runs_from grain (zero ∷ counts) = runs_from (suc grain) counts
 runs_from grain (suc n ∷ counts) = record { from = grain; count = suc n } ∷ runs_from (suc grain) counts
 
 -- the runs of a whole table
-unfoldable pub held_in : List ℕ → List Run
-held_in table = runs_from 0 table
+unfoldable pub runs_in : List ℕ → List Run
+runs_in table = runs_from 0 table
 
-two_runs : held_in (0 ∷ 2 ∷ 0 ∷ 0 ∷ 1 ∷ []) ≡ record { from = 1; count = 2 } ∷ record { from = 4; count = 1 } ∷ []
-unfolding held_in runs_from
+two_runs : runs_in (0 ∷ 2 ∷ 0 ∷ 0 ∷ 1 ∷ []) ≡ record { from = 1; count = 2 } ∷ record { from = 4; count = 1 } ∷ []
+unfolding runs_in runs_from
 two_runs = refl

@@ -1,18 +1,19 @@
--- How an arena's tables stand for what a client sees.
-use Rattle.std.specs.Prelude.{ℕ, ◌*◌, ◌-◌, ◌≤◌, ◌<◌, ◌≡◌, List, length}
+-- How the tables of an arena represent what its callers see.
+use Rattle.std.specs.Prelude.{ℕ, ◌*◌, ◌+◌, ◌-◌, ◌≤◌, ◌<◌, ◌≡◌, List, length}
 use Rattle.mps_base.specs.Run.{IsAscending, total}
-use Rattle.mps_arena.specs.Grains.{held_in}
-use Rattle.mps_arena.specs.Arena.{ArenaState}
+use Rattle.mps_arena.specs.Grains.{runs_in}
+use Rattle.mps_arena.specs.Arena.{ArenaMemory, max_grains}
+use Rattle.mps_base.specs.Address.{words_of_grain}
 
 -- the state of an arena with these words, this table of runs and this limit
-abbrev pub state_of : List ℕ → List ℕ → ℕ → ArenaState
-state_of words runs limit = record { words = words; grains = length runs - 1; limit = limit; held = held_in runs }
+abbrev pub memory_of : List ℕ → List ℕ → ℕ → ArenaMemory
+memory_of words runs limit = record { words = words; grains = length runs - 1; limit = limit; held = runs_in runs }
 
--- the runs lie in the grains from 1 on, don't overlap and are counted, and no more are held than the limit allows
-pub record IsSound (words runs : List ℕ) (committed limit : ℕ) : Type 0 where
-  pub some : 1 < length runs
-  pub few : length runs ≤ 2049
-  pub size : length words ≡ 512 * length runs
-  pub ascending : IsAscending 1 (length runs) (held_in runs)
-  pub counted : committed ≡ total (held_in runs)
-  pub within : committed ≤ limit
+-- the runs lie in the grains from 1 on and don't overlap, their sum is known, and it is at most the limit
+pub record IsSoundArena (words runs : List ℕ) (committed limit : ℕ) : Type 0 where
+  pub nonempty : 1 < length runs
+  pub at_most : length runs ≤ max_grains + 1
+  pub size : length words ≡ words_of_grain * length runs
+  pub ascending : IsAscending 1 (length runs) (runs_in runs)
+  pub counted : committed ≡ total (runs_in runs)
+  pub within_limit : committed ≤ limit

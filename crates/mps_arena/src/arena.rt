@@ -3,17 +3,17 @@
 
 ghost use Rattle.std.specs.Prelude.{◌≡◌, ◌+◌, ◌*◌, ◌/◌, ◌%◌, ◌<◌, ◌≤◌, length, IfOk, IfErr, OnOk, Contains, slice_range, MatchResult};
 ghost use Rattle.mps_base.specs.Run.{total, with_run, without_run};
-ghost use Rattle.mps_base.specs.Address.{grain_of, word_of};
-ghost use Rattle.mps_arena.specs.Arena.{ArenaState, new_arena, placement_in, answer_of, held_after};
+ghost use Rattle.mps_base.specs.Address.{bytes_of_word, bytes_of_grain, grain_of, word_of};
+ghost use Rattle.mps_arena.specs.Arena.{ArenaMemory, max_grains, new_arena, placement_in, answer_of_placement, held_after};
 ghost use Rattle.std.specs.Borrow.{sem};
-ghost use Rattle.mps_arena.specs.Lending.{LendsWords};
+ghost use Rattle.mps_arena.specs.Lending.{LendsArenaWords};
 
 use crate::grains::lowest_free;
-use mps_base::{Addr, Refusal};
+use mps_base::{Addr, BYTES_OF_GRAIN, BYTES_OF_WORD, Refusal, WORDS_OF_GRAIN};
 use std::alloc::{AllocError, Global};
 use std::marker::Model;
 
-/// The words of an arena and the runs of its grains that are held. Clauses see its words, its size and limit in grains, and the runs.
+/// The words of an arena, and which runs of its grains are held. Clauses see its words, its size and its limit in grains, and the runs.
 #[derive(Drop)]
 pub struct Arena {
     words: Vec<u64>,
@@ -23,24 +23,24 @@ pub struct Arena {
 }
 
 impl Model for Arena {
-    ghost use Rattle.mps_arena.specs.Arena.{ArenaState};
-    ghost use Rattle.mps_arena.specs.Inside.{state_of, IsSound};
+    ghost use Rattle.mps_arena.specs.Arena.{ArenaMemory};
+    ghost use Rattle.mps_arena.specs.Inside.{memory_of, IsSoundArena};
 
-    ghost Value = { ArenaState };
+    ghost Value = { ArenaMemory };
 
-    ghost view = { λ a. state_of a.words.items a.runs.items a.limit };
+    ghost view = { λ a. memory_of a.words.items a.runs.items a.limit };
 
-    ghost invariant = { λ a. IsSound a.words.items a.runs.items a.committed a.limit };
+    ghost invariant = { λ a. IsSoundArena a.words.items a.runs.items a.committed a.limit };
 }
 
 impl Arena {
     /// An arena of the grains 1 to `grains`, whose words are all 0, with a commit limit in grains. This is the only call that allocates.
     pub fn new(alloc: Global, grains: u32, limit: u32) -> Result<Arena, AllocError>
-        requires some { 0 < grains }
-        requires few { grains ≤ 2048 }
+        requires nonzero { 0 < grains }
+        requires at_most { grains ≤ max_grains }
         ensures { IfOk result (λ arena. arena ≡ new_arena grains limit) }
     {
-        let words = vec![in alloc; 0u64; 512 * (grains as usize + 1)]?;
+        let words = vec![in alloc; 0u64; WORDS_OF_GRAIN * (grains as usize + 1)]?;
         let runs = vec![in alloc; 0u32; grains as usize + 1]?;
         Ok(Arena {
             words,
@@ -50,11 +50,11 @@ impl Arena {
         })
     }
 
-    /// Takes the lowest run of `grains` free grains and answers its address. Refuses `CommitLimit` where it would pass the limit, and
-    /// `NoRun` where the limit allows it and no run is that long.
+    /// Takes the lowest run of `grains` free grains and returns its address. Refuses `CommitLimit` where more grains would be held than
+    /// the limit allows, and `NoRun` where the limit allows them and no free run is that long.
     pub fn take_run(&mut self, grains: u32) -> Result<Addr, Refusal>
         requires { 0 < grains }
-        ensures answer { result ≡ answer_of (placement_in self.old grains) }
+        ensures value { result ≡ answer_of_placement (placement_in self.old grains) }
         ensures state { self.new ≡ record self.old { held = held_after (placement_in self.old grains) self.old.held } }
     {
         if grains > self.limit - self.committed {
@@ -68,7 +68,7 @@ impl Arena {
             Ok(grain) => {
                 self.runs[grain as usize] = grains;
                 self.committed += grains;
-                Ok(Addr(4096 * grain as u64))
+                Ok(Addr(BYTES_OF_GRAIN * grain as u64))
             }
             Err(longest) => Err(Refusal::NoRun {
                 need: grains,
@@ -77,20 +77,20 @@ impl Arena {
         }
     }
 
-    /// Gives back a run that was taken whole. Its words stay as they are.
+    /// Gives back a run that was taken, the whole of it. Its words stay as they are.
     pub fn give_run(&mut self, base: Addr, grains: u32)
-        requires aligned { base.0 % 4096 ≡ 0 }
+        requires aligned { base.0 % bytes_of_grain ≡ 0 }
         requires held { Contains self.old.held (record { from = grain_of base.0; count = grains }) }
         ensures { self.new ≡ record self.old { held = without_run (grain_of base.0) self.old.held } }
     {
-        self.runs[(base.0 / 4096) as usize] = 0;
+        self.runs[(base.0 / BYTES_OF_GRAIN) as usize] = 0;
         self.committed -= grains;
     }
 
-    /// Sets the commit limit, in grains. Refuses `BelowCommitted` where more grains are held.
+    /// Sets the commit limit, in grains. Refuses `BelowCommitted` where more grains than that are held.
     pub fn set_limit(&mut self, limit: u32) -> Result<(), Refusal>
         ensures state { MatchResult result (λ _. self.new ≡ record self.old { limit = limit }) (λ _. self.new ≡ self.old) }
-        ensures accepts { OnOk result (total self.old.held ≤ limit) }
+        ensures sound { OnOk result (total self.old.held ≤ limit) }
         ensures refuses { IfErr result (λ why. (why ≡ Refusal.BelowCommitted) × (limit < total self.old.held)) }
     {
         if limit < self.committed {
@@ -116,22 +116,22 @@ impl Arena {
 
     /// The `words` words from `at` on.
     pub fn lend(&self, at: Addr, words: u32) -> &[u64]
-        requires aligned { at.0 % 8 ≡ 0 }
-        requires inside { word_of at.0 + words ≤ length self.now.words }
+        requires aligned { at.0 % bytes_of_word ≡ 0 }
+        requires in_arena { word_of at.0 + words ≤ length self.now.words }
         ensures { result.now ≡ slice_range self.now.words (word_of at.0) (word_of at.0 + words) }
     {
-        let from = (at.0 / 8) as usize;
+        let from = (at.0 / BYTES_OF_WORD) as usize;
         &self.words[from..from + words as usize]
     }
 
     /// The `words` words from `at` on, to be written.
     pub fn lend_mut(&mut self, at: Addr, words: u32) -> &mut [u64]
-        requires aligned { at.0 % 8 ≡ 0 }
-        requires inside { word_of at.0 + words ≤ length self.old.words }
-        ensures* writes_back { sem 𝓛 (LendsWords self.entry at.0 result) }
+        requires aligned { at.0 % bytes_of_word ≡ 0 }
+        requires in_arena { word_of at.0 + words ≤ length self.old.words }
+        ensures* writes_back { sem 𝓛 (LendsArenaWords self.entry at.0 result) }
         ensures value { result.now ≡ slice_range self.old.words (word_of at.0) (word_of at.0 + words) }
     {
-        let from = (at.0 / 8) as usize;
+        let from = (at.0 / BYTES_OF_WORD) as usize;
         self.words.slice_mut(from..from + words as usize)
     }
 }

@@ -1,18 +1,21 @@
 // The table of held runs: the entry of a grain is the length of the run that begins there, or 0 where none does.
 #![tactic(auto)]
 
-ghost use Rattle.std.specs.Prelude.{◌≡◌, ◌+◌, ◌<◌, ◌≤◌, None, Some, length, slice_index, MatchResult};
+ghost use Rattle.std.specs.Prelude.{◌≡◌, ◌+◌, ◌<◌, ◌≤◌, None, Some, length, slice_index, IfOk, IfErr, MatchResult};
 ghost use Rattle.mps_base.specs.Run.{IsAscending, gaps, lowest_fitting, longest};
-ghost use Rattle.mps_arena.specs.Grains.{held_in};
+ghost use Rattle.mps_arena.specs.Arena.{max_grains};
+ghost use Rattle.mps_arena.specs.Grains.{runs_in};
 
-/// Where the lowest run of `need` free grains begins, or the length of the longest free run where there is none that long.
+/// Where the lowest run of `need` free grains begins. Where no free run is that long, the length of the longest one.
 pub(crate) fn lowest_free(table: &[u32], need: u32) -> Result<u32, u32>
-    requires some { 0 < need }
-    requires small { (0 < length table.now) × (length table.now ≤ 2049) }
-    requires ascending { IsAscending 1 (length table.now) (held_in table.now) }
-    ensures fits { MatchResult result (λ grain. lowest_fitting need (gaps 1 (length table.now) (held_in table.now)) ≡ Some grain)
-        (λ _. lowest_fitting need (gaps 1 (length table.now) (held_in table.now)) ≡ None) }
-    ensures free { MatchResult result (λ grain. slice_index table.now grain ≡ 0) (λ most. longest (gaps 1 (length table.now) (held_in table.now)) ≡ most) }
+    requires nonzero { 0 < need }
+    requires nonempty { 0 < length table.now }
+    requires at_most { length table.now ≤ max_grains + 1 }
+    requires ascending { IsAscending 1 (length table.now) (runs_in table.now) }
+    ensures value { MatchResult result (λ grain. lowest_fitting need (gaps 1 (length table.now) (runs_in table.now)) ≡ Some grain)
+        (λ _. lowest_fitting need (gaps 1 (length table.now) (runs_in table.now)) ≡ None) }
+    ensures free { IfOk result (λ grain. slice_index table.now grain ≡ 0) }
+    ensures most { IfErr result (λ most. longest (gaps 1 (length table.now) (runs_in table.now)) ≡ most) }
 {
     let end = table.len() as u32;
     let mut grain = 1;

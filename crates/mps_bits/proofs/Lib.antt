@@ -1,5 +1,5 @@
 pub mod OneWord
-pub mod Places
+pub mod Searches
 pub mod Ranges
 pub mod Row
 pub mod Runs

@@ -1,4 +1,4 @@
--- One word: its lowest and its highest set bit, masks, and places from which a run of bits is set.
+-- One word: its lowest and its highest set bit, masks, and indexes from which a run of bits is set.
 use Rattle.std.proofs.Common.{ℕ, suc, ◌+◌, ◌-◌, ◌*◌, ◌/◌, ◌%◌, ◌^◌, ◌<◌, ◌≤◌, ◌≡◌, ◌⊎◌, ◌↔◌, min, bit_and, bit_or, sym, ap, ◌∙◌, subst, inl, inr, arith, w64}
 use Rattle.std.specs.Int.{bit_at, bit_not, leading_zeros}
 use Rattle.std.proofs.lemmas.Bool.{cases_lt}
@@ -18,8 +18,8 @@ top_bit n j low high =
 pub highest_set : (n : ℕ) → 0 < n → n < 2 ^ 64 → bit_at n (63 - leading_zeros w64 n) ≡ 1
 highest_set n some fits =
     let t = leading_top 64 n some fits in
-    let place : 63 - leading_zeros w64 n ≡ t.0 = omega (arith, t.1) in
-    subst (λ (j : ℕ). bit_at n j ≡ 1) (sym place) (top_bit n t.0 t.2 t.3)
+    let index : 63 - leading_zeros w64 n ≡ t.0 = omega (arith, t.1) in
+    subst (λ (j : ℕ). bit_at n j ≡ 1) (sym index) (top_bit n t.0 t.2 t.3)
 
 pub highest_above : (n : ℕ) → 0 < n → n < 2 ^ 64 → (i : ℕ) → 63 - leading_zeros w64 n < i → bit_at n i ≡ 0
 highest_above n some fits i above =
@@ -29,7 +29,7 @@ highest_above n some fits i above =
 pub bit_at_shr : (n s i : ℕ) → bit_at (n / 2 ^ s) i ≡ bit_at n (s + i)
 bit_at_shr n s i = ap (λ (x : ℕ). x % 2) (shr-shr n s i)
 
--- y's bits are the places from which on x has `count` set bits
+-- y's bits are the indexes from which on x has `count` set bits
 abbrev pub AreRunStarts : ℕ → ℕ → ℕ → Type 0
 AreRunStarts x y count = (i : ℕ) → (bit_at y i ≡ 1) ↔ ((k : ℕ) → k < count → bit_at x (i + k) ≡ 1)
 

@@ -5,22 +5,22 @@ use Rattle.std.proofs.lemmas.Bool.{cases_lt, cases_Bool, both_ways, and_from, no
 use Rattle.std.proofs.lemmas.List.Folds.{list_all_at}
 use Rattle.std.proofs.lemmas.List.{length-take, get_or_past, length-take-le, length-replicate, get_or_append_left, get_or-append_right, get_or-take, get_or-drop, get_or-replicate}
 use Rattle.std.proofs.lemmas.List.Sums.{sum_by-cons}
-use Rattle.mps_bits.specs.Row.{total}
+use Rattle.mps_bits.specs.Row.{sum_over}
 use Rattle.mps_bits.specs.Table.{bit, with_range, is_clear_run}
 
-front : (bits : List Bool) (from to : ℕ) (value : Bool) → from ≤ to → to ≤ length bits → length (take from bits ++ replicate (to - from) value) ≡ to
-front bits from to value ordered within =
+length_up_to_end : (bits : List Bool) (from to : ℕ) (value : Bool) → from ≤ to → to ≤ length bits → length (take from bits ++ replicate (to - from) value) ≡ to
+length_up_to_end bits from to value ordered within =
     omega (arith, length-append (take from bits) (replicate (to - from) value), length-take-le from bits (omega arith), length-replicate (to - from) value)
 
 pub length-with_range : (bits : List Bool) (from to : ℕ) (value : Bool) → from ≤ to → to ≤ length bits → length (with_range bits from to value) ≡ length bits
 unfolding with_range
 length-with_range bits from to value ordered within =
-    omega (arith, length-append (take from bits ++ replicate (to - from) value) (drop to bits), front bits from to value ordered within, length-drop to bits)
+    omega (arith, length-append (take from bits ++ replicate (to - from) value) (drop to bits), length_up_to_end bits from to value ordered within, length-drop to bits)
 
 pub with_range_inside : (bits : List Bool) (from to : ℕ) (value : Bool) (i : ℕ) (d : Bool) → from ≤ to → to ≤ length bits → from ≤ i → i < to → get_or (with_range bits from to value) i d ≡ value
 unfolding with_range
 with_range_inside bits from to value i d ordered within above below =
-    get_or_append_left (take from bits ++ replicate (to - from) value) (drop to bits) d i (omega (arith, front bits from to value ordered within))
+    get_or_append_left (take from bits ++ replicate (to - from) value) (drop to bits) d i (omega (arith, length_up_to_end bits from to value ordered within))
     ∙ get_or-append_right (take from bits) (replicate (to - from) value) from i d (length-take-le from bits (omega arith)) above
     ∙ get_or-replicate (to - from) (i - from) value d (omega arith)
 
@@ -28,12 +28,12 @@ pub with_range_outside : (bits : List Bool) (from to : ℕ) (value : Bool) (i : 
 unfolding with_range
 with_range_outside bits from to value i d ordered within (inl below) =
     let short : i < length (take from bits) = omega (arith, length-take-le from bits (omega arith)) in
-    get_or_append_left (take from bits ++ replicate (to - from) value) (drop to bits) d i (omega (arith, front bits from to value ordered within))
+    get_or_append_left (take from bits ++ replicate (to - from) value) (drop to bits) d i (omega (arith, length_up_to_end bits from to value ordered within))
     ∙ get_or_append_left (take from bits) (replicate (to - from) value) d i short
     ∙ get_or-take from bits i d below
 with_range_outside bits from to value i d ordered within (inr above) =
     let same : to + (i - to) ≡ i = omega arith in
-    get_or-append_right (take from bits ++ replicate (to - from) value) (drop to bits) to i d (front bits from to value ordered within) above
+    get_or-append_right (take from bits ++ replicate (to - from) value) (drop to bits) to i d (length_up_to_end bits from to value ordered within) above
     ∙ get_or-drop to bits (i - to) d ∙ ap (λ (k : ℕ). get_or bits k d) same
 
 -- ---- clear runs
@@ -68,12 +68,12 @@ clear_run_at bits from n all i above below =
       | inl inside ↦
           elim (cases_Bool (get_or bits i false)) [
             | inl set ↦
-                let place : i - from < length (slice_range bits from (from + n)) = omega (arith, length_of_slice bits from n) in
+                let index : i - from < length (slice_range bits from (from + n)) = omega (arith, length_of_slice bits from n) in
                 let here : get_or (slice_range bits from (from + n)) (i - from) false ≡ true =
                 at_slice bits from n (i - from) (omega arith) ∙ ap (λ (k : ℕ). get_or bits k false) same ∙ set
                 in
                 absurd (both_ways (list_all not (slice_range bits from (from + n)))
-                (list_all_at not (slice_range bits from (from + n)) (i - from) false place (not_from_true (get_or (slice_range bits from (from + n)) (i - from) false) here)) all)
+                (list_all_at not (slice_range bits from (from + n)) (i - from) false index (not_from_true (get_or (slice_range bits from (from + n)) (i - from) false) here)) all)
             | inr clear ↦ clear
           ]
       | inr past ↦ get_or_past bits i false past
@@ -81,8 +81,8 @@ clear_run_at bits from n all i above below =
 
 -- ---- counts
 
-pub count_slice : (bits : List Bool) (from n : ℕ) → from + n ≤ length bits → count_by (λ b. b) (take n (drop from bits)) ≡ total (λ i. cond (get_or bits i false) 1 0) from n
-unfolding total
+pub count_slice : (bits : List Bool) (from n : ℕ) → from + n ≤ length bits → count_by (λ b. b) (take n (drop from bits)) ≡ sum_over (λ i. cond (get_or bits i false) 1 0) from n
+unfolding sum_over
 count_slice bits from zero within = refl
 count_slice bits from (suc n) within =
     let rest = count_slice bits (suc from) n (omega arith) in

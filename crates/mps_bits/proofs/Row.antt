@@ -1,4 +1,4 @@
--- A row of bits, and a chunk of it: the bits that one word holds from a place on.
+-- A row of bits, and a chunk of it: the bits that one word holds from an index on.
 use Rattle.std.proofs.Common.{ℕ, zero, suc, ◌+◌, ◌-◌, ◌/◌, ◌%◌, ◌^◌, ◌<◌, ◌≤◌, ◌≡◌, ◌⊎◌, List, length, get_or, set, replicate, sym, refl, ap, ◌∙◌, inl, inr, arith, get_or-set_same, get_or-set_other}
 use Rattle.std.specs.Int.{bit_at}
 use Rattle.std.specs.Int.RustNames.{count_ones}
@@ -8,7 +8,7 @@ use Rattle.std.proofs.lemmas.List.{length-replicate, get_or-replicate, get_or_pa
 use Rattle.std.proofs.lemmas.Nat.{ones_le_self}
 use Rattle.std.proofs.Math.Nat.{pow-suc}
 use lib.Count.{ones_step}
-use Rattle.mps_bits.specs.Row.{bit_in, total, IsClear}
+use Rattle.mps_bits.specs.Row.{bit_in, sum_over, IsClear}
 
 pub bit_in_word : (words : List ℕ) (at i : ℕ) → at % 64 + i < 64 → bit_in words (at + i) ≡ bit_at (get_or words (at / 64) 0) (at % 64 + i)
 unfolding bit_in
@@ -36,12 +36,12 @@ clear_of_zero words at width bits chunk none i from to =
     ap (λ (j : ℕ). bit_in words j) (sym same) ∙ sym (chunk.inside (i - at) (omega arith))
     ∙ ap (λ (x : ℕ). bit_at x (i - at)) none ∙ bit_at-zero (i - at)
 
-pub place_below : (words : List ℕ) (at width bits p : ℕ) → IsChunk words at width bits → bit_at bits p ≡ 1 → p < width
-place_below words at width bits p chunk is =
+pub index_below_width : (words : List ℕ) (at width bits p : ℕ) → IsChunk words at width bits → bit_at bits p ≡ 1 → p < width
+index_below_width words at width bits p chunk is =
     elim (cases_lt p width) [ inl h ↦ h | inr h ↦ absurd (omega (arith, is, chunk.above p h)) ]
 
 pub set_at : (words : List ℕ) (at width bits p : ℕ) → IsChunk words at width bits → bit_at bits p ≡ 1 → bit_in words (at + p) ≡ 1
-set_at words at width bits p chunk is = sym (chunk.inside p (place_below words at width bits p chunk is)) ∙ is
+set_at words at width bits p chunk is = sym (chunk.inside p (index_below_width words at width bits p chunk is)) ∙ is
 
 pub clear_below : (words : List ℕ) (at width bits p : ℕ) → IsChunk words at width bits → p ≤ width → ((i : ℕ) → i < p → bit_at bits i ≡ 0) → IsClear words at (at + p)
 clear_below words at width bits p chunk within none i from to =
@@ -80,92 +80,92 @@ bit_in_write_outside words at width word i within in_row kept out =
       | inr other ↦ ap (λ (x : ℕ). bit_at x (i % 64)) (get_or-set_other words (at / 64) (i / 64) word 0 other)
     ]
 
--- ---- sums over places
+-- ---- sums over indexes
 
-pub total-none : (f : ℕ → ℕ) (from : ℕ) → total f from 0 ≡ 0
-unfolding total
-total-none f from = refl
+pub sum_over-none : (f : ℕ → ℕ) (from : ℕ) → sum_over f from 0 ≡ 0
+unfolding sum_over
+sum_over-none f from = refl
 
-pub total_more : (f : ℕ → ℕ) (from n : ℕ) → total f from (suc n) ≡ f from + total f (suc from) n
-unfolding total
-total_more f from n = refl
+pub sum_over_more : (f : ℕ → ℕ) (from n : ℕ) → sum_over f from (suc n) ≡ f from + sum_over f (suc from) n
+unfolding sum_over
+sum_over_more f from n = refl
 
-pub total-add : (f : ℕ → ℕ) (from m n : ℕ) → total f from (m + n) ≡ total f from m + total f (from + m) n
-unfolding total
-total-add f from zero n =
+pub sum_over-add : (f : ℕ → ℕ) (from m n : ℕ) → sum_over f from (m + n) ≡ sum_over f from m + sum_over f (from + m) n
+unfolding sum_over
+sum_over-add f from zero n =
     let same : from + 0 ≡ from = omega arith in
-    let front : 0 + n ≡ n = omega arith in
-    ap (λ (k : ℕ). total f from k) front ∙ ap (λ (k : ℕ). total f k n) (sym same) ∙ omega arith
-total-add f from (suc m) n =
+    let length_up_to_end : 0 + n ≡ n = omega arith in
+    ap (λ (k : ℕ). sum_over f from k) length_up_to_end ∙ ap (λ (k : ℕ). sum_over f k n) (sym same) ∙ omega arith
+sum_over-add f from (suc m) n =
     let count : suc m + n ≡ suc (m + n) = omega arith in
-    let place : suc from + m ≡ from + suc m = omega arith in
-    let rest = total-add f (suc from) m n in
-    let moved = ap (λ (k : ℕ). total f k n) place in
-    ap (λ (k : ℕ). total f from k) count ∙ omega (arith, rest, moved)
+    let index : suc from + m ≡ from + suc m = omega arith in
+    let rest = sum_over-add f (suc from) m n in
+    let moved = ap (λ (k : ℕ). sum_over f k n) index in
+    ap (λ (k : ℕ). sum_over f from k) count ∙ omega (arith, rest, moved)
 
-pub total_same : (f g : ℕ → ℕ) (a b n : ℕ) → ((i : ℕ) → i < n → f (a + i) ≡ g (b + i)) → total f a n ≡ total g b n
-unfolding total
-total_same f g a b zero same = refl
-total_same f g a b (suc n) same =
+pub sum_over_same : (f g : ℕ → ℕ) (a b n : ℕ) → ((i : ℕ) → i < n → f (a + i) ≡ g (b + i)) → sum_over f a n ≡ sum_over g b n
+unfolding sum_over
+sum_over_same f g a b zero same = refl
+sum_over_same f g a b (suc n) same =
     let first : f a ≡ g b =
     let left : a + 0 ≡ a = omega arith in
     let right : b + 0 ≡ b = omega arith in
     ap f (sym left) ∙ same 0 (omega arith) ∙ ap g right
     in
-    let rest = total_same f g (suc a) (suc b) n (λ i h.
+    let rest = sum_over_same f g (suc a) (suc b) n (λ i h.
     let left : suc a + i ≡ a + suc i = omega arith in
     let right : suc b + i ≡ b + suc i = omega arith in
     ap f left ∙ same (suc i) (omega arith) ∙ ap g (sym right))
     in
     omega (arith, first, rest)
 
-pub total_le : (f : ℕ → ℕ) (from n : ℕ) → ((i : ℕ) → f i < 2) → total f from n ≤ n
-unfolding total
-total_le f from zero small = omega arith
-total_le f from (suc n) small = omega (arith, small from, total_le f (suc from) n small)
+pub sum_over_le : (f : ℕ → ℕ) (from n : ℕ) → ((i : ℕ) → f i < 2) → sum_over f from n ≤ n
+unfolding sum_over
+sum_over_le f from zero small = omega arith
+sum_over_le f from (suc n) small = omega (arith, small from, sum_over_le f (suc from) n small)
 
-pub total_zero : (f : ℕ → ℕ) (from n : ℕ) → ((i : ℕ) → i < n → f (from + i) ≡ 0) → total f from n ≡ 0
-unfolding total
-total_zero f from zero none = refl
-total_zero f from (suc n) none =
+pub sum_over_zero : (f : ℕ → ℕ) (from n : ℕ) → ((i : ℕ) → i < n → f (from + i) ≡ 0) → sum_over f from n ≡ 0
+unfolding sum_over
+sum_over_zero f from zero none = refl
+sum_over_zero f from (suc n) none =
     let first : f from ≡ 0 = let same : from + 0 ≡ from = omega arith in ap f (sym same) ∙ none 0 (omega arith) in
-    let rest = total_zero f (suc from) n (λ i h. let same : suc from + i ≡ from + suc i = omega arith in ap f same ∙ none (suc i) (omega arith)) in
+    let rest = sum_over_zero f (suc from) n (λ i h. let same : suc from + i ≡ from + suc i = omega arith in ap f same ∙ none (suc i) (omega arith)) in
     omega (arith, first, rest)
 
 -- a number's ones are counted bit by bit
-pub total-ones : (k n : ℕ) → n < 2 ^ k → total (bit_at n) 0 k ≡ count_ones n
-unfolding total
-total-ones zero n small =
+pub sum_over-ones : (k n : ℕ) → n < 2 ^ k → sum_over (bit_at n) 0 k ≡ count_ones n
+unfolding sum_over
+sum_over-ones zero n small =
     let none : n ≡ 0 = omega (arith, small) in
     omega (arith, ones_le_self n)
-total-ones (suc k) n small =
+sum_over-ones (suc k) n small =
     let half : n / 2 < 2 ^ k = omega (arith, small, pow-suc 2 k) in
-    let rest = total_same (bit_at n) (bit_at (n / 2)) 1 0 k (λ i h.
+    let rest = sum_over_same (bit_at n) (bit_at (n / 2)) 1 0 k (λ i h.
     let here : 1 + i ≡ suc i = omega arith in
     let there : 0 + i ≡ i = omega arith in
     ap (bit_at n) here ∙ bit_at-suc n i ∙ ap (bit_at (n / 2)) (sym there))
     in
-    omega (arith, bit_at_lowest n, rest, total-ones k (n / 2) half, ones_step n)
+    omega (arith, bit_at_lowest n, rest, sum_over-ones k (n / 2) half, ones_step n)
 
-pub chunk_ones : (words : List ℕ) (at width bits : ℕ) → IsChunk words at width bits → width ≤ 64 → bits < 2 ^ 64 → count_ones bits ≡ total (bit_in words) at width
+pub chunk_ones : (words : List ℕ) (at width bits : ℕ) → IsChunk words at width bits → width ≤ 64 → bits < 2 ^ 64 → count_ones bits ≡ sum_over (bit_in words) at width
 chunk_ones words at width bits chunk within fits =
     let whole : width + (64 - width) ≡ 64 = omega arith in
-    let split = total-add (bit_at bits) 0 width (64 - width) in
-    let all = ap (λ (k : ℕ). total (bit_at bits) 0 k) whole in
+    let split = sum_over-add (bit_at bits) 0 width (64 - width) in
+    let all = ap (λ (k : ℕ). sum_over (bit_at bits) 0 k) whole in
     let start : 0 + width ≡ width = omega arith in
-    let high = ap (λ (k : ℕ). total (bit_at bits) k (64 - width)) start
-    ∙ total_zero (bit_at bits) width (64 - width) (λ i h. chunk.above (width + i) (omega arith))
+    let high = ap (λ (k : ℕ). sum_over (bit_at bits) k (64 - width)) start
+    ∙ sum_over_zero (bit_at bits) width (64 - width) (λ i h. chunk.above (width + i) (omega arith))
     in
-    let low = total_same (bit_at bits) (bit_in words) 0 at width (λ i h. let same : 0 + i ≡ i = omega arith in ap (bit_at bits) same ∙ chunk.inside i h) in
-    omega (arith, total-ones 64 bits fits, split, all, high, low)
+    let low = sum_over_same (bit_at bits) (bit_in words) 0 at width (λ i h. let same : 0 + i ≡ i = omega arith in ap (bit_at bits) same ∙ chunk.inside i h) in
+    omega (arith, sum_over-ones 64 bits fits, split, all, high, low)
 
 -- a count up to `at`, and the chunk from there on
-pub total_upto : (words : List ℕ) (from at width : ℕ) → from ≤ at → total (bit_in words) from (at + width - from) ≡ total (bit_in words) from (at - from) + total (bit_in words) at width
-total_upto words from at width after =
+pub sum_over_upto : (words : List ℕ) (from at width : ℕ) → from ≤ at → sum_over (bit_in words) from (at + width - from) ≡ sum_over (bit_in words) from (at - from) + sum_over (bit_in words) at width
+sum_over_upto words from at width after =
     let count : at + width - from ≡ at - from + width = omega arith in
-    let place : from + (at - from) ≡ at = omega arith in
-    ap (λ (k : ℕ). total (bit_in words) from k) count ∙ total-add (bit_in words) from (at - from) width
-    ∙ ap (λ (k : ℕ). total (bit_in words) from (at - from) + total (bit_in words) k width) place
+    let index : from + (at - from) ≡ at = omega arith in
+    ap (λ (k : ℕ). sum_over (bit_in words) from k) count ∙ sum_over-add (bit_in words) from (at - from) width
+    ∙ ap (λ (k : ℕ). sum_over (bit_in words) from (at - from) + sum_over (bit_in words) k width) index
 
 pub bit_in-zeros : (n i : ℕ) → bit_in (replicate n 0) i ≡ 0
 unfolding bit_in

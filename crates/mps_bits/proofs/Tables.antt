@@ -3,11 +3,11 @@ use Rattle.std.proofs.Common.{ℕ, ◌+◌, ◌-◌, ◌<◌, ◌≤◌, ◌≡�
 use Rattle.std.proofs.lemmas.Bool.{cases_lt, cases_eq, eq-eqb, ne_eqb, eqb-false, false_from_ne_true}
 use Rattle.std.proofs.lemmas.List.{same_lists, length-replicate, get_or-replicate}
 use Rattle.std.proofs.lemmas.List.FromFn.{length-map-range_with_len, get_or-map-range_with_len}
-use Rattle.mps_bits.specs.Row.{bit_in, total, IsClear, IsLowestSet, IsHighestSet, IsLowestRun}
+use Rattle.mps_bits.specs.Row.{bit_in, sum_over, IsClear, IsLowestSet, IsHighestSet, IsLowestRun}
 use Rattle.mps_bits.specs.Table.{table_of, bit, with_range, next_set, next_set_below, previous_set, is_clear_run, lowest_clear_run, count_set}
-use Rattle.mps_bits.proofs.Places.{lowest_from_is, lowest_from_none, highest_below_is, highest_below_none}
+use Rattle.mps_bits.proofs.Searches.{lowest_from_is, lowest_from_none, highest_below_is, highest_below_none}
 use Rattle.mps_bits.proofs.Ranges.{length-with_range, with_range_inside, with_range_outside, clear_run_from, clear_run_at, count_slice}
-use Rattle.mps_bits.proofs.Row.{bit_in-lt, total_same}
+use Rattle.mps_bits.proofs.Row.{bit_in-lt, sum_over_same}
 
 pub length-table_of : (words : List ℕ) (len : ℕ) → length (table_of words len) ≡ len
 unfolding table_of
@@ -27,10 +27,10 @@ set_bit words len i within is = bit-table_of words len i within ∙ eq-eqb (bit_
 clear_bit : (words : List ℕ) (len i : ℕ) → i < len → bit_in words i ≡ 0 → bit (table_of words len) i ≡ false
 clear_bit words len i within is = bit-table_of words len i within ∙ ne_eqb (bit_in words i) 1 (λ e. omega arith)
 
--- the test of a bit that was written
-written : (word : ℕ) (value : Bool) → word ≡ cond value 1 0 → eqb word 1 ≡ value
-written word true is = eq-eqb word 1 is
-written word false is = ne_eqb word 1 (λ e. omega (arith, is))
+-- the test of a bit that was bit_written
+bit_written : (word : ℕ) (value : Bool) → word ≡ cond value 1 0 → eqb word 1 ≡ value
+bit_written word true is = eq-eqb word 1 is
+bit_written word false is = ne_eqb word 1 (λ e. omega (arith, is))
 
 pub table_new : (words : List ℕ) (len : ℕ) → ((i : ℕ) → i < len → bit_in words i ≡ 0) → table_of words len ≡ replicate len false
 table_new words len clear =
@@ -49,9 +49,9 @@ table_set old new len at value within same other =
     get_or-table_of new len k d short
     ∙ elim (cases_eq k at) [
       | inl here ↦
-          let place : at < length (table_of old len) = omega (arith, within, length-table_of old len) in
-          ap (λ (i : ℕ). eqb (bit_in new i) 1) here ∙ written (bit_in new at) value same
-          ∙ sym (ap (λ (i : ℕ). get_or (set (table_of old len) at value) i d) here ∙ get_or-set_same (table_of old len) at value d place)
+          let index : at < length (table_of old len) = omega (arith, within, length-table_of old len) in
+          ap (λ (i : ℕ). eqb (bit_in new i) 1) here ∙ bit_written (bit_in new at) value same
+          ∙ sym (ap (λ (i : ℕ). get_or (set (table_of old len) at value) i d) here ∙ get_or-set_same (table_of old len) at value d index)
       | inr there ↦
           ap (λ (x : ℕ). eqb x 1) (other k there) ∙ sym (get_or-table_of old len k d short)
           ∙ sym (get_or-set_other (table_of old len) at k value d there)
@@ -76,7 +76,7 @@ table_range old new len from to value ordered within inside outside =
     ∙ elim (cases_lt k from) [
       | inl below ↦ kept k d short (inl below)
       | inr above ↦ elim (cases_lt k to) [
-        | inl under ↦ written (bit_in new k) value (inside k above under) ∙ sym (with_range_inside (table_of old len) from to value k d ordered room above under)
+        | inl under ↦ bit_written (bit_in new k) value (inside k above under) ∙ sym (with_range_inside (table_of old len) from to value k d ordered room above under)
         | inr past ↦ kept k d short (inr past)
       ]
     ])
@@ -151,11 +151,11 @@ lowest_clear_run_is words len from to n (Some p) within is =
       lower = λ q above below. no_run words len q n (omega (arith, is.below)) (is.lower q above below);
     }))
 
-pub count_set_is : (words : List ℕ) (len from to : ℕ) → from ≤ to → to ≤ len → total (bit_in words) from (to - from) ≡ count_set (table_of words len) from to
+pub count_set_is : (words : List ℕ) (len from to : ℕ) → from ≤ to → to ≤ len → sum_over (bit_in words) from (to - from) ≡ count_set (table_of words len) from to
 unfolding count_set
 count_set_is words len from to ordered within =
     let counted = count_slice (table_of words len) from (to - from) (omega (arith, length-table_of words len)) in
-    let same = total_same (λ i. cond (get_or (table_of words len) i false) 1 0) (bit_in words) from from (to - from) (λ i h.
+    let same = sum_over_same (λ i. cond (get_or (table_of words len) i false) 1 0) (bit_in words) from from (to - from) (λ i h.
     ap (λ (b : Bool). cond b 1 0) (get_or-table_of words len (from + i) false (omega arith)) ∙ one_or_none words (from + i))
     in
     sym (counted ∙ same)
@@ -170,5 +170,5 @@ count_set_is words len from to ordered within =
         ]
 
 -- how many bits a table has that stands for words
-pub size_of : (words : List ℕ) (len : ℕ) (bits : List Bool) → table_of words len ≡ bits → length bits ≡ len
-size_of words len bits is = ap length (sym is) ∙ length-table_of words len
+pub length_of_table : (words : List ℕ) (len : ℕ) (bits : List Bool) → table_of words len ≡ bits → length bits ≡ len
+length_of_table words len bits is = ap length (sym is) ∙ length-table_of words len

@@ -6,35 +6,35 @@ use Rattle.std.specs.Int.{bit_at}
 unfoldable pub bit_in : List ℕ → ℕ → ℕ
 bit_in words i = bit_at (slice_index words (i / 64)) (i % 64)
 
--- the sum over the `n` places from `from` on
-unfoldable pub total : (ℕ → ℕ) → ℕ → ℕ → ℕ
-total f from zero = 0
-total f from (suc n) = f from + total f (suc from) n
+-- the sum over the `n` indexes from `from` on
+unfoldable pub sum_over : (ℕ → ℕ) → ℕ → ℕ → ℕ
+sum_over f from zero = 0
+sum_over f from (suc n) = f from + sum_over f (suc from) n
 
 -- the bits from `from` up to `to` are clear
 abbrev pub IsClear : List ℕ → ℕ → ℕ → Type 0
 IsClear words from to = (i : ℕ) → from ≤ i → i < to → bit_in words i ≡ 0
 
 -- the lowest set bit from `from` up to `to`
-pub record IsLowestSet (words : List ℕ) (from to place : ℕ) : Type 0 where
-  pub above : from ≤ place
-  pub below : place < to
-  pub set : bit_in words place ≡ 1
-  pub lower : IsClear words from place
+pub record IsLowestSet (words : List ℕ) (from to index : ℕ) : Type 0 where
+  pub above : from ≤ index
+  pub below : index < to
+  pub set : bit_in words index ≡ 1
+  pub lower : IsClear words from index
 
 -- the highest set bit below `to`
-pub record IsHighestSet (words : List ℕ) (to place : ℕ) : Type 0 where
-  pub below : place < to
-  pub set : bit_in words place ≡ 1
-  pub higher : IsClear words (place + 1) to
+pub record IsHighestSet (words : List ℕ) (to index : ℕ) : Type 0 where
+  pub below : index < to
+  pub set : bit_in words index ≡ 1
+  pub higher : IsClear words (index + 1) to
 
 -- no run of `count` clear bits begins from `from` on below `bound`
 abbrev pub HasNoRun : List ℕ → ℕ → ℕ → ℕ → Type 0
 HasNoRun words from bound count = (p : ℕ) → from ≤ p → p < bound → ¬ IsClear words p (p + count)
 
 -- the lowest run of `count` clear bits from `from` up to `to`
-pub record IsLowestRun (words : List ℕ) (from to count place : ℕ) : Type 0 where
-  pub above : from ≤ place
-  pub below : place + count ≤ to
-  pub clear : IsClear words place (place + count)
-  pub lower : HasNoRun words from place count
+pub record IsLowestRun (words : List ℕ) (from to count index : ℕ) : Type 0 where
+  pub above : from ≤ index
+  pub below : index + count ≤ to
+  pub clear : IsClear words index (index + count)
+  pub lower : HasNoRun words from index count

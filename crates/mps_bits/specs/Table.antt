@@ -7,25 +7,25 @@ use Rattle.mps_bits.specs.Row.{bit_in}
 unfoldable pub table_of : List ℕ → ℕ → List Bool
 table_of words len = map (λ i. bit_in words i == 1) (range_with_len 0 len)
 
--- the bit at a place; past the end it is clear
+-- the bit at an index; past the end it is clear
 unfoldable pub bit : List Bool → ℕ → Bool
 bit bits at = slice_index_or bits at false
 
--- the table with one value in the places from `from` up to `to`
+-- the table with one value at the indexes from `from` up to `to`
 unfoldable pub with_range : List Bool → ℕ → ℕ → Bool → List Bool
 with_range bits from to value = take from bits ++ replicate (to - from) value ++ drop to bits
 
--- the lowest of the `n` places from `from` on that passes a test
+-- the lowest of the `n` indexes from `from` on that passes a test
 unfoldable pub lowest_from : (ℕ → Bool) → ℕ → ℕ → Option ℕ
 lowest_from p from zero = None
 lowest_from p from (suc n) = if p from then Some from else lowest_from p (suc from) n
 
--- the highest of the `n` lowest places that passes a test
+-- the highest of the `n` lowest indexes that passes a test
 unfoldable pub highest_below : (ℕ → Bool) → ℕ → Option ℕ
 highest_below p zero = None
 highest_below p (suc n) = if p n then Some n else highest_below p n
 
--- the lowest set bit at or above a place
+-- the lowest set bit at or above an index
 unfoldable pub next_set : List Bool → ℕ → Option ℕ
 next_set bits from = lowest_from (bit bits) from (length bits - from)
 
@@ -33,11 +33,11 @@ next_set bits from = lowest_from (bit bits) from (length bits - from)
 unfoldable pub next_set_below : List Bool → ℕ → ℕ → Option ℕ
 next_set_below bits from to = lowest_from (bit bits) from (to - from)
 
--- the highest set bit at or below a place
+-- the highest set bit at or below an index
 unfoldable pub previous_set : List Bool → ℕ → Option ℕ
 previous_set bits at = highest_below (bit bits) (at + 1)
 
--- the `n` bits from a place on are clear
+-- the `n` bits from an index on are clear
 unfoldable pub is_clear_run : List Bool → ℕ → ℕ → Bool
 is_clear_run bits from n = list_all not (slice_range bits from (from + n))
 

@@ -54,7 +54,7 @@ impl Bits {
     /// Sets the bit at `at`.
     pub fn set(&mut self, at: usize)
         requires { at < length self.old }
-        ensures bits { self.new ≡ slice_set self.old at true }
+        ensures state { self.new ≡ slice_set self.old at true }
         ensures len { length self.new ≡ length self.old }
     {
         write_bit(&mut self.words, at, true);
@@ -63,7 +63,7 @@ impl Bits {
     /// Clears the bit at `at`.
     pub fn clear(&mut self, at: usize)
         requires { at < length self.old }
-        ensures bits { self.new ≡ slice_set self.old at false }
+        ensures state { self.new ≡ slice_set self.old at false }
         ensures len { length self.new ≡ length self.old }
     {
         write_bit(&mut self.words, at, false);
@@ -72,8 +72,8 @@ impl Bits {
     /// Sets the bits from `from` up to, but not at, `to`.
     pub fn set_range(&mut self, from: usize, to: usize)
         requires ordered { from ≤ to }
-        requires within { to ≤ length self.old }
-        ensures bits { self.new ≡ with_range self.old from to true }
+        requires in_table { to ≤ length self.old }
+        ensures state { self.new ≡ with_range self.old from to true }
         ensures len { length self.new ≡ length self.old }
     {
         write_range(&mut self.words, from, to, true);
@@ -82,8 +82,8 @@ impl Bits {
     /// Clears the bits from `from` up to, but not at, `to`.
     pub fn clear_range(&mut self, from: usize, to: usize)
         requires ordered { from ≤ to }
-        requires within { to ≤ length self.old }
-        ensures bits { self.new ≡ with_range self.old from to false }
+        requires in_table { to ≤ length self.old }
+        ensures state { self.new ≡ with_range self.old from to false }
         ensures len { length self.new ≡ length self.old }
     {
         write_range(&mut self.words, from, to, false);
@@ -112,10 +112,10 @@ impl Bits {
         words::highest_set(&self.words, at + 1)
     }
 
-    /// The first place of the lowest run of `count` clear bits among those from `from` up to, but not at, `to`.
+    /// Where the lowest run of `count` clear bits begins among those from `from` up to, but not at, `to`.
     pub fn lowest_clear_run(&self, from: usize, to: usize, count: usize) -> Option<usize>
-        requires some { 0 < count }
-        requires within { to ≤ length self.now }
+        requires nonzero { 0 < count }
+        requires in_table { to ≤ length self.now }
         ensures { result ≡ lowest_clear_run self.now from to count }
     {
         words::lowest_clear_run(&self.words, from, to, count)
@@ -124,7 +124,7 @@ impl Bits {
     /// How many bits from `from` up to, but not at, `to` are set.
     pub fn count_set(&self, from: usize, to: usize) -> usize
         requires ordered { from ≤ to }
-        requires within { to ≤ length self.now }
+        requires in_table { to ≤ length self.now }
         ensures { result ≡ count_set self.now from to }
     {
         words::count_set(&self.words, from, to)

@@ -2,7 +2,7 @@
 use crate::Bits;
 use std::alloc::AllocError;
 
-/// The highest set bit at or below a place that the table may not have.
+/// The highest set bit at or below an index that the table may not have.
 fn previous(bits: &Bits, at: usize) -> Option<usize> {
     if at < bits.len() {
         bits.previous_set(at)

@@ -3,14 +3,14 @@
 
 ghost use Rattle.std.specs.Prelude.{◌≡◌, ◌≢◌, ◌==◌, ℕ, ◌+◌, ◌-◌, ◌*◌, ◌%◌, ◌^◌, ◌<◌, ◌≤◌, ◌⊎◌, length, if◌then◌else◌, MatchOption};
 ghost use Rattle.std.specs.Int.{bit_at};
-ghost use Rattle.mps_bits.specs.Row.{bit_in, total, IsClear, IsLowestSet, IsHighestSet, HasNoRun, IsLowestRun};
+ghost use Rattle.mps_bits.specs.Row.{bit_in, sum_over, IsClear, IsLowestSet, IsHighestSet, HasNoRun, IsLowestRun};
 
 use crate::word::{bits_from, clear_run, highest_one, lowest_one, with_bits};
 
 /// How many bits lie from `at` to the end of its word, or to `to` where that is nearer.
 fn width_at(at: usize, to: usize) -> usize
     requires { at < to }
-    ensures some { 0 < result }
+    ensures nonzero { 0 < result }
     ensures in_word { at % 64 + result ≤ 64 }
     ensures in_range { at + result ≤ to }
 {
@@ -19,7 +19,7 @@ fn width_at(at: usize, to: usize) -> usize
 
 /// The `width` bits from `at` on, which lie in one word, as the lowest bits of a word.
 fn chunk(words: &[u64], at: usize, width: usize) -> u64
-    requires some { 0 < width }
+    requires nonzero { 0 < width }
     requires in_word { at % 64 + width ≤ 64 }
     requires in_row { at < 64 * length words.now }
     ensures inside { (i : ℕ) → i < width → bit_at result i ≡ bit_in words.now (at + i) }
@@ -40,7 +40,7 @@ pub(crate) fn is_set(words: &[u64], at: usize) -> bool
 pub(crate) fn write_bit(words: &mut [u64], at: usize, value: bool)
     requires { at < 64 * length words.old }
     ensures same { bit_in words.new at ≡ (if value then 1 else 0) }
-    ensures other { (i : ℕ) → i ≢ at → bit_in words.new i ≡ bit_in words.old i }
+    ensures unchanged { (i : ℕ) → i ≢ at → bit_in words.new i ≡ bit_in words.old i }
 {
     words[at / 64] = with_bits(words[at / 64], at % 64, 1, value);
 }
@@ -49,7 +49,7 @@ pub(crate) fn write_bit(words: &mut [u64], at: usize, value: bool)
 pub(crate) fn write_range(words: &mut [u64], from: usize, to: usize, value: bool)
     requires { to ≤ 64 * length words.old }
     ensures inside { (i : ℕ) → from ≤ i → i < to → bit_in words.new i ≡ (if value then 1 else 0) }
-    ensures outside { (i : ℕ) → (i < from) ⊎ (to ≤ i) → bit_in words.new i ≡ bit_in words.old i }
+    ensures unchanged { (i : ℕ) → (i < from) ⊎ (to ≤ i) → bit_in words.new i ≡ bit_in words.old i }
 {
     let mut at = from;
     while at < to {
@@ -96,7 +96,7 @@ pub(crate) fn highest_set(words: &[u64], to: usize) -> Option<usize>
 /// How many bits from `from` up to `to` are set.
 pub(crate) fn count_set(words: &[u64], from: usize, to: usize) -> usize
     requires { to ≤ 64 * length words.now }
-    ensures { result ≡ total (bit_in words.now) from (to - from) }
+    ensures { result ≡ sum_over (bit_in words.now) from (to - from) }
 {
     let mut at = from;
     let mut count = 0;
@@ -110,7 +110,7 @@ pub(crate) fn count_set(words: &[u64], from: usize, to: usize) -> usize
 
 /// The lowest run of `count` clear bits from `from` up to `to`. `start` is where the run that ends at `at` begins.
 pub(crate) fn lowest_clear_run(words: &[u64], from: usize, to: usize, count: usize) -> Option<usize>
-    requires some { 0 < count }
+    requires nonzero { 0 < count }
     requires in_row { to ≤ 64 * length words.now }
     ensures { MatchOption result ((p : ℕ) → from ≤ p → p + count ≤ to → ¬ IsClear words.now p (p + count))
         (λ p. IsLowestRun words.now from to count p) }
@@ -128,8 +128,8 @@ pub(crate) fn lowest_clear_run(words: &[u64], from: usize, to: usize, count: usi
             if at + lowest_one(bits) - start >= count {
                 return Some(start);
             }
-            if let Some(place) = clear_run(bits, width, count) {
-                return Some(at + place);
+            if let Some(index) = clear_run(bits, width, count) {
+                return Some(at + index);
             }
             start = at + highest_one(bits) + 1;
         }

@@ -2,21 +2,21 @@
 use Rattle.std.proofs.Common.{ℕ, suc, ◌+◌, ◌-◌, ◌*◌, ◌/◌, ◌^◌, ◌<◌, ◌≤◌, ◌≡◌, ◌≢◌, ◌⊎◌, Bool, true, false, ◌&&◌, cond, leb, ltb, Option, Some, None, option_map, Result, Ok, Err, List, [], ◌∷◌, length, get_or, set, replicate, map, Contains, refl, sym, ap, ◌∙◌, subst, inl, inr, arith, length-set, get_or-set_same, get_or-set_other}
 use Rattle.std.proofs.lemmas.Bool.{cases_lt, cases_eq, cases_Bool, both_ways, cond-true, cond-false, and_from, and_left, and_right, le-leb, lt-leb, lt-ltb, le-ltb, false_from_ne_true}
 use Rattle.std.proofs.lemmas.List.{length-replicate, get_or-replicate}
-use Rattle.mps_base.specs.Run.{Run, end_of, IsAscending, total, gaps, lowest_fitting, with_run, without_run}
+use Rattle.mps_base.specs.Run.{Run, end_of, IsAscending, total, gaps, lowest_fitting, with_run, without_run, runs_within}
 use Rattle.mps_base.proofs.Runs.{last_gap_short, lowest_fitting_later, total-cons, total-le, with_run_first, with_run_later, without_run_first, without_run_later, contains_cases, contains_first, contains_later, contained_bounds, in_lowest_gap}
 use Rattle.mps_base.specs.Placement.{Placement, Place, NewSegment, OverLimit, NoFreeRun}
 use Rattle.mps_base.specs.Address.{address_of_grain}
 use Rattle.mps_base.specs.declared.address.Addr.{Addr}
 use Rattle.mps_base.specs.declared.refusal.Refusal.{Refusal}
-use Rattle.mps_arena.specs.Arena.{ArenaState, answer_of, held_after}
+use Rattle.mps_arena.specs.Arena.{ArenaMemory, answer_of_placement, held_after}
 use Rattle.mps_seg.specs.declared.entry.Entry.{Entry}
 use Rattle.mps_seg.specs.declared.entry.Entry.TheVariants.{Free, First}
-use Rattle.mps_seg.specs.Extents.{ExtentLists, has_word, run_over, runs_within, is_covered}
-use Rattle.mps_seg.specs.Segment.{Segment, LiesIn, end_of_segment, grains_of_segment, segment_over}
-use Rattle.mps_seg.specs.Segs.{at_byte}
-use Rattle.mps_seg.specs.Table.{segments_from, segments_in, IsCountAt, first_over, or_zero, covered_in, IsCounted, IsHeld}
+use Rattle.mps_seg.specs.Extents.{ExtentLists, has_word, run_over, is_covered}
+use Rattle.mps_seg.specs.Segs.{base_of, LiesIn}
+use Rattle.mps_seg.specs.Table.{segments_of_entries, segments_in, IsCountAt, first_over, or_zero, covered_words_in, IsCounted, IsHeld}
 use Rattle.mps_seg.proofs.Apart.{has_word-true, has_word-below, has_word-above, contains_put, apart_from_put, apart_each, uncovered_taken, covers_contained}
 use Rattle.mps_seg.proofs.Query.{run_over_is, run_over_none, run_over-contains, within_ascending}
+use Rattle.mps_base.specs.Segment.{Segment, end_of_segment, grains_of_segment, segment_over, is_in_segment}
 use Rattle.mps_seg.proofs.Held.{segment_at, entry_is_held, contains_put_cases, contains_without, same_count, whole_in}
 
 -- no gap fits where fewer words are free than are asked for
@@ -157,16 +157,16 @@ home_of held size firsts counts covered grain r counted ascending lies some abov
       below = omega (arith, lies.before);
     }
 
-pub home_of_put : (arena : ArenaState) (table : List Entry) (ex : ExtentLists) (firsts counts : List ℕ) (grain : ℕ) (r : Run) → IsHeld arena table ex → IsCounted arena.held (arena.grains + 1) firsts counts ex.covered
+pub home_of_put : (arena : ArenaMemory) (table : List Entry) (ex : ExtentLists) (firsts counts : List ℕ) (grain : ℕ) (r : Run) → IsHeld arena table ex → IsCounted arena.held (arena.grains + 1) firsts counts ex.covered
     → LiesIn (map grains_of_segment (segments_in table)) r → 0 < r.count → 512 * grain ≤ r.from → r.from < 512 * grain + 512 → Home arena.held (arena.grains + 1) firsts grain r
 home_of_put arena table ex firsts counts grain r held counted lies some above below =
     let P : List Run → Type 0 = λ rs. LiesIn rs r in
     home_of arena.held (arena.grains + 1) firsts counts ex.covered grain r counted held.ascending (subst P (sym held.held) lies) some above below
 
-pub home_of_covered : (arena : ArenaState) (table : List Entry) (ex : ExtentLists) (firsts counts : List ℕ) (grain : ℕ) (r : Run) → IsHeld arena table ex → IsCounted arena.held (arena.grains + 1) firsts counts ex.covered
+pub home_of_covered : (arena : ArenaMemory) (table : List Entry) (ex : ExtentLists) (firsts counts : List ℕ) (grain : ℕ) (r : Run) → IsHeld arena table ex → IsCounted arena.held (arena.grains + 1) firsts counts ex.covered
     → Contains ex.covered r → 512 * grain ≤ r.from → r.from < 512 * grain + 512 → Home arena.held (arena.grains + 1) firsts grain r
 home_of_covered arena table ex firsts counts grain r held counted listed above below =
-    home_of arena.held (arena.grains + 1) firsts counts ex.covered grain r counted held.ascending (held.inside r listed) (held.some r listed) above below
+    home_of arena.held (arena.grains + 1) firsts counts ex.covered grain r counted held.ascending (held.inside r listed) (held.nonempty r listed) above below
 
 -- a run begins in one segment alone
 in_home : (size : ℕ) (held : List Run) (h t r : Run) → IsAscending 1 size held → Contains held h → Contains held t → 512 * h.from ≤ r.from → r.from < 512 * end_of h → h.from ≡ t.from → words_within (512 * t.from) (512 * end_of t) r ≡ r.count
@@ -240,7 +240,7 @@ counted_before held size firsts counts covered grain a b r counted ascending asc
     omega (arith, was, less, fewer, here)
 
 -- no more words are counted than a segment has
-pub count_fits : (arena : ArenaState) (table : List Entry) (ex : ExtentLists) (grains : Run) → IsHeld arena table ex → Contains arena.held grains → covered_in grains ex.covered ≤ 512 * grains.count
+pub count_fits : (arena : ArenaMemory) (table : List Entry) (ex : ExtentLists) (grains : Run) → IsHeld arena table ex → Contains arena.held grains → covered_words_in grains ex.covered ≤ 512 * grains.count
 count_fits arena table ex grains held listed =
     let low = 512 * grains.from in
     let high = 512 * end_of grains in
@@ -250,7 +250,7 @@ count_fits arena table ex grains held listed =
     omega (arith, sum)
 
 -- there is room to count what is put, where the segments are held after it
-pub room_to_count : (arena : ArenaState) (table : List Entry) (ex : ExtentLists) (firsts counts : List ℕ) (grain : ℕ) (r : Run) (blocks reservations : List Run) → IsCounted arena.held (arena.grains + 1) firsts counts ex.covered
+pub room_to_count : (arena : ArenaMemory) (table : List Entry) (ex : ExtentLists) (firsts counts : List ℕ) (grain : ℕ) (r : Run) (blocks reservations : List Run) → IsCounted arena.held (arena.grains + 1) firsts counts ex.covered
     → IsHeld arena table (record ex { covered = with_run r ex.covered; blocks = blocks; reservations = reservations }) → Home arena.held (arena.grains + 1) firsts grain r
     → get_or counts (get_or firsts grain 0) 0 + r.count < 2 ^ 32
 room_to_count arena table ex firsts counts grain r blocks reservations counted held home =
@@ -261,7 +261,7 @@ room_to_count arena table ex firsts counts grain r blocks reservations counted h
     let here = ap (λ (k : ℕ). get_or counts k 0) home.first in
     let fits = count_fits arena table ex' home.run held home.there in
     let bounds = contained_bounds 1 (arena.grains + 1) arena.held home.run held.ascending home.there in
-    omega (arith, was, put, more, here, fits, bounds.2, held.few)
+    omega (arith, was, put, more, here, fits, bounds.2, held.at_most)
 
 -- before any segment is taken
 pub new_is_counted : (size : ℕ) → IsCounted [] size (replicate size 0) (replicate size 0) []
@@ -278,7 +278,7 @@ pub record Noted (firsts firsts' : List ℕ) (r : Run) (first : ℕ) : Type 0 wh
   pub inside : (g : ℕ) → r.from ≤ g → g < end_of r → get_or firsts' g 0 ≡ first
   pub outside : (g : ℕ) → (g < r.from) ⊎ (end_of r ≤ g) → get_or firsts' g 0 ≡ get_or firsts g 0
 
-pub counted_after_taking : (arena : ArenaState) (table : List Entry) (ex : ExtentLists) (firsts firsts' counts : List ℕ) (need grain : ℕ) → IsHeld arena table ex → IsCounted arena.held (arena.grains + 1) firsts counts ex.covered → 0 < need
+pub counted_after_taking : (arena : ArenaMemory) (table : List Entry) (ex : ExtentLists) (firsts firsts' counts : List ℕ) (need grain : ℕ) → IsHeld arena table ex → IsCounted arena.held (arena.grains + 1) firsts counts ex.covered → 0 < need
     → lowest_fitting need (gaps 1 (arena.grains + 1) arena.held) ≡ Some grain → Noted firsts firsts' (record { from = grain; count = need }) grain
     → IsCounted (with_run (record { from = grain; count = need }) arena.held) (arena.grains + 1) firsts' (set counts grain 0) ex.covered
 counted_after_taking arena table ex firsts firsts' counts need grain held counted some lowest noted =
@@ -294,10 +294,10 @@ counted_after_taking arena table ex firsts firsts' counts need grain held counte
     let lies = held.inside t there in
     elim (apart_from_put 1 (arena.grains + 1) arena.held r lies.grains gap.ascending lies.there) [
       | inl following ↦ inr (omega (arith, following, lies.after))
-      | inr ahead ↦ inl (omega (arith, ahead, lies.before, held.some t there))
+      | inr ahead ↦ inl (omega (arith, ahead, lies.before, held.nonempty t there))
     ])
     in
-    let P : Run → Type 0 = λ t. get_or (set counts grain 0) t.from 0 ≡ covered_in t ex.covered in
+    let P : Run → Type 0 = λ t. get_or (set counts grain 0) t.from 0 ≡ covered_words_in t ex.covered in
     record {
       firsts_size = noted.size ∙ counted.firsts_size;
       counts_size = length-set counts grain 0 ∙ counted.counts_size;
@@ -346,14 +346,14 @@ counted_after_giving held size firsts firsts' counts covered r counted ascending
     }
 
 -- where nothing was taken
-pub refused_held : (p : Placement) (why : Refusal) (held : List Run) → Err why ≡ answer_of p → held_after p held ≡ held
+pub refused_held : (p : Placement) (why : Refusal) (held : List Run) → Err why ≡ answer_of_placement p → held_after p held ≡ held
 refused_held (Place word) why held is = let left : Result Addr Refusal = Err why in let never : left ≡ Ok (record { 0 = 8 * word }) = is in cc
 refused_held (NewSegment grain grains) why held is = let left : Result Addr Refusal = Err why in let never : left ≡ Ok (record { 0 = 4096 * grain }) = is in cc
 refused_held (OverLimit committed need limit) why held is = refl
 refused_held (NoFreeRun need length) why held is = refl
 
 -- the words counted for the segment that begins at a grain
-pub count_at : (arena : ArenaState) (table : List Entry) (ex : ExtentLists) (firsts counts : List ℕ) (grain : ℕ) (e : Entry) → IsHeld arena table ex → IsCounted arena.held (arena.grains + 1) firsts counts ex.covered → get_or table grain Free ≡ e
+pub count_at : (arena : ArenaMemory) (table : List Entry) (ex : ExtentLists) (firsts counts : List ℕ) (grain : ℕ) (e : Entry) → IsHeld arena table ex → IsCounted arena.held (arena.grains + 1) firsts counts ex.covered → get_or table grain Free ≡ e
     → IsCountAt grain e (get_or counts grain 0) ex
 count_at arena table ex firsts counts grain Free held counted is = tt
 count_at arena table ex firsts counts grain (First n p g k) held counted is =
@@ -365,14 +365,20 @@ count_at arena table ex firsts counts grain (First n p g k) held counted is =
 
 -- ---- the segment over an address
 
-over_from : (at grain : ℕ) (entries : List Entry) → segment_over (segments_from grain entries) at ≡ option_map address_of_grain (run_over (map grains_of_segment (segments_from grain entries)) (at / 4096))
-unfolding segments_from
+-- the address at which a grain begins
+abbrev pub base_of_grain : ℕ → Addr
+base_of_grain grain = record { 0 = address_of_grain grain }
+
+over_from : (at grain : ℕ) (entries : List Entry)
+    → option_map base_of (segment_over (segments_of_entries grain entries) at)
+    ≡ option_map base_of_grain (run_over (map grains_of_segment (segments_of_entries grain entries)) (at / 4096))
+unfolding segments_of_entries
 over_from at grain [] = refl
 over_from at grain (Free ∷ entries) = over_from at (suc grain) entries
 over_from at grain (First n p g k ∷ entries) =
     let s : Segment = record { base = address_of_grain grain; grains = n; pool = p; generation = g; rank = k } in
     let r : Run = grains_of_segment s in
-    let here : Bool = leb s.base at && ltb at (end_of_segment s) in
+    let here : Bool = is_in_segment s at in
     let same : here ≡ has_word r (at / 4096) =
     elim (cases_lt at s.base) [
       | inl below ↦ and_left (leb s.base at) (ltb at (end_of_segment s)) (lt-leb s.base at below) ∙ sym (has_word-below r (at / 4096) (omega arith))
@@ -384,22 +390,23 @@ over_from at grain (First n p g k ∷ entries) =
       ]
     ]
     in
-    let rest = segment_over (segments_from (suc grain) entries) at in
-    let rest' = run_over (map grains_of_segment (segments_from (suc grain) entries)) (at / 4096) in
+    let rest = segment_over (segments_of_entries (suc grain) entries) at in
+    let rest' = run_over (map grains_of_segment (segments_of_entries (suc grain) entries)) (at / 4096) in
     let base : address_of_grain r.from ≡ s.base = omega arith in
     elim (cases_Bool (has_word r (at / 4096))) [
       | inl has ↦
-          cond-true here (Some s.base) rest (same ∙ has) ∙ ap (λ (b : ℕ). Some b) (sym base)
-          ∙ sym (ap (λ (o : Option ℕ). option_map address_of_grain o) (cond-true (has_word r (at / 4096)) (Some r.from) rest' has))
+          ap (λ (o : Option Segment). option_map base_of o) (cond-true here (Some s) rest (same ∙ has)) ∙ ap (λ (b : ℕ). Some (record { 0 = b })) (sym base)
+          ∙ sym (ap (λ (o : Option ℕ). option_map base_of_grain o) (cond-true (has_word r (at / 4096)) (Some r.from) rest' has))
       | inr other ↦
-          cond-false here (Some s.base) rest (same ∙ other) ∙ over_from at (suc grain) entries
-          ∙ sym (ap (λ (o : Option ℕ). option_map address_of_grain o) (cond-false (has_word r (at / 4096)) (Some r.from) rest' other))
+          ap (λ (o : Option Segment). option_map base_of o) (cond-false here (Some s) rest (same ∙ other)) ∙ over_from at (suc grain) entries
+          ∙ sym (ap (λ (o : Option ℕ). option_map base_of_grain o) (cond-false (has_word r (at / 4096)) (Some r.from) rest' other))
     ]
 
-pub segment_over_is : (arena : ArenaState) (table : List Entry) (ex : ExtentLists) (at : ℕ) (o : Option ℕ) → IsHeld arena table ex → run_over arena.held (at / 4096) ≡ o → segment_over (segments_in table) at ≡ option_map address_of_grain o
+pub segment_over_is : (arena : ArenaMemory) (table : List Entry) (ex : ExtentLists) (at : ℕ) (o : Option ℕ) → IsHeld arena table ex → run_over arena.held (at / 4096) ≡ o
+    → option_map base_of (segment_over (segments_in table) at) ≡ option_map base_of_grain o
 unfolding segments_in
 segment_over_is arena table ex at o held is =
-    over_from at 0 table ∙ ap (λ (rs : List Run). option_map address_of_grain (run_over rs (at / 4096))) (sym held.held) ∙ ap (λ (x : Option ℕ). option_map address_of_grain x) is
+    over_from at 0 table ∙ ap (λ (rs : List Run). option_map base_of_grain (run_over rs (at / 4096))) (sym held.held) ∙ ap (λ (x : Option ℕ). option_map base_of_grain x) is
 
 pub no_run_past : (size : ℕ) (held : List Run) (grain : ℕ) → IsAscending 1 size held → size ≤ grain → run_over held grain ≡ None
 no_run_past size held grain ascending past = run_over_none held grain (λ r there. has_word-above r grain (omega (arith, (contained_bounds 1 size held r ascending there).2, past)))
@@ -415,17 +422,18 @@ run_from_first size held grain first ascending is = go (run_over held grain) ref
         ((λ e. absurd (omega (arith, bounds.0, same, e))), (λ other. over ∙ ap (λ (n : ℕ). Some n) (sym same)))
 
 -- a segment that was found by an address
-pub segment_found : (ss : List Segment) (n : ℕ) (base : Addr) → Some base ≡ option_map at_byte (segment_over ss n) → (s : Segment) × Contains ss s × (s.base ≡ base.0)
+pub segment_found : (ss : List Segment) (n : ℕ) (base : Addr) → Some base ≡ option_map base_of (segment_over ss n)
+    → (s : Segment) × Contains ss s × (s.base ≡ base.0)
 segment_found [] n base is = let never : Some base ≡ None = is in cc
 segment_found (s ∷ ss) n base is =
-    let here : Bool = leb s.base n && ltb n (end_of_segment s) in
+    let here : Bool = is_in_segment s n in
     elim (cases_Bool here) [
       | inl has ↦
-          let both : Some base ≡ Some (at_byte s.base) = is ∙ ap (λ (o : Option ℕ). option_map at_byte o) (cond-true here (Some s.base) (segment_over ss n) has) in
-          let same : base ≡ at_byte s.base = cc in
+          let both : Some base ≡ Some (base_of s) = is ∙ ap (λ (o : Option Segment). option_map base_of o) (cond-true here (Some s) (segment_over ss n) has) in
+          let same : base ≡ base_of s = cc in
           (s, (0, omega arith, refl), sym (ap (λ (a : Addr). a.0) same))
       | inr other ↦
-          let later = segment_found ss n base (is ∙ ap (λ (o : Option ℕ). option_map at_byte o) (cond-false here (Some s.base) (segment_over ss n) other)) in
+          let later = segment_found ss n base (is ∙ ap (λ (o : Option Segment). option_map base_of o) (cond-false here (Some s) (segment_over ss n) other)) in
           (later.0, (suc later.1.0, omega (arith, later.1.1), later.1.2), later.2)
     ]
 
@@ -435,12 +443,12 @@ none_counted low high [] ascending none = refl
 none_counted low high (r ∷ rs) ascending none = absurd (omega (arith, total-cons r rs, none, ascending.1))
 
 -- the words counted for the segment at an address
-pub record Counted (arena : ArenaState) (table : List Entry) (ex : ExtentLists) (counts : List ℕ) (base : ℕ) (s : Segment) : Type 0 where
+pub record Counted (arena : ArenaMemory) (table : List Entry) (ex : ExtentLists) (counts : List ℕ) (base : ℕ) (s : Segment) : Type 0 where
   pub within : base / 4096 < length counts
   pub count : get_or counts (base / 4096) 0 ≡ total (runs_within (s.base / 8) (end_of_segment s / 8) ex.covered)
   pub empty : get_or counts (base / 4096) 0 ≡ 0 → runs_within (s.base / 8) (end_of_segment s / 8) ex.covered ≡ []
 
-pub counted_at : (arena : ArenaState) (table : List Entry) (ex : ExtentLists) (firsts counts : List ℕ) (base : ℕ) (s : Segment) → IsHeld arena table ex → IsCounted arena.held (arena.grains + 1) firsts counts ex.covered
+pub counted_at : (arena : ArenaMemory) (table : List Entry) (ex : ExtentLists) (firsts counts : List ℕ) (base : ℕ) (s : Segment) → IsHeld arena table ex → IsCounted arena.held (arena.grains + 1) firsts counts ex.covered
     → Contains (segments_in table) s → s.base ≡ base → Counted arena table ex counts base s
 counted_at arena table ex firsts counts base s held counted there begins =
     let grain = base / 4096 in

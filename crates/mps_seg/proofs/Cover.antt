@@ -6,7 +6,7 @@ use Rattle.mps_base.proofs.Runs.{with_run_first, with_run_later, without_run_fir
 use Rattle.mps_bits.specs.Table.{bit, with_range, next_set}
 use Rattle.mps_bits.proofs.Ranges.{length-with_range}
 use Rattle.mps_seg.specs.Extents.{ExtentLists, has_word, is_covered}
-use Rattle.mps_seg.specs.Inside.{length_at, minus, extents, lists_of, IsSound}
+use Rattle.mps_seg.specs.Inside.{length_at, minus, extents, lists_of, AreSoundTables}
 use Rattle.mps_seg.proofs.BitFacts.{bit_is, bit-set_same, bit-set_other, bit_within, bit-with_range_inside, bit-with_range_outside, minus_is_begin, length-minus, bit-minus, minus-set_first, minus_less, minus_same}
 use Rattle.mps_seg.proofs.Decode.{runs_with-put, runs_with-taken, runs_with_same, run_of_bit, bit_of_run}
 use Rattle.mps_seg.proofs.Lengths.{IsLast, next_last, length_at_is, last_of, length_kept}
@@ -66,7 +66,7 @@ extents_taken begins bits ends ends' at same within some part =
 -- ---- an extent put where nothing is covered
 
 pub record Put (covered begins ends blocks : List Bool) (at words : ℕ) : Type 0 where
-  pub sound : IsSound covered begins ends blocks
+  pub sound : AreSoundTables covered begins ends blocks
   pub some : 0 < words
   pub free : IsAscending 0 (length begins) (with_run (record { from = at; count = words }) (extents begins ends))
 
@@ -128,7 +128,7 @@ put_extents covered begins ends blocks at words put =
     (omega (arith, put.some, put_bounds covered begins ends blocks at words put)) (no_begin covered begins ends blocks at words put) (λ s is. is)
 
 pub put_is_sound : (covered begins ends blocks : List Bool) (at words : ℕ) → Put covered begins ends blocks at words
-    → IsSound (with_range covered at (at + words) true) (set begins at true) (set ends (at + words - 1) true) blocks
+    → AreSoundTables (with_range covered at (at + words) true) (set begins at true) (set ends (at + words - 1) true) blocks
 put_is_sound covered begins ends blocks at words put =
     let some = put.some in
     let r : Run = record { from = at; count = words } in
@@ -207,7 +207,7 @@ put_lists covered begins ends blocks at words put =
     ∙ ap (λ (rs : List Run). lists (length begins) (with_run (record { from = at; count = words }) (extents begins ends)) rs (extents (minus begins' blocks) ends')) kept
     ∙ ap (λ (rs : List Run). lists (length begins) (with_run (record { from = at; count = words }) (extents begins ends)) (extents blocks ends) rs) reserved
 
-pub put_of : (covered begins ends blocks : List Bool) (at words : ℕ) (seen : ExtentLists) → IsSound covered begins ends blocks → 0 < words → lists_of begins ends blocks ≡ seen
+pub put_of : (covered begins ends blocks : List Bool) (at words : ℕ) (seen : ExtentLists) → AreSoundTables covered begins ends blocks → 0 < words → lists_of begins ends blocks ≡ seen
     → IsAscending 0 seen.size (with_run (record { from = at; count = words }) seen.covered) → Put covered begins ends blocks at words
 put_of covered begins ends blocks at words seen sound some is free =
     let P : ExtentLists → Type 0 = λ e. IsAscending 0 e.size (with_run (record { from = at; count = words }) e.covered) in
@@ -216,7 +216,7 @@ put_of covered begins ends blocks at words seen sound some is free =
 -- ---- an extent taken out
 
 pub record Taken (covered begins ends blocks : List Bool) (r : Run) : Type 0 where
-  pub sound : IsSound covered begins ends blocks
+  pub sound : AreSoundTables covered begins ends blocks
   pub there : Contains (extents begins ends) r
 
 abbrev pub last_word : Run → ℕ
@@ -257,7 +257,7 @@ taken_extents covered begins ends blocks r taken =
 
 pub taken_is_sound : (covered begins ends blocks blocks' : List Bool) (r : Run) → Taken covered begins ends blocks r → length blocks' ≡ length blocks
     → ((word : ℕ) → bit blocks' word ≡ true → (bit begins word ≡ true) × (word ≢ r.from))
-    → IsSound (with_range covered r.from (end_of r) false) (set begins r.from false) (set ends (last_word r) false) blocks'
+    → AreSoundTables (with_range covered r.from (end_of r) false) (set begins r.from false) (set ends (last_word r) false) blocks'
 taken_is_sound covered begins ends blocks blocks' r taken size left =
     let sound = taken.sound in
     let bounds = taken_bounds covered begins ends blocks r taken in
@@ -343,13 +343,13 @@ is_reserved begins ends blocks r there =
     }
 
 -- the reservation of n words that begins at a place, and the block
-pub reservation_of : (covered begins ends blocks : List Bool) (r : Run) (seen : ExtentLists) → IsSound covered begins ends blocks → lists_of begins ends blocks ≡ seen → Contains seen.reservations r
+pub reservation_of : (covered begins ends blocks : List Bool) (r : Run) (seen : ExtentLists) → AreSoundTables covered begins ends blocks → lists_of begins ends blocks ≡ seen → Contains seen.reservations r
     → Taken covered begins ends blocks r × IsReserved begins ends blocks r
 reservation_of covered begins ends blocks r seen sound is listed =
     let P : ExtentLists → Type 0 = λ e. Contains e.reservations r in
     let reserved = is_reserved begins ends blocks r (subst P (sym is) listed) in (record { sound = sound; there = reserved.there }, reserved)
 
-pub block_of : (covered begins ends blocks : List Bool) (r : Run) (seen : ExtentLists) → IsSound covered begins ends blocks → lists_of begins ends blocks ≡ seen → Contains seen.blocks r
+pub block_of : (covered begins ends blocks : List Bool) (r : Run) (seen : ExtentLists) → AreSoundTables covered begins ends blocks → lists_of begins ends blocks ≡ seen → Contains seen.blocks r
     → Taken covered begins ends blocks r × (bit blocks r.from ≡ true)
 block_of covered begins ends blocks r seen sound is listed =
     let P : ExtentLists → Type 0 = λ e. Contains e.blocks r in
@@ -418,7 +418,7 @@ drop_lists covered begins ends blocks r taken block =
 no_change : (begins ends : List Bool) (at : ℕ) → SameLengths begins ends ends at
 no_change begins ends at = record { others = λ s is other. refl }
 
-commit_lists : (covered begins ends blocks : List Bool) (r : Run) → IsSound covered begins ends blocks → IsReserved begins ends blocks r
+commit_lists : (covered begins ends blocks : List Bool) (r : Run) → AreSoundTables covered begins ends blocks → IsReserved begins ends blocks r
     → lists_of begins ends (set blocks r.from true) ≡ record (lists_of begins ends blocks) {
       blocks = with_run r (extents blocks ends);
       reservations = without_run r.from (extents (minus begins blocks) ends);
@@ -444,7 +444,7 @@ commit_lists covered begins ends blocks r sound reserved =
     ap (λ (rs : List Run). lists (length begins) (extents begins ends) rs (extents (minus begins blocks') ends)) put
     ∙ ap (λ (rs : List Run). lists (length begins) (extents begins ends) (with_run r (extents blocks ends)) rs) gone
 
-commit_is_sound : (covered begins ends blocks : List Bool) (r : Run) → IsSound covered begins ends blocks → IsReserved begins ends blocks r → IsSound covered begins ends (set blocks r.from true)
+commit_is_sound : (covered begins ends blocks : List Bool) (r : Run) → AreSoundTables covered begins ends blocks → IsReserved begins ends blocks r → AreSoundTables covered begins ends (set blocks r.from true)
 commit_is_sound covered begins ends blocks r sound reserved =
     let b = begin_of begins ends r reserved.there in
     record {
@@ -482,7 +482,7 @@ put_is_reserved covered begins ends blocks at words put =
     (subst P (sym (ap (λ (e : ExtentLists). e.reservations) (put_lists covered begins ends blocks at words put))) (contains_put r (extents (minus begins blocks) ends)))
 
 pub block_is_sound : (covered begins ends blocks : List Bool) (at words : ℕ) → Put covered begins ends blocks at words
-    → IsSound (with_range covered at (at + words) true) (set begins at true) (set ends (at + words - 1) true) (set blocks at true)
+    → AreSoundTables (with_range covered at (at + words) true) (set begins at true) (set ends (at + words - 1) true) (set blocks at true)
 block_is_sound covered begins ends blocks at words put =
     commit_is_sound (with_range covered at (at + words) true) (set begins at true) (set ends (at + words - 1) true) blocks (record { from = at; count = words })
     (put_is_sound covered begins ends blocks at words put) (put_is_reserved covered begins ends blocks at words put)
@@ -507,14 +507,14 @@ block_lists covered begins ends blocks at words put =
     (put_and_taken r (extents (minus begins blocks) ends) other)
 
 -- the blocks that are left when one is taken out, and when a reservation is
-pub left_without_block : (covered begins ends blocks : List Bool) (at : ℕ) → IsSound covered begins ends blocks → at < length blocks → (word : ℕ) → bit (set blocks at false) word ≡ true → (bit begins word ≡ true) × (word ≢ at)
+pub left_without_block : (covered begins ends blocks : List Bool) (at : ℕ) → AreSoundTables covered begins ends blocks → at < length blocks → (word : ℕ) → bit (set blocks at false) word ≡ true → (bit begins word ≡ true) × (word ≢ at)
 left_without_block covered begins ends blocks at sound within word is =
     elim (cases_eq word at) [
       | inl here ↦ absurd (both_ways (bit (set blocks at false) at) (bit-set_same blocks at false within) (ap (λ (j : ℕ). bit (set blocks at false) j) (sym here) ∙ is))
       | inr other ↦ (sound.blocks_begin word (sym (bit-set_other blocks at word false other) ∙ is), other)
     ]
 
-pub left_without_reservation : (covered begins ends blocks : List Bool) (at : ℕ) → IsSound covered begins ends blocks → bit blocks at ≡ false → (word : ℕ) → bit blocks word ≡ true → (bit begins word ≡ true) × (word ≢ at)
+pub left_without_reservation : (covered begins ends blocks : List Bool) (at : ℕ) → AreSoundTables covered begins ends blocks → bit blocks at ≡ false → (word : ℕ) → bit blocks word ≡ true → (bit begins word ≡ true) × (word ≢ at)
 left_without_reservation covered begins ends blocks at sound none word is =
     (sound.blocks_begin word is, λ e. both_ways (bit blocks at) none (ap (λ (j : ℕ). bit blocks j) (sym e) ∙ is))
 

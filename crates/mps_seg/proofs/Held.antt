@@ -4,7 +4,7 @@ use Rattle.std.specs.List.{flat_map}
 use Rattle.std.proofs.Math.Seq.{drop-cons}
 use Rattle.std.proofs.lemmas.Bool.{cases_lt, cases_eq, cases_Bool, both_ways, and_from, le-leb, cond-true, cond-false, lt-ltb, le-ltb, eq-eqb, ne_eqb}
 use Rattle.std.proofs.lemmas.List.{length-replicate}
-use Rattle.mps_base.specs.Run.{Run, end_of, IsAscending, total, gaps, lowest_fitting, longest, with_run, without_run}
+use Rattle.mps_base.specs.Run.{Run, end_of, IsAscending, total, gaps, lowest_fitting, longest, with_run, without_run, runs_within}
 use Rattle.mps_base.specs.Placement.{NewSegment, run_placement}
 use Rattle.mps_base.specs.Address.{address_of_grain}
 use Rattle.mps_base.specs.declared.names.Rank.{Rank}
@@ -12,19 +12,19 @@ use Rattle.mps_base.specs.declared.address.Addr.{Addr}
 use Rattle.mps_base.specs.declared.refusal.Refusal.{Refusal}
 use Rattle.mps_base.specs.declared.refusal.Refusal.TheVariants.{CommitLimit, NoRun}
 use Rattle.mps_base.proofs.Runs.{with_run_first, with_run_later, without_run_first, without_run_later, contains_cases, contains_first, contains_later, contained_bounds, in_lowest_gap, IsAscending-without_run}
-use Rattle.mps_arena.specs.Arena.{ArenaState, new_arena, answer_of, placement_in}
+use Rattle.mps_arena.specs.Arena.{ArenaMemory, max_grains, new_arena, answer_of_placement, placement_in}
 use Rattle.mps_seg.specs.declared.entry.Entry.{Entry}
 use Rattle.mps_seg.specs.declared.entry.Entry.TheVariants.{Free, First}
-use Rattle.mps_seg.specs.Extents.{ExtentLists, nothing_covered, runs_within, AreWhole}
-use Rattle.mps_seg.specs.Segment.{LiesIn, Segment, is_open_to, same_rank, grains_of_segment, end_of_segment, with_segment, without_segment}
-use Rattle.mps_seg.specs.Segs.{SegsState, gaps_in, gaps_of, CanCover}
-use Rattle.mps_seg.specs.Table.{segments_from, segments_in, segs_state, gaps_at, IsHeld, IsWholeAt}
+use Rattle.mps_seg.specs.Extents.{ExtentLists, nothing_covered, AreWhole}
+use Rattle.mps_seg.specs.Segs.{SegsState, CanCover, LiesIn}
+use Rattle.mps_seg.specs.Table.{segments_of_entries, segments_in, segs_state, gaps_at, IsHeld, IsWholeAt}
 use Rattle.mps_seg.proofs.Query.{within_ascending}
+use Rattle.mps_base.specs.Segment.{Segment, is_open_to, same_rank, grains_of_segment, end_of_segment, with_segment, without_segment, gaps_in, gaps_of}
 use Rattle.mps_seg.proofs.Apart.{contains_put, apart_from_put, apart_each}
 
 -- the runs of grains of the entries
 abbrev pub held_from : ℕ → List Entry → List Run
-held_from grain entries = map grains_of_segment (segments_from grain entries)
+held_from grain entries = map grains_of_segment (segments_of_entries grain entries)
 
 segment_of : (grain grains pool generation : ℕ) → Rank → Segment
 segment_of grain grains pool generation rank = record { base = address_of_grain grain; grains = grains; pool = pool; generation = generation; rank = rank }
@@ -36,45 +36,45 @@ with_segment_later : (r s : Segment) (rs : List Segment) → s.base ≤ r.base �
 with_segment_later r s rs h = cond-false (ltb r.base s.base) (r ∷ s ∷ rs) (s ∷ with_segment r rs) (le-ltb r.base s.base h)
 
 -- a segment before all others
-first_segment : (at : ℕ) (entries : List Entry) (new : Segment) → new.base < address_of_grain at → with_segment new (segments_from at entries) ≡ new ∷ segments_from at entries
-unfolding segments_from
+first_segment : (at : ℕ) (entries : List Entry) (new : Segment) → new.base < address_of_grain at → with_segment new (segments_of_entries at entries) ≡ new ∷ segments_of_entries at entries
+unfolding segments_of_entries
 first_segment at [] new before = refl
 first_segment at (Free ∷ entries) new before = first_segment (suc at) entries new (omega arith)
 first_segment at (First n p g r ∷ entries) new before =
-    with_segment_first new (record { base = address_of_grain at; grains = n; pool = p; generation = g; rank = r }) (segments_from (suc at) entries) before
+    with_segment_first new (record { base = address_of_grain at; grains = n; pool = p; generation = g; rank = r }) (segments_of_entries (suc at) entries) before
 
 first_held : (at : ℕ) (entries : List Entry) (new : Run) → new.from < at → with_run new (held_from at entries) ≡ new ∷ held_from at entries
-unfolding segments_from
+unfolding segments_of_entries
 first_held at [] new before = refl
 first_held at (Free ∷ entries) new before = first_held (suc at) entries new (omega arith)
 first_held at (First n p g r ∷ entries) new before =
     with_run_first new (grains_of_segment (record { base = address_of_grain at; grains = n; pool = p; generation = g; rank = r })) (held_from (suc at) entries) (omega arith)
 
 pub segments_put : (at : ℕ) (entries : List Entry) (i n p g : ℕ) (r : Rank) → i < length entries → get_or entries i Free ≡ Free
-    → segments_from at (set entries i (First n p g r)) ≡ with_segment (record { base = address_of_grain (at + i); grains = n; pool = p; generation = g; rank = r }) (segments_from at entries)
-unfolding segments_from
+    → segments_of_entries at (set entries i (First n p g r)) ≡ with_segment (record { base = address_of_grain (at + i); grains = n; pool = p; generation = g; rank = r }) (segments_of_entries at entries)
+unfolding segments_of_entries
 segments_put at [] i n p g r within free = absurd (omega arith)
 segments_put at (First a b c d ∷ entries) zero n p g r within free = cc
 segments_put at (Free ∷ entries) zero n p g r within free =
     let place : at ≡ at + 0 = omega arith in
     sym (first_segment (suc at) entries (record { base = address_of_grain at; grains = n; pool = p; generation = g; rank = r }) (omega arith))
-    ∙ ap (λ (a : ℕ). with_segment (record { base = address_of_grain a; grains = n; pool = p; generation = g; rank = r }) (segments_from (suc at) entries)) place
+    ∙ ap (λ (a : ℕ). with_segment (record { base = address_of_grain a; grains = n; pool = p; generation = g; rank = r }) (segments_of_entries (suc at) entries)) place
 segments_put at (Free ∷ entries) (suc i) n p g r within free =
     let place : suc at + i ≡ at + suc i = omega arith in
     segments_put (suc at) entries i n p g r (omega arith) free
-    ∙ ap (λ (a : ℕ). with_segment (record { base = address_of_grain a; grains = n; pool = p; generation = g; rank = r }) (segments_from (suc at) entries)) place
+    ∙ ap (λ (a : ℕ). with_segment (record { base = address_of_grain a; grains = n; pool = p; generation = g; rank = r }) (segments_of_entries (suc at) entries)) place
 segments_put at (First a b c d ∷ entries) (suc i) n p g r within free =
     let place : suc at + i ≡ at + suc i = omega arith in
     let head : Segment = record { base = address_of_grain at; grains = a; pool = b; generation = c; rank = d } in
     let new : Segment = record { base = address_of_grain (at + suc i); grains = n; pool = p; generation = g; rank = r } in
     ap (λ (ss : List Segment). head ∷ ss)
     (segments_put (suc at) entries i n p g r (omega arith) free
-    ∙ ap (λ (k : ℕ). with_segment (record { base = address_of_grain k; grains = n; pool = p; generation = g; rank = r }) (segments_from (suc at) entries)) place)
-    ∙ sym (with_segment_later new head (segments_from (suc at) entries) (omega arith))
+    ∙ ap (λ (k : ℕ). with_segment (record { base = address_of_grain k; grains = n; pool = p; generation = g; rank = r }) (segments_of_entries (suc at) entries)) place)
+    ∙ sym (with_segment_later new head (segments_of_entries (suc at) entries) (omega arith))
 
 pub held_put : (at : ℕ) (entries : List Entry) (i n p g : ℕ) (r : Rank) → i < length entries → get_or entries i Free ≡ Free
     → held_from at (set entries i (First n p g r)) ≡ with_run (record { from = at + i; count = n }) (held_from at entries)
-unfolding segments_from
+unfolding segments_of_entries
 held_put at [] i n p g r within free = absurd (omega arith)
 held_put at (First a b c d ∷ entries) zero n p g r within free = cc
 held_put at (Free ∷ entries) zero n p g r within free =
@@ -94,7 +94,7 @@ held_put at (First a b c d ∷ entries) (suc i) n p g r within free =
 
 -- an entry where a segment begins is a run of held grains
 pub held_of_entry : (at : ℕ) (entries : List Entry) (i n p g : ℕ) (r : Rank) → get_or entries i Free ≡ First n p g r → Contains (held_from at entries) (record { from = at + i; count = n })
-unfolding segments_from
+unfolding segments_of_entries
 held_of_entry at [] i n p g r is = cc
 held_of_entry at (Free ∷ entries) zero n p g r is = cc
 held_of_entry at (Free ∷ entries) (suc i) n p g r is =
@@ -118,7 +118,7 @@ held_of_entry at (First a b c d ∷ entries) (suc i) n p g r is =
 -- what a placement of a run is
 pub data Placing (grains limit : ℕ) (held : List Run) (need : ℕ) : Type 0 where
   placed : (grain : ℕ) → run_placement grains limit held need ≡ NewSegment grain need → lowest_fitting need (gaps 1 (grains + 1) held) ≡ Some grain → Placing grains limit held need
-  refused : (why : Refusal) → answer_of (run_placement grains limit held need) ≡ Err why → Placing grains limit held need
+  refused : (why : Refusal) → answer_of_placement (run_placement grains limit held need) ≡ Err why → Placing grains limit held need
 
 pub placing : (grains limit : ℕ) (held : List Run) (need : ℕ) → Placing grains limit held need
 placing grains limit held need =
@@ -190,20 +190,20 @@ contains_still from t (s ∷ rs) there other =
 
 -- ---- changed extents
 
-pub held_after_cover : (arena : ArenaState) (table : List Entry) (ex : ExtentLists) (r : Run) (blocks reservations : List Run) → IsHeld arena table ex → 0 < r.count → IsAscending 0 ex.size (with_run r ex.covered) → LiesIn (map grains_of_segment (segments_in table)) r
+pub held_after_cover : (arena : ArenaMemory) (table : List Entry) (ex : ExtentLists) (r : Run) (blocks reservations : List Run) → IsHeld arena table ex → 0 < r.count → IsAscending 0 ex.size (with_run r ex.covered) → LiesIn (map grains_of_segment (segments_in table)) r
     → IsHeld arena table (record ex { covered = with_run r ex.covered; blocks = blocks; reservations = reservations })
 held_after_cover arena table ex r blocks reservations held some free lies =
     let P : List Run → Type 0 = λ rs. LiesIn rs r in
     record {
       held = held.held;
       ascending = held.ascending;
-      few = held.few;
+      at_most = held.at_most;
       size = held.size;
       covered_size = held.covered_size;
       covered_ascending = free;
-      some = λ t there. elim (contains_put_cases r t ex.covered there) [
+      nonempty = λ t there. elim (contains_put_cases r t ex.covered there) [
         | inl same ↦ omega (arith, some, ap (λ (x : Run). x.count) same)
-        | inr later ↦ held.some t later
+        | inr later ↦ held.nonempty t later
       ];
       inside = λ t there. elim (contains_put_cases r t ex.covered there) [
         | inl same ↦ subst (λ (x : Run). LiesIn arena.held x) same (subst P (sym held.held) lies)
@@ -211,16 +211,16 @@ held_after_cover arena table ex r blocks reservations held some free lies =
       ];
     }
 
-pub held_after_less : (arena : ArenaState) (table : List Entry) (ex : ExtentLists) (from : ℕ) (blocks reservations : List Run) → IsHeld arena table ex
+pub held_after_less : (arena : ArenaMemory) (table : List Entry) (ex : ExtentLists) (from : ℕ) (blocks reservations : List Run) → IsHeld arena table ex
     → IsHeld arena table (record ex { covered = without_run from ex.covered; blocks = blocks; reservations = reservations })
 held_after_less arena table ex from blocks reservations held = record {
   held = held.held;
   ascending = held.ascending;
-  few = held.few;
+  at_most = held.at_most;
   size = held.size;
   covered_size = held.covered_size;
   covered_ascending = IsAscending-without_run 0 ex.size from ex.covered held.covered_ascending;
-  some = λ t there. held.some t (contains_without from t ex.covered there);
+  nonempty = λ t there. held.nonempty t (contains_without from t ex.covered there);
   inside = λ t there. held.inside t (contains_without from t ex.covered there);
 }
 
@@ -243,7 +243,7 @@ taken_and_put low high (s ∷ rs) r ascending there =
     before_all low high (s ∷ rs) r ascending before = with_run_first r s rs (omega (arith, ascending.0))
 
 -- words that were covered can be covered again
-pub free_again : (arena : ArenaState) (table : List Entry) (ex : ExtentLists) (r : Run) (blocks reservations : List Run) → IsHeld arena table ex → Contains ex.covered r
+pub free_again : (arena : ArenaMemory) (table : List Entry) (ex : ExtentLists) (r : Run) (blocks reservations : List Run) → IsHeld arena table ex → Contains ex.covered r
     → CanCover (segs_state arena table (record ex { covered = without_run r.from ex.covered; blocks = blocks; reservations = reservations })) r
 free_again arena table ex r blocks reservations held there =
     let P : List Run → Type 0 = λ rs. IsAscending 0 (512 * (arena.grains + 1)) rs in
@@ -260,19 +260,19 @@ entry_cases : (e : Entry) → (e ≡ Free) ⊎ ((n : ℕ) × (p : ℕ) × (g : �
 entry_cases Free = inl refl
 entry_cases (First n p g r) = inr (n, p, g, r, refl)
 
-pub record TakenAt (arena : ArenaState) (need grain : ℕ) (base : Addr) : Type 0 where
+pub record TakenAt (arena : ArenaMemory) (need grain : ℕ) (base : Addr) : Type 0 where
   pub place : placement_in arena need ≡ NewSegment grain need
   pub lowest : lowest_fitting need (gaps 1 (arena.grains + 1) arena.held) ≡ Some grain
   pub base_is : base.0 / 4096 ≡ grain
   pub base_at : base.0 ≡ address_of_grain grain
 
-pub taken_at : (arena : ArenaState) (need : ℕ) (base : Addr) → Ok base ≡ answer_of (placement_in arena need) → (grain : ℕ) × TakenAt arena need grain base
+pub taken_at : (arena : ArenaMemory) (need : ℕ) (base : Addr) → Ok base ≡ answer_of_placement (placement_in arena need) → (grain : ℕ) × TakenAt arena need grain base
 taken_at arena need base answer =
     elim (placing arena.grains arena.limit arena.held need) [
       | placed grain place lowest ↦
           let left : Result Addr Refusal = Ok base in
           let right : Result Addr Refusal = Ok (record { 0 = address_of_grain grain }) in
-          let both : left ≡ right = answer ∙ ap answer_of place in
+          let both : left ≡ right = answer ∙ ap answer_of_placement place in
           let same : base ≡ record { 0 = address_of_grain grain } = cc in
           let at : base.0 ≡ address_of_grain grain = ap (λ (a : Addr). a.0) same in
           (grain, record { place = place; lowest = lowest; base_is = omega (arith, at); base_at = at })
@@ -289,12 +289,12 @@ entry_is_held table grain n p g r is =
     let P : ℕ → Type 0 = λ k. Contains (held_from 0 table) (record { from = k; count = n }) in
     subst P place (held_of_entry 0 table grain n p g r is)
 
-pub take_fits : (arena : ArenaState) (table : List Entry) (ex : ExtentLists) (need grain : ℕ) → IsHeld arena table ex → 0 < need → lowest_fitting need (gaps 1 (arena.grains + 1) arena.held) ≡ Some grain → grain < length table
+pub take_fits : (arena : ArenaMemory) (table : List Entry) (ex : ExtentLists) (need grain : ℕ) → IsHeld arena table ex → 0 < need → lowest_fitting need (gaps 1 (arena.grains + 1) arena.held) ≡ Some grain → grain < length table
 take_fits arena table ex need grain held some lowest =
     let gap = in_lowest_gap 1 (arena.grains + 1) arena.held need grain some held.ascending lowest in
     omega (arith, gap.below, held.size)
 
-free_entry : (arena : ArenaState) (table : List Entry) (ex : ExtentLists) (need grain : ℕ) → IsHeld arena table ex → 0 < need → lowest_fitting need (gaps 1 (arena.grains + 1) arena.held) ≡ Some grain → get_or table grain Free ≡ Free
+free_entry : (arena : ArenaMemory) (table : List Entry) (ex : ExtentLists) (need grain : ℕ) → IsHeld arena table ex → 0 < need → lowest_fitting need (gaps 1 (arena.grains + 1) arena.held) ≡ Some grain → get_or table grain Free ≡ Free
 free_entry arena table ex need grain held some lowest =
     let r : Run = record { from = grain; count = need } in
     let gap = in_lowest_gap 1 (arena.grains + 1) arena.held need grain some held.ascending lowest in
@@ -310,7 +310,7 @@ free_entry arena table ex need grain held some lowest =
           ]
     ]
 
-pub segments_after_take : (arena : ArenaState) (table : List Entry) (ex : ExtentLists) (need grain pool generation : ℕ) (rank : Rank) → IsHeld arena table ex → 0 < need
+pub segments_after_take : (arena : ArenaMemory) (table : List Entry) (ex : ExtentLists) (need grain pool generation : ℕ) (rank : Rank) → IsHeld arena table ex → 0 < need
     → lowest_fitting need (gaps 1 (arena.grains + 1) arena.held) ≡ Some grain
     → segments_in (set table grain (First need pool generation rank)) ≡ with_segment (record { base = address_of_grain grain; grains = need; pool = pool; generation = generation; rank = rank }) (segments_in table)
 unfolding segments_in
@@ -318,9 +318,9 @@ segments_after_take arena table ex need grain pool generation rank held some low
     let gap = in_lowest_gap 1 (arena.grains + 1) arena.held need grain some held.ascending lowest in
     let place : 0 + grain ≡ grain = omega arith in
     segments_put 0 table grain need pool generation rank (omega (arith, gap.below, held.size)) (free_entry arena table ex need grain held some lowest)
-    ∙ ap (λ (k : ℕ). with_segment (record { base = address_of_grain k; grains = need; pool = pool; generation = generation; rank = rank }) (segments_from 0 table)) place
+    ∙ ap (λ (k : ℕ). with_segment (record { base = address_of_grain k; grains = need; pool = pool; generation = generation; rank = rank }) (segments_of_entries 0 table)) place
 
-pub held_after_taking : (arena : ArenaState) (table : List Entry) (ex : ExtentLists) (need grain pool generation : ℕ) (rank : Rank) → IsHeld arena table ex → 0 < need
+pub held_after_taking : (arena : ArenaMemory) (table : List Entry) (ex : ExtentLists) (need grain pool generation : ℕ) (rank : Rank) → IsHeld arena table ex → 0 < need
     → lowest_fitting need (gaps 1 (arena.grains + 1) arena.held) ≡ Some grain
     → IsHeld (record arena { held = with_run (record { from = grain; count = need }) arena.held }) (set table grain (First need pool generation rank)) ex
 unfolding segments_in
@@ -335,11 +335,11 @@ held_after_taking arena table ex need grain pool generation rank held some lowes
           ∙ ap (λ (k : ℕ). with_run (record { from = k; count = need }) (held_from 0 table)) (sym place)
           ∙ sym (held_put 0 table grain need pool generation rank (omega (arith, gap.below, held.size)) (free_entry arena table ex need grain held some lowest));
       ascending = gap.ascending;
-      few = held.few;
+      at_most = held.at_most;
       size = size ∙ held.size;
       covered_size = held.covered_size;
       covered_ascending = held.covered_ascending;
-      some = held.some;
+      nonempty = held.nonempty;
       inside = λ t there.
           let lies = held.inside t there in
           record { grains = lies.grains; there = contains_put_other r lies.grains arena.held lies.there; after = lies.after; before = lies.before };
@@ -347,8 +347,8 @@ held_after_taking arena table ex need grain pool generation rank held some lowes
 
 -- ---- before any segment is taken
 
-no_segments : (at n : ℕ) → segments_from at (replicate n Free) ≡ []
-unfolding segments_from
+no_segments : (at n : ℕ) → segments_of_entries at (replicate n Free) ≡ []
+unfolding segments_of_entries
 no_segments at zero = refl
 no_segments at (suc n) = no_segments (suc at) n
 
@@ -356,57 +356,57 @@ pub new_segments_in : (n : ℕ) → segments_in (replicate n Free) ≡ []
 unfolding segments_in
 new_segments_in n = no_segments 0 n
 
-pub new_is_held : (grains limit : ℕ) → grains ≤ 2048 → IsHeld (new_arena grains limit) (replicate (grains + 1) Free) (nothing_covered (512 * (grains + 1)))
+pub new_is_held : (grains limit : ℕ) → grains ≤ max_grains → IsHeld (new_arena grains limit) (replicate (grains + 1) Free) (nothing_covered (512 * (grains + 1)))
 new_is_held grains limit few = record {
   held = ap (λ (ss : List Segment). map grains_of_segment ss) (sym (new_segments_in (grains + 1)));
   ascending = omega arith;
-  few = few;
+  at_most = few;
   size = length-replicate (grains + 1) Free;
   covered_size = refl;
   covered_ascending = omega arith;
-  some = λ t (k, within, is). absurd (omega arith);
+  nonempty = λ t (k, within, is). absurd (omega arith);
   inside = λ t (k, within, is). absurd (omega arith);
 }
 
 -- ---- a segment given back
 
-keep_all : (at : ℕ) (entries : List Entry) (base : ℕ) → base < address_of_grain at → without_segment (segments_from at entries) base ≡ segments_from at entries
-unfolding segments_from
+keep_all : (at : ℕ) (entries : List Entry) (base : ℕ) → base < address_of_grain at → without_segment (segments_of_entries at entries) base ≡ segments_of_entries at entries
+unfolding segments_of_entries
 keep_all at [] base before = refl
 keep_all at (Free ∷ entries) base before = keep_all (suc at) entries base (omega arith)
 keep_all at (First n p g r ∷ entries) base before =
     let head : Segment = record { base = address_of_grain at; grains = n; pool = p; generation = g; rank = r } in
-    cond-true (not (eqb (address_of_grain at) base)) (head ∷ without_segment (segments_from (suc at) entries) base) (without_segment (segments_from (suc at) entries) base)
+    cond-true (not (eqb (address_of_grain at) base)) (head ∷ without_segment (segments_of_entries (suc at) entries) base) (without_segment (segments_of_entries (suc at) entries) base)
     (ap (λ (b : Bool). not b) (ne_eqb (address_of_grain at) base (λ e. omega arith)))
     ∙ ap (λ (ss : List Segment). head ∷ ss) (keep_all (suc at) entries base (omega arith))
 
 pub segments_taken : (at : ℕ) (entries : List Entry) (i n p g : ℕ) (r : Rank) → get_or entries i Free ≡ First n p g r
-    → segments_from at (set entries i Free) ≡ without_segment (segments_from at entries) (address_of_grain (at + i))
-unfolding segments_from
+    → segments_of_entries at (set entries i Free) ≡ without_segment (segments_of_entries at entries) (address_of_grain (at + i))
+unfolding segments_of_entries
 segments_taken at [] i n p g r is = cc
 segments_taken at (Free ∷ entries) zero n p g r is = cc
 segments_taken at (First a b c d ∷ entries) zero n p g r is =
     let place : at ≡ at + 0 = omega arith in
     let head : Segment = record { base = address_of_grain at; grains = a; pool = b; generation = c; rank = d } in
     sym (keep_all (suc at) entries (address_of_grain at) (omega arith))
-    ∙ sym (cond-false (not (eqb (address_of_grain at) (address_of_grain at))) (head ∷ without_segment (segments_from (suc at) entries) (address_of_grain at)) (without_segment (segments_from (suc at) entries) (address_of_grain at))
+    ∙ sym (cond-false (not (eqb (address_of_grain at) (address_of_grain at))) (head ∷ without_segment (segments_of_entries (suc at) entries) (address_of_grain at)) (without_segment (segments_of_entries (suc at) entries) (address_of_grain at))
     (ap (λ (x : Bool). not x) (eq-eqb (address_of_grain at) (address_of_grain at) refl)))
-    ∙ ap (λ (k : ℕ). without_segment (head ∷ segments_from (suc at) entries) (address_of_grain k)) place
+    ∙ ap (λ (k : ℕ). without_segment (head ∷ segments_of_entries (suc at) entries) (address_of_grain k)) place
 segments_taken at (Free ∷ entries) (suc i) n p g r is =
     let place : suc at + i ≡ at + suc i = omega arith in
-    segments_taken (suc at) entries i n p g r is ∙ ap (λ (k : ℕ). without_segment (segments_from (suc at) entries) (address_of_grain k)) place
+    segments_taken (suc at) entries i n p g r is ∙ ap (λ (k : ℕ). without_segment (segments_of_entries (suc at) entries) (address_of_grain k)) place
 segments_taken at (First a b c d ∷ entries) (suc i) n p g r is =
     let place : suc at + i ≡ at + suc i = omega arith in
     let head : Segment = record { base = address_of_grain at; grains = a; pool = b; generation = c; rank = d } in
     let base = address_of_grain (at + suc i) in
     ap (λ (ss : List Segment). head ∷ ss)
-    (segments_taken (suc at) entries i n p g r is ∙ ap (λ (k : ℕ). without_segment (segments_from (suc at) entries) (address_of_grain k)) place)
-    ∙ sym (cond-true (not (eqb (address_of_grain at) base)) (head ∷ without_segment (segments_from (suc at) entries) base) (without_segment (segments_from (suc at) entries) base)
+    (segments_taken (suc at) entries i n p g r is ∙ ap (λ (k : ℕ). without_segment (segments_of_entries (suc at) entries) (address_of_grain k)) place)
+    ∙ sym (cond-true (not (eqb (address_of_grain at) base)) (head ∷ without_segment (segments_of_entries (suc at) entries) base) (without_segment (segments_of_entries (suc at) entries) base)
     (ap (λ (x : Bool). not x) (ne_eqb (address_of_grain at) base (λ e. omega arith))))
 
 pub held_taken : (at : ℕ) (entries : List Entry) (i n p g : ℕ) (r : Rank) → get_or entries i Free ≡ First n p g r
     → held_from at (set entries i Free) ≡ without_run (at + i) (held_from at entries)
-unfolding segments_from
+unfolding segments_of_entries
 held_taken at [] i n p g r is = cc
 held_taken at (Free ∷ entries) zero n p g r is = cc
 held_taken at (First a b c d ∷ entries) zero n p g r is =
@@ -427,8 +427,8 @@ pub record EntryOf (table : List Entry) (s : Segment) (grain : ℕ) : Type 0 whe
   pub is : get_or table grain Free ≡ First s.grains s.pool s.generation s.rank
   pub base : s.base ≡ address_of_grain grain
 
-entry_from : (at : ℕ) (entries : List Entry) (s : Segment) → Contains (segments_from at entries) s → (i : ℕ) × (i < length entries) × (get_or entries i Free ≡ First s.grains s.pool s.generation s.rank) × (s.base ≡ address_of_grain (at + i))
-unfolding segments_from
+entry_from : (at : ℕ) (entries : List Entry) (s : Segment) → Contains (segments_of_entries at entries) s → (i : ℕ) × (i < length entries) × (get_or entries i Free ≡ First s.grains s.pool s.generation s.rank) × (s.base ≡ address_of_grain (at + i))
+unfolding segments_of_entries
 entry_from at [] s (k, within, is) = absurd (omega arith)
 entry_from at (Free ∷ entries) s there =
     let later = entry_from (suc at) entries s there in
@@ -455,7 +455,7 @@ pub segments_after_give : (table : List Entry) (grain n p g : ℕ) (r : Rank) �
 unfolding segments_in
 segments_after_give table grain n p g r is =
     let place : 0 + grain ≡ grain = omega arith in
-    segments_taken 0 table grain n p g r is ∙ ap (λ (k : ℕ). without_segment (segments_from 0 table) (address_of_grain k)) place
+    segments_taken 0 table grain n p g r is ∙ ap (λ (k : ℕ). without_segment (segments_of_entries 0 table) (address_of_grain k)) place
 
 -- the extents that begin in a run of words
 pub begins_within : (low high : ℕ) (rs : List Run) (t : Run) → Contains rs t → low ≤ t.from → t.from < high → Contains (runs_within low high rs) t
@@ -498,7 +498,7 @@ same_count low high (t ∷ rs) r s ascending here there e =
       ]
     ]
 
-pub held_after_giving : (arena : ArenaState) (table : List Entry) (ex : ExtentLists) (grain n p g : ℕ) (r : Rank) → IsHeld arena table ex → get_or table grain Free ≡ First n p g r
+pub held_after_giving : (arena : ArenaMemory) (table : List Entry) (ex : ExtentLists) (grain n p g : ℕ) (r : Rank) → IsHeld arena table ex → get_or table grain Free ≡ First n p g r
     → runs_within (512 * grain) (512 * (grain + n)) ex.covered ≡ []
     → IsHeld (record arena { held = without_run grain arena.held }) (set table grain Free) ex
 unfolding segments_in
@@ -513,11 +513,11 @@ held_after_giving arena table ex grain n p g r held is empty =
           ∙ ap (λ (k : ℕ). without_run k (held_from 0 table)) (sym place)
           ∙ sym (held_taken 0 table grain n p g r is);
       ascending = IsAscending-without_run 1 (arena.grains + 1) grain arena.held held.ascending;
-      few = held.few;
+      at_most = held.at_most;
       size = length-set table grain Free ∙ held.size;
       covered_size = held.covered_size;
       covered_ascending = held.covered_ascending;
-      some = held.some;
+      nonempty = held.nonempty;
       inside = λ t there.
           let lies = held.inside t there in
           let other : lies.grains.from ≢ grain = λ e.
@@ -539,19 +539,19 @@ held_after_giving arena table ex grain n p g r held is empty =
         let listed = subst P (sym held.held) (entry_is_held table grain n p g r is) in
         let count = same_count 1 (arena.grains + 1) arena.held lies.grains mine held.ascending lies.there listed e in
         let Q : List Run → Type 0 = λ rs. Contains rs t in
-        let none = subst Q empty (begins_within (512 * grain) (512 * (grain + n)) ex.covered t there (omega (arith, lies.after, e)) (omega (arith, lies.before, e, count, held.some t there))) in
+        let none = subst Q empty (begins_within (512 * grain) (512 * (grain + n)) ex.covered t there (omega (arith, lies.after, e)) (omega (arith, lies.before, e, count, held.nonempty t there))) in
         absurd (omega (arith, none.1))
 
 -- ---- whole segments
 
 -- each extent lies on one side of a held run of grains, or in it
-pub whole_in : (arena : ArenaState) (table : List Entry) (ex : ExtentLists) (grains : Run) → IsHeld arena table ex → Contains arena.held grains → (rs : List Run) → ((t : Run) → Contains rs t → Contains ex.covered t)
+pub whole_in : (arena : ArenaMemory) (table : List Entry) (ex : ExtentLists) (grains : Run) → IsHeld arena table ex → Contains arena.held grains → (rs : List Run) → ((t : Run) → Contains rs t → Contains ex.covered t)
     → AreWhole (512 * grains.from) (512 * end_of grains) rs
 whole_in arena table ex grains held listed [] part = tt
 whole_in arena table ex grains held listed (t ∷ rs) part =
     let there = part t (contains_first rs t) in
     let lies = held.inside t there in
-    let some = held.some t there in
+    let some = held.nonempty t there in
     let bounds = contained_bounds 1 (arena.grains + 1) arena.held lies.grains held.ascending lies.there in
     let apart = apart_each 1 (arena.grains + 1) arena.held lies.grains grains held.ascending lies.there listed in (
       (
@@ -568,13 +568,13 @@ whole_in arena table ex grains held listed (t ∷ rs) part =
     )
 
 -- what giving back the segment at an address needs to know
-pub record GivesAt (arena : ArenaState) (table : List Entry) (ex : ExtentLists) (base : ℕ) (s : Segment) : Type 0 where
+pub record GivesAt (arena : ArenaMemory) (table : List Entry) (ex : ExtentLists) (base : ℕ) (s : Segment) : Type 0 where
   pub within : base / 4096 < length table
   pub is : get_or table (base / 4096) Free ≡ First s.grains s.pool s.generation s.rank
   pub aligned : base ≡ address_of_grain (base / 4096)
   pub empty : runs_within (512 * (base / 4096)) (512 * (base / 4096 + s.grains)) ex.covered ≡ []
 
-pub gives_at : (arena : ArenaState) (table : List Entry) (ex : ExtentLists) (base : ℕ) (s : Segment) → Contains (segments_in table) s → s.base ≡ base
+pub gives_at : (arena : ArenaMemory) (table : List Entry) (ex : ExtentLists) (base : ℕ) (s : Segment) → Contains (segments_in table) s → s.base ≡ base
     → runs_within (s.base / 8) (end_of_segment s / 8) ex.covered ≡ [] → GivesAt arena table ex base s
 gives_at arena table ex base s there begins empty =
     let e = entry_of_segment table s there in
@@ -615,48 +615,51 @@ lowest_after n (r ∷ xs) ys is =
     ]
 
 -- the gaps of the segments that begin at a grain or after it
-unfoldable pub later_gaps : SegsState → ℕ → Rank → ℕ → List Entry → List Run
-later_gaps state pool rank grain entries = flat_map (gaps_in state) (filter (is_open_to pool rank) (segments_from grain entries))
+unfoldable pub later_gaps : (covered : List Run) → (pool : ℕ) → Rank → (grain : ℕ) → List Entry → List Run
+later_gaps covered pool rank grain entries = gaps_of covered (segments_of_entries grain entries) pool rank
 
-pub all_gaps : (arena : ArenaState) (table : List Entry) (ex : ExtentLists) (pool : ℕ) (rank : Rank) → later_gaps (segs_state arena table ex) pool rank 0 table ≡ gaps_of (segs_state arena table ex) pool rank
+pub all_gaps : (covered : List Run) (table : List Entry) (pool : ℕ) (rank : Rank)
+    → later_gaps covered pool rank 0 table ≡ gaps_of covered (segments_in table) pool rank
 unfolding later_gaps segments_in
-all_gaps arena table ex pool rank = refl
+all_gaps covered table pool rank = refl
 
-pub no_gaps : (state : SegsState) (pool : ℕ) (rank : Rank) (grain : ℕ) → later_gaps state pool rank grain [] ≡ []
-unfolding later_gaps segments_from
-no_gaps state pool rank grain = refl
+pub no_gaps : (covered : List Run) (pool : ℕ) (rank : Rank) (grain : ℕ) → later_gaps covered pool rank grain [] ≡ []
+unfolding later_gaps segments_of_entries
+no_gaps covered pool rank grain = refl
 
-gaps_step : (arena : ArenaState) (table : List Entry) (ex : ExtentLists) (pool : ℕ) (rank : Rank) (grain : ℕ) (e : Entry) (entries : List Entry)
-    → later_gaps (segs_state arena table ex) pool rank grain (e ∷ entries) ≡ gaps_at grain e pool rank ex ++ later_gaps (segs_state arena table ex) pool rank (suc grain) entries
-unfolding later_gaps segments_from
-gaps_step arena table ex pool rank grain Free entries = refl
-gaps_step arena table ex pool rank grain (First n p g r) entries =
-    let st = segs_state arena table ex in
+gaps_step : (ex : ExtentLists) (pool : ℕ) (rank : Rank) (grain : ℕ) (e : Entry) (entries : List Entry)
+    → later_gaps ex.covered pool rank grain (e ∷ entries) ≡ gaps_at grain e pool rank ex ++ later_gaps ex.covered pool rank (suc grain) entries
+unfolding later_gaps segments_of_entries
+gaps_step ex pool rank grain Free entries = refl
+gaps_step ex pool rank grain (First n p g r) entries =
     let s : Segment = record { base = address_of_grain grain; grains = n; pool = p; generation = g; rank = r } in
-    let following = filter (is_open_to pool rank) (segments_from (suc grain) entries) in
+    let following = filter (is_open_to pool rank) (segments_of_entries (suc grain) entries) in
     let low : address_of_grain grain / 8 ≡ 512 * grain = omega arith in
     let high : end_of_segment s / 8 ≡ 512 * grain + 512 * n = omega arith in
-    let mine : gaps_in st s ≡ gaps (512 * grain) (512 * grain + 512 * n) (runs_within (512 * grain) (512 * grain + 512 * n) ex.covered) =
+    let mine = gaps (512 * grain) (512 * grain + 512 * n) (runs_within (512 * grain) (512 * grain + 512 * n) ex.covered) in
+    let same : gaps_in ex.covered s ≡ mine =
     ap (λ (a : ℕ). gaps a (end_of_segment s / 8) (runs_within a (end_of_segment s / 8) ex.covered)) low
     ∙ ap (λ (b : ℕ). gaps (512 * grain) b (runs_within (512 * grain) b ex.covered)) high
     in
+    let gaps_after = λ (rs : List Run). rs ++ flat_map (gaps_in ex.covered) following in
     elim (cases_Bool (is_open_to pool rank s)) [
       | inl opened ↦
-          ap (λ (ss : List Segment). flat_map (gaps_in st) ss) (cond-true (is_open_to pool rank s) (s ∷ following) following opened)
-          ∙ ap (λ (rs : List Run). rs ++ flat_map (gaps_in st) following) (mine ∙ sym (cond-true (is_open_to pool rank s) (gaps (512 * grain) (512 * grain + 512 * n) (runs_within (512 * grain) (512 * grain + 512 * n) ex.covered)) [] opened))
-      | inr closed ↦
-          ap (λ (ss : List Segment). flat_map (gaps_in st) ss) (cond-false (is_open_to pool rank s) (s ∷ following) following closed)
-          ∙ ap (λ (rs : List Run). rs ++ flat_map (gaps_in st) following) (sym (cond-false (is_open_to pool rank s) (gaps (512 * grain) (512 * grain + 512 * n) (runs_within (512 * grain) (512 * grain + 512 * n) ex.covered)) [] closed))
+          ap (λ (ss : List Segment). flat_map (gaps_in ex.covered) ss) (cond-true (is_open_to pool rank s) (s ∷ following) following opened)
+          ∙ ap gaps_after (same ∙ sym (cond-true (is_open_to pool rank s) mine [] opened))
+      | inr other ↦
+          ap (λ (ss : List Segment). flat_map (gaps_in ex.covered) ss) (cond-false (is_open_to pool rank s) (s ∷ following) following other)
+          ∙ ap gaps_after (sym (cond-false (is_open_to pool rank s) mine [] other))
     ]
 
-pub gaps_more : (arena : ArenaState) (table : List Entry) (ex : ExtentLists) (pool : ℕ) (rank : Rank) (grain : ℕ) → grain < length table
-    → later_gaps (segs_state arena table ex) pool rank grain (drop grain table) ≡ gaps_at grain (get_or table grain Free) pool rank ex ++ later_gaps (segs_state arena table ex) pool rank (suc grain) (drop (suc grain) table)
-gaps_more arena table ex pool rank grain within =
-    ap (λ (es : List Entry). later_gaps (segs_state arena table ex) pool rank grain es) (drop-cons table grain Free within)
-    ∙ gaps_step arena table ex pool rank grain (get_or table grain Free) (drop (suc grain) table)
+pub gaps_more : (ex : ExtentLists) (table : List Entry) (pool : ℕ) (rank : Rank) (grain : ℕ) → grain < length table
+    → later_gaps ex.covered pool rank grain (drop grain table)
+    ≡ gaps_at grain (get_or table grain Free) pool rank ex ++ later_gaps ex.covered pool rank (suc grain) (drop (suc grain) table)
+gaps_more ex table pool rank grain within =
+    ap (λ (es : List Entry). later_gaps ex.covered pool rank grain es) (drop-cons table grain Free within)
+    ∙ gaps_step ex pool rank grain (get_or table grain Free) (drop (suc grain) table)
 
 -- the segment at a grain is whole
-pub whole_at : (arena : ArenaState) (table : List Entry) (ex : ExtentLists) (grain : ℕ) (e : Entry) → IsHeld arena table ex → get_or table grain Free ≡ e → IsWholeAt grain e ex
+pub whole_at : (arena : ArenaMemory) (table : List Entry) (ex : ExtentLists) (grain : ℕ) (e : Entry) → IsHeld arena table ex → get_or table grain Free ≡ e → IsWholeAt grain e ex
 whole_at arena table ex grain Free held is = tt
 whole_at arena table ex grain (First n p g r) held is =
     let mine : Run = record { from = grain; count = n } in
@@ -680,7 +683,7 @@ segment_at table base s there begins =
     let P : ℕ → Type 0 = λ k. get_or table k Free ≡ First s.grains s.pool s.generation s.rank in
     record { within = omega (arith, grain, e.1.within); is = subst P (sym grain) e.1.is; aligned = omega (arith, e.1.base, begins) }
 
-pub segment_end_fits : (arena : ArenaState) (table : List Entry) (ex : ExtentLists) (grain n p g : ℕ) (r : Rank) → IsHeld arena table ex → get_or table grain Free ≡ First n p g r → 512 * (grain + n) ≤ ex.size
+pub segment_end_fits : (arena : ArenaMemory) (table : List Entry) (ex : ExtentLists) (grain n p g : ℕ) (r : Rank) → IsHeld arena table ex → get_or table grain Free ≡ First n p g r → 512 * (grain + n) ≤ ex.size
 segment_end_fits arena table ex grain n p g r held is = omega (arith, (whole_at arena table ex grain (First n p g r) held is).1)
 
 -- ---- where something can be covered
@@ -718,7 +721,7 @@ side_of low high (s ∷ rs) t whole there =
     ]
 
 -- a run in a gap of a held run of grains can be covered
-pub gap_is_free : (arena : ArenaState) (table : List Entry) (ex : ExtentLists) (grain n p g : ℕ) (k : Rank) (words place : ℕ) → IsHeld arena table ex → get_or table grain Free ≡ First n p g k → 0 < words
+pub gap_is_free : (arena : ArenaMemory) (table : List Entry) (ex : ExtentLists) (grain n p g : ℕ) (k : Rank) (words place : ℕ) → IsHeld arena table ex → get_or table grain Free ≡ First n p g k → 0 < words
     → lowest_fitting words (gaps (512 * grain) (512 * grain + 512 * n) (runs_within (512 * grain) (512 * grain + 512 * n) ex.covered)) ≡ Some place
     → CanCover (segs_state arena table ex) (record { from = place; count = words })
 gap_is_free arena table ex grain n p g k words place held is some lowest =
@@ -751,7 +754,7 @@ gap_is_free arena table ex grain n p g k words place held is some lowest =
     }
 
 -- a new segment can be covered from its base on
-pub new_is_free : (arena : ArenaState) (table : List Entry) (ex : ExtentLists) (need grain pool generation words : ℕ) (rank : Rank) → IsHeld arena table ex → 0 < need → 0 < words → words ≤ 512 * need
+pub new_is_free : (arena : ArenaMemory) (table : List Entry) (ex : ExtentLists) (need grain pool generation words : ℕ) (rank : Rank) → IsHeld arena table ex → 0 < need → 0 < words → words ≤ 512 * need
     → lowest_fitting need (gaps 1 (arena.grains + 1) arena.held) ≡ Some grain
     → CanCover (segs_state (record arena { held = with_run (record { from = grain; count = need }) arena.held }) (set table grain (First need pool generation rank)) ex) (record { from = 512 * grain; count = words })
 new_is_free arena table ex need grain pool generation words rank held some covered fits lowest =
@@ -780,7 +783,7 @@ new_is_free arena table ex need grain pool generation words rank held some cover
       };
     }
 
-pub gap_at_is_free : (arena : ArenaState) (table : List Entry) (ex : ExtentLists) (grain : ℕ) (e : Entry) (pool : ℕ) (rank : Rank) (words place : ℕ) → IsHeld arena table ex → get_or table grain Free ≡ e → 0 < words
+pub gap_at_is_free : (arena : ArenaMemory) (table : List Entry) (ex : ExtentLists) (grain : ℕ) (e : Entry) (pool : ℕ) (rank : Rank) (words place : ℕ) → IsHeld arena table ex → get_or table grain Free ≡ e → 0 < words
     → lowest_fitting words (gaps_at grain e pool rank ex) ≡ Some place → CanCover (segs_state arena table ex) (record { from = place; count = words })
 gap_at_is_free arena table ex grain Free pool rank words place held is some lowest = let never : None ≡ Some place = lowest in cc
 gap_at_is_free arena table ex grain (First n p g k) pool rank words place held is some lowest =

@@ -1,7 +1,7 @@
 -- How long an extent is: up to the next bit of the table of last words.
 use Rattle.std.proofs.Common.{ℕ, ◌+◌, ◌-◌, ◌<◌, ◌≤◌, ◌≡◌, Bool, List, Option, Some, length, ap, ◌∙◌, subst, arith}
 use Rattle.mps_bits.specs.Table.{bit, next_set, lowest_from}
-use Rattle.mps_bits.proofs.Places.{IsLowest, found, missing, lowest_cases, lowest_from_is}
+use Rattle.mps_bits.proofs.Searches.{IsLowest, found, missing, lowest_cases, lowest_from_is}
 use Rattle.mps_seg.specs.Inside.{length_at, words_upto}
 
 -- the next last word at or above a word

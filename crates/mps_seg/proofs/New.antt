@@ -5,7 +5,7 @@ use Rattle.std.proofs.lemmas.List.{length-replicate, get_or-replicate}
 use Rattle.mps_base.specs.Run.{Run, IsAscending}
 use Rattle.mps_bits.specs.Table.{bit}
 use Rattle.mps_seg.specs.Extents.{is_covered, nothing_covered}
-use Rattle.mps_seg.specs.Inside.{length_at, runs_with, minus, extents, lists_of, IsSound}
+use Rattle.mps_seg.specs.Inside.{length_at, runs_with, minus, extents, lists_of, AreSoundTables}
 use Rattle.mps_seg.proofs.BitFacts.{bit_is, bit_past, length-minus, minus_is_begin, same_bits}
 
 no_bit : (n i : ℕ) → bit (replicate n false) i ≡ false
@@ -27,7 +27,7 @@ nothing_left n =
     both_ways (bit (replicate n false) i) (no_bit n i) (minus_is_begin (replicate n false) (replicate n false) i is))
     ∙ sym (no_bit n i))
 
-pub new_is_sound : (n : ℕ) → n < 2 ^ 32 → IsSound (replicate n false) (replicate n false) (replicate n false) (replicate n false)
+pub new_is_sound : (n : ℕ) → n < 2 ^ 32 → AreSoundTables (replicate n false) (replicate n false) (replicate n false) (replicate n false)
 new_is_sound n small =
     let size = length-replicate {A = Bool} n false in
     let none = no_runs (length_at (replicate n false)) 0 n in

@@ -1,15 +1,15 @@
 -- The answers of the searches, as functions of the runs.
 use Rattle.std.proofs.Common.{ℕ, zero, suc, ◌+◌, ◌-◌, ◌<◌, ◌≤◌, ◌≡◌, ◌⊎◌, ◌&&◌, Bool, true, false, cond, leb, ltb, Option, Some, None, option_map, ◌/◌, IfSome, List, [], ◌∷◌, length, get_or, Contains, refl, sym, ap, ◌∙◌, subst, inl, inr, arith}
 use Rattle.std.proofs.lemmas.Bool.{cases_lt, cases_Bool, both_ways, cond-true, cond-false, and_from, and_left, and_right, and_parts, le-leb, lt-leb, lt-ltb, le-ltb, ltb-true, false_from_ne_true, false≢true, true≢false}
-use Rattle.mps_base.specs.Run.{Run, end_of, IsAscending, gaps, lowest_fitting}
+use Rattle.mps_base.specs.Run.{Run, end_of, IsAscending, gaps, lowest_fitting, runs_within}
 use Rattle.mps_base.proofs.Runs.{contains_cases, contains_first, contains_later, contained_bounds, lowest_fitting_here, lowest_fitting_later, lowest_gap_here, last_gap_short}
 use Rattle.mps_bits.specs.Table.{bit, next_set_below, previous_set, is_clear_run, lowest_clear_run}
-use Rattle.mps_bits.proofs.Places.{found, missing, lowest_cases, lowest_from_is, lowest_from_none, highest_below_is}
+use Rattle.mps_bits.proofs.Searches.{found, missing, lowest_cases, lowest_from_is, lowest_from_none, highest_below_is}
 use Rattle.mps_bits.proofs.Ranges.{clear_run_from, clear_run_at}
 use Rattle.mps_base.specs.declared.address.Addr.{Addr}
 use Rattle.mps_seg.specs.Segs.{at_word}
-use Rattle.mps_seg.specs.Extents.{has_word, is_covered, run_over, first_run, runs_within, AreWhole}
-use Rattle.mps_seg.specs.Inside.{length_at, runs_with, extents, IsSound}
+use Rattle.mps_seg.specs.Extents.{has_word, is_covered, run_over, first_run, AreWhole}
+use Rattle.mps_seg.specs.Inside.{length_at, runs_with, extents, AreSoundTables}
 use Rattle.mps_seg.proofs.BitFacts.{bit_is}
 use Rattle.mps_seg.proofs.Cover.{extent_at, begin_of, among_all}
 use Rattle.mps_seg.proofs.Apart.{has_word-true, has_word-parts, has_word-below, has_word-above, apart_each, covered_by, covers_contained, covered_first, covered_later, uncovered_below}
@@ -39,7 +39,7 @@ run_over_is (s ∷ rs) word r there has one =
     ]
 
 -- where no extent covers a word, no block does
-pub no_block_over : (covered begins ends blocks : List Bool) (word : ℕ) → IsSound covered begins ends blocks → bit covered word ≡ false → run_over (extents blocks ends) word ≡ None
+pub no_block_over : (covered begins ends blocks : List Bool) (word : ℕ) → AreSoundTables covered begins ends blocks → bit covered word ≡ false → run_over (extents blocks ends) word ≡ None
 no_block_over covered begins ends blocks word sound none =
     run_over_none (extents blocks ends) word (λ r there.
     false_from_ne_true (has_word r word) (λ has.
@@ -51,7 +51,7 @@ pub record Over (begins ends : List Bool) (word at : ℕ) : Type 0 where
   pub begin : bit begins at ≡ true
   pub has : has_word (record { from = at; count = length_at ends at }) word ≡ true
 
-pub extent_over : (covered begins ends blocks : List Bool) (word : ℕ) → IsSound covered begins ends blocks → bit covered word ≡ true → (at : ℕ) × (previous_set begins word ≡ Some at) × Over begins ends word at
+pub extent_over : (covered begins ends blocks : List Bool) (word : ℕ) → AreSoundTables covered begins ends blocks → bit covered word ≡ true → (at : ℕ) × (previous_set begins word ≡ Some at) × Over begins ends word at
 unfolding previous_set
 extent_over covered begins ends blocks word sound is =
     let by = covered_by (extents begins ends) word (sym (sound.covered_is word) ∙ is) in
@@ -73,7 +73,7 @@ extent_over covered begins ends blocks word sound is =
       record { begin = b.0; has = subst P b.1 (by.2) },
     )
 
-pub block_over_is : (covered begins ends blocks : List Bool) (word at : ℕ) → IsSound covered begins ends blocks → Over begins ends word at → bit blocks at ≡ true → run_over (extents blocks ends) word ≡ Some at
+pub block_over_is : (covered begins ends blocks : List Bool) (word at : ℕ) → AreSoundTables covered begins ends blocks → Over begins ends word at → bit blocks at ≡ true → run_over (extents blocks ends) word ≡ Some at
 block_over_is covered begins ends blocks word at sound over block =
     let r : Run = record { from = at; count = length_at ends at } in
     let parts = has_word-parts r word over.has in
@@ -84,7 +84,7 @@ block_over_is covered begins ends blocks word at sound over block =
       | inr apart ↦ elim apart [ inl after ↦ absurd (omega (arith, after, parts.0, mine.1)) | inr before ↦ absurd (omega (arith, before, parts.1, mine.0)) ]
     ])
 
-pub reservation_over : (covered begins ends blocks : List Bool) (word at : ℕ) → IsSound covered begins ends blocks → Over begins ends word at → bit blocks at ≡ false → run_over (extents blocks ends) word ≡ None
+pub reservation_over : (covered begins ends blocks : List Bool) (word at : ℕ) → AreSoundTables covered begins ends blocks → Over begins ends word at → bit blocks at ≡ false → run_over (extents blocks ends) word ≡ None
 reservation_over covered begins ends blocks word at sound over none =
     let r : Run = record { from = at; count = length_at ends at } in
     let parts = has_word-parts r word over.has in
@@ -257,7 +257,7 @@ gap_fits bits low high n (r ∷ rs) some ascending same =
           (λ p above below. absurd (omega arith))
     ]
 
-pub lowest_gap_is : (covered begins ends blocks : List Bool) (low high n : ℕ) → IsSound covered begins ends blocks → 0 < n → low ≤ high → AreWhole low high (extents begins ends)
+pub lowest_gap_is : (covered begins ends blocks : List Bool) (low high n : ℕ) → AreSoundTables covered begins ends blocks → 0 < n → low ≤ high → AreWhole low high (extents begins ends)
     → lowest_clear_run covered low high n ≡ lowest_fitting n (gaps low high (runs_within low high (extents begins ends)))
 unfolding lowest_clear_run
 lowest_gap_is covered begins ends blocks low high n sound some ordered whole =
@@ -282,7 +282,7 @@ run_over-le (r ∷ rs) word at is =
       | inr not_here ↦ run_over-le rs word at (sym (cond-false (has_word r word) (Some r.from) (run_over rs word) not_here) ∙ is)
     ]
 
-pub lowest_gap_below : (covered begins ends blocks : List Bool) (low high n : ℕ) (o : Option ℕ) → IsSound covered begins ends blocks → 0 < n → low ≤ high → AreWhole low high (extents begins ends)
+pub lowest_gap_below : (covered begins ends blocks : List Bool) (low high n : ℕ) (o : Option ℕ) → AreSoundTables covered begins ends blocks → 0 < n → low ≤ high → AreWhole low high (extents begins ends)
     → o ≡ lowest_clear_run covered low high n → IfSome o (λ at. at + n ≤ high)
 lowest_gap_below covered begins ends blocks low high n o sound some ordered whole is =
     let rs = runs_within low high (extents begins ends) in

@@ -32,11 +32,6 @@ abbrev pub first_run : ℕ → ℕ → List Run → Option ℕ
 first_run low high [] = None
 first_run low high (r ∷ rs) = if nat_le low r.from && nat_lt r.from high then Some r.from else first_run low high rs
 
--- the runs that begin from `low` on and below `high`
-abbrev pub runs_within : ℕ → ℕ → List Run → List Run
-runs_within low high [] = []
-runs_within low high (r ∷ rs) = if nat_le low r.from && nat_lt r.from high then r ∷ runs_within low high rs else runs_within low high rs
-
 -- no run has words on both sides of either bound
 abbrev pub AreWhole : ℕ → ℕ → List Run → Type 0
 AreWhole low high [] = Unit {0}

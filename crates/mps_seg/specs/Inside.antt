@@ -38,7 +38,7 @@ lists_of begins ends blocks = record {
 
 -- the tables fit together: they have one length, a bit of the first is set exactly where an extent has a word, and bits of
 -- the others lie in extents
-pub record IsSound (covered begins ends blocks : List Bool) : Type 0 where
+pub record AreSoundTables (covered begins ends blocks : List Bool) : Type 0 where
   pub same_size : (length covered ≡ length begins) × (length ends ≡ length begins) × (length blocks ≡ length begins)
   pub small : length begins < 2 ^ 32
   pub ascending : IsAscending 0 (length begins) (extents begins ends)

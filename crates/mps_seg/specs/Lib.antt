@@ -1,6 +1,5 @@
 pub mod Extents
 pub mod Inside
 pub mod Lending
-pub mod Segment
 pub mod Segs
 pub mod Table

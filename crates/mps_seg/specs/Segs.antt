@@ -1,18 +1,20 @@
 -- What a client sees of the segments, and the answers of their calls.
-use Rattle.std.specs.Prelude.{ℕ, ◌+◌, ◌*◌, ◌≡◌, ◌≢◌, List, [], map, replicate, filter}
-use Rattle.std.specs.List.{flat_map}
-use Rattle.mps_base.specs.Run.{Run, IsAscending, with_run, gaps}
-use Rattle.mps_base.specs.Address.{word_of, grains_needed, address_of_grain, address_of_word}
+use Rattle.std.specs.Prelude.{ℕ, ◌+◌, ◌*◌, ◌≤◌, ◌≡◌, ◌≢◌, List, [], map, replicate, Contains}
+use Rattle.mps_base.specs.Run.{Run, end_of, IsAscending, with_run, runs_within}
+use Rattle.mps_base.specs.Address.{words_of_grain, word_of, grains_needed, address_of_grain, address_of_word}
+use Rattle.mps_base.specs.Segment.{Segment, end_of_segment, grains_of_segment, with_segment}
 use Rattle.mps_base.specs.Placement.{Placement, Place, NewSegment, OverLimit, NoFreeRun, run_placement}
 use Rattle.mps_base.specs.Trail.{Moves, with_move}
 use Rattle.mps_base.specs.declared.address.Addr.{Addr}
 use Rattle.mps_base.specs.declared.moves.Move.TheVariants.{Seg}
 use Rattle.mps_base.specs.declared.names.Rank.{Rank}
-use Rattle.mps_seg.specs.Segment.{Segment, LiesIn, end_of_segment, grains_of_segment, with_segment, is_open_to}
-use Rattle.mps_seg.specs.Extents.{runs_within}
 
--- The arena's words and size, the held segments in ascending order, and the runs of words that blocks and reservations cover, in
--- ascending order. The last fields are what a collection knows: they are empty until there is one.
+-- the most words that a block may have
+abbrev pub max_block_words : ℕ
+max_block_words = 65536
+
+-- The words of the arena, its size and its limit in grains, the segments that it holds in ascending order, and the runs of words that
+-- blocks and reservations cover, in ascending order.
 pub record SegsState : Type 0 where
   pub words : List ℕ
   pub grains : ℕ
@@ -22,37 +24,25 @@ pub record SegsState : Type 0 where
   pub covered : List Run
   pub blocks : List Run
   pub reservations : List Run
-  -- the bases of the condemned segments, and the addresses of blocks
-  pub condemned : List ℕ
-  pub pinned : List ℕ
-  pub marked : List ℕ
-  pub done : List ℕ
-  -- of each segment, the zones to which its blocks refer
-  pub summaries : List ℕ
 
 abbrev pub new_segments : (grains limit : ℕ) → SegsState
 new_segments grains limit = record {
-  words = replicate (512 * (grains + 1)) 0;
+  words = replicate (words_of_grain * (grains + 1)) 0;
   grains = grains;
   limit = limit;
   segments = [];
   covered = [];
   blocks = [];
   reservations = [];
-  condemned = [];
-  pinned = [];
-  marked = [];
-  done = [];
-  summaries = [];
 }
 
 -- the runs of grains that are held
-abbrev pub held_grains : SegsState → List Run
-held_grains s = map grains_of_segment s.segments
+abbrev pub held_runs : SegsState → List Run
+held_runs s = map grains_of_segment s.segments
 
 -- where a new segment for n words would be taken
 abbrev pub placement_for : SegsState → ℕ → Placement
-placement_for s words = run_placement s.grains s.limit (held_grains s) (grains_needed words)
+placement_for s words = run_placement s.grains s.limit (held_runs s) (grains_needed words)
 
 -- the segments after a placement
 abbrev pub segments_after : Placement → (pool generation : ℕ) → Rank → List Segment → List Segment
@@ -69,14 +59,6 @@ moves_after (Place word) pool generation moves = moves
 moves_after (OverLimit committed need limit) pool generation moves = moves
 moves_after (NoFreeRun need longest) pool generation moves = moves
 
--- the gaps of a segment
-abbrev pub gaps_in : SegsState → Segment → List Run
-gaps_in state s = gaps (word_of s.base) (word_of (end_of_segment s)) (runs_within (word_of s.base) (word_of (end_of_segment s)) state.covered)
-
--- the gaps of the segments of a pool and a rank, in ascending order
-abbrev pub gaps_of : SegsState → ℕ → Rank → List Run
-gaps_of state pool rank = flat_map (gaps_in state) (filter (is_open_to pool rank) state.segments)
-
 -- the address of a word
 abbrev pub at_word : ℕ → Addr
 at_word word = record { 0 = address_of_word word }
@@ -90,11 +72,18 @@ pub record IsEmptyAt (state : SegsState) (base : ℕ) (s : Segment) : Type 0 whe
 abbrev pub IsUsed : SegsState → Segment → Type 0
 IsUsed state s = runs_within (word_of s.base) (word_of (end_of_segment s)) state.covered ≢ []
 
--- a run of words in a segment of which nothing is covered yet
-pub record CanCover (state : SegsState) (r : Run) : Type 0 where
-  pub free : IsAscending 0 (512 * (state.grains + 1)) (with_run r state.covered)
-  pub inside : LiesIn (held_grains state) r
+-- a run of words lies in one of the runs of grains
+pub record LiesIn (held : List Run) (r : Run) : Type 0 where
+  pub grains : Run
+  pub there : Contains held grains
+  pub after : words_of_grain * grains.from ≤ r.from
+  pub before : end_of r ≤ words_of_grain * end_of grains
 
--- an address, by its number
-abbrev pub at_byte : ℕ → Addr
-at_byte n = record { 0 = n }
+-- a run of words that lies in a segment and of which no word is covered
+pub record CanCover (state : SegsState) (r : Run) : Type 0 where
+  pub free : IsAscending 0 (words_of_grain * (state.grains + 1)) (with_run r state.covered)
+  pub inside : LiesIn (held_runs state) r
+
+-- the address at which a segment begins
+abbrev pub base_of : Segment → Addr
+base_of s = record { 0 = s.base }

@@ -1,27 +1,27 @@
--- How the table by grain stands for the segments.
+-- How the tables by grain represent the segments.
 use Rattle.std.specs.Prelude.{ℕ, suc, ◌==◌, ◌&&◌, if◌then◌else◌, ◌+◌, ◌*◌, ◌≤◌, ◌<◌, ◌≡◌, Option, Some, None, List, [], ◌∷◌, length, get_or, map, Contains}
 use Rattle.mps_base.specs.declared.names.Rank.{Rank}
-use Rattle.mps_base.specs.Run.{Run, end_of, gaps, total, IsAscending}
-use Rattle.mps_base.specs.Address.{address_of_grain}
-use Rattle.mps_arena.specs.Arena.{ArenaState}
+use Rattle.mps_base.specs.Run.{Run, end_of, gaps, total, IsAscending, runs_within}
+use Rattle.mps_base.specs.Address.{words_of_grain, address_of_grain}
+use Rattle.mps_base.specs.Segment.{Segment, grains_of_segment, same_rank}
+use Rattle.mps_arena.specs.Arena.{ArenaMemory, max_grains}
 use Rattle.mps_seg.specs.declared.entry.Entry.{Entry}
 use Rattle.mps_seg.specs.declared.entry.Entry.TheVariants.{Free, First}
-use Rattle.mps_seg.specs.Segment.{Segment, LiesIn, grains_of_segment, same_rank}
-use Rattle.mps_seg.specs.Segs.{SegsState}
-use Rattle.mps_seg.specs.Extents.{ExtentLists, run_over, runs_within, AreWhole}
+use Rattle.mps_seg.specs.Segs.{SegsState, LiesIn}
+use Rattle.mps_seg.specs.Extents.{ExtentLists, run_over, AreWhole}
 
 -- the segments of the entries, the first of which is that of a grain
-unfoldable pub segments_from : ℕ → List Entry → List Segment
-segments_from grain [] = []
-segments_from grain (Free ∷ entries) = segments_from (suc grain) entries
-segments_from grain (First grains pool generation rank ∷ entries) =
-    record { base = address_of_grain grain; grains = grains; pool = pool; generation = generation; rank = rank } ∷ segments_from (suc grain) entries
+unfoldable pub segments_of_entries : ℕ → List Entry → List Segment
+segments_of_entries grain [] = []
+segments_of_entries grain (Free ∷ entries) = segments_of_entries (suc grain) entries
+segments_of_entries grain (First grains pool generation rank ∷ entries) =
+    record { base = address_of_grain grain; grains = grains; pool = pool; generation = generation; rank = rank } ∷ segments_of_entries (suc grain) entries
 
 unfoldable pub segments_in : List Entry → List Segment
-segments_in table = segments_from 0 table
+segments_in table = segments_of_entries 0 table
 
 -- the state of an arena with this table and these extents
-abbrev pub segs_state : ArenaState → List Entry → ExtentLists → SegsState
+abbrev pub segs_state : ArenaMemory → List Entry → ExtentLists → SegsState
 segs_state arena table extents = record {
   words = arena.words;
   grains = arena.grains;
@@ -30,22 +30,17 @@ segs_state arena table extents = record {
   covered = extents.covered;
   blocks = extents.blocks;
   reservations = extents.reservations;
-  condemned = [];
-  pinned = [];
-  marked = [];
-  done = [];
-  summaries = [];
 }
 
 -- the segments are the held runs, and each extent lies in one
-pub record IsHeld (arena : ArenaState) (table : List Entry) (extents : ExtentLists) : Type 0 where
+pub record IsHeld (arena : ArenaMemory) (table : List Entry) (extents : ExtentLists) : Type 0 where
   pub held : arena.held ≡ map grains_of_segment (segments_in table)
   pub ascending : IsAscending 1 (arena.grains + 1) arena.held
-  pub few : arena.grains ≤ 2048
+  pub at_most : arena.grains ≤ max_grains
   pub size : length table ≡ arena.grains + 1
-  pub covered_size : extents.size ≡ 512 * (arena.grains + 1)
+  pub covered_size : extents.size ≡ words_of_grain * (arena.grains + 1)
   pub covered_ascending : IsAscending 0 extents.size extents.covered
-  pub some : (r : Run) → Contains extents.covered r → 0 < r.count
+  pub nonempty : (r : Run) → Contains extents.covered r → 0 < r.count
   pub inside : (r : Run) → Contains extents.covered r → LiesIn arena.held r
 
 abbrev pub or_zero : Option ℕ → ℕ
@@ -57,30 +52,30 @@ abbrev pub first_over : List Run → ℕ → ℕ
 first_over held grain = or_zero (run_over held grain)
 
 -- how many of the covered words are those of a run of grains
-abbrev pub covered_in : Run → List Run → ℕ
-covered_in grains covered = total (runs_within (512 * grains.from) (512 * end_of grains) covered)
+abbrev pub covered_words_in : Run → List Run → ℕ
+covered_words_in grains covered = total (runs_within (words_of_grain * grains.from) (words_of_grain * end_of grains) covered)
 
 -- the tables by grain say in which run of grains each lies, and of each run how many of its words are covered
 pub record IsCounted (held : List Run) (size : ℕ) (firsts counts : List ℕ) (covered : List Run) : Type 0 where
   pub firsts_size : length firsts ≡ size
   pub counts_size : length counts ≡ size
   pub firsts_are : (grain : ℕ) → grain < size → get_or firsts grain 0 ≡ first_over held grain
-  pub counts_are : (r : Run) → Contains held r → get_or counts r.from 0 ≡ covered_in r covered
+  pub counts_are : (r : Run) → Contains held r → get_or counts r.from 0 ≡ covered_words_in r covered
 
 -- the gaps of the segment that begins at a grain, where one does and it is of the pool and the rank
 abbrev pub gaps_at : ℕ → Entry → ℕ → Rank → ExtentLists → List Run
 gaps_at grain Free pool rank extents = []
 gaps_at grain (First grains of generation at) pool rank extents =
-    if of == pool && same_rank at rank then gaps (512 * grain) (512 * grain + 512 * grains) (runs_within (512 * grain) (512 * grain + 512 * grains) extents.covered)
+    if of == pool && same_rank at rank then gaps (words_of_grain * grain) (words_of_grain * grain + words_of_grain * grains) (runs_within (words_of_grain * grain) (words_of_grain * grain + words_of_grain * grains) extents.covered)
     else []
 
 -- no extent has words on both sides of a bound of the segment that begins at a grain, and the segment lies in the arena
 abbrev pub IsWholeAt : ℕ → Entry → ExtentLists → Type 0
 IsWholeAt grain Free extents = Unit {0}
 IsWholeAt grain (First grains pool generation rank) extents =
-    AreWhole (512 * grain) (512 * grain + 512 * grains) extents.covered × (512 * grain + 512 * grains ≤ extents.size)
+    AreWhole (words_of_grain * grain) (words_of_grain * grain + words_of_grain * grains) extents.covered × (words_of_grain * grain + words_of_grain * grains ≤ extents.size)
 
 -- how many words of the segment are covered that begins at a grain
 abbrev pub IsCountAt : ℕ → Entry → ℕ → ExtentLists → Type 0
 IsCountAt grain Free covered extents = Unit {0}
-IsCountAt grain (First grains pool generation rank) covered extents = covered ≡ total (runs_within (512 * grain) (512 * grain + 512 * grains) extents.covered)
+IsCountAt grain (First grains pool generation rank) covered extents = covered ≡ total (runs_within (words_of_grain * grain) (words_of_grain * grain + words_of_grain * grains) extents.covered)

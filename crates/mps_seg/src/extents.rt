@@ -1,15 +1,15 @@
-// The tables of covered words.
+// Which words are covered, as tables of bits.
 #![tactic(auto)]
 
 ghost use Rattle.std.specs.Prelude.{◌≡◌, ℕ, ◌+◌, ◌^◌, ◌<◌, ◌≤◌, IfOk, IfSome, Contains};
-ghost use Rattle.mps_base.specs.Run.{IsAscending, with_run, without_run, gaps, lowest_fitting};
-ghost use Rattle.mps_seg.specs.Extents.{ExtentLists, nothing_covered, run_over, first_run, runs_within, AreWhole};
+ghost use Rattle.mps_base.specs.Run.{IsAscending, with_run, without_run, gaps, lowest_fitting, runs_within};
+ghost use Rattle.mps_seg.specs.Extents.{ExtentLists, nothing_covered, run_over, first_run, AreWhole};
 
 use mps_bits::Bits;
 use std::alloc::{AllocError, Global};
 use std::marker::Model;
 
-/// Which words blocks and reservations cover, by the numbers of the words. Clauses see the runs of words in ascending order.
+/// Which words blocks and reservations cover, by the numbers of the words. Clauses see lists of runs of words, in ascending order.
 #[derive(Drop)]
 pub struct Extents {
     covered: Bits,
@@ -20,17 +20,17 @@ pub struct Extents {
 
 impl Model for Extents {
     ghost use Rattle.mps_seg.specs.Extents.{ExtentLists};
-    ghost use Rattle.mps_seg.specs.Inside.{lists_of, IsSound};
+    ghost use Rattle.mps_seg.specs.Inside.{lists_of, AreSoundTables};
 
     ghost Value = { ExtentLists };
 
     ghost view = { λ e. lists_of e.begins e.ends e.blocks };
 
-    ghost invariant = { λ e. IsSound e.covered e.begins e.ends e.blocks };
+    ghost invariant = { λ e. AreSoundTables e.covered e.begins e.ends e.blocks };
 }
 
 impl Extents {
-    /// Tables of `size` words, of which none is covered. This is the only call that allocates.
+    /// `size` words, of which none is covered. This is the only call that allocates.
     pub fn new(alloc: Global, size: usize) -> Result<Extents, AllocError>
         requires { size < 2 ^ 32 }
         ensures { IfOk result (λ extents. extents ≡ nothing_covered size) }
@@ -45,35 +45,35 @@ impl Extents {
 
     /// Covers `words` words from `at` on by a reservation.
     pub fn cover(&mut self, at: usize, words: usize)
-        requires some { 0 < words }
+        requires nonzero { 0 < words }
         requires free { IsAscending 0 self.old.size (with_run (record { from = at; count = words }) self.old.covered) }
         ensures { self.new ≡ record self.old {
           covered = with_run (record { from = at; count = words }) self.old.covered;
           reservations = with_run (record { from = at; count = words }) self.old.reservations;
         } }
     {
-        self.covered.set_range(at, at + words); // no gap fits there now
+        self.covered.set_range(at, at + words);
         self.begins.set(at);
         self.ends.set(at + words - 1);
     }
 
-    /// Takes away the reservation of `words` words that begins at `at`.
+    /// Removes the reservation of `words` words that begins at `at`.
     pub fn uncover(&mut self, at: usize, words: usize)
         requires { Contains self.old.reservations (record { from = at; count = words }) }
         ensures state { self.new ≡ record self.old {
           covered = without_run at self.old.covered;
           reservations = without_run at self.old.reservations;
         } }
-        ensures among { Contains self.old.covered (record { from = at; count = words }) }
+        ensures was_covered { Contains self.old.covered (record { from = at; count = words }) }
     {
-        self.covered.clear_range(at, at + words); // its words are a gap again
+        self.covered.clear_range(at, at + words); // a gap again
         self.begins.clear(at);
         self.ends.clear(at + words - 1);
     }
 
     /// Covers `words` words from `at` on by a block.
     pub fn commit_block(&mut self, at: usize, words: usize)
-        requires some { 0 < words }
+        requires nonzero { 0 < words }
         requires free { IsAscending 0 self.old.size (with_run (record { from = at; count = words }) self.old.covered) }
         ensures { self.new ≡ record self.old {
           covered = with_run (record { from = at; count = words }) self.old.covered;
@@ -86,14 +86,14 @@ impl Extents {
         self.blocks.set(at);
     }
 
-    /// Takes away the block of `words` words that begins at `at`.
+    /// Removes the block of `words` words that begins at `at`.
     pub fn drop_block(&mut self, at: usize, words: usize)
         requires { Contains self.old.blocks (record { from = at; count = words }) }
         ensures state { self.new ≡ record self.old {
           covered = without_run at self.old.covered;
           blocks = without_run at self.old.blocks;
         } }
-        ensures among { Contains self.old.covered (record { from = at; count = words }) }
+        ensures was_covered { Contains self.old.covered (record { from = at; count = words }) }
     {
         self.covered.clear_range(at, at + words);
         self.begins.clear(at);
@@ -104,8 +104,8 @@ impl Extents {
     /// How many words the block has that begins at `at`.
     pub fn block_words(&self, at: usize) -> usize
         requires { (words : ℕ) × Contains self.now.blocks (record { from = at; count = words }) }
-        ensures size { Contains self.now.blocks (record { from = at; count = result }) }
-        ensures within { at + result ≤ self.now.size }
+        ensures sound { Contains self.now.blocks (record { from = at; count = result }) }
+        ensures at_most { at + result ≤ self.now.size }
     {
         let last = self.ends.next_set(at).unwrap();
         last - at + 1
@@ -125,7 +125,7 @@ impl Extents {
         if self.blocks.test(at) { Some(at) } else { None }
     }
 
-    /// Where the lowest block begins that begins from `low` on and below `high`.
+    /// Where the lowest block begins among those that begin from `low` on and below `high`.
     pub fn first_block(&self, low: usize, high: usize) -> Option<usize>
         requires { high ≤ self.now.size }
         ensures { result ≡ first_run low high self.now.blocks }
@@ -135,12 +135,12 @@ impl Extents {
 
     /// Where the lowest gap of at least `words` words begins among the words from `low` on and below `high`.
     pub fn lowest_gap(&self, low: usize, high: usize, words: usize) -> Option<usize>
-        requires some { 0 < words }
+        requires nonzero { 0 < words }
         requires ordered { low ≤ high }
-        requires within { high ≤ self.now.size }
+        requires in_table { high ≤ self.now.size }
         requires whole { AreWhole low high self.now.covered }
-        ensures lowest { result ≡ lowest_fitting words (gaps low high (runs_within low high self.now.covered)) }
-        ensures within { IfSome result (λ at. at + words ≤ high) }
+        ensures value { result ≡ lowest_fitting words (gaps low high (runs_within low high self.now.covered)) }
+        ensures fits { IfSome result (λ at. at + words ≤ high) }
     {
         self.covered.lowest_clear_run(low, high, words)
     }

@@ -3,7 +3,7 @@
 
 mod entry;
 mod extents;
-mod places;
+mod first_grains;
 mod segs;
 
 pub use extents::Extents;

@@ -2,22 +2,22 @@
 #![tactic(auto)]
 
 ghost use Rattle.std.specs.Prelude.{◌≡◌, ℕ, true, false, ◌+◌, ◌*◌, ◌/◌, ◌%◌, ◌^◌, ◌<◌, ◌≤◌, IfOk, IfErr, IfSome, OnOk, MatchResult, Contains, option_map, length, slice_range};
-ghost use Rattle.mps_base.specs.Run.{IsAscending, with_run, without_run, gaps, lowest_fitting, total};
-ghost use Rattle.mps_base.specs.Address.{word_of};
+ghost use Rattle.mps_base.specs.Run.{IsAscending, with_run, without_run, gaps, lowest_fitting, runs_within, total};
+ghost use Rattle.mps_base.specs.Address.{bytes_of_word, word_of};
+ghost use Rattle.mps_base.specs.Segment.{Segment, end_of_segment, same_rank, segment_over, without_segment, gaps_of};
 ghost use Rattle.mps_base.specs.Trail.{with_move};
-ghost use Rattle.mps_arena.specs.Arena.{answer_of};
-ghost use Rattle.mps_seg.specs.Extents.{run_over, first_run, runs_within, AreWhole};
-ghost use Rattle.mps_seg.specs.Segment.{Segment, end_of_segment, same_rank, segment_over, without_segment};
+ghost use Rattle.mps_arena.specs.Arena.{max_grains, answer_of_placement};
+ghost use Rattle.mps_seg.specs.Extents.{run_over, first_run, AreWhole};
 ghost use Rattle.mps_seg.specs.Table.{IsWholeAt, IsCountAt, gaps_at};
-ghost use Rattle.mps_seg.specs.Segs.{SegsState, new_segments, placement_for, segments_after, moves_after, gaps_of, held_grains, at_word, at_byte, IsEmptyAt, IsUsed, CanCover};
+ghost use Rattle.mps_seg.specs.Segs.{SegsState, max_block_words, new_segments, placement_for, segments_after, moves_after, held_runs, at_word, base_of, IsEmptyAt, IsUsed, CanCover};
 ghost use Rattle.std.specs.Borrow.{sem};
-ghost use Rattle.mps_seg.specs.Lending.{LendsWords};
+ghost use Rattle.mps_seg.specs.Lending.{LendsSegmentWords};
 
 use crate::Extents;
 use crate::entry::Entry;
-use crate::places::note_first;
+use crate::first_grains::note_first;
 use mps_arena::Arena;
-use mps_base::{Addr, Move, Rank, Refusal, Trail};
+use mps_base::{Addr, BYTES_OF_GRAIN, BYTES_OF_WORD, Move, Rank, Refusal, Trail, WORDS_OF_GRAIN};
 use std::alloc::{AllocError, Global};
 use std::marker::Model;
 
@@ -47,8 +47,8 @@ impl Model for Segs {
 impl Segs {
     /// Segments over a new arena of the grains 1 to `grains`, with a commit limit in grains. This is the only call that allocates.
     pub fn new(alloc: Global, grains: u32, limit: u32) -> Result<Segs, AllocError>
-        requires some { 0 < grains }
-        requires few { grains ≤ 2048 }
+        requires nonzero { 0 < grains }
+        requires at_most { grains ≤ max_grains }
         ensures { IfOk result (λ segs. segs ≡ new_segments grains limit) }
     {
         Ok(Segs {
@@ -56,7 +56,7 @@ impl Segs {
             table: vec![in alloc; Entry::Free; grains as usize + 1]?,
             firsts: vec![in alloc; 0u32; grains as usize + 1]?,
             counts: vec![in alloc; 0u32; grains as usize + 1]?,
-            extents: Extents::new(alloc, 512 * (grains as usize + 1))?,
+            extents: Extents::new(alloc, WORDS_OF_GRAIN * (grains as usize + 1))?,
         })
     }
 
@@ -69,17 +69,17 @@ impl Segs {
         generation: u32,
         rank: Rank,
     ) -> Result<Addr, Refusal>
-        requires some { 0 < words }
-        requires few { words ≤ 65536 }
-        requires room { 0 < trail.old.spare }
-        ensures answer { result ≡ answer_of (placement_for self.old words) }
+        requires nonzero { 0 < words }
+        requires at_most { words ≤ max_block_words }
+        requires fits { 0 < trail.old.spare }
+        ensures value { result ≡ answer_of_placement (placement_for self.old words) }
         ensures state { self.new ≡ record self.old { segments = segments_after (placement_for self.old words) pool generation rank self.old.segments } }
         ensures moves { trail.new ≡ moves_after (placement_for self.old words) pool generation trail.old }
         ensures free { IfOk result (λ base. CanCover self.new (record { from = word_of base.0; count = words })) }
     {
-        let grains = (words + 511) / 512;
+        let grains = (words + (WORDS_OF_GRAIN as u32 - 1)) / WORDS_OF_GRAIN as u32;
         let base = self.arena.take_run(grains)?;
-        let first = (base.0 / 4096) as usize;
+        let first = (base.0 / BYTES_OF_GRAIN) as usize;
         self.table[first] = Entry::First {
             grains,
             pool,
@@ -100,11 +100,11 @@ impl Segs {
     /// Gives back the segment at `base`, which has no block and no reservation. Its words stay as they are.
     pub fn give(&mut self, trail: &mut Trail, base: Addr)
         requires empty { (s : Segment) × Contains self.old.segments s × IsEmptyAt self.old base.0 s }
-        requires room { 0 < trail.old.spare }
+        requires fits { 0 < trail.old.spare }
         ensures state { self.new ≡ record self.old { segments = without_segment self.old.segments base.0 } }
         ensures moves { trail.new ≡ with_move trail.old (Move.Unseg base) }
     {
-        let grain = (base.0 / 4096) as usize;
+        let grain = (base.0 / BYTES_OF_GRAIN) as usize;
         let Entry::First { grains, .. } = self.table[grain] else {
             unreachable!()
         };
@@ -117,30 +117,31 @@ impl Segs {
     /// Whether the segment at `base` has no block and no reservation, so that it may be given back.
     pub fn is_empty(&self, base: Addr) -> bool
         requires { (s : Segment) × Contains self.now.segments s × (s.base ≡ base.0) }
-        ensures empty { (s : Segment) → Contains self.now.segments s → s.base ≡ base.0 → result ≡ true → IsEmptyAt self.now base.0 s }
-        ensures used { (s : Segment) → Contains self.now.segments s → s.base ≡ base.0 → result ≡ false → IsUsed self.now s }
+        ensures sound { (s : Segment) → Contains self.now.segments s → s.base ≡ base.0 → result ≡ true → IsEmptyAt self.now base.0 s }
+        ensures complete { (s : Segment) → Contains self.now.segments s → s.base ≡ base.0 → result ≡ false → IsUsed self.now s }
     {
-        self.counts[(base.0 / 4096) as usize] == 0
+        self.counts[(base.0 / BYTES_OF_GRAIN) as usize] == 0
     }
 
     /// Covers `words` words from `at` on, which no block and no reservation covers, by a reservation.
     pub fn cover(&mut self, at: Addr, words: u32)
-        requires some { 0 < words }
+        requires nonzero { 0 < words }
         requires free { CanCover self.old (record { from = word_of at.0; count = words }) }
         ensures { self.new ≡ record self.old {
           covered = with_run (record { from = word_of at.0; count = words }) self.old.covered;
           reservations = with_run (record { from = word_of at.0; count = words }) self.old.reservations;
         } }
     {
-        self.extents.cover((at.0 / 8) as usize, words as usize);
-        let first = self.firsts[(at.0 / 4096) as usize] as usize;
+        self.extents
+            .cover((at.0 / BYTES_OF_WORD) as usize, words as usize);
+        let first = self.firsts[(at.0 / BYTES_OF_GRAIN) as usize] as usize;
         self.counts[first] += words;
     }
 
     /// The lowest gap of at least `words` words in the segments of a pool and a rank.
     pub fn lowest_gap(&self, pool: u32, rank: Rank, words: u32) -> Option<Addr>
         requires { 0 < words }
-        ensures lowest { result ≡ option_map at_word (lowest_fitting words (gaps_of self.now pool rank)) }
+        ensures value { result ≡ option_map at_word (lowest_fitting words (gaps_of self.now.covered self.now.segments pool rank)) }
         ensures free { IfSome result (λ at. CanCover self.now (record { from = word_of at.0; count = words })) }
     {
         for (grain, entry) in self.table.iter().enumerate() {
@@ -154,7 +155,7 @@ impl Segs {
                 rank,
                 words,
             ) {
-                return Some(Addr(8 * word as u64));
+                return Some(Addr(BYTES_OF_WORD * word as u64));
             }
         }
         None
@@ -166,21 +167,22 @@ impl Segs {
         ensures { (s : Segment) → Contains self.now.segments s → s.base ≡ base.0
             → result ≡ option_map at_word (first_run (word_of from.0) (word_of (end_of_segment s)) self.now.blocks) }
     {
-        let grain = (base.0 / 4096) as usize;
+        let grain = (base.0 / BYTES_OF_GRAIN) as usize;
         let Entry::First { grains, .. } = self.table[grain] else {
             unreachable!()
         };
-        let word = self
-            .extents
-            .first_block((from.0 / 8) as usize, 512 * (grain + grains as usize))?;
-        Some(Addr(8 * word as u64))
+        let word = self.extents.first_block(
+            (from.0 / BYTES_OF_WORD) as usize,
+            WORDS_OF_GRAIN * (grain + grains as usize),
+        )?;
+        Some(Addr(BYTES_OF_WORD * word as u64))
     }
 
     /// The base of the segment in which an address lies.
     pub fn segment_of(&self, at: Addr) -> Option<Addr>
-        ensures { result ≡ option_map at_byte (segment_over self.now.segments at.0) }
+        ensures { result ≡ option_map base_of (segment_over self.now.segments at.0) }
     {
-        let grain = (at.0 / 4096) as usize;
+        let grain = (at.0 / BYTES_OF_GRAIN) as usize;
         if grain >= self.firsts.len() {
             return None;
         }
@@ -188,16 +190,16 @@ impl Segs {
         if first == 0 {
             None
         } else {
-            Some(Addr(4096 * first as u64))
+            Some(Addr(BYTES_OF_GRAIN * first as u64))
         }
     }
 
     /// The block whose words cover byte `n`.
     pub fn block_at(&self, n: u64) -> Option<Addr>
-        ensures { result ≡ option_map at_word (run_over self.now.blocks (n / 8)) }
+        ensures { result ≡ option_map at_word (run_over self.now.blocks (word_of n)) }
     {
-        let word = self.extents.block_over((n / 8) as usize)?;
-        Some(Addr(8 * word as u64))
+        let word = self.extents.block_over((n / BYTES_OF_WORD) as usize)?;
+        Some(Addr(BYTES_OF_WORD * word as u64))
     }
 
     /// Ends the reservation of `words` words that begins at `at`. A block or a reservation may cover them again.
@@ -209,14 +211,15 @@ impl Segs {
         } }
         ensures free { CanCover self.new (record { from = word_of at.0; count = words }) }
     {
-        self.extents.uncover((at.0 / 8) as usize, words as usize);
-        let first = self.firsts[(at.0 / 4096) as usize] as usize;
+        self.extents
+            .uncover((at.0 / BYTES_OF_WORD) as usize, words as usize);
+        let first = self.firsts[(at.0 / BYTES_OF_GRAIN) as usize] as usize;
         self.counts[first] -= words;
     }
 
     /// Covers `words` words from `at` on, which no block and no reservation covers, by a block.
     pub fn commit_block(&mut self, at: Addr, words: u32)
-        requires some { 0 < words }
+        requires nonzero { 0 < words }
         requires free { CanCover self.old (record { from = word_of at.0; count = words }) }
         ensures { self.new ≡ record self.old {
           covered = with_run (record { from = word_of at.0; count = words }) self.old.covered;
@@ -224,8 +227,8 @@ impl Segs {
         } }
     {
         self.extents
-            .commit_block((at.0 / 8) as usize, words as usize);
-        let first = self.firsts[(at.0 / 4096) as usize] as usize;
+            .commit_block((at.0 / BYTES_OF_WORD) as usize, words as usize);
+        let first = self.firsts[(at.0 / BYTES_OF_GRAIN) as usize] as usize;
         self.counts[first] += words;
     }
 
@@ -238,8 +241,9 @@ impl Segs {
         } }
         ensures free { CanCover self.new (record { from = word_of at.0; count = words }) }
     {
-        self.extents.drop_block((at.0 / 8) as usize, words as usize);
-        let first = self.firsts[(at.0 / 4096) as usize] as usize;
+        self.extents
+            .drop_block((at.0 / BYTES_OF_WORD) as usize, words as usize);
+        let first = self.firsts[(at.0 / BYTES_OF_GRAIN) as usize] as usize;
         self.counts[first] -= words;
     }
 
@@ -248,21 +252,21 @@ impl Segs {
         requires { (words : ℕ) × Contains self.now.blocks (record { from = word_of at.0; count = words }) }
         ensures { Contains self.now.blocks (record { from = word_of at.0; count = result }) }
     {
-        self.extents.block_words((at.0 / 8) as usize) as u32
+        self.extents.block_words((at.0 / BYTES_OF_WORD) as usize) as u32
     }
 
     /// Sets the commit limit, in grains. Refuses `BelowCommitted` where more grains are held.
     pub fn set_limit(&mut self, limit: u32) -> Result<(), Refusal>
         ensures state { MatchResult result (λ _. self.new ≡ record self.old { limit = limit }) (λ _. self.new ≡ self.old) }
-        ensures accepts { OnOk result (total (held_grains self.old) ≤ limit) }
-        ensures refuses { IfErr result (λ why. (why ≡ Refusal.BelowCommitted) × (limit < total (held_grains self.old))) }
+        ensures sound { OnOk result (total (held_runs self.old) ≤ limit) }
+        ensures refuses { IfErr result (λ why. (why ≡ Refusal.BelowCommitted) × (limit < total (held_runs self.old))) }
     {
         self.arena.set_limit(limit)
     }
 
     /// How many grains are held.
     pub fn committed(&self) -> u32
-        ensures { result ≡ total (held_grains self.now) }
+        ensures { result ≡ total (held_runs self.now) }
     {
         self.arena.committed()
     }
@@ -276,8 +280,8 @@ impl Segs {
 
     /// The `words` words from `at` on.
     pub fn lend(&self, at: Addr, words: u32) -> &[u64]
-        requires aligned { at.0 % 8 ≡ 0 }
-        requires inside { word_of at.0 + words ≤ length self.now.words }
+        requires aligned { at.0 % bytes_of_word ≡ 0 }
+        requires in_arena { word_of at.0 + words ≤ length self.now.words }
         ensures { result.now ≡ slice_range self.now.words (word_of at.0) (word_of at.0 + words) }
     {
         self.arena.lend(at, words)
@@ -285,9 +289,9 @@ impl Segs {
 
     /// The `words` words from `at` on, to be written.
     pub fn lend_mut(&mut self, at: Addr, words: u32) -> &mut [u64]
-        requires aligned { at.0 % 8 ≡ 0 }
-        requires inside { word_of at.0 + words ≤ length self.old.words }
-        ensures* writes_back { sem 𝓛 (LendsWords self.entry at.0 result) }
+        requires aligned { at.0 % bytes_of_word ≡ 0 }
+        requires in_arena { word_of at.0 + words ≤ length self.old.words }
+        ensures* writes_back { sem 𝓛 (LendsSegmentWords self.entry at.0 result) }
         ensures value { result.now ≡ slice_range self.old.words (word_of at.0) (word_of at.0 + words) }
     {
         self.arena.lend_mut(at, words)
@@ -313,15 +317,15 @@ fn gap_between(
     covered: u32,
     words: u32,
 ) -> Option<usize>
-    requires some { 0 < words }
+    requires nonzero { 0 < words }
     requires ordered { low ≤ high }
-    requires within { high ≤ extents.now.size }
-    requires small { extents.now.size < 2 ^ 32 }
+    requires in_table { high ≤ extents.now.size }
+    requires at_most { extents.now.size < 2 ^ 32 }
     requires ascending { IsAscending 0 extents.now.size extents.now.covered }
     requires whole { AreWhole low high extents.now.covered }
     requires counted { covered ≡ total (runs_within low high extents.now.covered) }
-    ensures lowest { result ≡ lowest_fitting words (gaps low high (runs_within low high extents.now.covered)) }
-    ensures below { IfSome result (λ word. word < 2 ^ 32) }
+    ensures value { result ≡ lowest_fitting words (gaps low high (runs_within low high extents.now.covered)) }
+    ensures at_most { IfSome result (λ word. word < 2 ^ 32) }
 {
     if high - low < covered as usize + words as usize {
         return None;
@@ -339,14 +343,14 @@ fn gap_after(
     rank: Rank,
     words: u32,
 ) -> Option<usize>
-    requires some { 0 < words }
-    requires small { grain < 4096 }
-    requires room { extents.now.size < 2 ^ 32 }
+    requires nonzero { 0 < words }
+    requires in_arena { grain ≤ max_grains }
+    requires at_most { extents.now.size < 2 ^ 32 }
     requires ascending { IsAscending 0 extents.now.size extents.now.covered }
     requires whole { IsWholeAt grain entry extents.now }
     requires counted { IsCountAt grain entry covered extents.now }
-    ensures lowest { result ≡ lowest_fitting words (gaps_at grain entry pool rank extents.now) }
-    ensures below { IfSome result (λ word. word < 2 ^ 32) }
+    ensures value { result ≡ lowest_fitting words (gaps_at grain entry pool rank extents.now) }
+    ensures at_most { IfSome result (λ word. word < 2 ^ 32) }
 {
     match entry {
         Entry::First {
@@ -356,8 +360,14 @@ fn gap_after(
             ..
         } => {
             if of == pool && is_same_rank(at, rank) {
-                let low = 512 * grain;
-                gap_between(extents, low, low + 512 * grains as usize, covered, words)
+                let low = WORDS_OF_GRAIN * grain;
+                gap_between(
+                    extents,
+                    low,
+                    low + WORDS_OF_GRAIN * grains as usize,
+                    covered,
+                    words,
+                )
             } else {
                 None
             }

@@ -1,5 +1,6 @@
 // Placements at the edges, and many pseudo-random ones beside a plain table of owners.
 ghost use Rattle.std.specs.Prelude.{◌<◌, ◌≤◌};
+ghost use Rattle.mps_seg.specs.Segs.{max_block_words};
 
 use crate::Segs;
 use mps_base::{Addr, Rank, Refusal, Trail};
@@ -7,9 +8,9 @@ use std::alloc::{AllocError, Global};
 
 /// Makes a block in the lowest gap of a pool, or else at the base of a new segment.
 fn fill(segs: &mut Segs, trail: &mut Trail, pool: u32, words: u32) -> Result<Addr, Refusal>
-    requires some { 0 < words }
-    requires few { words ≤ 65536 }
-    requires room { 0 < trail.old.spare }
+    requires nonzero { 0 < words }
+    requires at_most { words ≤ max_block_words }
+    requires fits { 0 < trail.old.spare }
 {
     if let Some(at) = segs.lowest_gap(pool, Rank::Exact, words) {
         segs.commit_block(at, words);
@@ -50,9 +51,9 @@ fn walk_over(segs: &Segs, at: Addr) -> Option<Addr> {
 
 /// Reserves `words` words in a new segment, ends the reservation, and makes a block of them.
 fn reserve_and_commit(segs: &mut Segs, trail: &mut Trail, words: u32) -> Result<Addr, Refusal>
-    requires some { 0 < words }
-    requires few { words ≤ 65536 }
-    requires room { 0 < trail.old.spare }
+    requires nonzero { 0 < words }
+    requires at_most { words ≤ max_block_words }
+    requires fits { 0 < trail.old.spare }
 {
     let at = segs.take(trail, 3, words, 0, Rank::Weak)?;
     segs.cover(at, words);

@@ -5,17 +5,17 @@ use Rattle.mps_arena.proofs.Scan.{Scan, scan_start, scan_free, scan_found, scan_
 use Rattle.mps_arena.proofs.grains.lowest_free.Goals as goal
 
 pub loop-grain-init : goal.loop-grain-init
-loop-grain-init c = scan_start c.args.table.now c.args.need c.requires.some c.requires.small.0 c.requires.ascending
+loop-grain-init c = scan_start c.args.table.now c.args.need c.requires.nonzero c.requires.nonempty c.requires.ascending
 
-pub returns-then-grain-low-clause-fits : goal.returns-then-grain-low-clause-fits
-returns-then-grain-low-clause-fits c =
+pub returns-then-grain-low-clause-value : goal.returns-then-grain-low-clause-value
+returns-then-grain-low-clause-value c =
     let scan = c.loop-grain.invariant in
-    (scan_found c.args.table.now c.args.need c.loop-grain.grain c.loop-grain.low c.loop-grain.most c.requires.some scan c.loop-grain-test.true c.if-count-eq0.true (omega arith)).0
+    (scan_found c.args.table.now c.args.need c.loop-grain.grain c.loop-grain.low c.loop-grain.most c.requires.nonzero scan c.loop-grain-test.true c.if-count-eq0.true (omega arith)).0
 
 pub returns-then-grain-low-clause-free : goal.returns-then-grain-low-clause-free
 returns-then-grain-low-clause-free c =
     let scan = c.loop-grain.invariant in
-    (scan_found c.args.table.now c.args.need c.loop-grain.grain c.loop-grain.low c.loop-grain.most c.requires.some scan c.loop-grain-test.true c.if-count-eq0.true (omega arith)).1
+    (scan_found c.args.table.now c.args.need c.loop-grain.grain c.loop-grain.low c.loop-grain.most c.requires.nonzero scan c.loop-grain-test.true c.if-count-eq0.true (omega arith)).1
 
 pub loop-grain-preserved-else-grain-low : goal.loop-grain-preserved-else-grain-low
 loop-grain-preserved-else-grain-low c =
@@ -26,7 +26,7 @@ loop-grain-preserved-else-grain-low c =
 
 pub overflow_add-grain-else-count-eq0 : goal.overflow_add-grain-else-count-eq0
 overflow_add-grain-else-count-eq0 c =
-    omega (arith, run_bound c.args.table.now c.loop-grain.grain c.loop-grain.invariant.ascending c.loop-grain-test.true (omega (arith, c.if-count-eq0.false)), c.requires.small.1)
+    omega (arith, run_bound c.args.table.now c.loop-grain.grain c.loop-grain.invariant.ascending c.loop-grain-test.true (omega (arith, c.if-count-eq0.false)), c.requires.at_most)
 
 pub loop-grain-preserved : goal.loop-grain-preserved
 loop-grain-preserved c =
@@ -36,13 +36,13 @@ loop-grain-preserved c =
     let P : ℕ → Type 0 = λ m. Scan table c.args.need (grain + get_or table grain 0) (grain + get_or table grain 0) m in
     let most : c.max-most.result ≡ max c.loop-grain.most (grain - low) = grind (arith, nat_tests, common_steps) in
     subst P (sym most)
-    (scan_run table c.args.need grain low c.loop-grain.most c.requires.some c.loop-grain.invariant c.loop-grain-test.true (omega (arith, c.if-count-eq0.false)))
+    (scan_run table c.args.need grain low c.loop-grain.most c.requires.nonzero c.loop-grain.invariant c.loop-grain-test.true (omega (arith, c.if-count-eq0.false)))
 
-pub returns-clause-fits : goal.returns-clause-fits
-returns-clause-fits c =
-    (scan_end c.args.table.now c.args.need c.loop-grain.grain c.loop-grain.low c.loop-grain.most c.requires.some c.loop-grain.invariant c.loop-grain-test.false).0
+pub returns-clause-value : goal.returns-clause-value
+returns-clause-value c =
+    (scan_end c.args.table.now c.args.need c.loop-grain.grain c.loop-grain.low c.loop-grain.most c.requires.nonzero c.loop-grain.invariant c.loop-grain-test.false).0
 
-pub returns-clause-free : goal.returns-clause-free
-returns-clause-free c =
-    (scan_end c.args.table.now c.args.need c.loop-grain.grain c.loop-grain.low c.loop-grain.most c.requires.some c.loop-grain.invariant c.loop-grain-test.false).1
+pub returns-clause-most : goal.returns-clause-most
+returns-clause-most c =
+    (scan_end c.args.table.now c.args.need c.loop-grain.grain c.loop-grain.low c.loop-grain.most c.requires.nonzero c.loop-grain.invariant c.loop-grain-test.false).1
     ∙ (grind (arith, nat_tests, common_steps))

@@ -7,8 +7,8 @@ pub returns-then-value-clause-inside : goal.returns-then-value-clause-inside
 returns-then-value-clause-inside c =
     λ i from to. rw c.if-value.true (with_set c.args.word _ i (mask_inside c.low_ones.result c.args.width c.args.low i c.low_ones.ensures c.requires.fits from to))
 
-pub returns-then-value-clause-outside : goal.returns-then-value-clause-outside
-returns-then-value-clause-outside c =
+pub returns-then-value-clause-unchanged : goal.returns-then-value-clause-unchanged
+returns-then-value-clause-unchanged c =
     λ i within out. with_set_other c.args.word _ i (mask_outside c.low_ones.result c.args.width c.args.low i c.low_ones.ensures c.requires.fits out)
 
 pub returns-else-value-clause-inside : goal.returns-else-value-clause-inside
@@ -16,7 +16,7 @@ returns-else-value-clause-inside c =
     λ i from to. rw c.if-value.false (with_clear c.args.word _ i (mod_below (c.low_ones.result * 2 ^ c.args.low) (2 ^ 64) (omega arith)) (omega (arith, c.requires.fits))
     (mask_inside c.low_ones.result c.args.width c.args.low i c.low_ones.ensures c.requires.fits from to))
 
-pub returns-else-value-clause-outside : goal.returns-else-value-clause-outside
-returns-else-value-clause-outside c =
+pub returns-else-value-clause-unchanged : goal.returns-else-value-clause-unchanged
+returns-else-value-clause-unchanged c =
     λ i within out. with_clear_other c.args.word _ i (mod_below (c.low_ones.result * 2 ^ c.args.low) (2 ^ 64) (omega arith)) within
     (mask_outside c.low_ones.result c.args.width c.args.low i c.low_ones.ensures c.requires.fits out)

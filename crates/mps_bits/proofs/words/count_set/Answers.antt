@@ -1,6 +1,6 @@
 use Rattle.std.proofs.Common.{ℕ, ◌-◌, ◌≡◌, refl, sym, ap, ◌∙◌, inl, inr, arith}
-use Rattle.mps_bits.specs.Row.{bit_in, total}
-use Rattle.mps_bits.proofs.Row.{IsChunk, chunk_ones, total_upto, total_le, total-none, bit_in-lt}
+use Rattle.mps_bits.specs.Row.{bit_in, sum_over}
+use Rattle.mps_bits.proofs.Row.{IsChunk, chunk_ones, sum_over_upto, sum_over_le, sum_over-none, bit_in-lt}
 use Rattle.mps_bits.proofs.words.count_set.Goals as goal
 
 pub loop-at-init : goal.loop-at-init
@@ -9,7 +9,7 @@ loop-at-init c =
     record {
       from_on = omega arith;
       within = inr refl;
-      counted = sym (ap (λ (k : ℕ). total (bit_in c.args.words.now) c.args.from k) none ∙ total-none (bit_in c.args.words.now) c.args.from);
+      counted = sym (ap (λ (k : ℕ). sum_over (bit_in c.args.words.now) c.args.from k) none ∙ sum_over-none (bit_in c.args.words.now) c.args.from);
     }
 
 pub overflow_add-count : goal.overflow_add-count
@@ -19,8 +19,8 @@ overflow_add-count c =
     let width = c.width_at-width.result in
     let chunk : IsChunk words at width c.chunk.result = record { inside = c.chunk.ensures.inside; above = c.chunk.ensures.above } in
     let ones = chunk_ones words at width c.chunk.result chunk (omega (arith, c.width_at-width.ensures.in_word)) c.chunk.type_inv in
-    let most = total_le (bit_in words) c.args.from (at - c.args.from) (bit_in-lt words) in
-    let here = total_le (bit_in words) at width (bit_in-lt words) in
+    let most = sum_over_le (bit_in words) c.args.from (at - c.args.from) (bit_in-lt words) in
+    let here = sum_over_le (bit_in words) at width (bit_in-lt words) in
     omega (arith, ones, most, here, c.loop-at.invariant.counted, c.width_at-width.ensures.in_range)
 
 pub loop-at-preserved : goal.loop-at-preserved
@@ -33,5 +33,5 @@ loop-at-preserved c =
     record {
       from_on = omega arith;
       within = inl c.width_at-width.ensures.in_range;
-      counted = omega (arith, ones, total_upto words c.args.from at width c.loop-at.invariant.from_on, c.loop-at.invariant.counted);
+      counted = omega (arith, ones, sum_over_upto words c.args.from at width c.loop-at.invariant.from_on, c.loop-at.invariant.counted);
     }

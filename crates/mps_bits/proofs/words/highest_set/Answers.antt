@@ -1,6 +1,6 @@
 use Rattle.std.proofs.Common.{ℕ, ◌+◌, ◌-◌, ◌%◌, ◌≡◌, subst, arith}
 use Rattle.mps_bits.specs.Row.{IsClear}
-use Rattle.mps_bits.proofs.Row.{IsChunk, place_below, set_at, clear_join, clear_above, clear_of_zero}
+use Rattle.mps_bits.proofs.Row.{IsChunk, index_below_width, set_at, clear_join, clear_above, clear_of_zero}
 use Rattle.mps_bits.proofs.words.highest_set.Goals as goal
 
 pub returns-then-bits-ne0 : goal.returns-then-bits-ne0
@@ -12,7 +12,7 @@ returns-then-bits-ne0 c =
     let bits = c.chunk-bits.result in
     let p = c.highest_one.result in
     let chunk : IsChunk words at width bits = record { inside = c.chunk-bits.ensures.inside; above = c.chunk-bits.ensures.above } in
-    let within = place_below words at width bits p chunk c.highest_one.ensures.set in
+    let within = index_below_width words at width bits p chunk c.highest_one.ensures.set in
     let whole : at + width ≡ end = omega arith in
     let higher : IsClear words (at + p + 1) end = subst (λ (k : ℕ). IsClear words (at + p + 1) k) whole (clear_above words at width bits p chunk c.highest_one.ensures.above) in
     record {

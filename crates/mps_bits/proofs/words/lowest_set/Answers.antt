@@ -1,5 +1,5 @@
 use Rattle.std.proofs.Common.{◌+◌, arith}
-use Rattle.mps_bits.proofs.Row.{IsChunk, place_below, set_at, clear_join, clear_below, clear_of_zero}
+use Rattle.mps_bits.proofs.Row.{IsChunk, index_below_width, set_at, clear_join, clear_below, clear_of_zero}
 use Rattle.mps_bits.proofs.words.lowest_set.Goals as goal
 
 pub returns-then-bits-ne0 : goal.returns-then-bits-ne0
@@ -10,7 +10,7 @@ returns-then-bits-ne0 c =
     let bits = c.chunk-bits.result in
     let p = c.lowest_one.result in
     let chunk : IsChunk words at width bits = record { inside = c.chunk-bits.ensures.inside; above = c.chunk-bits.ensures.above } in
-    let within = place_below words at width bits p chunk c.lowest_one.ensures.set in
+    let within = index_below_width words at width bits p chunk c.lowest_one.ensures.set in
     record {
       above = omega arith;
       below = omega (arith, within, c.width_at-width.ensures.in_range);

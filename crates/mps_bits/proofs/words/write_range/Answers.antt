@@ -11,7 +11,7 @@ loop-at-preserved c =
     let word = c.with_bits.result in
     let in_word : at % 64 + width ≤ 64 = c.width_at-width.ensures.in_word in
     let in_row : at / 64 < length words = omega (arith, c.loop-at.auto.words, c.requires) in
-    let kept = λ (i : ℕ) (out : (i < at) ⊎ (at + width ≤ i)). bit_in_write_outside words at width word i in_word in_row c.with_bits.ensures.outside out in
+    let kept = λ (i : ℕ) (out : (i < at) ⊎ (at + width ≤ i)). bit_in_write_outside words at width word i in_word in_row c.with_bits.ensures.unchanged out in
     record {
       from_on = omega arith;
       within = inl c.width_at-width.ensures.in_range;
@@ -25,8 +25,8 @@ loop-at-preserved c =
           ∙ c.loop-at.invariant.outside i (elim out [ inl before ↦ inl before | inr after ↦ inr (omega arith) ]);
     }
 
-pub returns-clause-outside : goal.returns-clause-outside
-returns-clause-outside c =
+pub returns-clause-unchanged : goal.returns-clause-unchanged
+returns-clause-unchanged c =
     λ i out. elim out [
       | inl before ↦ c.loop-at.invariant.outside i (inl before)
       | inr after ↦ elim (cases_lt i c.args.from) [

@@ -1,11 +1,11 @@
 use Rattle.std.proofs.Common.{refl, sym, inr, arith}
-use Rattle.mps_seg.specs.Extents.{runs_within}
 use Rattle.mps_seg.proofs.Query.{within_ascending}
 use Rattle.mps_seg.proofs.Counts.{no_room}
+use Rattle.mps_base.specs.Run.{runs_within}
 use Rattle.mps_seg.proofs.segs.gap_between.Goals as goal
 
-pub returns-then-high-low-clause-lowest : goal.returns-then-high-low-clause-lowest
-returns-then-high-low-clause-lowest c =
+pub returns-then-high-low-clause-value : goal.returns-then-high-low-clause-value
+returns-then-high-low-clause-value c =
     let covered = c.args.extents.now.covered in
     let ascending = within_ascending 0 c.args.extents.now.size c.args.low c.args.high c.args.low covered c.requires.ascending c.requires.whole (omega arith) c.requires.ordered (inr refl) in
-    sym (no_room c.args.low c.args.high c.args.words (runs_within c.args.low c.args.high covered) c.requires.some ascending (omega (arith, c.if-high-low.true, c.requires.counted, c.requires.ordered)))
+    sym (no_room c.args.low c.args.high c.args.words (runs_within c.args.low c.args.high covered) c.requires.nonzero ascending (omega (arith, c.if-high-low.true, c.requires.counted, c.requires.ordered)))

@@ -7,4 +7,4 @@ is_empty-requires c = segment_found c.args.segs.now.segments c.args.at.0 c.in-So
 pub give-requires-clause-empty : goal.give-requires-clause-empty
 give-requires-clause-empty c =
     let found = segment_found c.args.segs.now.segments c.args.at.0 c.in-Some.base c.in-Some.ensures in
-    (found.0, found.1, c.is_empty.ensures.empty found.0 found.1 found.2 c.if-not-is_empty.false)
+    (found.0, found.1, c.is_empty.ensures.sound found.0 found.1 found.2 c.if-not-is_empty.false)

@@ -24,8 +24,8 @@ overflow_add-result c =
     let last : c.unwrap-last.result ≡ last_word r = found_last c.self.inside.covered c.self.inside.begins c.self.inside.ends c.self.inside.blocks r c.next_set.result c.unwrap-last.result taken.0 c.next_set.ensures c.unwrap-last.ensures in
     omega (arith, last, taken_bounds c.self.inside.covered c.self.inside.begins c.self.inside.ends c.self.inside.blocks r taken.0, c.self.invariant.small)
 
-pub returns-clause-size : goal.returns-clause-size
-returns-clause-size c =
+pub returns-clause-sound : goal.returns-clause-sound
+returns-clause-sound c =
     let r : Run = record { from = c.args.at; count = c.requires.0 } in
     let taken = block_of c.self.inside.covered c.self.inside.begins c.self.inside.ends c.self.inside.blocks r c.args.self.now c.self.invariant c.self.view_is c.requires.1 in
     let last : c.unwrap-last.result ≡ last_word r = found_last c.self.inside.covered c.self.inside.begins c.self.inside.ends c.self.inside.blocks r c.next_set.result c.unwrap-last.result taken.0 c.next_set.ensures c.unwrap-last.ensures in
@@ -33,8 +33,8 @@ returns-clause-size c =
     let P : ℕ → Type 0 = λ n. Contains c.args.self.now.blocks (record { from = c.args.at; count = n }) in
     subst P count c.requires.1
 
-pub returns-clause-within : goal.returns-clause-within
-returns-clause-within c =
+pub returns-clause-at_most : goal.returns-clause-at_most
+returns-clause-at_most c =
     let r : Run = record { from = c.args.at; count = c.requires.0 } in
     let taken = block_of c.self.inside.covered c.self.inside.begins c.self.inside.ends c.self.inside.blocks r c.args.self.now c.self.invariant c.self.view_is c.requires.1 in
     let last : c.unwrap-last.result ≡ last_word r = found_last c.self.inside.covered c.self.inside.begins c.self.inside.ends c.self.inside.blocks r c.next_set.result c.unwrap-last.result taken.0 c.next_set.ensures c.unwrap-last.ensures in

@@ -2,7 +2,7 @@ use Rattle.std.proofs.Common.{◌+◌, Bool, false, List, Contains, set, sym, ap
 use Rattle.mps_base.specs.Run.{Run, without_run}
 use Rattle.mps_bits.specs.Table.{with_range}
 use Rattle.mps_seg.specs.Extents.{ExtentLists}
-use Rattle.mps_seg.specs.Inside.{lists_of, IsSound}
+use Rattle.mps_seg.specs.Inside.{lists_of, AreSoundTables}
 use Rattle.mps_seg.proofs.extents.Extents.drop_block.Goals as goal
 use Rattle.mps_seg.proofs.Cover.{last_word, block_of, taken_bounds, taken_is_sound, drop_lists, left_without_block}
 
@@ -12,8 +12,8 @@ overflow_add-at c =
     let taken = block_of c.self.inside.covered c.self.inside.begins c.self.inside.ends c.self.inside.blocks r c.args.self.now c.self.invariant c.self.view_is c.requires in
     omega (arith, taken_bounds c.self.inside.covered c.self.inside.begins c.self.inside.ends c.self.inside.blocks r taken.0, c.self.invariant.small)
 
-pub clear_range-requires-clause-within : goal.clear_range-requires-clause-within
-clear_range-requires-clause-within c =
+pub clear_range-requires-clause-in_table : goal.clear_range-requires-clause-in_table
+clear_range-requires-clause-in_table c =
     let r : Run = record { from = c.args.at; count = c.args.words } in
     let taken = block_of c.self.inside.covered c.self.inside.begins c.self.inside.ends c.self.inside.blocks r c.args.self.now c.self.invariant c.self.view_is c.requires in
     omega (arith, taken_bounds c.self.inside.covered c.self.inside.begins c.self.inside.ends c.self.inside.blocks r taken.0, c.self.invariant.same_size.0)
@@ -51,12 +51,12 @@ invariant_of-self c =
     let r : Run = record { from = c.args.at; count = c.args.words } in
     let taken = block_of covered begins ends blocks r c.args.self.now c.self.invariant c.self.view_is c.requires in
     let fits = taken_bounds covered begins ends blocks r taken.0 in
-    let P1 : List Bool → Type 0 = λ t. IsSound t c.clear.new.self c.clear-2.new.self c.clear-3.new.self in
-    let P2 : List Bool → Type 0 = λ t. IsSound (with_range covered c.args.at (c.args.at + c.args.words) false) t c.clear-2.new.self c.clear-3.new.self in
-    let P3 : List Bool → Type 0 = λ t. IsSound (with_range covered c.args.at (c.args.at + c.args.words) false) (set begins c.args.at false) t c.clear-3.new.self in
-    let P4 : List Bool → Type 0 = λ t. IsSound (with_range covered c.args.at (c.args.at + c.args.words) false) (set begins c.args.at false) (set ends (last_word r) false) t in
-    subst P1 (sym c.clear_range.ensures.bits) (subst P2 (sym c.clear.ensures.bits) (subst P3 (sym c.clear-2.ensures.bits)
-    (subst P4 (sym c.clear-3.ensures.bits) (taken_is_sound covered begins ends blocks (set blocks c.args.at false) r taken.0 (length-set blocks c.args.at false)
+    let P1 : List Bool → Type 0 = λ t. AreSoundTables t c.clear.new.self c.clear-2.new.self c.clear-3.new.self in
+    let P2 : List Bool → Type 0 = λ t. AreSoundTables (with_range covered c.args.at (c.args.at + c.args.words) false) t c.clear-2.new.self c.clear-3.new.self in
+    let P3 : List Bool → Type 0 = λ t. AreSoundTables (with_range covered c.args.at (c.args.at + c.args.words) false) (set begins c.args.at false) t c.clear-3.new.self in
+    let P4 : List Bool → Type 0 = λ t. AreSoundTables (with_range covered c.args.at (c.args.at + c.args.words) false) (set begins c.args.at false) (set ends (last_word r) false) t in
+    subst P1 (sym c.clear_range.ensures.state) (subst P2 (sym c.clear.ensures.state) (subst P3 (sym c.clear-2.ensures.state)
+    (subst P4 (sym c.clear-3.ensures.state) (taken_is_sound covered begins ends blocks (set blocks c.args.at false) r taken.0 (length-set blocks c.args.at false)
     (left_without_block covered begins ends blocks c.args.at c.self.invariant (omega (arith, fits, c.self.invariant.same_size.2)))))))
 
 pub returns-clause-state : goal.returns-clause-state
@@ -67,14 +67,14 @@ returns-clause-state c =
     let blocks = c.self.inside.blocks in
     let r : Run = record { from = c.args.at; count = c.args.words } in
     let taken = block_of covered begins ends blocks r c.args.self.now c.self.invariant c.self.view_is c.requires in
-    ap (λ (t : List Bool). lists_of t c.clear-2.new.self c.clear-3.new.self) c.clear.ensures.bits
-    ∙ ap (λ (t : List Bool). lists_of (set begins c.args.at false) t c.clear-3.new.self) c.clear-2.ensures.bits
-    ∙ ap (λ (t : List Bool). lists_of (set begins c.args.at false) (set ends (last_word r) false) t) c.clear-3.ensures.bits
+    ap (λ (t : List Bool). lists_of t c.clear-2.new.self c.clear-3.new.self) c.clear.ensures.state
+    ∙ ap (λ (t : List Bool). lists_of (set begins c.args.at false) t c.clear-3.new.self) c.clear-2.ensures.state
+    ∙ ap (λ (t : List Bool). lists_of (set begins c.args.at false) (set ends (last_word r) false) t) c.clear-3.ensures.state
     ∙ drop_lists covered begins ends blocks r taken.0 taken.1
     ∙ ap (λ (e : ExtentLists). record e { covered = without_run c.args.at e.covered; blocks = without_run c.args.at e.blocks }) c.self.view_is
 
-pub returns-clause-among : goal.returns-clause-among
-returns-clause-among c =
+pub returns-clause-was_covered : goal.returns-clause-was_covered
+returns-clause-was_covered c =
     let r : Run = record { from = c.args.at; count = c.args.words } in
     let P : ExtentLists → Type 0 = λ e. Contains e.covered r in
     subst P c.self.view_is (block_of c.self.inside.covered c.self.inside.begins c.self.inside.ends c.self.inside.blocks r c.args.self.now c.self.invariant c.self.view_is c.requires).0.there

@@ -1,5 +1,5 @@
 use Rattle.std.proofs.Common.{Bool, false, List, replicate, sym, ap, ◌∙◌, subst}
-use Rattle.mps_seg.specs.Inside.{lists_of, IsSound}
+use Rattle.mps_seg.specs.Inside.{lists_of, AreSoundTables}
 use Rattle.mps_seg.proofs.New.{new_is_sound, new_lists}
 use Rattle.mps_seg.proofs.extents.Extents.new.Goals as goal
 
@@ -7,10 +7,10 @@ pub invariant_of-result : goal.invariant_of-result
 invariant_of-result c =
     let n = c.args.size in
     let clear : List Bool = replicate n false in
-    let P1 : List Bool → Type 0 = λ t. IsSound t c.in_ok-new-2.field-0 c.in_ok-new-3.field-0 c.in_ok-new-4.field-0 in
-    let P2 : List Bool → Type 0 = λ t. IsSound clear t c.in_ok-new-3.field-0 c.in_ok-new-4.field-0 in
-    let P3 : List Bool → Type 0 = λ t. IsSound clear clear t c.in_ok-new-4.field-0 in
-    let P4 : List Bool → Type 0 = λ t. IsSound clear clear clear t in
+    let P1 : List Bool → Type 0 = λ t. AreSoundTables t c.in_ok-new-2.field-0 c.in_ok-new-3.field-0 c.in_ok-new-4.field-0 in
+    let P2 : List Bool → Type 0 = λ t. AreSoundTables clear t c.in_ok-new-3.field-0 c.in_ok-new-4.field-0 in
+    let P3 : List Bool → Type 0 = λ t. AreSoundTables clear clear t c.in_ok-new-4.field-0 in
+    let P4 : List Bool → Type 0 = λ t. AreSoundTables clear clear clear t in
     subst P1 (sym c.in_ok-new.ensures) (subst P2 (sym c.in_ok-new-2.ensures) (subst P3 (sym c.in_ok-new-3.ensures) (subst P4 (sym c.in_ok-new-4.ensures) (new_is_sound n c.requires))))
 
 pub returns : goal.returns

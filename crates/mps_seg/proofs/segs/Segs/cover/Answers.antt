@@ -18,7 +18,7 @@ index-requires c =
     let grain = c.args.at.0 / 4096 in
     let r : Run = record { from = c.args.at.0 / 8; count = c.args.words } in
     let can = subst (λ (s : SegsState). CanCover s r) (sym c.self.view_is) c.requires.free in
-    let home = home_of_put arena table extents firsts counts grain r c.self.invariant.0 c.self.invariant.1 can.inside c.requires.some (omega arith) (omega arith) in
+    let home = home_of_put arena table extents firsts counts grain r c.self.invariant.0 c.self.invariant.1 can.inside c.requires.nonzero (omega arith) (omega arith) in
     omega (arith, home.grain_within, c.self.invariant.1.firsts_size, c.self.inside.firsts.ok.0)
 
 pub index_mut-requires : goal.index_mut-requires
@@ -31,7 +31,7 @@ index_mut-requires c =
     let grain = c.args.at.0 / 4096 in
     let r : Run = record { from = c.args.at.0 / 8; count = c.args.words } in
     let can = subst (λ (s : SegsState). CanCover s r) (sym c.self.view_is) c.requires.free in
-    let home = home_of_put arena table extents firsts counts grain r c.self.invariant.0 c.self.invariant.1 can.inside c.requires.some (omega arith) (omega arith) in
+    let home = home_of_put arena table extents firsts counts grain r c.self.invariant.0 c.self.invariant.1 can.inside c.requires.nonzero (omega arith) (omega arith) in
     let first : c.index.result.now ≡ get_or firsts grain 0 = get_or_read firsts grain c.index.result.now (omega (arith, home.grain_within, c.self.invariant.1.firsts_size)) c.index.ensures 0 in
     omega (arith, first, home.first, home.first_within, c.self.invariant.1.counts_size, c.self.inside.counts.ok.0)
 
@@ -45,14 +45,14 @@ overflow_add-index_mut c =
     let grain = c.args.at.0 / 4096 in
     let r : Run = record { from = c.args.at.0 / 8; count = c.args.words } in
     let can = subst (λ (s : SegsState). CanCover s r) (sym c.self.view_is) c.requires.free in
-    let home = home_of_put arena table extents firsts counts grain r c.self.invariant.0 c.self.invariant.1 can.inside c.requires.some (omega arith) (omega arith) in
+    let home = home_of_put arena table extents firsts counts grain r c.self.invariant.0 c.self.invariant.1 can.inside c.requires.nonzero (omega arith) (omega arith) in
     let first : c.index.result.now ≡ get_or firsts grain 0 = get_or_read firsts grain c.index.result.now (omega (arith, home.grain_within, c.self.invariant.1.firsts_size)) c.index.ensures 0 in
     let within : c.index.result.now < length counts = omega (arith, first, home.first, home.first_within, c.self.invariant.1.counts_size) in
     let was : c.index_mut.result.now ≡ get_or counts (get_or firsts grain 0) 0 =
     get_or_read counts c.index.result.now c.index_mut.result.now within c.index_mut.ensures.value 0 ∙ ap (λ (k : ℕ). get_or counts k 0) first
     in
     let P : ℕ → Type 0 = λ size. IsAscending 0 size (with_run r extents.covered) in
-    let after = held_after_cover arena table extents r extents.blocks (with_run r extents.reservations) c.self.invariant.0 c.requires.some (subst P (sym c.self.invariant.0.covered_size) can.free) can.inside in
+    let after = held_after_cover arena table extents r extents.blocks (with_run r extents.reservations) c.self.invariant.0 c.requires.nonzero (subst P (sym c.self.invariant.0.covered_size) can.free) can.inside in
     omega (arith, was, room_to_count arena table extents firsts counts grain r extents.blocks (with_run r extents.reservations) c.self.invariant.1 after home)
 
 pub invariant_of-self : goal.invariant_of-self
@@ -65,14 +65,14 @@ invariant_of-self c =
     let grain = c.args.at.0 / 4096 in
     let r : Run = record { from = c.args.at.0 / 8; count = c.args.words } in
     let can = subst (λ (s : SegsState). CanCover s r) (sym c.self.view_is) c.requires.free in
-    let home = home_of_put arena table extents firsts counts grain r c.self.invariant.0 c.self.invariant.1 can.inside c.requires.some (omega arith) (omega arith) in
+    let home = home_of_put arena table extents firsts counts grain r c.self.invariant.0 c.self.invariant.1 can.inside c.requires.nonzero (omega arith) (omega arith) in
     let first : c.index.result.now ≡ get_or firsts grain 0 = get_or_read firsts grain c.index.result.now (omega (arith, home.grain_within, c.self.invariant.1.firsts_size)) c.index.ensures 0 in
     let within : c.index.result.now < length counts = omega (arith, first, home.first, home.first_within, c.self.invariant.1.counts_size) in
     let was : c.index_mut.result.now ≡ get_or counts (get_or firsts grain 0) 0 =
     get_or_read counts c.index.result.now c.index_mut.result.now within c.index_mut.ensures.value 0 ∙ ap (λ (k : ℕ). get_or counts k 0) first
     in
     let P : ℕ → Type 0 = λ size. IsAscending 0 size (with_run r extents.covered) in
-    let after = held_after_cover arena table extents r extents.blocks (with_run r extents.reservations) c.self.invariant.0 c.requires.some (subst P (sym c.self.invariant.0.covered_size) can.free) can.inside in
+    let after = held_after_cover arena table extents r extents.blocks (with_run r extents.reservations) c.self.invariant.0 c.requires.nonzero (subst P (sym c.self.invariant.0.covered_size) can.free) can.inside in
     let Q : ExtentLists → Type 0 = λ e. IsHeld arena table e in
     let R : ExtentLists → Type 0 = λ e. IsCounted arena.held (arena.grains + 1) firsts (set counts c.index.result.now (c.index_mut.result.now + c.args.words)) e.covered in
     let S : ℕ → Type 0 = λ k. IsCounted arena.held (arena.grains + 1) firsts (set counts k (c.index_mut.result.now + c.args.words)) (with_run r extents.covered) in

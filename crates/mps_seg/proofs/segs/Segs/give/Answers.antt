@@ -3,13 +3,13 @@ use Rattle.std.proofs.lemmas.List.{get_or_read, with_items_is}
 use Rattle.std.specs.Vec.{with_items}
 use Rattle.mps_base.specs.Run.{Run, without_run}
 use Rattle.mps_base.proofs.Runs.{contained_bounds}
-use Rattle.mps_arena.specs.Arena.{ArenaState}
+use Rattle.mps_arena.specs.Arena.{ArenaMemory}
 use Rattle.mps_seg.specs.declared.entry.Entry.TheVariants.{Free, First}
-use Rattle.mps_seg.specs.Segment.{Segment, without_segment}
 use Rattle.mps_seg.specs.Segs.{SegsState, IsEmptyAt}
 use Rattle.mps_seg.specs.Table.{segments_in, segs_state, IsHeld, IsCounted}
 use Rattle.mps_seg.proofs.Held.{GivesAt, gives_at, entry_is_held, held_after_giving, segments_after_give}
 use Rattle.mps_seg.proofs.Counts.{Noted, counted_after_giving}
+use Rattle.mps_base.specs.Segment.{Segment, without_segment}
 use Rattle.mps_seg.proofs.segs.Segs.give.Goals as goal
 
 pub index-requires : goal.index-requires
@@ -132,11 +132,11 @@ invariant_of-self c =
     let now = with_items_is c.self.inside.firsts c.note_first.new.firsts (omega (arith, c.note_first.auto.firsts, c.deref_mut.ensures.len)) in
     let noted : Noted c.self.inside.firsts.items c.note_first.new.firsts r 0 = record {
       size = c.note_first.ensures.size ∙ ap (λ (fs : List ℕ). length fs) c.deref_mut.ensures.value;
-      inside = c.note_first.ensures.inside;
-      outside = λ g out. c.note_first.ensures.outside g out ∙ ap (λ (fs : List ℕ). get_or fs g 0) c.deref_mut.ensures.value;
+      inside = c.note_first.ensures.written;
+      outside = λ g out. c.note_first.ensures.unchanged g out ∙ ap (λ (fs : List ℕ). get_or fs g 0) c.deref_mut.ensures.value;
     } in
-    let A : ArenaState → Type 0 = λ a. IsHeld a (set table grain Free) extents in
-    let C : ArenaState → Type 0 = λ a. IsCounted a.held (a.grains + 1) (with_items c.self.inside.firsts c.note_first.new.firsts).items c.self.inside.counts.items extents.covered in
+    let A : ArenaMemory → Type 0 = λ a. IsHeld a (set table grain Free) extents in
+    let C : ArenaMemory → Type 0 = λ a. IsCounted a.held (a.grains + 1) (with_items c.self.inside.firsts c.note_first.new.firsts).items c.self.inside.counts.items extents.covered in
     let D : List ℕ → Type 0 = λ fs. IsCounted (without_run grain arena.held) (arena.grains + 1) fs c.self.inside.counts.items extents.covered in (
       subst A (sym c.give_run.ensures)
           (held_after_giving arena table extents grain s.grains s.pool s.generation s.rank c.self.invariant.0 gives.is gives.empty),
@@ -156,7 +156,7 @@ returns-clause-state c =
     let there = subst P (sym c.self.view_is) c.requires.empty.1 in
     let none = subst Q (sym c.self.view_is) c.requires.empty.2 in
     let gives : GivesAt arena table extents c.args.base.0 s = gives_at arena table extents c.args.base.0 s there none.begins none.empty in
-    ap (λ (a : ArenaState). segs_state a (set table grain Free) extents) c.give_run.ensures
+    ap (λ (a : ArenaMemory). segs_state a (set table grain Free) extents) c.give_run.ensures
     ∙ ap (λ (ss : List Segment). record (segs_state arena table extents) { segments = ss })
     (segments_after_give table grain s.grains s.pool s.generation s.rank gives.is ∙ ap (λ (b : ℕ). without_segment (segments_in table) b) (sym gives.aligned))
     ∙ ap (λ (st : SegsState). record st { segments = without_segment st.segments c.args.base.0 }) c.self.view_is

@@ -1,11 +1,10 @@
 use Rattle.std.proofs.Common.{◌/◌, ◌≡◌, eqb, List, [], get_or, Contains, sym, ap, ◌∙◌, subst, arith}
 use Rattle.std.proofs.lemmas.Bool.{both_ways, eq-eqb, eqb-true}
 use Rattle.std.proofs.lemmas.List.{get_or_read}
-use Rattle.mps_base.specs.Run.{Run, total}
-use Rattle.mps_seg.specs.Extents.{runs_within}
-use Rattle.mps_seg.specs.Segment.{end_of_segment}
+use Rattle.mps_base.specs.Run.{Run, total, runs_within}
 use Rattle.mps_seg.specs.Segs.{SegsState, IsEmptyAt}
 use Rattle.mps_seg.proofs.Counts.{counted_at}
+use Rattle.mps_base.specs.Segment.{end_of_segment}
 use Rattle.mps_seg.proofs.segs.Segs.is_empty.Goals as goal
 
 pub index-requires : goal.index-requires
@@ -18,8 +17,8 @@ index-requires c =
     let at = counted_at arena table extents c.self.inside.firsts.items counts c.args.base.0 c.requires.0 c.self.invariant.0 c.self.invariant.1 (subst P (sym c.self.view_is) c.requires.1) c.requires.2 in
     omega (arith, at.within, c.self.inside.counts.ok.0)
 
-pub returns-clause-empty : goal.returns-clause-empty
-returns-clause-empty c =
+pub returns-clause-sound : goal.returns-clause-sound
+returns-clause-sound c =
     λ s listed begins is.
     let arena = c.self.inside.arena in
     let table = c.self.inside.table.items in
@@ -32,8 +31,8 @@ returns-clause-empty c =
     let Q : SegsState → Type 0 = λ st. IsEmptyAt st c.args.base.0 s in
     subst Q c.self.view_is (record { begins = begins; empty = at.empty (sym read ∙ zero) })
 
-pub returns-clause-used : goal.returns-clause-used
-returns-clause-used c =
+pub returns-clause-complete : goal.returns-clause-complete
+returns-clause-complete c =
     λ s listed begins is none.
     let arena = c.self.inside.arena in
     let table = c.self.inside.table.items in

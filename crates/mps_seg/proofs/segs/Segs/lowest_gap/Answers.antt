@@ -3,10 +3,11 @@ use Rattle.std.proofs.lemmas.List.{drop_all, get_or_read}
 use Rattle.mps_base.specs.Run.{Run, lowest_fitting}
 use Rattle.mps_seg.specs.declared.entry.Entry.{Entry}
 use Rattle.mps_seg.specs.declared.entry.Entry.TheVariants.{Free}
-use Rattle.mps_seg.specs.Segs.{SegsState, gaps_of, at_word, CanCover}
+use Rattle.mps_seg.specs.Segs.{SegsState, at_word, CanCover}
 use Rattle.mps_seg.specs.Table.{segs_state, gaps_at, IsWholeAt, IsCountAt}
 use Rattle.mps_seg.proofs.Held.{later_gaps, all_gaps, no_gaps, gaps_more, whole_at, lowest_in_first, lowest_after, gap_at_is_free}
 use Rattle.mps_seg.proofs.Counts.{count_at}
+use Rattle.mps_base.specs.Segment.{gaps_of}
 use Rattle.mps_seg.proofs.segs.Segs.lowest_gap.Goals as goal
 
 pub gap_after-requires-clause-whole : goal.gap_after-requires-clause-whole
@@ -14,24 +15,23 @@ gap_after-requires-clause-whole c =
     let P : List Entry → Type 0 = λ es. IsWholeAt c.loop-grain.grain (get_or es c.loop-grain.grain Free) c.self.inside.extents in
     subst P (sym c.deref-entry-items.ensures.value) (whole_at c.self.inside.arena c.self.inside.table.items c.self.inside.extents c.loop-grain.grain (get_or c.self.inside.table.items c.loop-grain.grain Free) c.self.invariant.0 refl)
 
-pub returns-in-Some-clause-lowest : goal.returns-in-Some-clause-lowest
-returns-in-Some-clause-lowest c =
+pub returns-in-Some-clause-value : goal.returns-in-Some-clause-value
+returns-in-Some-clause-value c =
     let arena = c.self.inside.arena in
     let table = c.self.inside.table.items in
     let extents = c.self.inside.extents in
-    let st = segs_state arena table extents in
     let grain = c.loop-grain.grain in
     let P : List Entry → Type 0 = λ es. grain < length es in
     let within = subst P c.deref-entry-items.ensures.value c.loop-grain-test.true in
     let Q : List Entry → Type 0 = λ es. Some c.in-Some.word ≡ lowest_fitting c.args.words (gaps_at grain (get_or es grain Free) c.args.pool c.args.rank extents) in
-    let here = subst Q c.deref-entry-items.ensures.value c.in-Some.ensures.lowest in
+    let here = subst Q c.deref-entry-items.ensures.value c.in-Some.ensures.value in
     let found =
-    lowest_in_first c.args.words c.in-Some.word (gaps_at grain (get_or table grain Free) c.args.pool c.args.rank extents) (later_gaps st c.args.pool c.args.rank (suc grain) (drop (suc grain) table)) (sym here)
+    lowest_in_first c.args.words c.in-Some.word (gaps_at grain (get_or table grain Free) c.args.pool c.args.rank extents) (later_gaps extents.covered c.args.pool c.args.rank (suc grain) (drop (suc grain) table)) (sym here)
     in
     ap (λ (o : Option ℕ). option_map at_word o)
-    (sym found ∙ ap (λ (rs : List Run). lowest_fitting c.args.words rs) (sym (gaps_more arena table extents c.args.pool c.args.rank grain within))
-    ∙ c.loop-grain.invariant ∙ ap (λ (rs : List Run). lowest_fitting c.args.words rs) (all_gaps arena table extents c.args.pool c.args.rank))
-    ∙ ap (λ (x : SegsState). option_map at_word (lowest_fitting c.args.words (gaps_of x c.args.pool c.args.rank))) c.self.view_is
+    (sym found ∙ ap (λ (rs : List Run). lowest_fitting c.args.words rs) (sym (gaps_more extents table c.args.pool c.args.rank grain within))
+    ∙ c.loop-grain.invariant ∙ ap (λ (rs : List Run). lowest_fitting c.args.words rs) (all_gaps extents.covered table c.args.pool c.args.rank))
+    ∙ ap (λ (x : SegsState). option_map at_word (lowest_fitting c.args.words (gaps_of x.covered x.segments c.args.pool c.args.rank))) c.self.view_is
 
 pub returns-in-Some-clause-free : goal.returns-in-Some-clause-free
 returns-in-Some-clause-free c =
@@ -40,7 +40,7 @@ returns-in-Some-clause-free c =
     let extents = c.self.inside.extents in
     let grain = c.loop-grain.grain in
     let Q : List Entry → Type 0 = λ es. Some c.in-Some.word ≡ lowest_fitting c.args.words (gaps_at grain (get_or es grain Free) c.args.pool c.args.rank extents) in
-    let here = subst Q c.deref-entry-items.ensures.value c.in-Some.ensures.lowest in
+    let here = subst Q c.deref-entry-items.ensures.value c.in-Some.ensures.value in
     let place : 8 * c.in-Some.word / 8 ≡ c.in-Some.word = omega arith in
     let P : ℕ → Type 0 = λ w. CanCover (segs_state arena table extents) (record { from = w; count = c.args.words }) in
     let R : SegsState → Type 0 = λ st. CanCover st (record { from = 8 * c.in-Some.word / 8; count = c.args.words }) in
@@ -52,33 +52,31 @@ loop-grain-preserved c =
     let arena = c.self.inside.arena in
     let table = c.self.inside.table.items in
     let extents = c.self.inside.extents in
-    let st = segs_state arena table extents in
     let grain = c.loop-grain.grain in
     let P : List Entry → Type 0 = λ es. grain < length es in
     let within = subst P c.deref-entry-items.ensures.value c.loop-grain-test.true in
     let Q : List Entry → Type 0 = λ es. None ≡ lowest_fitting c.args.words (gaps_at grain (get_or es grain Free) c.args.pool c.args.rank extents) in
-    let here = subst Q c.deref-entry-items.ensures.value c.in_default.ensures.lowest in
-    let R : ℕ → Type 0 = λ k. lowest_fitting c.args.words (later_gaps st c.args.pool c.args.rank k (drop k table)) ≡ lowest_fitting c.args.words (later_gaps st c.args.pool c.args.rank 0 table) in
+    let here = subst Q c.deref-entry-items.ensures.value c.in_default.ensures.value in
+    let R : ℕ → Type 0 = λ k. lowest_fitting c.args.words (later_gaps extents.covered c.args.pool c.args.rank k (drop k table)) ≡ lowest_fitting c.args.words (later_gaps extents.covered c.args.pool c.args.rank 0 table) in
     subst R (sym (add-one grain))
-    (sym (lowest_after c.args.words (gaps_at grain (get_or table grain Free) c.args.pool c.args.rank extents) (later_gaps st c.args.pool c.args.rank (suc grain) (drop (suc grain) table)) (sym here))
-    ∙ ap (λ (rs : List Run). lowest_fitting c.args.words rs) (sym (gaps_more arena table extents c.args.pool c.args.rank grain within)) ∙ c.loop-grain.invariant)
+    (sym (lowest_after c.args.words (gaps_at grain (get_or table grain Free) c.args.pool c.args.rank extents) (later_gaps extents.covered c.args.pool c.args.rank (suc grain) (drop (suc grain) table)) (sym here))
+    ∙ ap (λ (rs : List Run). lowest_fitting c.args.words rs) (sym (gaps_more extents table c.args.pool c.args.rank grain within)) ∙ c.loop-grain.invariant)
 
-pub returns-clause-lowest : goal.returns-clause-lowest
-returns-clause-lowest c =
+pub returns-clause-value : goal.returns-clause-value
+returns-clause-value c =
     let arena = c.self.inside.arena in
     let table = c.self.inside.table.items in
     let extents = c.self.inside.extents in
-    let st = segs_state arena table extents in
     let grain = c.loop-grain.grain in
     let P : List Entry → Type 0 = λ es. length es ≤ grain in
     let past = subst P c.deref-entry-items.ensures.value c.loop-grain-test.false in
-    let none : later_gaps st c.args.pool c.args.rank grain (drop grain table) ≡ [] =
-    ap (λ (es : List Entry). later_gaps st c.args.pool c.args.rank grain es) (drop_all grain table past) ∙ no_gaps st c.args.pool c.args.rank grain
+    let none : later_gaps extents.covered c.args.pool c.args.rank grain (drop grain table) ≡ [] =
+    ap (λ (es : List Entry). later_gaps extents.covered c.args.pool c.args.rank grain es) (drop_all grain table past) ∙ no_gaps extents.covered c.args.pool c.args.rank grain
     in
     ap (λ (o : Option ℕ). option_map at_word o)
     (sym (ap (λ (rs : List Run). lowest_fitting c.args.words rs) none)
-    ∙ c.loop-grain.invariant ∙ ap (λ (rs : List Run). lowest_fitting c.args.words rs) (all_gaps arena table extents c.args.pool c.args.rank))
-    ∙ ap (λ (x : SegsState). option_map at_word (lowest_fitting c.args.words (gaps_of x c.args.pool c.args.rank))) c.self.view_is
+    ∙ c.loop-grain.invariant ∙ ap (λ (rs : List Run). lowest_fitting c.args.words rs) (all_gaps extents.covered table c.args.pool c.args.rank))
+    ∙ ap (λ (x : SegsState). option_map at_word (lowest_fitting c.args.words (gaps_of x.covered x.segments c.args.pool c.args.rank))) c.self.view_is
 
 pub gap_after-requires-clause-counted : goal.gap_after-requires-clause-counted
 gap_after-requires-clause-counted c =

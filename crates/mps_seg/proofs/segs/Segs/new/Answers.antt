@@ -1,36 +1,36 @@
 use Rattle.std.proofs.Common.{ℕ, ◌+◌, ◌≡◌, List, [], replicate, sym, ap, ◌∙◌, subst}
-use Rattle.mps_arena.specs.Arena.{ArenaState, new_arena}
+use Rattle.mps_arena.specs.Arena.{ArenaMemory, new_arena}
 use Rattle.mps_seg.specs.declared.entry.Entry.{Entry}
 use Rattle.mps_seg.specs.declared.entry.Entry.TheVariants.{Free}
 use Rattle.mps_seg.specs.Extents.{ExtentLists}
-use Rattle.mps_seg.specs.Segment.{Segment}
 use Rattle.mps_seg.specs.Segs.{new_segments}
 use Rattle.mps_seg.specs.Table.{segs_state, IsHeld, IsCounted}
 use Rattle.mps_seg.proofs.Held.{new_is_held, new_segments_in}
 use Rattle.mps_seg.proofs.Counts.{new_is_counted}
+use Rattle.mps_base.specs.Segment.{Segment}
 use Rattle.mps_seg.proofs.segs.Segs.new.Goals as goal
 
 pub invariant_of-result : goal.invariant_of-result
 invariant_of-result c =
     let entries : c.in_ok-vec.field-0.items ≡ replicate (c.args.grains + 1) Free = c.in_ok-vec.ensures.items_if_clones_equal (λ y h. h) in
-    let P : ArenaState → Type 0 = λ a. IsHeld a c.in_ok-vec.field-0.items c.in_ok-new-2.field-0 in
+    let P : ArenaMemory → Type 0 = λ a. IsHeld a c.in_ok-vec.field-0.items c.in_ok-new-2.field-0 in
     let Q : List Entry → Type 0 = λ t. IsHeld (new_arena c.args.grains c.args.limit) t c.in_ok-new-2.field-0 in
     let R : ExtentLists → Type 0 = λ e. IsHeld (new_arena c.args.grains c.args.limit) (replicate (c.args.grains + 1) Free) e in
     let n = c.args.grains + 1 in
     let firsts : c.in_ok-vec-2.field-0.items ≡ replicate n 0 = c.in_ok-vec-2.ensures.items_if_clones_equal (λ y h. h) in
     let counts : c.in_ok-vec-3.field-0.items ≡ replicate n 0 = c.in_ok-vec-3.ensures.items_if_clones_equal (λ y h. h) in
-    let C : ArenaState → Type 0 = λ a. IsCounted a.held (a.grains + 1) c.in_ok-vec-2.field-0.items c.in_ok-vec-3.field-0.items c.in_ok-new-2.field-0.covered in
+    let C : ArenaMemory → Type 0 = λ a. IsCounted a.held (a.grains + 1) c.in_ok-vec-2.field-0.items c.in_ok-vec-3.field-0.items c.in_ok-new-2.field-0.covered in
     let D : ExtentLists → Type 0 = λ e. IsCounted [] n c.in_ok-vec-2.field-0.items c.in_ok-vec-3.field-0.items e.covered in
     let E : List ℕ → Type 0 = λ fs. IsCounted [] n fs c.in_ok-vec-3.field-0.items [] in
     let F : List ℕ → Type 0 = λ cs. IsCounted [] n (replicate n 0) cs [] in (
-      subst P (sym c.in_ok-new.ensures) (subst Q (sym entries) (subst R (sym c.in_ok-new-2.ensures) (new_is_held c.args.grains c.args.limit c.requires.few))),
+      subst P (sym c.in_ok-new.ensures) (subst Q (sym entries) (subst R (sym c.in_ok-new-2.ensures) (new_is_held c.args.grains c.args.limit c.requires.at_most))),
       subst C (sym c.in_ok-new.ensures) (subst D (sym c.in_ok-new-2.ensures) (subst E (sym firsts) (subst F (sym counts) (new_is_counted n)))),
     )
 
 pub returns : goal.returns
 returns c =
     let entries : c.in_ok-vec.field-0.items ≡ replicate (c.args.grains + 1) Free = c.in_ok-vec.ensures.items_if_clones_equal (λ y h. h) in
-    ap (λ (a : ArenaState). segs_state a c.in_ok-vec.field-0.items c.in_ok-new-2.field-0) c.in_ok-new.ensures
+    ap (λ (a : ArenaMemory). segs_state a c.in_ok-vec.field-0.items c.in_ok-new-2.field-0) c.in_ok-new.ensures
     ∙ ap (λ (t : List Entry). segs_state (new_arena c.args.grains c.args.limit) t c.in_ok-new-2.field-0) entries
     ∙ ap (λ (e : ExtentLists). segs_state (new_arena c.args.grains c.args.limit) (replicate (c.args.grains + 1) Free) e) c.in_ok-new-2.ensures
     ∙ ap (λ (ss : List Segment). record (new_segments c.args.grains c.args.limit) { segments = ss }) (new_segments_in (c.args.grains + 1))

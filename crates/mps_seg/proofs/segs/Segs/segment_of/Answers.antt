@@ -1,8 +1,8 @@
 use Rattle.std.proofs.Common.{ℕ, ◌+◌, ◌/◌, ◌<◌, ◌≡◌, Option, Some, None, option_map, length, get_or, sym, ap, ◌∙◌, arith}
 use Rattle.std.proofs.lemmas.List.{get_or_read}
-use Rattle.mps_seg.specs.Segment.{segment_over}
-use Rattle.mps_seg.specs.Segs.{SegsState, at_byte}
+use Rattle.mps_seg.specs.Segs.{SegsState, base_of}
 use Rattle.mps_seg.proofs.Counts.{segment_over_is, no_run_past, run_from_first}
+use Rattle.mps_base.specs.Segment.{segment_over}
 use Rattle.mps_seg.proofs.segs.Segs.segment_of.Goals as goal
 
 pub returns-then-grain-len : goal.returns-then-grain-len
@@ -12,8 +12,8 @@ returns-then-grain-len c =
     let extents = c.self.inside.extents in
     let grain = c.args.at.0 / 4096 in
     let none = no_run_past (arena.grains + 1) arena.held grain c.self.invariant.0.ascending (omega (arith, c.if-grain-len.true, c.len.ensures, c.self.inside.firsts.ok.0, c.self.invariant.1.firsts_size)) in
-    ap (λ (o : Option ℕ). option_map at_byte o) (sym (segment_over_is arena table extents c.args.at.0 None c.self.invariant.0 none))
-    ∙ ap (λ (st : SegsState). option_map at_byte (segment_over st.segments c.args.at.0)) c.self.view_is
+    sym (segment_over_is arena table extents c.args.at.0 None c.self.invariant.0 none)
+    ∙ ap (λ (st : SegsState). option_map base_of (segment_over st.segments c.args.at.0)) c.self.view_is
 
 pub returns-then-first-eq0 : goal.returns-then-first-eq0
 returns-then-first-eq0 c =
@@ -25,8 +25,8 @@ returns-then-first-eq0 c =
     let read : c.index-first.result.now ≡ get_or c.self.inside.firsts.items grain 0 = get_or_read c.self.inside.firsts.items grain c.index-first.result.now within c.index-first.ensures 0 in
     let first = read ∙ c.self.invariant.1.firsts_are grain (omega (arith, within, c.self.invariant.1.firsts_size)) in
     let over = run_from_first (arena.grains + 1) arena.held grain c.index-first.result.now c.self.invariant.0.ascending first in
-    ap (λ (o : Option ℕ). option_map at_byte o) (sym (segment_over_is arena table extents c.args.at.0 None c.self.invariant.0 (over.0 c.if-first-eq0.true)))
-    ∙ ap (λ (st : SegsState). option_map at_byte (segment_over st.segments c.args.at.0)) c.self.view_is
+    sym (segment_over_is arena table extents c.args.at.0 None c.self.invariant.0 (over.0 c.if-first-eq0.true))
+    ∙ ap (λ (st : SegsState). option_map base_of (segment_over st.segments c.args.at.0)) c.self.view_is
 
 pub returns-else-first-eq0 : goal.returns-else-first-eq0
 returns-else-first-eq0 c =
@@ -38,5 +38,5 @@ returns-else-first-eq0 c =
     let read : c.index-first.result.now ≡ get_or c.self.inside.firsts.items grain 0 = get_or_read c.self.inside.firsts.items grain c.index-first.result.now within c.index-first.ensures 0 in
     let first = read ∙ c.self.invariant.1.firsts_are grain (omega (arith, within, c.self.invariant.1.firsts_size)) in
     let over = run_from_first (arena.grains + 1) arena.held grain c.index-first.result.now c.self.invariant.0.ascending first in
-    ap (λ (o : Option ℕ). option_map at_byte o) (sym (segment_over_is arena table extents c.args.at.0 (Some c.index-first.result.now) c.self.invariant.0 (over.1 c.if-first-eq0.false)))
-    ∙ ap (λ (st : SegsState). option_map at_byte (segment_over st.segments c.args.at.0)) c.self.view_is
+    sym (segment_over_is arena table extents c.args.at.0 (Some c.index-first.result.now) c.self.invariant.0 (over.1 c.if-first-eq0.false))
+    ∙ ap (λ (st : SegsState). option_map base_of (segment_over st.segments c.args.at.0)) c.self.view_is

@@ -2,10 +2,10 @@ use Rattle.std.proofs.Common.{ℕ, ◌+◌, ◌*◌, ◌/◌, ◌≡◌, Option,
 use Rattle.std.proofs.lemmas.List.{get_or_read}
 use Rattle.mps_seg.specs.declared.entry.Entry.TheVariants.{Free, First}
 use Rattle.mps_seg.specs.Extents.{first_run}
-use Rattle.mps_seg.specs.Segment.{end_of_segment}
 use Rattle.mps_seg.specs.Segs.{SegsState, at_word}
 use Rattle.mps_seg.proofs.Held.{SegmentAt, segment_at, segment_end_fits}
 use Rattle.mps_seg.proofs.Query.{first_run-below}
+use Rattle.mps_base.specs.Segment.{end_of_segment}
 use Rattle.mps_seg.proofs.segs.Segs.walk.Goals as goal
 
 pub index-requires : goal.index-requires
@@ -82,7 +82,7 @@ overflow_mul-result c =
     let both : First c.in-First.grains c.in-First.pool c.in-First.generation c.in-First.rank ≡ First s.grains s.pool s.generation s.rank = sym c.in-First.is ∙ read in
     let grains : c.in-First.grains ≡ s.grains = cc in
     let below = first_run-below (c.args.from.0 / 8) (512 * (grain + c.in-First.grains)) extents.blocks c.in_ok-word.word (sym c.first_block.ensures ∙ c.in_ok-word.was) in
-    omega (arith, below, grains, segment_end_fits arena table extents grain s.grains s.pool s.generation s.rank c.self.invariant.0 at.is, c.self.invariant.0.few, c.self.invariant.0.covered_size)
+    omega (arith, below, grains, segment_end_fits arena table extents grain s.grains s.pool s.generation s.rank c.self.invariant.0 at.is, c.self.invariant.0.at_most, c.self.invariant.0.covered_size)
 
 pub returns : goal.returns
 returns c =

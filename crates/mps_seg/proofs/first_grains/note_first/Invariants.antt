@@ -1,5 +1,5 @@
 use Rattle.std.proofs.Common.{ℕ, ◌≡◌, ◌<◌, ◌≤◌, ◌⊎◌, length, get_or}
-use Rattle.mps_seg.proofs.places.note_first.Given as goal
+use Rattle.mps_seg.proofs.first_grains.note_first.Given as goal
 
 abbrev pub invariant-loop-at : goal.invariant-loop-at
 invariant-loop-at l = record {

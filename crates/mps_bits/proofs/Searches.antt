@@ -1,30 +1,30 @@
--- The lowest and the highest place that passes a test.
+-- The lowest and the highest index that passes a test.
 use Rattle.std.proofs.Common.{ℕ, zero, suc, ◌+◌, ◌<◌, ◌≤◌, ◌≡◌, Bool, true, false, Some, None, refl, ap, ◌∙◌, inl, inr, arith}
 use Rattle.std.proofs.lemmas.Bool.{cases_lt, cases_Bool, cond-true, cond-false}
 use Rattle.mps_bits.specs.Table.{lowest_from, highest_below}
 
--- what it is to be the lowest place from `from` on that passes a test
-pub record IsLowest (p : ℕ → Bool) (from n place : ℕ) : Type 0 where
-  pub above : from ≤ place
-  pub below : place < from + n
-  pub passes : p place ≡ true
-  pub lower : (i : ℕ) → from ≤ i → i < place → p i ≡ false
+-- what it is to be the lowest index from `from` on that passes a test
+pub record IsLowest (p : ℕ → Bool) (from n index : ℕ) : Type 0 where
+  pub above : from ≤ index
+  pub below : index < from + n
+  pub passes : p index ≡ true
+  pub lower : (i : ℕ) → from ≤ i → i < index → p i ≡ false
 
-pub lowest_from_is : (p : ℕ → Bool) (from n place : ℕ) → IsLowest p from n place → lowest_from p from n ≡ Some place
+pub lowest_from_is : (p : ℕ → Bool) (from n index : ℕ) → IsLowest p from n index → lowest_from p from n ≡ Some index
 unfolding lowest_from
-lowest_from_is p from zero place is = absurd (omega (arith, is.above, is.below))
-lowest_from_is p from (suc n) place is =
-    elim (cases_lt from place) [
+lowest_from_is p from zero index is = absurd (omega (arith, is.above, is.below))
+lowest_from_is p from (suc n) index is =
+    elim (cases_lt from index) [
       | inl later ↦
           cond-false (p from) (Some from) (lowest_from p (suc from) n) (is.lower from (omega arith) later)
-          ∙ lowest_from_is p (suc from) n place (record {
+          ∙ lowest_from_is p (suc from) n index (record {
             above = omega arith;
             below = omega (arith, is.below);
             passes = is.passes;
             lower = λ i above below. is.lower i (omega arith) below;
           })
       | inr here ↦
-          let same : from ≡ place = omega (arith, is.above) in
+          let same : from ≡ index = omega (arith, is.above) in
           cond-true (p from) (Some from) (lowest_from p (suc from) n) (ap p same ∙ is.passes) ∙ ap (λ (i : ℕ). Some i) same
     ]
 
@@ -35,9 +35,9 @@ lowest_from_none p from (suc n) none =
     cond-false (p from) (Some from) (lowest_from p (suc from) n) (none from (omega arith) (omega arith))
     ∙ lowest_from_none p (suc from) n (λ i above below. none i (omega arith) (omega arith))
 
--- a test that fails at each place, or the lowest place that passes it
+-- a test that fails at each index, or the lowest index that passes it
 pub data Lowest (p : ℕ → Bool) (from n : ℕ) : Type 0 where
-  found : (place : ℕ) → lowest_from p from n ≡ Some place → IsLowest p from n place → Lowest p from n
+  found : (index : ℕ) → lowest_from p from n ≡ Some index → IsLowest p from n index → Lowest p from n
   missing : lowest_from p from n ≡ None → ((i : ℕ) → from ≤ i → i < from + n → p i ≡ false) → Lowest p from n
 
 pub lowest_cases : (p : ℕ → Bool) (from n : ℕ) → Lowest p from n
@@ -50,8 +50,8 @@ lowest_cases p from (suc n) =
           in
           found from (lowest_from_is p from (suc n) from is) is
       | inr fails ↦ elim (lowest_cases p (suc from) n) [
-        | found place is_some is ↦
-            let here : IsLowest p from (suc n) place = record {
+        | found index is_some is ↦
+            let here : IsLowest p from (suc n) index = record {
               above = omega (arith, is.above);
               below = omega (arith, is.below);
               passes = is.passes;
@@ -60,7 +60,7 @@ lowest_cases p from (suc n) =
                 | inr first ↦ let same : i ≡ from = omega arith in ap p same ∙ fails
               ];
             } in
-            found place (lowest_from_is p from (suc n) place here) here
+            found index (lowest_from_is p from (suc n) index here) here
         | missing is_none none ↦
             let here : (i : ℕ) → from ≤ i → i < from + suc n → p i ≡ false = λ i above below. elim (cases_lt from i) [
               | inl after ↦ none i (omega arith) (omega arith)
@@ -70,22 +70,22 @@ lowest_cases p from (suc n) =
       ]
     ]
 
--- what it is to be the highest of the `n` lowest places that passes a test
-pub record IsHighest (p : ℕ → Bool) (n place : ℕ) : Type 0 where
-  pub below : place < n
-  pub passes : p place ≡ true
-  pub higher : (i : ℕ) → place < i → i < n → p i ≡ false
+-- what it is to be the highest of the `n` lowest indexes that passes a test
+pub record IsHighest (p : ℕ → Bool) (n index : ℕ) : Type 0 where
+  pub below : index < n
+  pub passes : p index ≡ true
+  pub higher : (i : ℕ) → index < i → i < n → p i ≡ false
 
-pub highest_below_is : (p : ℕ → Bool) (n place : ℕ) → IsHighest p n place → highest_below p n ≡ Some place
+pub highest_below_is : (p : ℕ → Bool) (n index : ℕ) → IsHighest p n index → highest_below p n ≡ Some index
 unfolding highest_below
-highest_below_is p zero place is = absurd (omega (arith, is.below))
-highest_below_is p (suc n) place is =
-    elim (cases_lt place n) [
+highest_below_is p zero index is = absurd (omega (arith, is.below))
+highest_below_is p (suc n) index is =
+    elim (cases_lt index n) [
       | inl earlier ↦
           cond-false (p n) (Some n) (highest_below p n) (is.higher n earlier (omega arith))
-          ∙ highest_below_is p n place (record { below = earlier; passes = is.passes; higher = λ i above below. is.higher i above (omega arith) })
+          ∙ highest_below_is p n index (record { below = earlier; passes = is.passes; higher = λ i above below. is.higher i above (omega arith) })
       | inr here ↦
-          let same : n ≡ place = omega (arith, is.below) in
+          let same : n ≡ index = omega (arith, is.below) in
           cond-true (p n) (Some n) (highest_below p n) (ap p same ∙ is.passes) ∙ ap (λ (i : ℕ). Some i) same
     ]
 
