@@ -9,9 +9,9 @@ use Rattle.mps_model.specs.World.{empty_world}
 use Rattle.mps_model.specs.History.{world_after_history}
 use Rattle.mps_model.proofs.Appending.{IsLegalFrom-append}
 use Rattle.mps_first_heap.specs.declared.done.Done.{Done}
-use Rattle.mps_first_heap.specs.Kept.{Kept}
+use Rattle.mps_first_heap.specs.HeapState.{HeapState}
 use Rattle.mps_first_heap.specs.StandsFor.{step_of}
-use Rattle.mps_first_heap.specs.RightStep.{IsLegalCall, IsUnsupportedWhereDue}
+use Rattle.mps_first_heap.specs.RightStep.{IsLegalCall, IsUnsupportedExactly}
 use Rattle.mps_first_heap.specs.Unsupported.{is_unsupported_call}
 use Rattle.mps_script.specs.declared.line.BadLine.{BadLine}
 use Rattle.mps_script.specs.Line.{lines_of, call_of_line}
@@ -34,7 +34,7 @@ use Rattle.mps_cli.proofs.SoFar.{SoFar, read_more, unsupported-append}
 -- ---- one command
 
 -- a command that the heap has done was begun
-is_begun : (line : ℕ) (call : Call) (done : Done) (before : Kept) → IsLegalCall before call done → IsUnsupportedWhereDue before call done
+is_begun : (line : ℕ) (call : Call) (done : Done) (before : HeapState) → IsLegalCall before call done → IsUnsupportedExactly before call done
     → IsBegun (record { line = line; call = call } ∷ []) before (step_of line call done)
 is_begun line call done before is_legal unsupported = record {
   answers = refl;
@@ -43,9 +43,9 @@ is_begun line call done before is_legal unsupported = record {
 }
 
 -- it ends the run where its records can't be logged, or its answer can't be printed
-pub stops_in : (ends : Ending) (line pools : ℕ) (call : Call) (done : Done) (before : Kept) (old new : Outside)
+pub stops_in : (ends : Ending) (line pools : ℕ) (call : Call) (done : Done) (before : HeapState) (old new : Outside)
     → (ends ≡ ending.WriteFailed) ⊎ (ends ≡ ending.LogFailed)
-    → IsLegalCall before call done → IsUnsupportedWhereDue before call done
+    → IsLegalCall before call done → IsUnsupportedExactly before call done
     → (ends ≡ ending.LogFailed → PutsPart old.logged new.logged (records_bytes (records_of_done line pools call done)))
     → (ends ≡ ending.WriteFailed → new.logged ≡ appended old.logged (records_bytes (records_of_done line pools call done)))
     → (ends ≡ ending.WriteFailed → PutsPart old.printed new.printed (text_of done.reply))
@@ -81,7 +81,7 @@ good_line line command (Ok call) e = refl
 good_line line command (Err bad) e = absurd (let none : command ∷ [] ≡ [] = e in cc)
 
 -- after the lines that were run a command was begun
-begins : (kept : Kept) (n pools : ℕ) (old now : Outside) (script rest line : List ℕ) (left2 : Option (List ℕ)) (step : Step)
+begins : (kept : HeapState) (n pools : ℕ) (old now : Outside) (script rest line : List ℕ) (left2 : Option (List ℕ)) (step : Step)
     (f : SoFar kept n pools old now (Some script) (Some rest)) → ComesNextOf Line (Some rest) line left2
     → IsBegun (commands_of_call (n + 1) (call_of_line line)) kept step → Begins script n f.history step
 begins kept n pools old now script rest line left2 step f next b = record {
@@ -93,7 +93,7 @@ begins kept n pools old now script rest line left2 step f next b = record {
 }
 
 -- of a line nothing was printed or logged
-leaves_whole : (kept : Kept) (n pools : ℕ) (old o1 o2 o3 : Outside) (script rest : List ℕ)
+leaves_whole : (kept : HeapState) (n pools : ℕ) (old o1 o2 o3 : Outside) (script rest : List ℕ)
     → SoFar kept n pools old o1 (Some script) (Some rest) → OnlyReads o1 o2 → IsUnbegun o2 o3 → LeavesWhole [] script old o3
 leaves_whole kept n pools old o1 o2 o3 script rest f reads u = record {
   history = f.history;
@@ -103,7 +103,7 @@ leaves_whole kept n pools old o1 o2 o3 script rest f reads u = record {
   logged = u.logged ∙ (reads.logged ∙ f.logged);
 }
 
-leaves_part : (kept : Kept) (n pools : ℕ) (old o1 o2 o3 : Outside) (script rest line : List ℕ) (left2 : Option (List ℕ))
+leaves_part : (kept : HeapState) (n pools : ℕ) (old o1 o2 o3 : Outside) (script rest line : List ℕ) (left2 : Option (List ℕ))
     → SoFar kept n pools old o1 (Some script) (Some rest) → OnlyReads o1 o2 → ComesNextOf Line (Some rest) line left2
     → StopsLogging (commands_of_call (n + 1) (call_of_line line)) kept pools o2 o3 → LogsPart [] script old o3
 leaves_part kept n pools old o1 o2 o3 script rest line left2 f reads next s = record {
@@ -118,7 +118,7 @@ leaves_part kept n pools old o1 o2 o3 script rest line left2 f reads next s = re
       ∙ appended_twice old.logged (records_bytes (log_of f.history)) (take s.count (records_bytes (records_of_step (pools_made f.history) s.step))));
 }
 
-leaves_answer : (kept : Kept) (n pools : ℕ) (old o1 o2 o3 : Outside) (script rest line : List ℕ) (left2 : Option (List ℕ))
+leaves_answer : (kept : HeapState) (n pools : ℕ) (old o1 o2 o3 : Outside) (script rest line : List ℕ) (left2 : Option (List ℕ))
     → SoFar kept n pools old o1 (Some script) (Some rest) → OnlyReads o1 o2 → ComesNextOf Line (Some rest) line left2
     → StopsPrinting (commands_of_call (n + 1) (call_of_line line)) kept pools o2 o3 → PrintsPart [] script old o3
 leaves_answer kept n pools old o1 o2 o3 script rest line left2 f reads next s = record {
@@ -144,7 +144,7 @@ next_commands n script rest line later pos at =
     ∙ (append-nil (commands_of_call (n + 1) (call_of_line (take (length_of_line rest) rest)))
     ∙ ap (λ l. commands_of_call (n + 1) (call_of_line l)) (sym at))
 
-leaves_known : (ends : Ending) (kept : Kept) (n pools : ℕ) (old o1 o2 o3 : Outside) (script rest line : List ℕ) (left2 : Option (List ℕ))
+leaves_known : (ends : Ending) (kept : HeapState) (n pools : ℕ) (old o1 o2 o3 : Outside) (script rest line : List ℕ) (left2 : Option (List ℕ))
     → SoFar kept n pools old o1 (Some script) (Some rest) → OnlyReads o1 o2 → ComesNextOf Line (Some rest) line left2
     → Stops ends (commands_of_call (n + 1) (call_of_line line)) kept pools o2 o3 → Leaves ends [] script old o3
 unfolding leaves_whole
@@ -164,7 +164,7 @@ leaves_known ending.ReadFailed kept n pools old o1 o2 o3 script rest line left2 
 leaves_known ending.NoMeaning kept n pools old o1 o2 o3 script rest line left2 f reads next s = absurd s
 
 -- a line that ends the run
-pub leaves_line : (ends : Ending) (kept : Kept) (n pools : ℕ) (old o1 o2 o3 : Outside) (script : List ℕ) (left : Option (List ℕ)) (line : List ℕ)
+pub leaves_line : (ends : Ending) (kept : HeapState) (n pools : ℕ) (old o1 o2 o3 : Outside) (script : List ℕ) (left : Option (List ℕ)) (line : List ℕ)
     (left2 : Option (List ℕ)) → SoFar kept n pools old o1 (Some script) left → OnlyReads o1 o2 → ComesNextOf Line left line left2
     → Stops ends (commands_of_call (n + 1) (call_of_line line)) kept pools o2 o3 → Leaves ends [] script old o3
 leaves_line ends kept n pools old o1 o2 o3 script None line left2 f reads next s = absurd f.read

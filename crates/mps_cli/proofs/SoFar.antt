@@ -12,7 +12,7 @@ use Rattle.mps_model.specs.World.{World, empty_world}
 use Rattle.mps_model.specs.Replay.{Store, replay, replay_from, store_after}
 use Rattle.mps_model.specs.History.{IsLegalHistory, world_after, world_after_steps, world_after_history, live_blocks}
 use Rattle.mps_model.proofs.Appending.{log_from-append, IsLegalFrom-append, world_after_steps-append}
-use Rattle.mps_first_heap.specs.Kept.{Kept}
+use Rattle.mps_first_heap.specs.HeapState.{HeapState}
 use Rattle.mps_first_heap.specs.StandsFor.{StandsFor}
 use Rattle.mps_script.specs.Line.{lines_of, call_of_line, longest_line, is_line_feed}
 use Rattle.mps_log_reader.specs.Ending.{is_input_verdict}
@@ -40,7 +40,7 @@ ReadSoFar lines history (Some script) None = ⊥
 ReadSoFar lines history (Some script) (Some rest) = ReadUpTo lines history script rest
 
 -- what was printed and logged since the first line is that of a history
-pub record SoFar (kept : Kept) (lines pools : ℕ) (old now : Outside) (script left : Option (List ℕ)) : Type 0 where
+pub record SoFar (kept : HeapState) (lines pools : ℕ) (old now : Outside) (script left : Option (List ℕ)) : Type 0 where
   pub history : History
   pub made : pools ≡ pools_made history
   pub printed : now.printed ≡ appended old.printed (answers_of history)
@@ -56,7 +56,7 @@ read_nothing None = refl
 read_nothing (Some script) = record { grammatical = refl; commands = refl; later = refl }
 
 -- before the first line
-pub at_start : (kept : Kept) (o : Outside) (left : Option (List ℕ)) → StandsFor kept empty_world → SoFar kept 0 0 o o left left
+pub at_start : (kept : HeapState) (o : Outside) (left : Option (List ℕ)) → StandsFor kept empty_world → SoFar kept 0 0 o o left left
 at_start kept o left stands = record {
   history = [];
   made = refl;
@@ -123,7 +123,7 @@ unsupported-append w [] steps before later = later
 unsupported-append w (s ∷ ss) steps before later = (before.0, unsupported-append (world_after w s) ss steps before.1 later)
 
 -- one line more
-pub one_line_more : (kept kept2 : Kept) (n pools pools2 : ℕ) (old o1 o2 o3 : Outside) (script left left2 : Option (List ℕ)) (line : List ℕ)
+pub one_line_more : (kept kept2 : HeapState) (n pools pools2 : ℕ) (old o1 o2 o3 : Outside) (script left left2 : Option (List ℕ)) (line : List ℕ)
     → SoFar kept n pools old o1 script left → OnlyReads o1 o2 → ComesNextOf Line left line left2
     → is_good line ≡ true → StepsRan (commands_of_call (n + 1) (call_of_line line)) kept kept2 pools pools2 o2 o3
     → SoFar kept2 (n + 1) pools2 old o3 script left2
@@ -157,7 +157,7 @@ one_line_more kept kept2 n pools pools2 old o1 o2 o3 script left left2 line f re
 
 -- ---- where a run ends
 
-ends_with : (kept : Kept) (n pools : ℕ) (old o1 o2 : Outside) (script rest : List ℕ) (ends : Ending)
+ends_with : (kept : HeapState) (n pools : ℕ) (old o1 o2 : Outside) (script rest : List ℕ) (ends : Ending)
     → SoFar kept n pools old o1 (Some script) (Some rest) → OnlyReads o1 o2
     → EndsAt ends n (lines_of rest) → RanLines ends script old o2
 ends_with kept n pools old o1 o2 script rest ends f reads at = record {
@@ -170,7 +170,7 @@ ends_with kept n pools old o1 o2 script rest ends f reads at = record {
 }
 
 -- at the end of the input
-pub ends_done : (kept : Kept) (n pools : ℕ) (old o1 o2 : Outside) (script : List ℕ) (left left2 : Option (List ℕ)) (line : List ℕ)
+pub ends_done : (kept : HeapState) (n pools : ℕ) (old o1 o2 : Outside) (script : List ℕ) (left left2 : Option (List ℕ)) (line : List ℕ)
     → SoFar kept n pools old o1 (Some script) left → OnlyReads o1 o2 → ComesNextOf End left line left2
     → RanLines ending.Done script old o2
 ends_done kept n pools old o1 o2 script None left2 line f reads next = absurd f.read
@@ -184,7 +184,7 @@ line_bound : (xs : List ℕ) → length_of_line xs ≤ length xs
 line_bound xs = prefix_len-le-length (λ b. not (is_line_feed b)) xs
 
 -- where there are more lines than can be counted
-pub ends_too_long : (kept : Kept) (n pools : ℕ) (old o1 o2 : Outside) (script : List ℕ) (left left2 : Option (List ℕ)) (line : List ℕ) (next : Next)
+pub ends_too_long : (kept : HeapState) (n pools : ℕ) (old o1 o2 : Outside) (script : List ℕ) (left left2 : Option (List ℕ)) (line : List ℕ) (next : Next)
     → SoFar kept n pools old o1 (Some script) left → OnlyReads o1 o2 → ComesNextOf next left line left2 → (next ≡ End → ⊥) → n ≡ 4294967295
     → RanLines ending.TooLong script old o2
 ends_too_long kept n pools old o1 o2 script None left2 line next f reads comes not_end count = absurd f.read
@@ -204,7 +204,7 @@ first_is_bad rest line pos at bad =
     rw (e, bad)
 
 -- at a line that is too long
-pub ends_long_line : (kept : Kept) (n pools : ℕ) (old o1 o2 : Outside) (script : List ℕ) (left left2 : Option (List ℕ)) (line : List ℕ)
+pub ends_long_line : (kept : HeapState) (n pools : ℕ) (old o1 o2 : Outside) (script : List ℕ) (left left2 : Option (List ℕ)) (line : List ℕ)
     → SoFar kept n pools old o1 (Some script) left → OnlyReads o1 o2 → ComesNextOf TooLong left line left2
     → RanLines (ending.BadLine (n + 1)) script old o2
 ends_long_line kept n pools old o1 o2 script None left2 line f reads comes = absurd f.read
@@ -216,7 +216,7 @@ ends_long_line kept n pools old o1 o2 script (Some rest) left2 line f reads come
     (refl, first_is_bad rest (take (length_of_line rest) rest) pos refl bad)
 
 -- at a line that is bad
-pub ends_bad_line : (kept : Kept) (n pools : ℕ) (old o1 o2 o3 : Outside) (script : List ℕ) (left left2 : Option (List ℕ)) (line : List ℕ) (ends : Ending)
+pub ends_bad_line : (kept : HeapState) (n pools : ℕ) (old o1 o2 o3 : Outside) (script : List ℕ) (left left2 : Option (List ℕ)) (line : List ℕ) (ends : Ending)
     → SoFar kept n pools old o1 (Some script) left → OnlyReads o1 o2 → ComesNextOf Line left line left2
     → IsBadHere line (n + 1) ends o2 o3 → RanLines ends script old o3
 ends_bad_line kept n pools old o1 o2 o3 script None left2 line ends f reads comes bad = absurd f.read
@@ -233,7 +233,7 @@ ends_bad_line kept n pools old o1 o2 o3 script (Some rest) left2 line ends f rea
 -- ---- what was printed in any case
 
 -- where nothing more was printed
-pub answered_so_far : (kept : Kept) (n pools : ℕ) (old now new : Outside) (script : List ℕ) (left : Option (List ℕ))
+pub answered_so_far : (kept : HeapState) (n pools : ℕ) (old now new : Outside) (script : List ℕ) (left : Option (List ℕ))
     → SoFar kept n pools old now (Some script) left → new.printed ≡ now.printed → Answered script old new
 answered_so_far kept n pools old now new script None f same = absurd f.read
 answered_so_far kept n pools old now new script (Some rest) f same = record {
@@ -337,7 +337,7 @@ complete_ending ending.LogFailed old new h f m o = absurd (f.logging h)
 complete_ending ending.OutOfMemory old new h f m o = absurd (o refl)
 
 -- no steps
-pub no_steps : (commands : List Command) (kept : Kept) (pools : ℕ) (o : Outside) → commands ≡ [] → StepsRan commands kept kept pools pools o o
+pub no_steps : (commands : List Command) (kept : HeapState) (pools : ℕ) (o : Outside) → commands ≡ [] → StepsRan commands kept kept pools pools o o
 no_steps commands kept pools o none = record {
   steps = [];
   legal = λ w s. tt;

@@ -15,9 +15,9 @@ use Rattle.mps_cli.specs.Write.{appended}
 use Rattle.mps_cli.specs.Records.{records_of_done}
 use Rattle.mps_cli.specs.Script.{StepsRan}
 use Rattle.mps_first_heap.specs.declared.done.Done.{Done}
-use Rattle.mps_first_heap.specs.Kept.{Kept}
+use Rattle.mps_first_heap.specs.HeapState.{HeapState}
 use Rattle.mps_first_heap.specs.StandsFor.{moves_of}
-use Rattle.mps_first_heap.specs.RightStep.{IsLegalCall, StandsAfter, IsReplayedCall, IsUnsupportedWhereDue}
+use Rattle.mps_first_heap.specs.RightStep.{IsLegalCall, StandsAfter, IsReplayedCall, IsUnsupportedExactly}
 use Rattle.mps_model.specs.Replay.{replay_from}
 use Rattle.mps_model.specs.History.{live_blocks}
 
@@ -26,8 +26,8 @@ pub said_unsupported : (r : Reply) (b : Bool) → (r ≡ reply.Unsupported) ↔ 
 said_unsupported r b h = (λ e. h.0 (let a : r ≡ reply.Unsupported = cc in a), λ t. ap Replied (h.1 t))
 
 -- a command that was answered is one step
-pub one_step : (line pools count : ℕ) (call : Call) (done : Done) (before after : Kept) (old new : Outside)
-    → IsLegalCall before call done → StandsAfter before call done after → IsReplayedCall before call done → IsUnsupportedWhereDue before call done
+pub one_step : (line pools count : ℕ) (call : Call) (done : Done) (before after : HeapState) (old new : Outside)
+    → IsLegalCall before call done → StandsAfter before call done after → IsReplayedCall before call done → IsUnsupportedExactly before call done
     → new.logged ≡ appended old.logged (records_bytes (records_of_done line pools call done))
     → new.printed ≡ appended old.printed (text_of done.reply) → new.input ≡ old.input
     → count ≡ pools_made_by call (Replied done.reply)

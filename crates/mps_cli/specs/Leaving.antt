@@ -9,7 +9,7 @@ use Rattle.mps_model.specs.Step.{Step, History}
 use Rattle.mps_model.specs.Log.{log_of, records_of_step, pools_made}
 use Rattle.mps_model.specs.World.{World, empty_world}
 use Rattle.mps_model.specs.History.{IsLegalFrom, IsLegalHistory}
-use Rattle.mps_first_heap.specs.Kept.{Kept}
+use Rattle.mps_first_heap.specs.HeapState.{HeapState}
 use Rattle.mps_first_heap.specs.StandsFor.{StandsFor}
 use Rattle.mps_first_heap.specs.Unsupported.{takes_memory}
 use Rattle.mps_script.specs.Line.{lines_of}
@@ -117,13 +117,13 @@ pub record LeavesWith (status : ℕ) (script : List ℕ) (old new : Outside) : T
 -- ---- one command
 
 -- a command was begun: there is a step of it that is legal in each world for which the heap stood
-pub record IsBegun (commands : List Command) (before : Kept) (step : Step) : Type 0 where
+pub record IsBegun (commands : List Command) (before : HeapState) (step : Step) : Type 0 where
   pub answers : command_of_step step ∷ [] ≡ commands
   pub legal : (w : World) → StandsFor before w → IsLegalFrom w (step ∷ [])
   pub unsupported : (w : World) → StandsFor before w → AreUnsupportedWhereDue w (step ∷ [])
 
 -- a prefix of its records was logged, and nothing was printed
-pub record StopsLogging (commands : List Command) (before : Kept) (pools : ℕ) (old new : Outside) : Type 0 where
+pub record StopsLogging (commands : List Command) (before : HeapState) (pools : ℕ) (old new : Outside) : Type 0 where
   pub step : Step
   pub begun : IsBegun commands before step
   pub printed : new.printed ≡ old.printed
@@ -131,7 +131,7 @@ pub record StopsLogging (commands : List Command) (before : Kept) (pools : ℕ) 
   pub logged : new.logged ≡ appended old.logged (take count (records_bytes (records_of_step pools step)))
 
 -- all its records were logged, and a prefix of its answer was printed
-pub record StopsPrinting (commands : List Command) (before : Kept) (pools : ℕ) (old new : Outside) : Type 0 where
+pub record StopsPrinting (commands : List Command) (before : HeapState) (pools : ℕ) (old new : Outside) : Type 0 where
   pub step : Step
   pub begun : IsBegun commands before step
   pub logged : new.logged ≡ appended old.logged (records_bytes (records_of_step pools step))
@@ -139,7 +139,7 @@ pub record StopsPrinting (commands : List Command) (before : Kept) (pools : ℕ)
   pub printed : new.printed ≡ appended old.printed (take count (text_of_answer step.answer))
 
 -- how a line ends the run
-abbrev pub Stops : Ending → (commands : List Command) → (before : Kept) → (pools : ℕ) → (old new : Outside) → Type 0
+abbrev pub Stops : Ending → (commands : List Command) → (before : HeapState) → (pools : ℕ) → (old new : Outside) → Type 0
 Stops ending.LogFailed commands before pools old new = StopsLogging commands before pools old new
 Stops ending.WriteFailed commands before pools old new = StopsPrinting commands before pools old new
 Stops ending.OutOfMemory commands before pools old new = IsUnbegun old new × NeedsMemory commands

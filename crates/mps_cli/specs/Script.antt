@@ -12,7 +12,7 @@ use Rattle.mps_model.specs.Log.{log_of, log_from, log_bytes, pools_made}
 use Rattle.mps_model.specs.World.{World, empty_world}
 use Rattle.mps_model.specs.Replay.{replay, replay_from}
 use Rattle.mps_model.specs.History.{IsLegalFrom, IsLegalHistory, world_after, world_after_steps, world_after_history, live_blocks}
-use Rattle.mps_first_heap.specs.Kept.{Kept}
+use Rattle.mps_first_heap.specs.HeapState.{HeapState}
 use Rattle.mps_first_heap.specs.StandsFor.{StandsFor}
 use Rattle.mps_first_heap.specs.Unsupported.{is_unsupported_call}
 use Rattle.mps_model.specs.Text.{line_of_answer}
@@ -110,7 +110,7 @@ pub record HasRun (script : List ℕ) (lines : ℕ) (history : History) : Type 0
 
 -- steps were made that answer these commands: what was printed is the answer line of each and nothing else, and what was
 -- logged is their records and nothing else
-pub record StepsRan (commands : List Command) (before after : Kept) (pools_before pools_after : ℕ) (old new : Outside) : Type 0 where
+pub record StepsRan (commands : List Command) (before after : HeapState) (pools_before pools_after : ℕ) (old new : Outside) : Type 0 where
   pub steps : History
   -- in each world for which the heap stood they are legal and `unsupported` where that is due, the heap stands for the world
   -- after them, and their records tell which blocks are live

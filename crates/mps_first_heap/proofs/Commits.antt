@@ -19,12 +19,12 @@ use Rattle.mps_model.specs.World.{World}
 use Rattle.mps_model.specs.History.{live_blocks, with_client_remembered}
 use Rattle.mps_model.specs.Reply.{answer_from, world_from}
 use Rattle.mps_model.specs.Effect.{with_next_place}
-use Rattle.mps_first_heap.specs.Kept.{Kept, is_name, is_point, has_slot, head_at, words_of_head}
+use Rattle.mps_first_heap.specs.HeapState.{HeapState, is_named, is_point, has_slot, head_at, words_of_head}
 use Rattle.mps_first_heap.specs.Outcome.{ok_with_move, unsupported, commit_move, after_commit}
-use Rattle.mps_first_heap.specs.StandsFor.{Past, Agrees, world_of, world_with, step_of, object_in, cells_at, segments_from, some_address, one_where, point_with, reservation_in, front_pool, point_memory_of, place_in_slot, is_null_or_below, bound_of}
+use Rattle.mps_first_heap.specs.StandsFor.{Past, Agrees, world_of, world_with, step_of, object_in, cells_at, segments_from, some_address, one_if, point_with, reservation_in, front_pool, point_memory_of, address_in_slot, is_null_or_below, end_of_objects}
 use Rattle.mps_first_heap.specs.RightStep.{IsRightStep}
 use Rattle.mps_first_heap.proofs.Lists.{length-cells_in, length-block_words, blocks_later, blocks_push}
-use Rattle.mps_first_heap.proofs.Worlds.{world_by, world_of-parts, is_name_some, pool_with_point, made_with_pool, at_hand_within, slot_there, live_blocks-world_of, stored}
+use Rattle.mps_first_heap.proofs.Worlds.{world_by, world_of-parts, is_named-some, pool_with_point, made_with_pool, at_hand_within, slot_there, live_blocks-world_of, stored}
 use Rattle.mps_first_heap.proofs.Stores.{making_pushed}
 use Rattle.mps_first_heap.proofs.Steps.{right_step, unsupported_step}
 use Rattle.mps_first_heap.proofs.Numbers.{table_named}
@@ -32,66 +32,66 @@ use Rattle.mps_first_heap.proofs.Inits.{point_named_there, is_point_some}
 use Rattle.mps_first_heap.proofs.Acts.{act_of_commit}
 
 -- what is kept after a commit, and what isn't
-abbrev committed : Kept → Slot → Kept
-committed h slot = record h { slots = slice_set h.slots slot.index h.reserved; is_open = false }
+abbrev with_object : HeapState → Slot → HeapState
+with_object h slot = record h { slots = slice_set h.slots slot.index h.reserved; is_open = false }
 
-abbrev past_committed : Kept → Past → Slot → Past
-past_committed h p slot = record p { ids = slice_set p.ids slot.index (Some (length p.addresses)); addresses = p.addresses ++ h.reserved ∷ [] }
+abbrev past_with_object : HeapState → Past → Slot → Past
+past_with_object h p slot = record p { ids = slice_set p.ids slot.index (Some (length p.addresses)); addresses = p.addresses ++ h.reserved ∷ [] }
 
-abbrev pub whole : Kept → Past → World
-whole h p = world_by h p true true (is_some h.pool) true
+abbrev pub world_committing : HeapState → Past → World
+world_committing h p = world_by h p true true (is_some h.pool) true
 
-pub is_whole : (h : Kept) (p : Past) → is_some h.table ≡ true → is_some h.point ≡ true → h.is_open ≡ true → world_of h p ≡ whole h p
-is_whole h p t q o = world_of-parts h p true true (is_some h.pool) true t q refl o
+pub is_world_committing : (h : HeapState) (p : Past) → is_some h.table ≡ true → is_some h.point ≡ true → h.is_open ≡ true → world_of h p ≡ world_committing h p
+is_world_committing h p t q o = world_of-parts h p true true (is_some h.pool) true t q refl o
 
-abbrev step_committed : Kept → (line : ℕ) → (name : Name) → Slot → Rattle.mps_model.specs.Step.Step
+abbrev step_committed : HeapState → (line : ℕ) → (name : Name) → Slot → Rattle.mps_model.specs.Step.Step
 step_committed h line name slot = step_of line (call.Commit name slot) (ok_with_move (commit_move h))
 
 -- ---- the world after it
 
-abbrev committed_with : Kept → Past → List Object → List (Option ℕ) → List (Option ℕ) → World
+abbrev committed_with : HeapState → Past → List Object → List (Option ℕ) → List (Option ℕ) → World
 committed_with h p objects ids addresses =
-    world_with h.grains h.limit p.names objects (Some ids ∷ []) (Some (point_with None) ∷ []) (one_where (is_some h.pool) front_pool) (segments_from 1 p.segments) addresses (point_memory_of h ∷ [])
+    world_with h.grains h.limit p.names objects (Some ids ∷ []) (Some (point_with None) ∷ []) (one_if (is_some h.pool) front_pool) (segments_from 1 p.segments) addresses (point_memory_of h ∷ [])
 
-world_committed : (h : Kept) (p : Past) (slot : Slot) → is_some h.table ≡ true → is_some h.point ≡ true
+world_committed : (h : HeapState) (p : Past) (slot : Slot) → is_some h.table ≡ true → is_some h.point ≡ true
     → committed_with h p (map (object_in h.words) p.addresses ++ object_in h.words h.reserved ∷ []) (slice_set p.ids slot.index (Some (length (map (object_in h.words) p.addresses)))) (map some_address p.addresses ++ some_address h.reserved ∷ [])
-    ≡ world_of (committed h slot) (past_committed h p slot)
+    ≡ world_of (with_object h slot) (past_with_object h p slot)
 world_committed h p slot t q =
     ap (λ objects. committed_with h p objects (slice_set p.ids slot.index (Some (length (map (object_in h.words) p.addresses)))) (map some_address p.addresses ++ some_address h.reserved ∷ [])) (sym (map_push (object_in h.words) p.addresses h.reserved))
     ∙ ap (λ n. committed_with h p (map (object_in h.words) (p.addresses ++ h.reserved ∷ [])) (slice_set p.ids slot.index (Some n)) (map some_address p.addresses ++ some_address h.reserved ∷ [])) (length-map p.addresses (object_in h.words))
     ∙ ap (λ addresses. committed_with h p (map (object_in h.words) (p.addresses ++ h.reserved ∷ [])) (slice_set p.ids slot.index (Some (length p.addresses))) addresses) (sym (map_push some_address p.addresses h.reserved))
-    ∙ sym (world_of-parts (committed h slot) (past_committed h p slot) true true (is_some h.pool) false t q refl refl)
+    ∙ sym (world_of-parts (with_object h slot) (past_with_object h p slot) true true (is_some h.pool) false t q refl refl)
 
 -- ---- what is kept agrees
 
-slot_pushed : (addresses : List ℕ) (place : ℕ) (id : ℕ) → id < length addresses → slice_index (addresses ++ place ∷ []) id ≡ slice_index addresses id
-slot_pushed [] place id h = absurd (omega (arith, h))
-slot_pushed (p ∷ ps) place zero h = refl
-slot_pushed (p ∷ ps) place (suc id) h = slot_pushed ps place id (omega (arith, h))
+slot_pushed : (addresses : List ℕ) (address : ℕ) (id : ℕ) → id < length addresses → slice_index (addresses ++ address ∷ []) id ≡ slice_index addresses id
+slot_pushed [] address id h = absurd (omega (arith, h))
+slot_pushed (p ∷ ps) address zero h = refl
+slot_pushed (p ∷ ps) address (suc id) h = slot_pushed ps address id (omega (arith, h))
 
-last_pushed : (addresses : List ℕ) (place : ℕ) → slice_index (addresses ++ place ∷ []) (length addresses) ≡ place
-last_pushed [] place = refl
-last_pushed (p ∷ ps) place = last_pushed ps place
+last_pushed : (addresses : List ℕ) (address : ℕ) → slice_index (addresses ++ address ∷ []) (length addresses) ≡ address
+last_pushed [] address = refl
+last_pushed (p ∷ ps) address = last_pushed ps address
 
-held_pushed : (addresses : List ℕ) (place : ℕ) (held : Option ℕ) → is_null_or_below (length addresses) held ≡ true → place_in_slot addresses held ≡ place_in_slot (addresses ++ place ∷ []) held
-held_pushed addresses place None h = refl
-held_pushed addresses place (Some id) h = sym (slot_pushed addresses place id (ltb-true id (length addresses) h))
+held_pushed : (addresses : List ℕ) (address : ℕ) (held : Option ℕ) → is_null_or_below (length addresses) held ≡ true → address_in_slot addresses held ≡ address_in_slot (addresses ++ address ∷ []) held
+held_pushed addresses address None h = refl
+held_pushed addresses address (Some id) h = sym (slot_pushed addresses address id (ltb-true id (length addresses) h))
 
-slots_kept : (addresses : List ℕ) (place : ℕ) (ids : List (Option ℕ)) → list_all (is_null_or_below (length addresses)) ids ≡ true
-    → map (place_in_slot addresses) ids ≡ map (place_in_slot (addresses ++ place ∷ [])) ids
-slots_kept addresses place [] h = refl
-slots_kept addresses place (held ∷ ids) h =
+slots_kept : (addresses : List ℕ) (address : ℕ) (ids : List (Option ℕ)) → list_all (is_null_or_below (length addresses)) ids ≡ true
+    → map (address_in_slot addresses) ids ≡ map (address_in_slot (addresses ++ address ∷ [])) ids
+slots_kept addresses address [] h = refl
+slots_kept addresses address (held ∷ ids) h =
     let both = and_parts (is_null_or_below (length addresses) held) (list_all (is_null_or_below (length addresses)) ids) h in
-    ap (λ x. x ∷ map (place_in_slot addresses) ids) (held_pushed addresses place held both.0)
-    ∙ ap (λ rest. place_in_slot (addresses ++ place ∷ []) held ∷ rest) (slots_kept addresses place ids both.1)
+    ap (λ x. x ∷ map (address_in_slot addresses) ids) (held_pushed addresses address held both.0)
+    ∙ ap (λ rest. address_in_slot (addresses ++ address ∷ []) held ∷ rest) (slots_kept addresses address ids both.1)
 
--- the slots with one written, over places with one more
-slots_pushed : (addresses : List ℕ) (place : ℕ) (ids : List (Option ℕ)) (i : ℕ) → list_all (is_null_or_below (length addresses)) ids ≡ true
-    → slice_set (map (place_in_slot addresses) ids) i place ≡ map (place_in_slot (addresses ++ place ∷ [])) (slice_set ids i (Some (length addresses)))
-slots_pushed addresses place ids i h =
-    ap (λ slots. slice_set slots i place) (slots_kept addresses place ids h)
-    ∙ ap (λ x. slice_set (map (place_in_slot (addresses ++ place ∷ [])) ids) i x) (sym (last_pushed addresses place))
-    ∙ sym (map-set (place_in_slot (addresses ++ place ∷ [])) ids i (Some (length addresses)))
+-- the slots with one with_number, over addresses with one more
+slots_pushed : (addresses : List ℕ) (address : ℕ) (ids : List (Option ℕ)) (i : ℕ) → list_all (is_null_or_below (length addresses)) ids ≡ true
+    → slice_set (map (address_in_slot addresses) ids) i address ≡ map (address_in_slot (addresses ++ address ∷ [])) (slice_set ids i (Some (length addresses)))
+slots_pushed addresses address ids i h =
+    ap (λ slots. slice_set slots i address) (slots_kept addresses address ids h)
+    ∙ ap (λ x. slice_set (map (address_in_slot (addresses ++ address ∷ [])) ids) i x) (sym (last_pushed addresses address))
+    ∙ sym (map-set (address_in_slot (addresses ++ address ∷ [])) ids i (Some (length addresses)))
 
 ids_more : (count : ℕ) (ids : List (Option ℕ)) → list_all (is_null_or_below count) ids ≡ true → list_all (is_null_or_below (suc count)) ids ≡ true
 ids_more count [] h = refl
@@ -108,18 +108,18 @@ ids_set count (held ∷ ids) (suc i) id lt h =
     let both = and_parts (is_null_or_below count held) (list_all (is_null_or_below count) ids) h in
     and_from (is_null_or_below count held) (list_all (is_null_or_below count) (slice_set ids i (Some id))) both.0 (ids_set count ids i id lt both.1)
 
-ids_pushed : (addresses : List ℕ) (place : ℕ) (ids : List (Option ℕ)) (i : ℕ) → list_all (is_null_or_below (length addresses)) ids ≡ true
-    → list_all (is_null_or_below (length (addresses ++ place ∷ []))) (slice_set ids i (Some (length addresses))) ≡ true
-ids_pushed addresses place ids i h =
-    subst (λ (n : ℕ). list_all (is_null_or_below n) (slice_set ids i (Some (length addresses))) ≡ true) (let e : suc (length addresses) ≡ length (addresses ++ place ∷ []) = omega (arith, length_push addresses place) in e)
+ids_pushed : (addresses : List ℕ) (address : ℕ) (ids : List (Option ℕ)) (i : ℕ) → list_all (is_null_or_below (length addresses)) ids ≡ true
+    → list_all (is_null_or_below (length (addresses ++ address ∷ []))) (slice_set ids i (Some (length addresses))) ≡ true
+ids_pushed addresses address ids i h =
+    subst (λ (n : ℕ). list_all (is_null_or_below n) (slice_set ids i (Some (length addresses))) ≡ true) (let e : suc (length addresses) ≡ length (addresses ++ address ∷ []) = omega (arith, length_push addresses address) in e)
     (ids_set (suc (length addresses)) ids i (length addresses) (omega arith) (ids_more (length addresses) ids h))
 
-some_or_none : (h : Kept) → is_some h.point ≡ true → h.point ≡ None → ⊥
+some_or_none : (h : HeapState) → is_some h.point ≡ true → h.point ≡ None → ⊥
 some_or_none h q none = false≢true (sym (ap is_some none) ∙ q)
 
-agrees_committed : (h : Kept) (p : Past) (slot : Slot) → Agrees h p → is_some h.point ≡ true → h.is_open ≡ true → Agrees (committed h slot) (past_committed h p slot)
-agrees_committed h p slot a q o =
-    let bound : bound_of h ≡ h.reserved = ap (λ b. if b then h.reserved else h.front) o in
+agrees_with_object : (h : HeapState) (p : Past) (slot : Slot) → Agrees h p → is_some h.point ≡ true → h.is_open ≡ true → Agrees (with_object h slot) (past_with_object h p slot)
+agrees_with_object h p slot a q o =
+    let bound : end_of_objects h ≡ h.reserved = ap (λ b. if b then h.reserved else h.buffer_start) o in
     let block = a.reservation o in
     let below = block.below in
     record {
@@ -129,7 +129,7 @@ agrees_committed h p slot a q o =
       held = a.held;
       in_arena = a.in_arena;
       arena = a.arena;
-      blocks = blocks_push h.words h.front h.reserved p.addresses (blocks_later h.words (bound_of h) h.front p.addresses (omega (arith, bound)) a.blocks) block;
+      blocks = blocks_push h.words h.buffer_start h.reserved p.addresses (blocks_later h.words (end_of_objects h) h.buffer_start p.addresses (omega (arith, bound)) a.blocks) block;
       reservation = λ e. absurd (false≢true e);
       at_hand = a.at_hand;
       not_null = a.not_null;
@@ -141,7 +141,7 @@ agrees_committed h p slot a q o =
 
 -- ---- the move is legal
 
-reserved_block : (h : Kept) (p : Past) → Agrees h p → is_some h.point ≡ true → h.is_open ≡ true → length (cells_at h.words h.reserved) ≡ words_of_head (head_at h h.reserved)
+reserved_block : (h : HeapState) (p : Past) → Agrees h p → is_some h.point ≡ true → h.is_open ≡ true → length (cells_at h.words h.reserved) ≡ words_of_head (head_at h h.reserved)
 reserved_block h p a q o =
     let made = made_with_pool h p a (pool_with_point h p a q) in
     let within = at_hand_within h p a made in
@@ -153,54 +153,54 @@ reserved_block h p a q o =
     ∙ length-block_words h.words h.reserved size (omega arith)
     ∙ sym (cond-true (is_front (slice_index h.words h.reserved)) size 0 block.head)
 
-point_there : (h : Kept) (p : Past) (name : Name) → thing_in p.names name ≡ Some (PointThing 0) → point_named (whole h p) name ≡ Ok (record { number = 0; value = point_with (Some (reservation_in h.words h.reserved)) })
+point_there : (h : HeapState) (p : Past) (name : Name) → thing_in p.names name ≡ Some (PointThing 0) → point_named (world_committing h p) name ≡ Ok (record { number = 0; value = point_with (Some (reservation_in h.words h.reserved)) })
 point_there h p name e = rw e refl
 
-legal_commit : (h : Kept) (p : Past) (name : Name) (slot : Slot) → Agrees h p → is_point h name ≡ true → h.is_open ≡ true → IsLegalCommit (call.Commit name slot) (whole h p) (8 * h.reserved) (words_of_head (head_at h h.reserved)) 0
+legal_commit : (h : HeapState) (p : Past) (name : Name) (slot : Slot) → Agrees h p → is_point h name ≡ true → h.is_open ≡ true → IsLegalCommit (call.Commit name slot) (world_committing h p) (8 * h.reserved) (words_of_head (head_at h h.reserved)) 0
 legal_commit h p name slot a point o =
-    subst (λ (c : Checked (Numbered Point)). ForChecked c (λ at. ForOne at.value.reservation (IsReserved (whole h p) (8 * h.reserved) (words_of_head (head_at h h.reserved)) 0 at)))
+    subst (λ (c : Checked (Numbered Point)). ForChecked c (λ at. ForOne at.value.reservation (IsReserved (world_committing h p) (8 * h.reserved) (words_of_head (head_at h h.reserved)) 0 at)))
     (sym (point_there h p name (point_named_there h p a name point)))
     (record { at_address = refl; of_words = reserved_block h p a (is_point_some h name point) o; of_pool = refl })
 
 -- ---- the step is right
 
-replayed : (h : Kept) (p : Past) (line : ℕ) (name : Name) (slot : Slot) (pools : ℕ) → Agrees h p → is_some h.table ≡ true → is_some h.point ≡ true → h.is_open ≡ true
-    → replay_from (live_blocks (whole h p)) (records_of_step pools (step_committed h line name slot)) ≡ Some (stored h.words (p.addresses ++ h.reserved ∷ []))
+replayed : (h : HeapState) (p : Past) (line : ℕ) (name : Name) (slot : Slot) (pools : ℕ) → Agrees h p → is_some h.table ≡ true → is_some h.point ≡ true → h.is_open ≡ true
+    → replay_from (live_blocks (world_committing h p)) (records_of_step pools (step_committed h line name slot)) ≡ Some (stored h.words (p.addresses ++ h.reserved ∷ []))
 replayed h p line name slot pools a t q o =
-    let bound : bound_of h ≡ h.reserved = ap (λ b. if b then h.reserved else h.front) o in
+    let bound : end_of_objects h ≡ h.reserved = ap (λ b. if b then h.reserved else h.buffer_start) o in
     ap (λ store. option_and_then (λ after. Some after) (after_making store (8 * h.reserved) (words_of_head (head_at h h.reserved)) 0))
-    (ap live_blocks (sym (is_whole h p t q o)) ∙ live_blocks-world_of h p)
-    ∙ ap (option_and_then (λ after. Some after)) (making_pushed h.words h.reserved (words_of_head (head_at h h.reserved)) p.addresses (blocks_later h.words (bound_of h) h.reserved p.addresses (omega (arith, bound)) a.blocks) (reserved_block h p a q o))
+    (ap live_blocks (sym (is_world_committing h p t q o)) ∙ live_blocks-world_of h p)
+    ∙ ap (option_and_then (λ after. Some after)) (making_pushed h.words h.reserved (words_of_head (head_at h h.reserved)) p.addresses (blocks_later h.words (end_of_objects h) h.reserved p.addresses (omega (arith, bound)) a.blocks) (reserved_block h p a q o))
 
-right_committed : (h : Kept) (p : Past) (line : ℕ) (name : Name) (slot : Slot) → Agrees h p → is_point h name ≡ true → h.is_open ≡ true → has_slot h slot ≡ true
-    → IsRightStep (whole h p) (step_committed h line name slot) (committed h slot)
-right_committed h p line name slot a point o there =
-    let both = and_parts (is_name h.table slot.name) (nat_lt slot.index (length h.slots)) there in
-    let t = is_name_some h.table slot.name both.0 in
+right_with_object : (h : HeapState) (p : Past) (line : ℕ) (name : Name) (slot : Slot) → Agrees h p → is_point h name ≡ true → h.is_open ≡ true → has_slot h slot ≡ true
+    → IsRightStep (world_committing h p) (step_committed h line name slot) (with_object h slot)
+right_with_object h p line name slot a point o there =
+    let both = and_parts (is_named h.table slot.name) (nat_lt slot.index (length h.slots)) there in
+    let t = is_named-some h.table slot.name both.0 in
     let q = is_point_some h name point in
     let lt = ltb-true slot.index (length h.slots) both.1 in
-    let lt' : slot.index < length (map (place_in_slot p.addresses) p.ids) = subst (λ (slots : List ℕ). slot.index < length slots) a.slots lt in
+    let lt' : slot.index < length (map (address_in_slot p.addresses) p.ids) = subst (λ (slots : List ℕ). slot.index < length slots) a.slots lt in
     let at = slot_there p.addresses p.ids slot.index lt' in
     let e = act_of_commit h.grains h.limit p.names (map (object_in h.words) p.addresses) p.ids (slice_index h.words h.reserved) (cells_at h.words h.reserved)
-    (one_where (is_some h.pool) front_pool) (segments_from 1 p.segments) (map some_address p.addresses ++ some_address h.reserved ∷ []) (point_memory_of h ∷ []) name slot at.0
+    (one_if (is_some h.pool) front_pool) (segments_from 1 p.segments) (map some_address p.addresses ++ some_address h.reserved ∷ []) (point_memory_of h ∷ []) name slot at.0
     (point_named_there h p a name point) (table_named h p a slot both.0) at.1 in
-    right_step (whole h p) (step_committed h line name slot) (committed h slot) (past_committed h p slot) refl
+    right_step (world_committing h p) (step_committed h line name slot) (with_object h slot) (past_with_object h p slot) refl
     (record { moves_are_legal = (legal_commit h p name slot a point o, tt); moves_are_due = refl; answer_is_due = sym (ap answer_from e); marked = tt })
-    (ap (λ r. with_client_remembered (world_from (with_next_place (whole h p) (8 * h.reserved)) r)) e ∙ world_committed h p slot t q)
-    (agrees_committed h p slot a q o)
+    (ap (λ r. with_client_remembered (world_from (with_next_place (world_committing h p) (8 * h.reserved)) r)) e ∙ world_committed h p slot t q)
+    (agrees_with_object h p slot a q o)
     (λ pools. replayed h p line name slot pools a t q o)
 
-commit_where : (h : Kept) (p : Past) (line : ℕ) (name : Name) (slot : Slot) → Agrees h p → (b : Bool) → (is_point h name && h.is_open && has_slot h slot) ≡ b
-    → IsRightStep (world_of h p) (step_of line (call.Commit name slot) (if b then record { done = ok_with_move (commit_move h); kept = committed h slot } else unsupported h).done)
-    (if b then record { done = ok_with_move (commit_move h); kept = committed h slot } else unsupported h).kept
+commit_where : (h : HeapState) (p : Past) (line : ℕ) (name : Name) (slot : Slot) → Agrees h p → (b : Bool) → (is_point h name && h.is_open && has_slot h slot) ≡ b
+    → IsRightStep (world_of h p) (step_of line (call.Commit name slot) (if b then record { done = ok_with_move (commit_move h); state = with_object h slot } else unsupported h).done)
+    (if b then record { done = ok_with_move (commit_move h); state = with_object h slot } else unsupported h).state
 commit_where h p line name slot a false e = unsupported_step h p line (call.Commit name slot) a
 commit_where h p line name slot a true e =
     let both = and_parts (is_point h name && h.is_open) (has_slot h slot) e in
     let first = and_parts (is_point h name) h.is_open both.0 in
-    let t = is_name_some h.table slot.name (and_parts (is_name h.table slot.name) (nat_lt slot.index (length h.slots)) both.1).0 in
-    subst (λ (w : World). IsRightStep w (step_committed h line name slot) (committed h slot)) (sym (is_whole h p t (is_point_some h name first.0) first.1))
-    (right_committed h p line name slot a first.0 first.1 both.1)
+    let t = is_named-some h.table slot.name (and_parts (is_named h.table slot.name) (nat_lt slot.index (length h.slots)) both.1).0 in
+    subst (λ (w : World). IsRightStep w (step_committed h line name slot) (with_object h slot)) (sym (is_world_committing h p t (is_point_some h name first.0) first.1))
+    (right_with_object h p line name slot a first.0 first.1 both.1)
 
-pub right_commit : (h : Kept) (p : Past) (line : ℕ) (name : Name) (slot : Slot) → Agrees h p
-    → IsRightStep (world_of h p) (step_of line (call.Commit name slot) (after_commit h name slot).done) (after_commit h name slot).kept
+pub right_commit : (h : HeapState) (p : Past) (line : ℕ) (name : Name) (slot : Slot) → Agrees h p
+    → IsRightStep (world_of h p) (step_of line (call.Commit name slot) (after_commit h name slot).done) (after_commit h name slot).state
 right_commit h p line name slot a = commit_where h p line name slot a (is_point h name && h.is_open && has_slot h slot) refl

@@ -17,17 +17,17 @@ use Rattle.mps_model.specs.Checked.{Checked, Numbered, required, refuse_when, �
 use Rattle.mps_model.specs.Graph.{Point, new_cells}
 use Rattle.mps_model.specs.Allocating.{act_reserve, check_reserve, Reserving, refuse_without_place, layout_of, takes_head}
 use Rattle.mps_model.specs.World.{World, pool_at}
-use Rattle.mps_first_heap.specs.Kept.{Kept, is_point}
+use Rattle.mps_first_heap.specs.HeapState.{HeapState, is_point}
 use Rattle.mps_first_heap.specs.Outcome.{ok_with_move, after_reserve, reserve_placed, reserve_after, segment_taken, unsupported}
-use Rattle.mps_first_heap.specs.StandsFor.{Past, Agrees, world_of, object_in, segments_from, some_address, one_where, point_with, reservation_in, point_memory_of}
-use Rattle.mps_first_heap.specs.Unsupported.{is_unknown, is_known}
+use Rattle.mps_first_heap.specs.StandsFor.{Past, Agrees, world_of, object_in, segments_from, some_address, one_if, point_with, reservation_in, point_memory_of}
+use Rattle.mps_first_heap.specs.Unsupported.{is_unreported, is_reported}
 use Rattle.mps_first_heap.proofs.Worlds.{world_of-parts, made_with_pool, pool_with_point}
 use Rattle.mps_first_heap.proofs.Acts.{reserve_bad_head, reserve_open}
 use Rattle.mps_first_heap.proofs.Inits.{point_named_there, is_point_some}
 use Rattle.mps_first_heap.proofs.Segments.{over_limit, no_run, new_segment}
 use Rattle.mps_first_heap.proofs.Refused.{no_point}
-use Rattle.mps_first_heap.proofs.Reserves.{closed, is_closed, act_placed, act_refused, placed_after, placed_at_hand, reserve_from}
-use Rattle.mps_first_heap.proofs.Unsupporting.{IsExact, exact_unsupported, exact_answered, by_unknown, supported, in_turn}
+use Rattle.mps_first_heap.proofs.Reserves.{world_at_rest, is_world_at_rest, act_placed, act_refused, placed_after, placed_at_hand, reserve_from}
+use Rattle.mps_first_heap.proofs.Unsupporting.{IsExact, exact_unsupported, exact_answered, by_unreported, supported, in_turn}
 
 -- what a reserve checks of the point that it found
 abbrev check_from : World → (head : ℕ) → Numbered Point → Checked Reserving
@@ -35,25 +35,25 @@ check_from w head point =
     required (pool_at w point.value.pool) refusal.BadName >>= (λ pool. refuse_when (not (takes_head w pool head)) refusal.BadHead >> (refuse_when (is_some point.value.reservation) refusal.Open >> Ok (record { point = point; cells = new_cells (layout_of w pool) head })))
 
 -- a check that fails refuses the call
-check_fails : (h : Kept) (p : Past) (name : Name) (head : ℕ) (why : Refusal) → check_reserve (world_of h p) name head ≡ Err why → act_reserve (world_of h p) (world_of h p) name head ≡ Err why
+check_fails : (h : HeapState) (p : Past) (name : Name) (head : ℕ) (why : Refusal) → check_reserve (world_of h p) name head ≡ Err why → act_reserve (world_of h p) (world_of h p) name head ≡ Err why
 check_fails h p name head why e = ap (λ (c : Checked Reserving). c >>= reserve_from (world_of h p) (world_of h p) name head) e
 
-unsupported_check : (h : Kept) (p : Past) (name : Name) (head : ℕ) (why : Refusal) → is_known why ≡ false → check_reserve (world_of h p) name head ≡ Err why → IsExact (world_of h p) (call.Reserve name head) reply.Unsupported
-unsupported_check h p name head why known e = exact_unsupported (world_of h p) (call.Reserve name head) (by_unknown (world_of h p) (call.Reserve name head) why (check_fails h p name head why e) known)
+unsupported_check : (h : HeapState) (p : Past) (name : Name) (head : ℕ) (why : Refusal) → is_reported why ≡ false → check_reserve (world_of h p) name head ≡ Err why → IsExact (world_of h p) (call.Reserve name head) reply.Unsupported
+unsupported_check h p name head why known e = exact_unsupported (world_of h p) (call.Reserve name head) (by_unreported (world_of h p) (call.Reserve name head) why (check_fails h p name head why e) known)
 
-made_there : (h : Kept) (p : Past) (name : Name) → Agrees h p → is_point h name ≡ true → 0 < h.grains
+made_there : (h : HeapState) (p : Past) (name : Name) → Agrees h p → is_point h name ≡ true → 0 < h.grains
 made_there h p name a e = made_with_pool h p a (pool_with_point h p a (is_point_some h name e))
 
 -- a reserve that isn't refused, or is told a refusal
-supported_reserve : (h : Kept) (p : Past) (name : Name) (head : ℕ) (r : Reply) → Agrees h p → is_point h name ≡ true → h.is_open ≡ false
+supported_reserve : (h : HeapState) (p : Past) (name : Name) (head : ℕ) (r : Reply) → Agrees h p → is_point h name ≡ true → h.is_open ≡ false
     → Rattle.mps_model.specs.Answer.is_unsupported (Rattle.mps_model.specs.Answer.Replied r) ≡ false
-    → is_unknown (act_reserve (closed h p) (closed h p) name head) ≡ false → IsExact (world_of h p) (call.Reserve name head) r
-supported_reserve h p name head r a point o answered known =
-    exact_answered (world_of h p) (call.Reserve name head) r answered
+    → is_unreported (act_reserve (world_at_rest h p) (world_at_rest h p) name head) ≡ false → IsExact (world_of h p) (call.Reserve name head) r
+supported_reserve h p name head r a point o with_reply known =
+    exact_answered (world_of h p) (call.Reserve name head) r with_reply
     (supported (world_of h p) (call.Reserve name head) refl (in_turn h (made_there h p name a point)) refl
-    (ap (λ w. is_unknown (act_reserve w w name head)) (is_closed h p a (is_point_some h name point) o) ∙ known))
+    (ap (λ w. is_unreported (act_reserve w w name head)) (is_world_at_rest h p a (is_point_some h name point) o) ∙ known))
 
-exact_in_arena : (h : Kept) (p : Past) (name : Name) (head : ℕ) → Agrees h p → is_point h name ≡ true → h.is_open ≡ false → is_front head ≡ true → nat_le (size_field head) (h.following - h.front) ≡ false
+exact_in_arena : (h : HeapState) (p : Past) (name : Name) (head : ℕ) → Agrees h p → is_point h name ≡ true → h.is_open ≡ false → is_front head ≡ true → nat_le (size_field head) (h.buffer_end - h.buffer_start) ≡ false
     → nat_lt h.limit (h.held + grains_needed (size_field head)) ≡ false → (b : Bool) → nat_lt h.grains (h.held + grains_needed (size_field head)) ≡ b
     → IsExact (world_of h p) (call.Reserve name head) (if b then reply.Unsupported else reply.Ok)
 exact_in_arena h p name head a point o valid fits limit true e =
@@ -64,8 +64,8 @@ exact_in_arena h p name head a point o valid fits limit true e =
     let none = longest (between (h.held + 1) (h.grains + 1)) in
     let placed = placed_after h p head valid fits ∙ no_run h.grains h.limit h.held p.segments need a.held limit (ltb-true h.grains (h.held + need) e) some in
     exact_unsupported (world_of h p) (call.Reserve name head)
-    (by_unknown (world_of h p) (call.Reserve name head) (refusal.NoRun need none)
-    (ap (λ w. act_reserve w w name head) (is_closed h p a (is_point_some h name point) o) ∙ act_refused h p name head (refusal.NoRun need none) named valid (ap refuse_without_place placed))
+    (by_unreported (world_of h p) (call.Reserve name head) (refusal.NoRun need none)
+    (ap (λ w. act_reserve w w name head) (is_world_at_rest h p a (is_point_some h name point) o) ∙ act_refused h p name head (refusal.NoRun need none) named valid (ap refuse_without_place placed))
     refl)
 exact_in_arena h p name head a point o valid fits limit false e =
     let named = point_named_there h p a name point in
@@ -74,9 +74,9 @@ exact_in_arena h p name head a point o valid fits limit false e =
     let some : 0 < need = omega arith in
     let placed = placed_after h p head valid fits ∙ new_segment h.grains h.limit h.held p.segments need a.held limit (ltb-false h.grains (h.held + need) e) some in
     supported_reserve h p name head reply.Ok a point o refl
-    (ap is_unknown (act_placed h p h p name head named named valid (ap refuse_without_place placed)))
+    (ap is_unreported (act_placed h p h p name head named named valid (ap refuse_without_place placed)))
 
-exact_in_limit : (h : Kept) (p : Past) (name : Name) (head : ℕ) → Agrees h p → is_point h name ≡ true → h.is_open ≡ false → is_front head ≡ true → nat_le (size_field head) (h.following - h.front) ≡ false
+exact_in_limit : (h : HeapState) (p : Past) (name : Name) (head : ℕ) → Agrees h p → is_point h name ≡ true → h.is_open ≡ false → is_front head ≡ true → nat_le (size_field head) (h.buffer_end - h.buffer_start) ≡ false
     → (b : Bool) → nat_lt h.limit (h.held + grains_needed (size_field head)) ≡ b
     → IsExact (world_of h p) (call.Reserve name head) (if b then reply.Refused (refusal.CommitLimit h.held (grains_needed (size_field head)) h.limit) else (if nat_lt h.grains (h.held + grains_needed (size_field head)) then reply.Unsupported else reply.Ok))
 exact_in_limit h p name head a point o valid fits true e =
@@ -84,68 +84,68 @@ exact_in_limit h p name head a point o valid fits true e =
     let need = grains_needed (size_field head) in
     let placed = placed_after h p head valid fits ∙ over_limit h.grains h.limit h.held p.segments need a.held e in
     supported_reserve h p name head (reply.Refused (refusal.CommitLimit h.held need h.limit)) a point o refl
-    (ap is_unknown (act_refused h p name head (refusal.CommitLimit h.held need h.limit) named valid (ap refuse_without_place placed)))
+    (ap is_unreported (act_refused h p name head (refusal.CommitLimit h.held need h.limit) named valid (ap refuse_without_place placed)))
 exact_in_limit h p name head a point o valid fits false e =
     exact_in_arena h p name head a point o valid fits e (nat_lt h.grains (h.held + grains_needed (size_field head))) refl
 
 -- what a reserve replies, by where it is placed
-abbrev placed_reply : Kept → (head : ℕ) → Bool → Reply
+abbrev placed_reply : HeapState → (head : ℕ) → Bool → Reply
 placed_reply h head b =
     if b then reply.Ok
     else (if nat_lt h.limit (h.held + grains_needed (size_field head)) then reply.Refused (refusal.CommitLimit h.held (grains_needed (size_field head)) h.limit)
     else (if nat_lt h.grains (h.held + grains_needed (size_field head)) then reply.Unsupported else reply.Ok))
 
-exact_placed : (h : Kept) (p : Past) (name : Name) (head : ℕ) → Agrees h p → is_point h name ≡ true → h.is_open ≡ false → is_front head ≡ true
-    → (b : Bool) → nat_le (size_field head) (h.following - h.front) ≡ b → IsExact (world_of h p) (call.Reserve name head) (placed_reply h head b)
+exact_placed : (h : HeapState) (p : Past) (name : Name) (head : ℕ) → Agrees h p → is_point h name ≡ true → h.is_open ≡ false → is_front head ≡ true
+    → (b : Bool) → nat_le (size_field head) (h.buffer_end - h.buffer_start) ≡ b → IsExact (world_of h p) (call.Reserve name head) (placed_reply h head b)
 exact_placed h p name head a point o valid true e =
     let named = point_named_there h p a name point in
     supported_reserve h p name head reply.Ok a point o refl
-    (ap is_unknown (act_placed h p h p name head named named valid (ap refuse_without_place (placed_at_hand h p head valid e))))
+    (ap is_unreported (act_placed h p h p name head named named valid (ap refuse_without_place (placed_at_hand h p head valid e))))
 exact_placed h p name head a point o valid false e =
     exact_in_limit h p name head a point o valid e (nat_lt h.limit (h.held + grains_needed (size_field head))) refl
 
-abbrev reserve_reply : Kept → (head : ℕ) → Bool → Reply
-reserve_reply h head b = if b then placed_reply h head (nat_le (size_field head) (h.following - h.front)) else reply.Unsupported
+abbrev reserve_reply : HeapState → (head : ℕ) → Bool → Reply
+reserve_reply h head b = if b then placed_reply h head (nat_le (size_field head) (h.buffer_end - h.buffer_start)) else reply.Unsupported
 
-exact_open : (h : Kept) (p : Past) (name : Name) (head : ℕ) → Agrees h p → is_point h name ≡ true → is_front head ≡ true → (b : Bool) → h.is_open ≡ b → IsExact (world_of h p) (call.Reserve name head) (reserve_reply h head (not b))
-exact_open h p name head a point valid false o = exact_placed h p name head a point o valid (nat_le (size_field head) (h.following - h.front)) refl
+exact_open : (h : HeapState) (p : Past) (name : Name) (head : ℕ) → Agrees h p → is_point h name ≡ true → is_front head ≡ true → (b : Bool) → h.is_open ≡ b → IsExact (world_of h p) (call.Reserve name head) (reserve_reply h head (not b))
+exact_open h p name head a point valid false o = exact_placed h p name head a point o valid (nat_le (size_field head) (h.buffer_end - h.buffer_start)) refl
 exact_open h p name head a point valid true o =
     let q = is_point_some h name point in
     unsupported_check h p name head refusal.Open refl
     (ap (λ w. check_reserve w name head) (world_of-parts h p (is_some h.table) true true true refl q (pool_with_point h p a q) o)
-    ∙ reserve_open h.grains h.limit p.names (map (object_in h.words) p.addresses) (one_where (is_some h.table) (Some p.ids)) (reservation_in h.words h.reserved) (segments_from 1 p.segments) (map some_address p.addresses) (point_memory_of h ∷ []) name head (point_named_there h p a name point) valid)
+    ∙ reserve_open h.grains h.limit p.names (map (object_in h.words) p.addresses) (one_if (is_some h.table) (Some p.ids)) (reservation_in h.words h.reserved) (segments_from 1 p.segments) (map some_address p.addresses) (point_memory_of h ∷ []) name head (point_named_there h p a name point) valid)
 
-exact_head : (h : Kept) (p : Past) (name : Name) (head : ℕ) → Agrees h p → is_point h name ≡ true → (b : Bool) → is_front head ≡ b → IsExact (world_of h p) (call.Reserve name head) (reserve_reply h head (b && not h.is_open))
+exact_head : (h : HeapState) (p : Past) (name : Name) (head : ℕ) → Agrees h p → is_point h name ≡ true → (b : Bool) → is_front head ≡ b → IsExact (world_of h p) (call.Reserve name head) (reserve_reply h head (b && not h.is_open))
 exact_head h p name head a point true valid = exact_open h p name head a point valid h.is_open refl
 exact_head h p name head a point false valid =
     let q = is_point_some h name point in
     unsupported_check h p name head refusal.BadHead refl
     (ap (λ w. check_reserve w name head) (world_of-parts h p (is_some h.table) true true h.is_open refl q (pool_with_point h p a q) refl)
-    ∙ reserve_bad_head h.grains h.limit p.names (map (object_in h.words) p.addresses) (one_where (is_some h.table) (Some p.ids)) (Rattle.mps_first_heap.specs.StandsFor.some_where h.is_open (reservation_in h.words h.reserved)) (segments_from 1 p.segments) (map some_address p.addresses) (point_memory_of h ∷ []) name head (point_named_there h p a name point) valid)
+    ∙ reserve_bad_head h.grains h.limit p.names (map (object_in h.words) p.addresses) (one_if (is_some h.table) (Some p.ids)) (Rattle.mps_first_heap.specs.StandsFor.some_if h.is_open (reservation_in h.words h.reserved)) (segments_from 1 p.segments) (map some_address p.addresses) (point_memory_of h ∷ []) name head (point_named_there h p a name point) valid)
 
-exact_at : (h : Kept) (p : Past) (name : Name) (head : ℕ) → Agrees h p → (b : Bool) → is_point h name ≡ b → IsExact (world_of h p) (call.Reserve name head) (reserve_reply h head (b && is_front head && not h.is_open))
+exact_at : (h : HeapState) (p : Past) (name : Name) (head : ℕ) → Agrees h p → (b : Bool) → is_point h name ≡ b → IsExact (world_of h p) (call.Reserve name head) (reserve_reply h head (b && is_front head && not h.is_open))
 exact_at h p name head a true point = exact_head h p name head a point (is_front head) refl
 exact_at h p name head a false point =
     unsupported_check h p name head refusal.BadName refl (ap (λ (c : Checked (Numbered Point)). c >>= check_from (world_of h p) head) (no_point h p name a point))
 
 -- ---- the reply of what comes
 
-after_reply : (h : Kept) (head need : ℕ) (over past : Bool)
-    → (if over then Rattle.mps_first_heap.specs.Outcome.answered h (reply.Refused (refusal.CommitLimit h.held need h.limit)) else (if past then unsupported h else record { done = ok_with_move (Rattle.mps_first_heap.specs.Outcome.segment_move h need); kept = Rattle.mps_first_heap.specs.Outcome.reserved_at_front (segment_taken h need) head })).done.reply
+after_reply : (h : HeapState) (head need : ℕ) (over past : Bool)
+    → (if over then Rattle.mps_first_heap.specs.Outcome.with_reply h (reply.Refused (refusal.CommitLimit h.held need h.limit)) else (if past then unsupported h else record { done = ok_with_move (Rattle.mps_first_heap.specs.Outcome.segment_move h need); state = Rattle.mps_first_heap.specs.Outcome.reserved_at_front (segment_taken h need) head })).done.reply
     ≡ (if over then reply.Refused (refusal.CommitLimit h.held need h.limit) else (if past then reply.Unsupported else reply.Ok))
 after_reply h head need true past = refl
 after_reply h head need false true = refl
 after_reply h head need false false = refl
 
-at_hand_reply : (h : Kept) (head : ℕ) (b : Bool) → (if b then Rattle.mps_first_heap.specs.Outcome.answered (Rattle.mps_first_heap.specs.Outcome.reserved_at_front h head) reply.Ok else reserve_after h head (grains_needed (size_field head))).done.reply ≡ placed_reply h head b
+at_hand_reply : (h : HeapState) (head : ℕ) (b : Bool) → (if b then Rattle.mps_first_heap.specs.Outcome.with_reply (Rattle.mps_first_heap.specs.Outcome.reserved_at_front h head) reply.Ok else reserve_after h head (grains_needed (size_field head))).done.reply ≡ placed_reply h head b
 at_hand_reply h head true = refl
 at_hand_reply h head false = after_reply h head (grains_needed (size_field head)) (nat_lt h.limit (h.held + grains_needed (size_field head))) (nat_lt h.grains (h.held + grains_needed (size_field head)))
 
-reserved_reply : (h : Kept) (head : ℕ) (b : Bool) → (if b then reserve_placed h head else unsupported h).done.reply ≡ reserve_reply h head b
-reserved_reply h head true = at_hand_reply h head (nat_le (size_field head) (h.following - h.front))
+reserved_reply : (h : HeapState) (head : ℕ) (b : Bool) → (if b then reserve_placed h head else unsupported h).done.reply ≡ reserve_reply h head b
+reserved_reply h head true = at_hand_reply h head (nat_le (size_field head) (h.buffer_end - h.buffer_start))
 reserved_reply h head false = refl
 
-pub exact_reserve : (h : Kept) (p : Past) (name : Name) (head : ℕ) → Agrees h p → IsExact (world_of h p) (call.Reserve name head) (after_reserve h name head).done.reply
+pub exact_reserve : (h : HeapState) (p : Past) (name : Name) (head : ℕ) → Agrees h p → IsExact (world_of h p) (call.Reserve name head) (after_reserve h name head).done.reply
 exact_reserve h p name head a =
     subst (λ (r : Reply). IsExact (world_of h p) (call.Reserve name head) r) (sym (reserved_reply h head (is_point h name && is_front head && not h.is_open)))
     (exact_at h p name head a (is_point h name) refl)

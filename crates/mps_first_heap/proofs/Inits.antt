@@ -12,80 +12,80 @@ use Rattle.mps_model.specs.Graph.{Cell, NumberCell, Object, Reservation, TableTh
 use Rattle.mps_model.specs.World.{World}
 use Rattle.mps_model.specs.History.{live_blocks, with_client_remembered}
 use Rattle.mps_model.specs.Reply.{answer_from, world_from}
-use Rattle.mps_first_heap.specs.Kept.{Kept, is_name, is_point, is_number_cell, head_at, words_of_head}
-use Rattle.mps_first_heap.specs.Outcome.{said, may_init, after_init, accepted_where}
-use Rattle.mps_first_heap.specs.StandsFor.{Past, Agrees, world_of, world_with, step_of, object_in, cells_at, cells_in, cell_in, segments_from, some_address, one_where, point_with, reservation_in, front_pool, point_memory_of, bound_of, IsBlockAt}
+use Rattle.mps_first_heap.specs.HeapState.{HeapState, is_named, is_point, is_number_cell, head_at, words_of_head}
+use Rattle.mps_first_heap.specs.Outcome.{reply_only, may_init, after_init, accepted_if}
+use Rattle.mps_first_heap.specs.StandsFor.{Past, Agrees, world_of, world_with, step_of, object_in, cells_at, cells_in, cell_in, segments_from, some_address, one_if, point_with, reservation_in, front_pool, point_memory_of, end_of_objects, IsBlockAt}
 use Rattle.mps_first_heap.specs.RightStep.{IsRightStep}
 use Rattle.mps_first_heap.proofs.Lists.{objects-set_after, blocks-set_after, slice_index-set_other, block_words-set, cells_in-set}
-use Rattle.mps_first_heap.proofs.Worlds.{world_by, world_of-parts, is_name_some, pool_with_point, made_with_pool, at_hand_within, number_cell, number_cell_at, number_cell_below, live_blocks-world_of, stored}
+use Rattle.mps_first_heap.proofs.Worlds.{world_by, world_of-parts, is_named-some, pool_with_point, made_with_pool, at_hand_within, number_cell, number_cell_at, number_cell_below, live_blocks-world_of, stored}
 use Rattle.mps_first_heap.proofs.Stores.{stored-set_after}
 use Rattle.mps_first_heap.proofs.Steps.{right_step, unsupported_step}
 use Rattle.mps_first_heap.proofs.Acts.{act_of_init}
 
 -- the point's name stands for the point
-pub point_named_there : (h : Kept) (p : Past) → Agrees h p → (name : Name) → is_point h name ≡ true → thing_in p.names name ≡ Some (PointThing 0)
+pub point_named_there : (h : HeapState) (p : Past) → Agrees h p → (name : Name) → is_point h name ≡ true → thing_in p.names name ≡ Some (PointThing 0)
 point_named_there h p a name e =
-    let both = and_parts (not (is_name h.table name) && not (is_name h.pool name)) (is_name h.point name) e in
-    let no = and_parts (not (is_name h.table name)) (not (is_name h.pool name)) both.0 in
+    let both = and_parts (not (is_named h.table name) && not (is_named h.pool name)) (is_named h.point name) e in
+    let no = and_parts (not (is_named h.table name)) (not (is_named h.pool name)) both.0 in
     a.names name
-    ∙ ap (λ b. if b then Some (TableThing 0) else (if is_name h.pool name then Some (PoolThing 0) else (if is_name h.point name then Some (PointThing 0) else None))) (not-true (is_name h.table name) no.0)
-    ∙ ap (λ b. if b then Some (PoolThing 0) else (if is_name h.point name then Some (PointThing 0) else None)) (not-true (is_name h.pool name) no.1)
+    ∙ ap (λ b. if b then Some (TableThing 0) else (if is_named h.pool name then Some (PoolThing 0) else (if is_named h.point name then Some (PointThing 0) else None))) (not-true (is_named h.table name) no.0)
+    ∙ ap (λ b. if b then Some (PoolThing 0) else (if is_named h.point name then Some (PointThing 0) else None)) (not-true (is_named h.pool name) no.1)
     ∙ ap (λ b. if b then Some (PointThing 0) else None) both.1
 
-pub is_point_some : (h : Kept) (name : Name) → is_point h name ≡ true → is_some h.point ≡ true
-is_point_some h name e = is_name_some h.point name (and_parts (not (is_name h.table name) && not (is_name h.pool name)) (is_name h.point name) e).1
+pub is_point_some : (h : HeapState) (name : Name) → is_point h name ≡ true → is_some h.point ≡ true
+is_point_some h name e = is_named-some h.point name (and_parts (not (is_named h.table name) && not (is_named h.pool name)) (is_named h.point name) e).1
 
 -- what is kept after the write
-abbrev written : Kept → (cell value : ℕ) → Kept
-written h cell value = record h { words = slice_set h.words (h.reserved + cell) value }
+abbrev with_number : HeapState → (cell value : ℕ) → HeapState
+with_number h cell value = record h { words = slice_set h.words (h.reserved + cell) value }
 
 -- the reservation after the write
-reservation_written : (words : List ℕ) (place cell value : ℕ) → 0 < cell → is_number_cell (slice_index words place) cell ≡ true
-    → reservation_in (slice_set words (place + cell) value) place ≡ record { head = slice_index words place; cells = slice_set (cells_at words place) cell (NumberCell value); is_doomed = false }
-reservation_written words place cell value pos number =
-    let head = slice_index words place in
-    let lt : place < place + cell = omega arith in
-    ap (λ (h : ℕ). record { head = h; cells = cells_in h 0 (take (size_field h) (drop place (slice_set words (place + cell) value))); is_doomed = false }) (slice_index-set_other words (place + cell) place value lt)
-    ∙ ap (λ (ws : List ℕ). record { head = head; cells = cells_in head 0 ws; is_doomed = false }) (block_words-set words place (size_field head) cell value)
-    ∙ ap (λ (cells : List Cell). record { head = head; cells = cells; is_doomed = false }) (cells_in-set head 0 (take (size_field head) (drop place words)) cell value
-    ∙ ap (λ (c : Cell). slice_set (cells_at words place) cell c) (ap (λ n. cell_in head n value) (let e : 0 + cell ≡ cell = omega arith in e) ∙ number_cell head cell value number))
+reservation_written : (words : List ℕ) (address cell value : ℕ) → 0 < cell → is_number_cell (slice_index words address) cell ≡ true
+    → reservation_in (slice_set words (address + cell) value) address ≡ record { head = slice_index words address; cells = slice_set (cells_at words address) cell (NumberCell value); is_doomed = false }
+reservation_written words address cell value pos number =
+    let head = slice_index words address in
+    let lt : address < address + cell = omega arith in
+    ap (λ (h : ℕ). record { head = h; cells = cells_in h 0 (take (size_field h) (drop address (slice_set words (address + cell) value))); is_doomed = false }) (slice_index-set_other words (address + cell) address value lt)
+    ∙ ap (λ (ws : List ℕ). record { head = head; cells = cells_in head 0 ws; is_doomed = false }) (block_words-set words address (size_field head) cell value)
+    ∙ ap (λ (cells : List Cell). record { head = head; cells = cells; is_doomed = false }) (cells_in-set head 0 (take (size_field head) (drop address words)) cell value
+    ∙ ap (λ (c : Cell). slice_set (cells_at words address) cell c) (ap (λ n. cell_in head n value) (let e : 0 + cell ≡ cell = omega arith in e) ∙ number_cell head cell value number))
 
 -- a block stays a block after a write in it, after its head
-block_written : (words : List ℕ) (bound place i value : ℕ) → place < i → IsBlockAt words bound place → IsBlockAt (slice_set words i value) bound place
-block_written words bound place i value lt b =
-    let e = slice_index-set_other words i place value lt in
+block_written : (words : List ℕ) (bound address i value : ℕ) → address < i → IsBlockAt words bound address → IsBlockAt (slice_set words i value) bound address
+block_written words bound address i value lt b =
+    let e = slice_index-set_other words i address value lt in
     record {
       not_null = b.not_null;
       head = ap is_front e ∙ b.head;
-      below = subst (λ (head : ℕ). place + size_field head ≤ bound) (sym e) b.below;
+      below = subst (λ (head : ℕ). address + size_field head ≤ bound) (sym e) b.below;
     }
 
-abbrev pub opened : Kept → Past → World
-opened h p = world_by h p (is_some h.table) true (is_some h.pool) true
+abbrev pub world_reserving : HeapState → Past → World
+world_reserving h p = world_by h p (is_some h.table) true (is_some h.pool) true
 
-pub is_opened : (h : Kept) (p : Past) → is_some h.point ≡ true → h.is_open ≡ true → world_of h p ≡ opened h p
-is_opened h p q o = world_of-parts h p (is_some h.table) true (is_some h.pool) true refl q refl o
+pub is_world_reserving : (h : HeapState) (p : Past) → is_some h.point ≡ true → h.is_open ≡ true → world_of h p ≡ world_reserving h p
+is_world_reserving h p q o = world_of-parts h p (is_some h.table) true (is_some h.pool) true refl q refl o
 
-abbrev opened_with : Kept → Past → List Object → Reservation → World
+abbrev opened_with : HeapState → Past → List Object → Reservation → World
 opened_with h p objects r =
-    world_with h.grains h.limit p.names objects (one_where (is_some h.table) (Some p.ids)) (Some (point_with (Some r)) ∷ [])
-    (one_where (is_some h.pool) front_pool) (segments_from 1 p.segments) (map some_address p.addresses) (point_memory_of h ∷ [])
+    world_with h.grains h.limit p.names objects (one_if (is_some h.table) (Some p.ids)) (Some (point_with (Some r)) ∷ [])
+    (one_if (is_some h.pool) front_pool) (segments_from 1 p.segments) (map some_address p.addresses) (point_memory_of h ∷ [])
 
 -- the world after the write
-world_written : (h : Kept) (p : Past) (cell value : ℕ) → Agrees h p → is_some h.point ≡ true → h.is_open ≡ true → 0 < cell → is_number_cell (head_at h h.reserved) cell ≡ true
+world_written : (h : HeapState) (p : Past) (cell value : ℕ) → Agrees h p → is_some h.point ≡ true → h.is_open ≡ true → 0 < cell → is_number_cell (head_at h h.reserved) cell ≡ true
     → opened_with h p (map (object_in h.words) p.addresses) (record { head = slice_index h.words h.reserved; cells = slice_set (cells_at h.words h.reserved) cell (NumberCell value); is_doomed = false })
-    ≡ world_of (written h cell value) p
+    ≡ world_of (with_number h cell value) p
 world_written h p cell value a q o pos number =
-    let bound : bound_of h ≡ h.reserved = ap (λ b. if b then h.reserved else h.front) o in
-    let le : bound_of h ≤ h.reserved + cell = omega (arith, bound) in
-    ap (λ objects. opened_with h p objects (record { head = slice_index h.words h.reserved; cells = slice_set (cells_at h.words h.reserved) cell (NumberCell value); is_doomed = false })) (sym (objects-set_after h.words (bound_of h) (h.reserved + cell) value p.addresses le a.blocks))
+    let bound : end_of_objects h ≡ h.reserved = ap (λ b. if b then h.reserved else h.buffer_start) o in
+    let le : end_of_objects h ≤ h.reserved + cell = omega (arith, bound) in
+    ap (λ objects. opened_with h p objects (record { head = slice_index h.words h.reserved; cells = slice_set (cells_at h.words h.reserved) cell (NumberCell value); is_doomed = false })) (sym (objects-set_after h.words (end_of_objects h) (h.reserved + cell) value p.addresses le a.blocks))
     ∙ ap (λ r. opened_with h p (map (object_in (slice_set h.words (h.reserved + cell) value)) p.addresses) r) (sym (reservation_written h.words h.reserved cell value pos number))
-    ∙ sym (is_opened (written h cell value) p q o)
+    ∙ sym (is_world_reserving (with_number h cell value) p q o)
 
-agrees_written : (h : Kept) (p : Past) (cell value : ℕ) → Agrees h p → h.is_open ≡ true → 0 < cell → is_number_cell (head_at h h.reserved) cell ≡ true → Agrees (written h cell value) p
-agrees_written h p cell value a o pos number =
-    let bound : bound_of h ≡ h.reserved = ap (λ b. if b then h.reserved else h.front) o in
-    let le : bound_of h ≤ h.reserved + cell = omega (arith, bound) in
+agrees_with_number : (h : HeapState) (p : Past) (cell value : ℕ) → Agrees h p → h.is_open ≡ true → 0 < cell → is_number_cell (head_at h h.reserved) cell ≡ true → Agrees (with_number h cell value) p
+agrees_with_number h p cell value a o pos number =
+    let bound : end_of_objects h ≡ h.reserved = ap (λ b. if b then h.reserved else h.buffer_start) o in
+    let le : end_of_objects h ≤ h.reserved + cell = omega (arith, bound) in
     let block = a.reservation o in
     let below = block.below in
     let inside = number_cell_below (slice_index h.words h.reserved) cell block.head number in
@@ -96,49 +96,49 @@ agrees_written h p cell value a o pos number =
       held = a.held;
       in_arena = a.in_arena;
       arena = λ made. length-set h.words (h.reserved + cell) value ∙ a.arena made;
-      blocks = blocks-set_after h.words (bound_of h) (bound_of h) (h.reserved + cell) value p.addresses le (omega arith) a.blocks;
-      reservation = λ _. block_written h.words h.front h.reserved (h.reserved + cell) value (omega arith) block;
+      blocks = blocks-set_after h.words (end_of_objects h) (end_of_objects h) (h.reserved + cell) value p.addresses le (omega arith) a.blocks;
+      reservation = λ _. block_written h.words h.buffer_start h.reserved (h.reserved + cell) value (omega arith) block;
       at_hand = a.at_hand;
       not_null = a.not_null;
-      fresh = λ k following. get_or-set_other h.words (h.reserved + cell) k value 0 (λ e. omega arith) ∙ a.fresh k following;
+      fresh = λ k le. get_or-set_other h.words (h.reserved + cell) k value 0 (λ e. omega arith) ∙ a.fresh k le;
       before_arena = a.before_arena;
       before_pool = a.before_pool;
-      before_point = λ none. record { front = (a.before_point none).front; following = (a.before_point none).following; reserved = (a.before_point none).reserved; closed = (a.before_point none).closed };
+      before_point = λ none. record { buffer_start = (a.before_point none).buffer_start; buffer_end = (a.before_point none).buffer_end; reserved = (a.before_point none).reserved; not_open = (a.before_point none).not_open };
     }
 
-stored_written : (h : Kept) (p : Past) (cell value : ℕ) → Agrees h p → is_some h.point ≡ true → h.is_open ≡ true → 0 < cell → is_number_cell (head_at h h.reserved) cell ≡ true → live_blocks (opened h p) ≡ stored (written h cell value).words p.addresses
+stored_written : (h : HeapState) (p : Past) (cell value : ℕ) → Agrees h p → is_some h.point ≡ true → h.is_open ≡ true → 0 < cell → is_number_cell (head_at h h.reserved) cell ≡ true → live_blocks (world_reserving h p) ≡ stored (with_number h cell value).words p.addresses
 stored_written h p cell value a q o pos number =
-    let bound : bound_of h ≡ h.reserved = ap (λ b. if b then h.reserved else h.front) o in
-    let le : bound_of h ≤ h.reserved + cell = omega (arith, bound) in
-    ap live_blocks (sym (is_opened h p q o)) ∙ live_blocks-world_of h p ∙ sym (stored-set_after h.words (bound_of h) (h.reserved + cell) value p.addresses le a.blocks)
+    let bound : end_of_objects h ≡ h.reserved = ap (λ b. if b then h.reserved else h.buffer_start) o in
+    let le : end_of_objects h ≤ h.reserved + cell = omega (arith, bound) in
+    ap live_blocks (sym (is_world_reserving h p q o)) ∙ live_blocks-world_of h p ∙ sym (stored-set_after h.words (end_of_objects h) (h.reserved + cell) value p.addresses le a.blocks)
 
-right_written : (h : Kept) (p : Past) (line : ℕ) (name : Name) (cell value : ℕ) → Agrees h p → is_point h name ≡ true → h.is_open ≡ true → is_number_cell (head_at h h.reserved) cell ≡ true
-    → IsRightStep (opened h p) (step_of line (call.InitNumber name cell value) (said reply.Ok)) (written h cell value)
-right_written h p line name cell value a point o number =
+right_with_number : (h : HeapState) (p : Past) (line : ℕ) (name : Name) (cell value : ℕ) → Agrees h p → is_point h name ≡ true → h.is_open ≡ true → is_number_cell (head_at h h.reserved) cell ≡ true
+    → IsRightStep (world_reserving h p) (step_of line (call.InitNumber name cell value) (reply_only reply.Ok)) (with_number h cell value)
+right_with_number h p line name cell value a point o number =
     let q = is_point_some h name point in
     let both = and_parts (nat_lt 0 cell && nat_lt cell (words_of_head (head_at h h.reserved))) (not (front_layout.is_reference (head_at h h.reserved) cell)) number in
     let pos = ltb-true 0 cell (and_parts (nat_lt 0 cell) (nat_lt cell (words_of_head (head_at h h.reserved))) both.0).0 in
     let made = made_with_pool h p a (pool_with_point h p a q) in
     let within = at_hand_within h p a made in
     let hand = a.at_hand in
-    let e = act_of_init h.grains h.limit p.names (map (object_in h.words) p.addresses) (one_where (is_some h.table) (Some p.ids)) (slice_index h.words h.reserved) (cells_at h.words h.reserved)
-    (one_where (is_some h.pool) front_pool) (segments_from 1 p.segments) (map some_address p.addresses) (point_memory_of h ∷ []) name cell value (slice_index h.words (h.reserved + cell))
-    (point_named_there h p a name point) (number_cell_at h.words h.front h.reserved cell (a.reservation o) (omega arith) number) in
-    right_step (opened h p) (step_of line (call.InitNumber name cell value) (said reply.Ok)) (written h cell value) p refl
+    let e = act_of_init h.grains h.limit p.names (map (object_in h.words) p.addresses) (one_if (is_some h.table) (Some p.ids)) (slice_index h.words h.reserved) (cells_at h.words h.reserved)
+    (one_if (is_some h.pool) front_pool) (segments_from 1 p.segments) (map some_address p.addresses) (point_memory_of h ∷ []) name cell value (slice_index h.words (h.reserved + cell))
+    (point_named_there h p a name point) (number_cell_at h.words h.buffer_start h.reserved cell (a.reservation o) (omega arith) number) in
+    right_step (world_reserving h p) (step_of line (call.InitNumber name cell value) (reply_only reply.Ok)) (with_number h cell value) p refl
     (record { moves_are_legal = tt; moves_are_due = refl; answer_is_due = sym (ap answer_from e); marked = tt })
-    (ap (λ r. with_client_remembered (world_from (opened h p) r)) e ∙ world_written h p cell value a q o pos number)
-    (agrees_written h p cell value a o pos number)
+    (ap (λ r. with_client_remembered (world_from (world_reserving h p) r)) e ∙ world_written h p cell value a q o pos number)
+    (agrees_with_number h p cell value a o pos number)
     (λ pools. ap Some (stored_written h p cell value a q o pos number))
 
-init_where : (h : Kept) (p : Past) (line : ℕ) (name : Name) (cell value : ℕ) → Agrees h p → (b : Bool) → may_init h name cell ≡ b
-    → IsRightStep (world_of h p) (step_of line (call.InitNumber name cell value) (accepted_where b h (written h cell value)).done) (accepted_where b h (written h cell value)).kept
+init_where : (h : HeapState) (p : Past) (line : ℕ) (name : Name) (cell value : ℕ) → Agrees h p → (b : Bool) → may_init h name cell ≡ b
+    → IsRightStep (world_of h p) (step_of line (call.InitNumber name cell value) (accepted_if b h (with_number h cell value)).done) (accepted_if b h (with_number h cell value)).state
 init_where h p line name cell value a false e = unsupported_step h p line (call.InitNumber name cell value) a
 init_where h p line name cell value a true e =
     let both = and_parts (is_point h name && h.is_open) (is_number_cell (head_at h h.reserved) cell) e in
     let first = and_parts (is_point h name) h.is_open both.0 in
-    subst (λ (w : World). IsRightStep w (step_of line (call.InitNumber name cell value) (said reply.Ok)) (written h cell value)) (sym (is_opened h p (is_point_some h name first.0) first.1))
-    (right_written h p line name cell value a first.0 first.1 both.1)
+    subst (λ (w : World). IsRightStep w (step_of line (call.InitNumber name cell value) (reply_only reply.Ok)) (with_number h cell value)) (sym (is_world_reserving h p (is_point_some h name first.0) first.1))
+    (right_with_number h p line name cell value a first.0 first.1 both.1)
 
-pub right_init : (h : Kept) (p : Past) (line : ℕ) (name : Name) (cell value : ℕ) → Agrees h p
-    → IsRightStep (world_of h p) (step_of line (call.InitNumber name cell value) (after_init h name cell value).done) (after_init h name cell value).kept
+pub right_init : (h : HeapState) (p : Past) (line : ℕ) (name : Name) (cell value : ℕ) → Agrees h p
+    → IsRightStep (world_of h p) (step_of line (call.InitNumber name cell value) (after_init h name cell value).done) (after_init h name cell value).state
 right_init h p line name cell value a = init_where h p line name cell value a (may_init h name cell) refl

@@ -26,13 +26,13 @@ no_targets head k (w ∷ ws) = rw (no_target_in_cell head k w) (no_targets head 
 
 -- ---- a write outside a block
 
-pub take-drop-set_after : (words : List ℕ) (place size i v : ℕ) → place + size ≤ i → take size (drop place (slice_set words i v)) ≡ take size (drop place words)
-take-drop-set_after [] place size i v h = refl
+pub take-drop-set_after : (words : List ℕ) (address size i v : ℕ) → address + size ≤ i → take size (drop address (slice_set words i v)) ≡ take size (drop address words)
+take-drop-set_after [] address size i v h = refl
 take-drop-set_after (w ∷ ws) zero zero i v h = refl
 take-drop-set_after (w ∷ ws) zero (suc size) zero v h = absurd (omega (arith, h))
 take-drop-set_after (w ∷ ws) zero (suc size) (suc i) v h = ap (λ rest. w ∷ rest) (take-drop-set_after ws zero size i v (omega (arith, h)))
-take-drop-set_after (w ∷ ws) (suc place) size zero v h = absurd (omega (arith, h))
-take-drop-set_after (w ∷ ws) (suc place) size (suc i) v h = take-drop-set_after ws place size i v (omega (arith, h))
+take-drop-set_after (w ∷ ws) (suc address) size zero v h = absurd (omega (arith, h))
+take-drop-set_after (w ∷ ws) (suc address) size (suc i) v h = take-drop-set_after ws address size i v (omega (arith, h))
 
 pub slice_index-set_other : (words : List ℕ) (i j v : ℕ) → j < i → slice_index (slice_set words i v) j ≡ slice_index words j
 slice_index-set_other [] i j v h = refl
@@ -49,14 +49,14 @@ slice_index-set_same words i v h = get_or-set_same words i v 0 h
 abbrev made_of : (head : ℕ) → List ℕ → Object
 made_of head words = record { pool = 0; body = Automatic head (cells_in head 0 words) false }
 
-pub object_in-set_after : (words : List ℕ) (bound i v place : ℕ) → bound ≤ i → IsBlockAt words bound place → object_in (slice_set words i v) place ≡ object_in words place
-object_in-set_after words bound i v place h b =
-    let f = front_facts (slice_index words place) b.head in
+pub object_in-set_after : (words : List ℕ) (bound i v address : ℕ) → bound ≤ i → IsBlockAt words bound address → object_in (slice_set words i v) address ≡ object_in words address
+object_in-set_after words bound i v address h b =
+    let f = front_facts (slice_index words address) b.head in
     let below = b.below in
-    let lt : place < i = omega arith in
-    let le : place + size_field (slice_index words place) ≤ i = omega arith in
-    ap (λ head. made_of head (take (size_field head) (drop place (slice_set words i v)))) (slice_index-set_other words i place v lt)
-    ∙ ap (λ ws. made_of (slice_index words place) ws) (take-drop-set_after words place (size_field (slice_index words place)) i v le)
+    let lt : address < i = omega arith in
+    let le : address + size_field (slice_index words address) ≤ i = omega arith in
+    ap (λ head. made_of head (take (size_field head) (drop address (slice_set words i v)))) (slice_index-set_other words i address v lt)
+    ∙ ap (λ ws. made_of (slice_index words address) ws) (take-drop-set_after words address (size_field (slice_index words address)) i v le)
 
 pub objects-set_after : (words : List ℕ) (bound i v : ℕ) (addresses : List ℕ) → bound ≤ i → AllByRecursion (IsBlockAt words bound) addresses → map (object_in (slice_set words i v)) addresses ≡ map (object_in words) addresses
 objects-set_after words bound i v [] h bs = refl
@@ -65,32 +65,32 @@ objects-set_after words bound i v (p ∷ ps) h bs =
     ∙ ap (λ os. object_in words p ∷ os) (objects-set_after words bound i v ps h bs.1)
 
 -- a block stays a block after a write after it, and up to a later bound
-pub block-set_after : (words : List ℕ) (bound later i v place : ℕ) → bound ≤ i → bound ≤ later → IsBlockAt words bound place → IsBlockAt (slice_set words i v) later place
-block-set_after words bound later i v place h l b =
-    let f = front_facts (slice_index words place) b.head in
+pub block-set_after : (words : List ℕ) (bound later i v address : ℕ) → bound ≤ i → bound ≤ later → IsBlockAt words bound address → IsBlockAt (slice_set words i v) later address
+block-set_after words bound later i v address h l b =
+    let f = front_facts (slice_index words address) b.head in
     let below = b.below in
-    let lt : place < i = omega arith in
-    let e = slice_index-set_other words i place v lt in
+    let lt : address < i = omega arith in
+    let e = slice_index-set_other words i address v lt in
     record {
       not_null = b.not_null;
       head = ap is_front e ∙ b.head;
-      below = subst (λ (head : ℕ). place + size_field head ≤ later) (sym e) (omega arith);
+      below = subst (λ (head : ℕ). address + size_field head ≤ later) (sym e) (omega arith);
     }
 
 pub blocks-set_after : (words : List ℕ) (bound later i v : ℕ) (addresses : List ℕ) → bound ≤ i → bound ≤ later → AllByRecursion (IsBlockAt words bound) addresses → AllByRecursion (IsBlockAt (slice_set words i v) later) addresses
 blocks-set_after words bound later i v [] h l bs = bs
 blocks-set_after words bound later i v (p ∷ ps) h l bs = (block-set_after words bound later i v p h l bs.0, blocks-set_after words bound later i v ps h l bs.1)
 
-pub block_later : (words : List ℕ) (bound later place : ℕ) → bound ≤ later → IsBlockAt words bound place → IsBlockAt words later place
-block_later words bound later place l b = let below = b.below in record { not_null = b.not_null; head = b.head; below = omega arith }
+pub block_later : (words : List ℕ) (bound later address : ℕ) → bound ≤ later → IsBlockAt words bound address → IsBlockAt words later address
+block_later words bound later address l b = let below = b.below in record { not_null = b.not_null; head = b.head; below = omega arith }
 
 pub blocks_later : (words : List ℕ) (bound later : ℕ) (addresses : List ℕ) → bound ≤ later → AllByRecursion (IsBlockAt words bound) addresses → AllByRecursion (IsBlockAt words later) addresses
 blocks_later words bound later [] l bs = bs
 blocks_later words bound later (p ∷ ps) l bs = (block_later words bound later p l bs.0, blocks_later words bound later ps l bs.1)
 
-pub blocks_push : (words : List ℕ) (bound place : ℕ) (addresses : List ℕ) → AllByRecursion (IsBlockAt words bound) addresses → IsBlockAt words bound place → AllByRecursion (IsBlockAt words bound) (addresses ++ place ∷ [])
-blocks_push words bound place [] bs b = (b, tt)
-blocks_push words bound place (p ∷ ps) bs b = (bs.0, blocks_push words bound place ps bs.1 b)
+pub blocks_push : (words : List ℕ) (bound address : ℕ) (addresses : List ℕ) → AllByRecursion (IsBlockAt words bound) addresses → IsBlockAt words bound address → AllByRecursion (IsBlockAt words bound) (addresses ++ address ∷ [])
+blocks_push words bound address [] bs b = (b, tt)
+blocks_push words bound address (p ∷ ps) bs b = (bs.0, blocks_push words bound address ps bs.1 b)
 
 -- ---- a write within a block
 
@@ -116,12 +116,12 @@ cells_in-set head k (w ∷ ws) (suc i) v =
     ap (λ rest. cell_in head k w ∷ rest) (cells_in-set head (suc k) ws i v)
     ∙ ap (λ n. cell_in head k w ∷ slice_set (cells_in head (suc k) ws) i (cell_in head n v)) (let e : suc k + i ≡ k + suc i = omega arith in e)
 
--- the words of a block, with one written
-pub block_words-set : (words : List ℕ) (place size i v : ℕ) → take size (drop place (slice_set words (place + i) v)) ≡ slice_set (take size (drop place words)) i v
-block_words-set words place size i v = ap (take size) (drop-set-add place words i v) ∙ take-set_within size i v (drop place words)
+-- the words of a block, with one with_number
+pub block_words-set : (words : List ℕ) (address size i v : ℕ) → take size (drop address (slice_set words (address + i) v)) ≡ slice_set (take size (drop address words)) i v
+block_words-set words address size i v = ap (take size) (drop-set-add address words i v) ∙ take-set_within size i v (drop address words)
 
-pub length-block_words : (words : List ℕ) (place size : ℕ) → place + size ≤ length words → length (take size (drop place words)) ≡ size
-length-block_words words place size h = length-take size (drop place words) ∙ ap (λ n. min size n) (length-drop place words) ∙ omega arith
+pub length-block_words : (words : List ℕ) (address size : ℕ) → address + size ≤ length words → length (take size (drop address words)) ≡ size
+length-block_words words address size h = length-take size (drop address words) ∙ ap (λ n. min size n) (length-drop address words) ∙ omega arith
 
 -- ---- a new block
 

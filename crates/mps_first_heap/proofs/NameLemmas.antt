@@ -6,7 +6,7 @@ use Rattle.std.proofs.lemmas.Slice.Eq.{bytes_eq-Decides}
 use Rattle.std.proofs.lemmas.Bool.{and_parts, and_from, eqb-true, eq-eqb, or_parts}
 use Rattle.mps_base.specs.declared.names.Name.{Name}
 use Rattle.mps_model.specs.Graph.{NamedThing, Thing, TableThing, PoolThing, PointThing, same_name, thing_in}
-use Rattle.mps_first_heap.specs.Kept.{Kept, is_name, is_taken}
+use Rattle.mps_first_heap.specs.HeapState.{HeapState, is_named, is_taken}
 use Rattle.mps_first_heap.specs.StandsFor.{thing_of}
 
 -- names that are the same are equal
@@ -46,10 +46,10 @@ names_made names name thing before after was free is others n = thing_in-push na
     by_name true e = subst (λ (m : Name). or_else (before m) (if same_name name m then Some thing else None) ≡ after m) (same_name_equal name n e) (ap (λ t. or_else t (if same_name name name then Some thing else None)) free ∙ ap (λ b. if b then Some thing else None) (same_name_itself name) ∙ sym is)
 
 -- a name that isn't taken stands for nothing
-pub not_taken : (h : Kept) (name : Name) → is_taken h name ≡ false → thing_of h name ≡ None
+pub not_taken : (h : HeapState) (name : Name) → is_taken h name ≡ false → thing_of h name ≡ None
 not_taken h name e =
-    let first = or_parts (is_name h.table name || is_name h.pool name) (is_name h.point name) e in
-    let two = or_parts (is_name h.table name) (is_name h.pool name) first.0 in
-    ap (λ b. if b then Some (TableThing 0) else (if is_name h.pool name then Some (PoolThing 0) else (if is_name h.point name then Some (PointThing 0) else None))) two.0
-    ∙ ap (λ b. if b then Some (PoolThing 0) else (if is_name h.point name then Some (PointThing 0) else None)) two.1
+    let first = or_parts (is_named h.table name || is_named h.pool name) (is_named h.point name) e in
+    let two = or_parts (is_named h.table name) (is_named h.pool name) first.0 in
+    ap (λ b. if b then Some (TableThing 0) else (if is_named h.pool name then Some (PoolThing 0) else (if is_named h.point name then Some (PointThing 0) else None))) two.0
+    ∙ ap (λ b. if b then Some (PoolThing 0) else (if is_named h.point name then Some (PointThing 0) else None)) two.1
     ∙ ap (λ b. if b then Some (PointThing 0) else None) first.1

@@ -11,8 +11,8 @@ use Rattle.mps_model.specs.Replay.{replay_from}
 use Rattle.mps_model.specs.Reply.{reply_to}
 use Rattle.mps_model.specs.LegalMove.{AreLegalMoves}
 use Rattle.mps_model.specs.History.{IsAnsweredStep, AreMovesOf, HeldAreLive, IsPossiblyMarked, judged_world, moved_world, world_after, live_blocks, are_held_kept, has_units_left}
-use Rattle.mps_first_heap.specs.Kept.{Kept}
-use Rattle.mps_first_heap.specs.Outcome.{said}
+use Rattle.mps_first_heap.specs.HeapState.{HeapState}
+use Rattle.mps_first_heap.specs.Outcome.{reply_only}
 use Rattle.mps_first_heap.specs.StandsFor.{Past, Agrees, world_of, step_of}
 use Rattle.mps_first_heap.specs.RightStep.{IsRightStep}
 use Rattle.mps_first_heap.proofs.Worlds.{held_are_live, stored, live_blocks-world_of}
@@ -24,27 +24,27 @@ pub record IsDue (w : World) (s : Step) : Type 0 where
   pub answer_is_due : s.answer ≡ reply_to (is_block s.answer) (judged_world w s.call s.moves) (moved_world w s.call s.moves) s.call
   pub marked : IsPossiblyMarked w s.call s.answer
 
-answered_step : (w : World) (s : Step) (kept : Kept) (p : Past) → IsDue w s → world_after w s ≡ world_of kept p → Agrees kept p → IsAnsweredStep w s
-answered_step w s kept p due after a = record {
+legal_if_answered : (w : World) (s : Step) (state : HeapState) (p : Past) → IsDue w s → world_after w s ≡ world_of state p → Agrees state p → IsAnsweredStep w s
+legal_if_answered w s state p due after a = record {
   moves_are_legal = due.moves_are_legal;
   moves_are_due = due.moves_are_due;
   answer_is_due = due.answer_is_due;
   marked_may_survive = due.marked;
-  held_are_live = subst HeldAreLive (sym after) (held_are_live kept p a);
+  held_are_live = subst HeldAreLive (sym after) (held_are_live state p a);
   held_are_kept = subst (λ (v : World). are_held_kept v ≡ true) (sym after) refl;
   units_are_left = subst (λ (v : World). has_units_left v ≡ true) (sym after) refl;
 }
 
 -- a step that was answered is right where its moves and its answer are due, and what is kept agrees with the world after it
-pub right_step : (w : World) (s : Step) (kept : Kept) (p : Past) → is_unsupported s.answer ≡ false → IsDue w s → world_after w s ≡ world_of kept p → Agrees kept p → ((pools : ℕ) → replay_from (live_blocks w) (records_of_step pools s) ≡ Some (stored kept.words p.addresses)) → IsRightStep w s kept
-right_step w s kept p answered due after a replays = record {
-  is_legal = subst (λ (b : Bool). MatchBool b (s.moves ≡ []) (IsAnsweredStep w s)) (sym answered) (answered_step w s kept p due after a);
+pub right_step : (w : World) (s : Step) (state : HeapState) (p : Past) → is_unsupported s.answer ≡ false → IsDue w s → world_after w s ≡ world_of state p → Agrees state p → ((pools : ℕ) → replay_from (live_blocks w) (records_of_step pools s) ≡ Some (stored state.words p.addresses)) → IsRightStep w s state
+right_step w s state p answered due after a replays = record {
+  is_legal = subst (λ (b : Bool). MatchBool b (s.moves ≡ []) (IsAnsweredStep w s)) (sym answered) (legal_if_answered w s state p due after a);
   stands = record { past = p; world = after; agrees = a };
-  is_replayed = λ pools. replays pools ∙ ap Some (sym (ap live_blocks after ∙ live_blocks-world_of kept p));
+  is_replayed = λ pools. replays pools ∙ ap Some (sym (ap live_blocks after ∙ live_blocks-world_of state p));
 }
 
 -- a step that isn't supported changes nothing
-pub unsupported_step : (h : Kept) (p : Past) (line : ℕ) (call : Call) → Agrees h p → IsRightStep (world_of h p) (step_of line call (said reply.Unsupported)) h
+pub unsupported_step : (h : HeapState) (p : Past) (line : ℕ) (call : Call) → Agrees h p → IsRightStep (world_of h p) (step_of line call (reply_only reply.Unsupported)) h
 unsupported_step h p line call a = record {
   is_legal = refl;
   stands = record { past = p; world = refl; agrees = a };

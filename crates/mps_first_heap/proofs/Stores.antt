@@ -42,19 +42,19 @@ making_last n words store all =
     ap (λ t. if t then None else Some (with_block (record { at = n; words = words; pool = 0 }) store)) (not_live n store all)
     ∙ ap Some (with_block_last (record { at = n; words = words; pool = 0 }) store all)
 
-place_below : (words : List ℕ) (bound place : ℕ) → IsBlockAt words bound place → place < bound
-place_below words bound place b = let f = front_facts (slice_index words place) b.head in let below = b.below in omega arith
+address_below : (words : List ℕ) (bound address : ℕ) → IsBlockAt words bound address → address < bound
+address_below words bound address b = let f = front_facts (slice_index words address) b.head in let below = b.below in omega arith
 
 stored_below : (words : List ℕ) (bound : ℕ) (addresses : List ℕ) → AllByRecursion (IsBlockAt words bound) addresses → AllBelow (8 * bound) (stored words addresses)
 stored_below words bound [] all = tt
 stored_below words bound (p ∷ ps) all =
-    with_block_below (8 * bound) (block_in words p) (stored words ps) (let lt = place_below words bound p all.0 in omega arith) (stored_below words bound ps all.1)
+    with_block_below (8 * bound) (block_in words p) (stored words ps) (let lt = address_below words bound p all.0 in omega arith) (stored_below words bound ps all.1)
 
 stored_push : (words : List ℕ) (bound : ℕ) (addresses : List ℕ) → AllByRecursion (IsBlockAt words bound) addresses → stored words (addresses ++ bound ∷ []) ≡ stored words addresses ++ block_in words bound ∷ []
 stored_push words bound [] all = refl
 stored_push words bound (p ∷ ps) all =
     ap (with_block (block_in words p)) (stored_push words bound ps all.1)
-    ∙ with_block_before_last (block_in words p) (block_in words bound) (stored words ps) (let lt = place_below words bound p all.0 in omega arith)
+    ∙ with_block_before_last (block_in words p) (block_in words bound) (stored words ps) (let lt = address_below words bound p all.0 in omega arith)
 
 -- a block is made after all others
 pub making_pushed : (words : List ℕ) (bound size : ℕ) (addresses : List ℕ) → AllByRecursion (IsBlockAt words bound) addresses → (block_in words bound).words ≡ size → after_making (stored words addresses) (8 * bound) size 0 ≡ Some (stored words (addresses ++ bound ∷ []))

@@ -13,8 +13,8 @@ use Rattle.mps_model.specs.Graph.{NumberCell, ReferenceCell, Object, entries, en
 use Rattle.mps_model.specs.World.{World, live_ids, numbers_of}
 use Rattle.mps_model.specs.Replay.{Block, Store, with_block}
 use Rattle.mps_model.specs.History.{HeldAreLive, block_of, blocks_of_ids, live_blocks}
-use Rattle.mps_first_heap.specs.Kept.{Kept, is_name, words_of_head, is_number_cell}
-use Rattle.mps_first_heap.specs.StandsFor.{Past, Agrees, world_of, world_with, segments_from, front_pool, point_memory_of, place_in_slot, cell_in, cells_at, object_in, reservation_in, point_with, one_where, some_where, some_address, is_null_or_below, IsBlockAt, bound_of}
+use Rattle.mps_first_heap.specs.HeapState.{HeapState, is_named, words_of_head, is_number_cell}
+use Rattle.mps_first_heap.specs.StandsFor.{Past, Agrees, world_of, world_with, segments_from, front_pool, point_memory_of, address_in_slot, cell_in, cells_at, object_in, reservation_in, point_with, one_if, some_if, some_address, is_null_or_below, IsBlockAt, end_of_objects}
 use Rattle.mps_first_heap.proofs.Lists.{no_targets, length-block_words, slice_get-cells_in}
 
 -- ---- live objects
@@ -36,14 +36,14 @@ list_all-append p [] ys h k = k
 list_all-append p (x ∷ xs) ys h k =
     let both = and_parts (p x) (list_all p xs) h in and_from (p x) (list_all p (xs ++ ys)) both.0 (list_all-append p xs ys both.1 k)
 
-slots_live : (live : ℕ → Bool) (count : ℕ) (ids : List (Option ℕ)) (there : Bool) → ((id : ℕ) → id < count → live id ≡ true) → list_all (is_null_or_below count) ids ≡ true → list_all live (flat_map slots_of (one_where there (Some ids))) ≡ true
+slots_live : (live : ℕ → Bool) (count : ℕ) (ids : List (Option ℕ)) (there : Bool) → ((id : ℕ) → id < count → live id ≡ true) → list_all (is_null_or_below count) ids ≡ true → list_all live (flat_map slots_of (one_if there (Some ids))) ≡ true
 slots_live live count ids false each h = refl
 slots_live live count ids true each h = list_all-append live (entries ids) [] (all_live live count ids each h) refl
 
-reservation_has_none : (words : List ℕ) (place : ℕ) (there opened : Bool) → flat_map targets_of_point (one_where there (Some (point_with (some_where opened (reservation_in words place))))) ≡ []
-reservation_has_none words place false opened = refl
-reservation_has_none words place true false = refl
-reservation_has_none words place true true = ap (λ ids. ids ++ []) (no_targets (slice_index words place) 0 (take (size_field (slice_index words place)) (drop place words)))
+reservation_has_none : (words : List ℕ) (address : ℕ) (there is_open : Bool) → flat_map targets_of_point (one_if there (Some (point_with (some_if is_open (reservation_in words address))))) ≡ []
+reservation_has_none words address false is_open = refl
+reservation_has_none words address true false = refl
+reservation_has_none words address true true = ap (λ ids. ids ++ []) (no_targets (slice_index words address) 0 (take (size_field (slice_index words address)) (drop address words)))
 
 object_has_none : (words addresses : List ℕ) (id : ℕ) → option_map_or targets_of (slice_get (map (object_in words) addresses) id) [] ≡ []
 object_has_none words [] id = refl
@@ -54,12 +54,12 @@ flat_map_nil : (f : ℕ → List ℕ) (ids : List ℕ) → ((id : ℕ) → f id 
 flat_map_nil f [] each = refl
 flat_map_nil f (id ∷ ids) each = ap (λ xs. xs ++ flat_map f ids) (each id) ∙ flat_map_nil f ids each
 
-pub held_are_live : (h : Kept) (p : Past) → Agrees h p → HeldAreLive (world_of h p)
+pub held_are_live : (h : HeapState) (p : Past) → Agrees h p → HeldAreLive (world_of h p)
 held_are_live h p a =
     let live = λ (id : ℕ). is_some (entry_at (map some_address p.addresses) id) in
     record {
-      client = list_all-append live (((flat_map slots_of (one_where (is_some h.table) (Some p.ids)) ++ []) ++ [])) (flat_map targets_of_point (one_where (is_some h.point) (Some (point_with (some_where h.is_open (reservation_in h.words h.reserved))))))
-          (list_all-append live (flat_map slots_of (one_where (is_some h.table) (Some p.ids)) ++ []) [] (list_all-append live (flat_map slots_of (one_where (is_some h.table) (Some p.ids))) [] (slots_live live (length p.addresses) p.ids (is_some h.table) (live_at p.addresses) a.ids) refl) refl)
+      client = list_all-append live (((flat_map slots_of (one_if (is_some h.table) (Some p.ids)) ++ []) ++ [])) (flat_map targets_of_point (one_if (is_some h.point) (Some (point_with (some_if h.is_open (reservation_in h.words h.reserved))))))
+          (list_all-append live (flat_map slots_of (one_if (is_some h.table) (Some p.ids)) ++ []) [] (list_all-append live (flat_map slots_of (one_if (is_some h.table) (Some p.ids))) [] (slots_live live (length p.addresses) p.ids (is_some h.table) (live_at p.addresses) a.ids) refl) refl)
           (subst (λ (ids : List ℕ). list_all live ids ≡ true) (sym (reservation_has_none h.words h.reserved (is_some h.point) h.is_open)) refl);
       blocks = refl;
       referred = subst (λ (ids : List ℕ). list_all live ids ≡ true) (sym (flat_map_nil (targets (world_of h p).graph) (live_ids (world_of h p)) (object_has_none h.words p.addresses))) refl;
@@ -67,11 +67,11 @@ held_are_live h p a =
 
 -- ---- live blocks
 
--- the block whose words lie at a place
-abbrev pub block_in : List ℕ → (place : ℕ) → Block
-block_in words place = record { at = 8 * place; words = length (cells_at words place); pool = 0 }
+-- the block whose words lie at an address
+abbrev pub block_in : List ℕ → (address : ℕ) → Block
+block_in words address = record { at = 8 * address; words = length (cells_at words address); pool = 0 }
 
--- the blocks at some places
+-- the blocks at some addresses
 abbrev pub stored : List ℕ → (addresses : List ℕ) → Store
 stored words [] = []
 stored words (p ∷ ps) = with_block (block_in words p) (stored words ps)
@@ -88,15 +88,15 @@ object_there words (p ∷ ps) (suc id) h = object_there words ps id (omega (arit
 
 -- the block of an object, by its address and by itself
 abbrev block_by : Option ℕ → Option Object → Block
-block_by place object = record {
-  at = option_map_or (λ at. at) place 0;
+block_by address object = record {
+  at = option_map_or (λ at. at) address 0;
   words = option_map_or (λ o. size_of o) object 0;
   pool = option_map_or (λ o. o.pool) object 0;
 }
 
-block_there : (h : Kept) (p : Past) (id : ℕ) → id < length p.addresses → block_of (world_of h p) id ≡ block_in h.words (slice_index p.addresses id)
+block_there : (h : HeapState) (p : Past) (id : ℕ) → id < length p.addresses → block_of (world_of h p) id ≡ block_in h.words (slice_index p.addresses id)
 block_there h p id lt =
-    ap (λ place. block_by place (slice_get (map (object_in h.words) p.addresses) id)) (entry_there p.addresses id lt)
+    ap (λ address. block_by address (slice_get (map (object_in h.words) p.addresses) id)) (entry_there p.addresses id lt)
     ∙ ap (λ object. block_by (Some (8 * slice_index p.addresses id)) object) (object_there h.words p.addresses id lt)
 
 blocks_there : (w : World) (words : List ℕ) (first : ℕ) (addresses : List ℕ) → ((i : ℕ) → i < length addresses → block_of w (first + i) ≡ block_in words (slice_index addresses i)) → blocks_of_ids w (numbers_of is_some first (map some_address addresses)) ≡ stored words addresses
@@ -105,57 +105,57 @@ blocks_there w words first (p ∷ ps) each =
     ap (λ b. with_block b (blocks_of_ids w (numbers_of is_some (first + 1) (map some_address ps)))) (ap (block_of w) (sym (add-zero first)) ∙ each 0 (omega arith))
     ∙ ap (with_block (block_in words p)) (blocks_there w words (first + 1) ps (λ i lt. ap (block_of w) (let e : first + 1 + i ≡ first + suc i = omega arith in e) ∙ each (suc i) (omega (arith, lt))))
 
-pub live_blocks-world_of : (h : Kept) (p : Past) → live_blocks (world_of h p) ≡ stored h.words p.addresses
+pub live_blocks-world_of : (h : HeapState) (p : Past) → live_blocks (world_of h p) ≡ stored h.words p.addresses
 live_blocks-world_of h p = blocks_there (world_of h p) h.words 0 p.addresses (λ i lt. ap (block_of (world_of h p)) (let e : 0 + i ≡ i = omega arith in e) ∙ block_there h p i lt)
 
 -- ---- which parts there are
 
 -- the world of the heap, where it is known which parts there are
-abbrev pub world_by : Kept → Past → (table point pool opened : Bool) → World
-world_by h p table point pool opened =
-    world_with h.grains h.limit p.names (map (object_in h.words) p.addresses) (one_where table (Some p.ids))
-    (one_where point (Some (point_with (some_where opened (reservation_in h.words h.reserved)))))
-    (one_where pool front_pool)
+abbrev pub world_by : HeapState → Past → (table point pool is_open : Bool) → World
+world_by h p table point pool is_open =
+    world_with h.grains h.limit p.names (map (object_in h.words) p.addresses) (one_if table (Some p.ids))
+    (one_if point (Some (point_with (some_if is_open (reservation_in h.words h.reserved)))))
+    (one_if pool front_pool)
     (segments_from 1 p.segments)
     (map some_address p.addresses)
-    (one_where point (point_memory_of h))
+    (one_if point (point_memory_of h))
 
-pub world_of-parts : (h : Kept) (p : Past) (table point pool opened : Bool) → is_some h.table ≡ table → is_some h.point ≡ point → is_some h.pool ≡ pool → h.is_open ≡ opened → world_of h p ≡ world_by h p table point pool opened
-world_of-parts h p table point pool opened t q l o =
+pub world_of-parts : (h : HeapState) (p : Past) (table point pool is_open : Bool) → is_some h.table ≡ table → is_some h.point ≡ point → is_some h.pool ≡ pool → h.is_open ≡ is_open → world_of h p ≡ world_by h p table point pool is_open
+world_of-parts h p table point pool is_open t q l o =
     ap (λ b. world_by h p b (is_some h.point) (is_some h.pool) h.is_open) t
     ∙ ap (λ b. world_by h p table b (is_some h.pool) h.is_open) q
     ∙ ap (λ b. world_by h p table point b h.is_open) l
     ∙ ap (λ b. world_by h p table point pool b) o
 
-pub is_name_some : (o : Option Name) (name : Name) → is_name o name ≡ true → is_some o ≡ true
-is_name_some None name h = absurd (false≢true h)
-is_name_some (Some other) name h = refl
+pub is_named-some : (o : Option Name) (name : Name) → is_named o name ≡ true → is_some o ≡ true
+is_named-some None name h = absurd (false≢true h)
+is_named-some (Some other) name h = refl
 
 some_of_table : (o : Option Name) → is_some o ≡ true → o ≡ None → ⊥
 some_of_table o s n = false≢true (sym (ap is_some n) ∙ s)
 
-pub made_with_table : (h : Kept) (p : Past) → Agrees h p → is_some h.table ≡ true → 0 < h.grains
+pub made_with_table : (h : HeapState) (p : Past) → Agrees h p → is_some h.table ≡ true → 0 < h.grains
 made_with_table h p a t = elim (cases_lt 0 h.grains) [ inl lt ↦ lt | inr le ↦ absurd (some_of_table h.table t (a.before_arena (let e : h.grains ≡ 0 = omega arith in e)).0) ]
 
-pub pool_with_point : (h : Kept) (p : Past) → Agrees h p → is_some h.point ≡ true → is_some h.pool ≡ true
+pub pool_with_point : (h : HeapState) (p : Past) → Agrees h p → is_some h.point ≡ true → is_some h.pool ≡ true
 pool_with_point h p a q = by_pool h.pool refl
   where
     by_pool : (o : Option Name) → h.pool ≡ o → is_some o ≡ true
     by_pool None e = absurd (some_of_table h.point q (a.before_pool e))
     by_pool (Some name) e = refl
 
-pub made_with_pool : (h : Kept) (p : Past) → Agrees h p → is_some h.pool ≡ true → 0 < h.grains
+pub made_with_pool : (h : HeapState) (p : Past) → Agrees h p → is_some h.pool ≡ true → 0 < h.grains
 made_with_pool h p a t = elim (cases_lt 0 h.grains) [ inl lt ↦ lt | inr le ↦ absurd (some_of_table h.pool t (a.before_arena (let e : h.grains ≡ 0 = omega arith in e)).1) ]
 
 -- ---- where blocks lie
 
-pub at_hand_within : (h : Kept) (p : Past) → Agrees h p → 0 < h.grains → h.following ≤ length h.words
+pub at_hand_within : (h : HeapState) (p : Past) → Agrees h p → 0 < h.grains → h.buffer_end ≤ length h.words
 at_hand_within h p a made = let l = a.arena made in let i = a.in_arena in let q = a.at_hand in omega arith
 
-pub bound_of-le : (h : Kept) (p : Past) → Agrees h p → bound_of h ≤ h.front
-bound_of-le h p a = by_open h.is_open refl
+pub end_of_objects-le : (h : HeapState) (p : Past) → Agrees h p → end_of_objects h ≤ h.buffer_start
+end_of_objects-le h p a = by_open h.is_open refl
   where
-    by_open : (b : Bool) → h.is_open ≡ b → (if b then h.reserved else h.front) ≤ h.front
+    by_open : (b : Bool) → h.is_open ≡ b → (if b then h.reserved else h.buffer_start) ≤ h.buffer_start
     by_open true e = let below = (a.reservation e).below in omega arith
     by_open false e = omega arith
 
@@ -165,7 +165,7 @@ block_there_at words bound (p ∷ ps) zero bs h = bs.0
 block_there_at words bound (p ∷ ps) (suc id) bs h = block_there_at words bound ps id bs.1 (omega (arith, h))
 
 -- what stands in a slot
-pub slot_there : (addresses : List ℕ) (ids : List (Option ℕ)) (i : ℕ) → i < length (map (place_in_slot addresses) ids) → (held : Option ℕ) × (slice_get ids i ≡ Some held) × (slice_index (map (place_in_slot addresses) ids) i ≡ place_in_slot addresses held)
+pub slot_there : (addresses : List ℕ) (ids : List (Option ℕ)) (i : ℕ) → i < length (map (address_in_slot addresses) ids) → (held : Option ℕ) × (slice_get ids i ≡ Some held) × (slice_index (map (address_in_slot addresses) ids) i ≡ address_in_slot addresses held)
 slot_there addresses [] i h = absurd (omega (arith, h))
 slot_there addresses (held ∷ ids) zero h = (held, refl, refl)
 slot_there addresses (held ∷ ids) (suc i) h = slot_there addresses ids i (omega (arith, h))
@@ -187,16 +187,16 @@ number_cell_below head k v h =
     let below = (and_parts (nat_lt 0 k) (nat_lt k (words_of_head head)) both.0).1 in
     subst (λ (n : ℕ). k < n) (cond-true (is_front head) (size_field head) 0 v) (ltb-true k (words_of_head head) below)
 
--- a number cell of a block at a place has the word n after it
-pub number_cell_at : (words : List ℕ) (bound place k : ℕ) → IsBlockAt words bound place → bound ≤ length words → is_number_cell (slice_index words place) k ≡ true → slice_get (cells_at words place) k ≡ Some (NumberCell (slice_index words (place + k)))
-number_cell_at words bound place k b inside number =
-    let head = slice_index words place in
+-- a number cell of a block at an address has the word n after it
+pub number_cell_at : (words : List ℕ) (bound address k : ℕ) → IsBlockAt words bound address → bound ≤ length words → is_number_cell (slice_index words address) k ≡ true → slice_get (cells_at words address) k ≡ Some (NumberCell (slice_index words (address + k)))
+number_cell_at words bound address k b inside number =
+    let head = slice_index words address in
     let size = size_field head in
     let below = b.below in
     let lt : k < size = number_cell_below head k b.head number in
-    let whole : length (take size (drop place words)) ≡ size = length-block_words words place size (omega arith) in
-    let lt' : k < length (take size (drop place words)) = omega arith in
-    slice_get-cells_in head 0 (take size (drop place words)) k lt'
-    ∙ ap (λ n. Some (cell_in head n (slice_index (take size (drop place words)) k))) (let e : 0 + k ≡ k = omega arith in e)
-    ∙ ap Some (number_cell head k (slice_index (take size (drop place words)) k) number)
-    ∙ ap (λ n. Some (NumberCell n)) (get_or-take size (drop place words) k 0 lt ∙ get_or-drop place words k 0)
+    let whole : length (take size (drop address words)) ≡ size = length-block_words words address size (omega arith) in
+    let lt' : k < length (take size (drop address words)) = omega arith in
+    slice_get-cells_in head 0 (take size (drop address words)) k lt'
+    ∙ ap (λ n. Some (cell_in head n (slice_index (take size (drop address words)) k))) (let e : 0 + k ≡ k = omega arith in e)
+    ∙ ap Some (number_cell head k (slice_index (take size (drop address words)) k) number)
+    ∙ ap (λ n. Some (NumberCell n)) (get_or-take size (drop address words) k 0 lt ∙ get_or-drop address words k 0)

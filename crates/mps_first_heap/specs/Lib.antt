@@ -1,7 +1,6 @@
-pub mod Kept
+pub mod HeapState
 pub mod Outcome
 pub mod StandsFor
 pub mod Unsupported
 pub mod View
-pub mod Comes
 pub mod RightStep

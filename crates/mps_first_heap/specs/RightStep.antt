@@ -9,8 +9,8 @@ use Rattle.mps_model.specs.Log.{records_of_step, pools_made_by}
 use Rattle.mps_model.specs.Replay.{replay_from}
 use Rattle.mps_model.specs.History.{IsLegalStep, world_after, live_blocks}
 use Rattle.mps_first_heap.specs.declared.done.Done.{Done}
-use Rattle.mps_first_heap.specs.Kept.{Kept}
-use Rattle.mps_first_heap.specs.StandsFor.{StandsFor, step_of, some_where}
+use Rattle.mps_first_heap.specs.HeapState.{HeapState}
+use Rattle.mps_first_heap.specs.StandsFor.{StandsFor, step_of, some_if}
 use Rattle.mps_first_heap.specs.Unsupported.{is_unsupported_call}
 
 -- the records of the step, replayed from the live blocks before it, give those after it, however many pools there were
@@ -18,38 +18,38 @@ abbrev pub IsReplayed : World → Step → Type 0
 IsReplayed w s = (pools : ℕ) → replay_from (live_blocks w) (records_of_step pools s) ≡ Some (live_blocks (world_after w s))
 
 -- the step is legal, what is kept then stands for the world after it, and its records tell which blocks are live
-pub record IsRightStep (w : World) (s : Step) (kept : Kept) : Type 0 where
+pub record IsRightStep (w : World) (s : Step) (state : HeapState) : Type 0 where
   pub is_legal : IsLegalStep w s
-  pub stands : StandsFor kept (world_after w s)
+  pub stands : StandsFor state (world_after w s)
   pub is_replayed : IsReplayed w s
 
 -- the call's step is legal
-abbrev pub IsLegalCall : (old : Kept) → Call → Done → Type 0
+abbrev pub IsLegalCall : (old : HeapState) → Call → Done → Type 0
 IsLegalCall old call done = (w : World) (line : ℕ) → StandsFor old w → IsLegalStep w (step_of line call done)
 
 -- what is kept then stands for the world after the step
-abbrev pub StandsAfter : (old : Kept) → Call → Done → (new : Kept) → Type 0
+abbrev pub StandsAfter : (old : HeapState) → Call → Done → (new : HeapState) → Type 0
 StandsAfter old call done new = (w : World) (line : ℕ) → StandsFor old w → StandsFor new (world_after w (step_of line call done))
 
 -- the records of the step tell which blocks are live after it
-abbrev pub IsReplayedCall : (old : Kept) → Call → Done → Type 0
+abbrev pub IsReplayedCall : (old : HeapState) → Call → Done → Type 0
 IsReplayedCall old call done = (w : World) (line : ℕ) → StandsFor old w → IsReplayed w (step_of line call done)
 
 -- the reply is `unsupported` exactly where that is said of the call
-abbrev pub IsUnsupportedWhereDue : (old : Kept) → Call → Done → Type 0
-IsUnsupportedWhereDue old call done = (w : World) → StandsFor old w → (done.reply ≡ reply.Unsupported) ↔ IsTrue (is_unsupported_call w call)
+abbrev pub IsUnsupportedExactly : (old : HeapState) → Call → Done → Type 0
+IsUnsupportedExactly old call done = (w : World) → StandsFor old w → (done.reply ≡ reply.Unsupported) ↔ IsTrue (is_unsupported_call w call)
 
 -- the number of the pool that a call makes, by its answer: the model numbers pools from 0, in the order of making
 abbrev pub number_of_new_pool : World → Call → Answer → Option ℕ
-number_of_new_pool w call answer = some_where (nat_lt 0 (pools_made_by call answer)) (length w.pools)
+number_of_new_pool w call answer = some_if (nat_lt 0 (pools_made_by call answer)) (length w.pools)
 
 -- the number of the pool that the call made is the one that the model gives it
-abbrev pub IsNewPoolNumber : (old : Kept) → Call → Done → Type 0
+abbrev pub IsNewPoolNumber : (old : HeapState) → Call → Done → Type 0
 IsNewPoolNumber old call done =
     (w : World) → StandsFor old w → done.pool ≡ number_of_new_pool w call (Replied done.reply)
 
 -- the world has as many pools more as the call made
-abbrev pub ArePoolsCounted : (old : Kept) → Call → Done → Type 0
+abbrev pub ArePoolsCounted : (old : HeapState) → Call → Done → Type 0
 ArePoolsCounted old call done =
     (w : World) (line : ℕ) → StandsFor old w
     → length (world_after w (step_of line call done)).pools ≡ length w.pools + pools_made_by call (Replied done.reply)

@@ -14,12 +14,12 @@ use Rattle.mps_model.specs.Step.{Step}
 use Rattle.mps_model.specs.Graph.{Cell, HeadCell, NumberCell, ReferenceCell, Automatic, Object, Point, Reservation, Thing, TableThing, PoolThing, PointThing, NamedThing, thing_in, Slots}
 use Rattle.mps_base.specs.Segment.{Segment}
 use Rattle.mps_model.specs.World.{World, empty_world, Pool, Collected, PointMemory, Unclamped}
-use Rattle.mps_first_heap.specs.Kept.{Kept, nothing_kept, is_name}
+use Rattle.mps_first_heap.specs.HeapState.{HeapState, empty_heap, is_named}
 use Rattle.mps_first_heap.specs.declared.done.Done.{Done}
 
 -- ---- the objects that words are
 
--- cell k of a block with this head, whose word is this. No reference was ever written
+-- cell k of a block with this head, whose word is this. No reference was ever with_number
 abbrev pub cell_in : (head k word : ℕ) → Cell
 cell_in head zero word = HeadCell
 cell_in head (suc k) word = if front_layout.is_reference head (suc k) then ReferenceCell None 0 else NumberCell word
@@ -29,23 +29,23 @@ abbrev pub cells_in : (head k : ℕ) → List ℕ → List Cell
 cells_in head k [] = []
 cells_in head k (word ∷ words) = cell_in head k word ∷ cells_in head (suc k) words
 
--- the words of the block at a place
-abbrev pub block_words : List ℕ → (place : ℕ) → List ℕ
-block_words words place = take (size_field (slice_index words place)) (drop place words)
+-- the words of the block at an address
+abbrev pub block_words : List ℕ → (address : ℕ) → List ℕ
+block_words words address = take (size_field (slice_index words address)) (drop address words)
 
-abbrev pub cells_at : List ℕ → (place : ℕ) → List Cell
-cells_at words place = cells_in (slice_index words place) 0 (block_words words place)
+abbrev pub cells_at : List ℕ → (address : ℕ) → List Cell
+cells_at words address = cells_in (slice_index words address) 0 (block_words words address)
 
--- the object whose words lie at a place
-abbrev pub object_in : List ℕ → (place : ℕ) → Object
-object_in words place = record { pool = 0; body = Automatic (slice_index words place) (cells_at words place) false }
+-- the object whose words lie at an address
+abbrev pub object_in : List ℕ → (address : ℕ) → Object
+object_in words address = record { pool = 0; body = Automatic (slice_index words address) (cells_at words address) false }
 
-abbrev pub reservation_in : List ℕ → (place : ℕ) → Reservation
-reservation_in words place = record { head = slice_index words place; cells = cells_at words place; is_doomed = false }
+abbrev pub reservation_in : List ℕ → (address : ℕ) → Reservation
+reservation_in words address = record { head = slice_index words address; cells = cells_at words address; is_doomed = false }
 
 -- ---- the world
 
--- what the heap doesn't keep: the ids in the slots, the place of each object, the grains of each segment, and the names in
+-- what the heap doesn't keep: the ids in the slots, the address of each object, the grains of each segment, and the names in
 -- the order of making
 pub record Past : Type 0 where
   pub ids : List (Option ℕ)
@@ -54,13 +54,13 @@ pub record Past : Type 0 where
   pub names : List NamedThing
 
 -- one, where it is there
-abbrev pub one_where : {A : Type 0} → Bool → A → List A
-one_where true x = x ∷ []
-one_where false x = []
+abbrev pub one_if : {A : Type 0} → Bool → A → List A
+one_if true x = x ∷ []
+one_if false x = []
 
-abbrev pub some_where : {A : Type 0} → Bool → A → Option A
-some_where true x = Some x
-some_where false x = None
+abbrev pub some_if : {A : Type 0} → Bool → A → Option A
+some_if true x = Some x
+some_if false x = None
 
 abbrev pub front_pool : Pool
 front_pool = record { kind = Collected kind.Amc; format = 1; chain = None }
@@ -77,11 +77,11 @@ segments_from grain (grains ∷ more) = segment_from grain grains ∷ segments_f
 abbrev pub point_with : Option Reservation → Point
 point_with reservation = record { pool = 0; rank = rank.Exact; reservation = reservation }
 
-abbrev pub point_memory_of : Kept → PointMemory
-point_memory_of h = record { reserved_at = 8 * h.reserved; buffer = record { from = h.front; count = h.following - h.front } }
+abbrev pub point_memory_of : HeapState → PointMemory
+point_memory_of h = record { reserved_at = 8 * h.reserved; buffer = record { from = h.buffer_start; count = h.buffer_end - h.buffer_start } }
 
 abbrev pub some_address : ℕ → Option ℕ
-some_address place = Some (8 * place)
+some_address address = Some (8 * address)
 
 -- the world made of these parts: nothing is registered, no collection ran
 abbrev pub world_with :
@@ -113,77 +113,77 @@ world_with grains limit names objects tables points pools segments addresses poi
   collection = None;
 }
 
-abbrev pub world_of : Kept → Past → World
+abbrev pub world_of : HeapState → Past → World
 world_of h p =
-    world_with h.grains h.limit p.names (map (object_in h.words) p.addresses) (one_where (is_some h.table) (Some p.ids))
-    (one_where (is_some h.point) (Some (point_with (some_where h.is_open (reservation_in h.words h.reserved)))))
-    (one_where (is_some h.pool) front_pool)
+    world_with h.grains h.limit p.names (map (object_in h.words) p.addresses) (one_if (is_some h.table) (Some p.ids))
+    (one_if (is_some h.point) (Some (point_with (some_if h.is_open (reservation_in h.words h.reserved)))))
+    (one_if (is_some h.pool) front_pool)
     (segments_from 1 p.segments)
     (map some_address p.addresses)
-    (one_where (is_some h.point) (point_memory_of h))
+    (one_if (is_some h.point) (point_memory_of h))
 
 -- ---- what holds of it
 
 -- what a name stands for
-abbrev pub thing_of : Kept → Name → Option Thing
+abbrev pub thing_of : HeapState → Name → Option Thing
 thing_of h name =
-    if is_name h.table name then Some (TableThing 0)
-    else (if is_name h.pool name then Some (PoolThing 0)
-    else (if is_name h.point name then Some (PointThing 0) else None))
+    if is_named h.table name then Some (TableThing 0)
+    else (if is_named h.pool name then Some (PoolThing 0)
+    else (if is_named h.point name then Some (PointThing 0) else None))
 
--- the place of the object that a slot refers to, 0 for null
-abbrev pub place_in_slot : List ℕ → Option ℕ → ℕ
-place_in_slot addresses None = 0
-place_in_slot addresses (Some id) = slice_index addresses id
+-- the address of the object that a slot refers to, 0 for null
+abbrev pub address_in_slot : List ℕ → Option ℕ → ℕ
+address_in_slot addresses None = 0
+address_in_slot addresses (Some id) = slice_index addresses id
 
 -- null, or one of n objects
 abbrev pub is_null_or_below : ℕ → Option ℕ → Bool
 is_null_or_below count None = true
 is_null_or_below count (Some id) = nat_lt id count
 
--- a whole block begins at a place and ends before or at a bound
-pub record IsBlockAt (words : List ℕ) (bound place : ℕ) : Type 0 where
-  pub not_null : 0 < place
-  pub head : is_front (slice_index words place) ≡ true
-  pub below : place + size_field (slice_index words place) ≤ bound
+-- a whole block begins at an address and ends before or at a bound
+pub record IsBlockAt (words : List ℕ) (bound address : ℕ) : Type 0 where
+  pub not_null : 0 < address
+  pub head : is_front (slice_index words address) ≡ true
+  pub below : address + size_field (slice_index words address) ≤ bound
 
 -- what lies before this is made
-abbrev pub bound_of : Kept → ℕ
-bound_of h = if h.is_open then h.reserved else h.front
+abbrev pub end_of_objects : HeapState → ℕ
+end_of_objects h = if h.is_open then h.reserved else h.buffer_start
 
 -- the point wasn't used
-pub record IsUnused (h : Kept) : Type 0 where
-  pub front : h.front ≡ 0
-  pub following : h.following ≡ 0
+pub record IsUnused (h : HeapState) : Type 0 where
+  pub buffer_start : h.buffer_start ≡ 0
+  pub buffer_end : h.buffer_end ≡ 0
   pub reserved : h.reserved ≡ 0
-  pub closed : h.is_open ≡ false
+  pub not_open : h.is_open ≡ false
 
 -- what the heap keeps agrees with what it doesn't keep
-pub record Agrees (h : Kept) (p : Past) : Type 0 where
+pub record Agrees (h : HeapState) (p : Past) : Type 0 where
   -- each name stands for what the heap says
   pub names : (name : Name) → thing_in p.names name ≡ thing_of h name
-  -- the slots hold the places of their ids
-  pub slots : h.slots ≡ map (place_in_slot p.addresses) p.ids
+  -- the slots hold the addresses of their ids
+  pub slots : h.slots ≡ map (address_in_slot p.addresses) p.ids
   pub ids : IsTrue (list_all (is_null_or_below (length p.addresses)) p.ids)
   -- the segments are what is held
   pub held : h.held ≡ sum p.segments
   pub in_arena : h.held ≤ h.grains
   pub arena : 0 < h.grains → length h.words ≡ 512 * (h.grains + 1)
-  -- whole blocks lie at the places, below what is reserved or at hand
-  pub blocks : AllByRecursion (IsBlockAt h.words (bound_of h)) p.addresses
+  -- whole blocks lie at the addresses, below what is reserved or at hand
+  pub blocks : AllByRecursion (IsBlockAt h.words (end_of_objects h)) p.addresses
   -- so does the open reservation, up to what is at hand
-  pub reservation : h.is_open ≡ true → IsBlockAt h.words h.front h.reserved
+  pub reservation : h.is_open ≡ true → IsBlockAt h.words h.buffer_start h.reserved
   -- what is at hand lies in what is held, and all after its front is zero
-  pub at_hand : (h.front ≤ h.following) × (h.following ≤ 512 * (h.held + 1))
-  pub not_null : h.front ≡ 0 → h.following ≡ 0
-  pub fresh : (k : ℕ) → h.front ≤ k → slice_index h.words k ≡ 0
+  pub at_hand : (h.buffer_start ≤ h.buffer_end) × (h.buffer_end ≤ 512 * (h.held + 1))
+  pub not_null : h.buffer_start ≡ 0 → h.buffer_end ≡ 0
+  pub fresh : (k : ℕ) → h.buffer_start ≤ k → slice_index h.words k ≡ 0
   -- first the arena, then the pool, then the point
   pub before_arena : h.grains ≡ 0 → (h.table ≡ None) × (h.pool ≡ None)
   pub before_pool : h.pool ≡ None → h.point ≡ None
   pub before_point : h.point ≡ None → IsUnused h
 
 -- what the heap keeps stands for a world
-pub record StandsFor (h : Kept) (w : World) : Type 0 where
+pub record StandsFor (h : HeapState) (w : World) : Type 0 where
   pub past : Past
   pub world : w ≡ world_of h past
   pub agrees : Agrees h past
@@ -205,5 +205,5 @@ a_block_with_a_reference = refl
 the_second_segment_lies_after_the_first : segments_from 1 (2 ∷ 3 ∷ []) ≡ segment_from 1 2 ∷ segment_from 3 3 ∷ []
 the_second_segment_lies_after_the_first = refl
 
-the_empty_world : world_of nothing_kept (record { ids = []; addresses = []; segments = []; names = [] }) ≡ empty_world
+the_empty_world : world_of empty_heap (record { ids = []; addresses = []; segments = []; names = [] }) ≡ empty_world
 the_empty_world = refl

@@ -18,16 +18,16 @@ IsInRange (call.Table table length) = (1 ≤ length) × (length ≤ 65536)
 IsInRange _ = Unit {0}
 
 -- whether a call is in one of the eight forms that are built
-abbrev pub is_built : Call → Bool
-is_built (call.Arena grains limit) = true
-is_built (call.Table table length) = true
-is_built (call.Pool pool kind.Amc format) = format == 1
-is_built (call.Point point pool rank.Exact) = true
-is_built (call.Reserve point head) = true
-is_built (call.InitNumber point cell value) = true
-is_built (call.Commit point target) = true
-is_built (call.Number slot cell) = true
-is_built _ = false
+abbrev pub is_implemented : Call → Bool
+is_implemented (call.Arena grains limit) = true
+is_implemented (call.Table table length) = true
+is_implemented (call.Pool pool kind.Amc format) = format == 1
+is_implemented (call.Point point pool rank.Exact) = true
+is_implemented (call.Reserve point head) = true
+is_implemented (call.InitNumber point cell value) = true
+is_implemented (call.Commit point target) = true
+is_implemented (call.Number slot cell) = true
+is_implemented _ = false
 
 -- whether it makes the arena
 abbrev pub is_arena : Call → Bool
@@ -50,19 +50,19 @@ makes_second w (call.Point point pool rank) = nat_lt 0 (length w.graph.points)
 makes_second w _ = false
 
 -- whether a refusal is told: that of a null slot, and that of the commit limit
-abbrev pub is_known : Refusal → Bool
-is_known refusal.NullRef = true
-is_known (refusal.CommitLimit committed need limit) = true
-is_known _ = false
+abbrev pub is_reported : Refusal → Bool
+is_reported refusal.NullRef = true
+is_reported (refusal.CommitLimit with_object need limit) = true
+is_reported _ = false
 
 -- whether a call comes to a refusal that isn't told
-abbrev pub is_unknown : Checked Act → Bool
-is_unknown (Ok a) = false
-is_unknown (Err why) = not (is_known why)
+abbrev pub is_unreported : Checked Act → Bool
+is_unreported (Ok a) = false
+is_unreported (Err why) = not (is_reported why)
 
 abbrev pub is_unsupported_call : World → Call → Bool
 is_unsupported_call w call =
-    not (is_built call) || is_out_of_turn w call || makes_second w call || is_unknown (act false w w call)
+    not (is_implemented call) || is_out_of_turn w call || makes_second w call || is_unreported (act false w w call)
 
 -- whether a call takes memory: it makes the arena or a table
 abbrev pub takes_memory : Call → Bool
@@ -106,8 +106,8 @@ no_second_pool = refl
 a_name_of_nothing : is_unsupported_call example_world (call.Reserve example 0x201) ≡ true
 a_name_of_nothing = refl
 
-a_null_slot_is_known : is_unknown (Err refusal.NullRef) ≡ false
-a_null_slot_is_known = refl
+the_refusal_of_a_null_slot_is_reported : is_unreported (Err refusal.NullRef) ≡ false
+the_refusal_of_a_null_slot_is_reported = refl
 
-no_room_is_not_known : is_unknown (Err (refusal.NoRun 2 1)) ≡ true
-no_room_is_not_known = refl
+no_free_run_is_not_reported : is_unreported (Err (refusal.NoRun 2 1)) ≡ true
+no_free_run_is_not_reported = refl

@@ -1,9 +1,9 @@
 -- What the heap's fields are, as plain data.
 use Rattle.mps_first_heap.specs.declared.arena.Arena.{Arena}
-use Rattle.mps_first_heap.specs.Kept.{Kept}
+use Rattle.mps_first_heap.specs.HeapState.{HeapState}
 
-abbrev pub kept_of : Arena → Kept
-kept_of a = record {
+abbrev pub state_of : Arena → HeapState
+state_of a = record {
   grains = a.grains;
   limit = a.limit;
   held = a.held;
@@ -12,8 +12,8 @@ kept_of a = record {
   slots = a.slots.items;
   pool = a.pool;
   point = a.point;
-  front = a.front;
-  following = a.following;
+  buffer_start = a.buffer_start;
+  buffer_end = a.buffer_end;
   reserved = a.reserved;
   is_open = a.is_open;
 }

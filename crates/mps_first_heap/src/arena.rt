@@ -11,13 +11,13 @@ pub struct Arena {
     // The words of the arena, those of grain 0 first.
     pub words: Vec<u64>,
     pub table: Option<Name>,
-    // The places of the objects that the table's slots refer to.
+    // The addresses of the objects that the table's slots refer to.
     pub slots: Vec<u32>,
     pub pool: Option<Name>,
     pub point: Option<Name>,
     // The words at hand at the point: the first, and the first after them.
-    pub front: u32,
-    pub following: u32,
+    pub buffer_start: u32,
+    pub buffer_end: u32,
     // Where the point reserved last, and whether that reservation is open.
     pub reserved: u32,
     pub is_open: bool,

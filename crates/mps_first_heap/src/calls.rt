@@ -1,13 +1,12 @@
-// What each call comes to.
+// What each call does.
 ghost use Rattle.std.specs.Prelude.{◌≡◌, IfOk, OnErr, IsTrue};
-ghost use Rattle.mps_first_heap.specs.Outcome.{outcome};
-ghost use Rattle.mps_first_heap.specs.View.{kept_of};
-ghost use Rattle.mps_first_heap.specs.Comes.{ComesTo};
+ghost use Rattle.mps_first_heap.specs.Outcome.{HasOutcome, outcome};
+ghost use Rattle.mps_first_heap.specs.View.{state_of};
 ghost use Rattle.mps_first_heap.specs.Unsupported.{IsInRange, takes_memory};
 
 use crate::arena::Arena;
-use crate::done::Done;
-use crate::making::{make_arena, make_point, make_pool, make_table, said};
+use crate::done::{Done, reply_only};
+use crate::making::{make_arena, make_point, make_pool, make_table};
 use crate::reserving::reserve;
 use crate::using::{commit, init, number};
 use mps_model::{Call, Reply};
@@ -16,7 +15,7 @@ use std::alloc::{AllocError, Global};
 /// Answers a call. An `Err` is for out of memory, and leaves the heap as it was.
 pub fn answer(heap: &mut Arena, alloc: Global, call: &Call) -> Result<Done, AllocError>
     requires { IsInRange call.now }
-    ensures ok { IfOk result (λ done. ComesTo (outcome (kept_of heap.old) call.now) done (kept_of heap.new)) }
+    ensures ok { IfOk result (λ done. HasOutcome (outcome (state_of heap.old) call.now) done (state_of heap.new)) }
     ensures err { OnErr result (heap.new ≡ heap.old) }
     ensures memory { OnErr result (IsTrue (takes_memory call.now)) }
 {
@@ -28,7 +27,7 @@ pub fn answer(heap: &mut Arena, alloc: Global, call: &Call) -> Result<Done, Allo
         Call::Reserve { point, head } => Ok(reserve(heap, point, head)),
         Call::InitNumber { point, cell, value } => Ok(init(heap, point, cell, value)),
         Call::Commit { point, target } => Ok(commit(heap, point, target)),
-        Call::Number { slot, cell } => Ok(said(number(heap, slot, cell))),
-        _ => Ok(said(Reply::Unsupported)),
+        Call::Number { slot, cell } => Ok(reply_only(number(heap, slot, cell))),
+        _ => Ok(reply_only(Reply::Unsupported)),
     }
 }

@@ -1,4 +1,7 @@
 // What a call did.
+ghost use Rattle.std.specs.Prelude.{◌≡◌};
+ghost use Rattle.mps_first_heap.specs.Outcome.{reply_only, ok_with_move};
+
 use mps_base::Move;
 use mps_model::Reply;
 
@@ -11,4 +14,26 @@ pub struct Done {
     pub reply: Reply,
     pub moved: Option<Move>,
     pub pool: Option<u32>,
+}
+
+/// A reply alone: no move, and no pool.
+pub fn reply_only(reply: Reply) -> Done
+    ensures { result ≡ reply_only reply }
+{
+    Done {
+        reply,
+        moved: None,
+        pool: None,
+    }
+}
+
+/// The reply `Ok` with a move, and no pool.
+pub fn ok_with_move(moved: Move) -> Done
+    ensures { result ≡ ok_with_move moved }
+{
+    Done {
+        reply: Reply::Ok,
+        moved: Some(moved),
+        pool: None,
+    }
 }

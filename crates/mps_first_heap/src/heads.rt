@@ -1,6 +1,6 @@
 // What heads say of blocks, for any word that is asked.
 ghost use Rattle.std.specs.Prelude.{◌≡◌, ◌+◌, IsTrue, slice_index};
-ghost use Rattle.mps_first_heap.specs.Kept.{words_of_head, is_number_cell};
+ghost use Rattle.mps_first_heap.specs.HeapState.{words_of_head, is_number_cell};
 ghost use Rattle.mps_format.specs.Front.{front_layout};
 
 use mps_format::{Format, Front};
@@ -37,10 +37,10 @@ pub fn is_number_cell(head: u64, cell: u64) -> bool
     !is_reference(head, cell as u32)
 }
 
-/// The word n cells after a place, 0 past the end.
-pub fn word_at(words: &[u64], place: u32, cell: u32) -> u64
-    ensures { result ≡ slice_index words.now (place + cell) }
+/// The word n cells after an address, 0 past the end.
+pub fn word_at(words: &[u64], address: u32, cell: u32) -> u64
+    ensures { result ≡ slice_index words.now (address + cell) }
 {
-    let at = u64::from(place) + u64::from(cell);
+    let at = u64::from(address) + u64::from(cell);
     words.get(at as usize).copied().unwrap_or(0)
 }

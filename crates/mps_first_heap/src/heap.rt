@@ -13,20 +13,20 @@ pub struct FirstHeap {
 }
 
 impl Model for FirstHeap {
-    ghost use Rattle.mps_first_heap.specs.Kept.{Kept};
+    ghost use Rattle.mps_first_heap.specs.HeapState.{HeapState};
 
-    ghost Value = { Kept };
+    ghost Value = { HeapState };
 
-    ghost use Rattle.mps_first_heap.specs.View.{kept_of};
+    ghost use Rattle.mps_first_heap.specs.View.{state_of};
 
-    ghost view = { λ a. kept_of a.arena };
+    ghost view = { λ a. state_of a.arena };
 }
 
 impl FirstHeap {
     ghost use Rattle.std.specs.Prelude.{◌≡◌, IfOk, OnErr, IsTrue};
     ghost use Rattle.mps_model.specs.World.{empty_world};
     ghost use Rattle.mps_first_heap.specs.StandsFor.{StandsFor};
-    ghost use Rattle.mps_first_heap.specs.RightStep.{IsLegalCall, StandsAfter, IsReplayedCall, IsUnsupportedWhereDue, IsNewPoolNumber, ArePoolsCounted};
+    ghost use Rattle.mps_first_heap.specs.RightStep.{IsLegalCall, StandsAfter, IsReplayedCall, IsUnsupportedExactly, IsNewPoolNumber, ArePoolsCounted};
     ghost use Rattle.mps_first_heap.specs.Unsupported.{IsInRange, takes_memory};
 
     /// The heap before its arena is made. It takes no memory.
@@ -43,8 +43,8 @@ impl FirstHeap {
                 slots: Vec::new(alloc),
                 pool: None,
                 point: None,
-                front: 0,
-                following: 0,
+                buffer_start: 0,
+                buffer_end: 0,
                 reserved: 0,
                 is_open: false,
             },
@@ -57,7 +57,7 @@ impl FirstHeap {
         ensures legal { IfOk result (λ done. IsLegalCall self.old call.now done) }
         ensures stands { IfOk result (λ done. StandsAfter self.old call.now done self.new) }
         ensures replayed { IfOk result (λ done. IsReplayedCall self.old call.now done) }
-        ensures unsupported { IfOk result (λ done. IsUnsupportedWhereDue self.old call.now done) }
+        ensures unsupported { IfOk result (λ done. IsUnsupportedExactly self.old call.now done) }
         ensures pool { IfOk result (λ done. IsNewPoolNumber self.old call.now done) }
         ensures counted { IfOk result (λ done. ArePoolsCounted self.old call.now done) }
         ensures err { OnErr result (self.new ≡ self.old) }

@@ -1,8 +1,8 @@
 // What the names stand for.
 ghost use Rattle.std.specs.Prelude.{◌≡◌, ◌&&◌, not};
 ghost use Rattle.mps_model.specs.Graph.{same_name};
-ghost use Rattle.mps_first_heap.specs.Kept.{is_name, is_taken, has_slot, is_point, is_pool};
-ghost use Rattle.mps_first_heap.specs.View.{kept_of};
+ghost use Rattle.mps_first_heap.specs.HeapState.{is_named, is_taken, has_slot, is_point, is_pool};
+ghost use Rattle.mps_first_heap.specs.View.{state_of};
 
 use crate::arena::Arena;
 use mps_base::{Name, Slot};
@@ -15,8 +15,8 @@ fn same_name(these: Name, those: Name) -> bool
 }
 
 /// Whether there is this name, and it is this one.
-pub fn is_name(other: Option<Name>, name: Name) -> bool
-    ensures { result ≡ is_name other name }
+pub fn is_named(other: Option<Name>, name: Name) -> bool
+    ensures { result ≡ is_named other name }
 {
     match other {
         Some(other) => same_name(other, name),
@@ -26,35 +26,35 @@ pub fn is_name(other: Option<Name>, name: Name) -> bool
 
 /// Whether something has this name.
 pub fn is_taken(heap: &Arena, name: Name) -> bool
-    ensures { result ≡ is_taken (kept_of heap.now) name }
+    ensures { result ≡ is_taken (state_of heap.now) name }
 {
-    is_name(heap.table, name) || is_name(heap.pool, name) || is_name(heap.point, name)
+    is_named(heap.table, name) || is_named(heap.pool, name) || is_named(heap.point, name)
 }
 
 /// Whether the pool has this name.
 pub fn is_pool(heap: &Arena, name: Name) -> bool
-    ensures { result ≡ is_pool (kept_of heap.now) name }
+    ensures { result ≡ is_pool (state_of heap.now) name }
 {
-    !is_name(heap.table, name) && is_name(heap.pool, name)
+    !is_named(heap.table, name) && is_named(heap.pool, name)
 }
 
 /// Whether neither the table nor the pool has this name.
 fn is_no_table_or_pool(heap: &Arena, name: Name) -> bool
-    ensures { result ≡ (not (is_name (kept_of heap.now).table name) && not (is_name (kept_of heap.now).pool name)) }
+    ensures { result ≡ (not (is_named (state_of heap.now).table name) && not (is_named (state_of heap.now).pool name)) }
 {
-    !is_name(heap.table, name) && !is_name(heap.pool, name)
+    !is_named(heap.table, name) && !is_named(heap.pool, name)
 }
 
 /// Whether the point has this name.
 pub fn is_point(heap: &Arena, name: Name) -> bool
-    ensures { result ≡ is_point (kept_of heap.now) name }
+    ensures { result ≡ is_point (state_of heap.now) name }
 {
-    is_no_table_or_pool(heap, name) && is_name(heap.point, name)
+    is_no_table_or_pool(heap, name) && is_named(heap.point, name)
 }
 
 /// Whether the table has this slot.
 pub fn has_slot(heap: &Arena, slot: Slot) -> bool
-    ensures { result ≡ has_slot (kept_of heap.now) slot }
+    ensures { result ≡ has_slot (state_of heap.now) slot }
 {
-    is_name(heap.table, slot.name) && slot.index < heap.slots.len() as u64
+    is_named(heap.table, slot.name) && slot.index < heap.slots.len() as u64
 }

@@ -85,7 +85,7 @@ fn number(index: u64, cell: u64) -> Call
 }
 
 /// The call is told this, and makes this move.
-fn tell(
+fn check(
     rt: &impl Abort,
     heap: &mut FirstHeap,
     alloc: Global,
@@ -106,18 +106,18 @@ fn make(rt: &impl Abort, heap: &mut FirstHeap, alloc: Global, grains: u64)
     requires few { grains ≤ 2048 }
 {
     let arena = Call::Arena { grains, limit: 1 };
-    tell(rt, heap, alloc, pool(), Reply::Unsupported, None);
-    tell(rt, heap, alloc, arena, Reply::Ok, None);
-    tell(rt, heap, alloc, arena, Reply::Unsupported, None);
+    check(rt, heap, alloc, pool(), Reply::Unsupported, None);
+    check(rt, heap, alloc, arena, Reply::Ok, None);
+    check(rt, heap, alloc, arena, Reply::Unsupported, None);
     let table = Call::Table {
         table: named(b't'),
         length: 2,
     };
-    tell(rt, heap, alloc, table, Reply::Ok, None);
-    tell(rt, heap, alloc, table, Reply::Unsupported, None);
-    tell(rt, heap, alloc, pool(), Reply::Ok, None);
-    tell(rt, heap, alloc, point(), Reply::Ok, None);
-    tell(rt, heap, alloc, point(), Reply::Unsupported, None);
+    check(rt, heap, alloc, table, Reply::Ok, None);
+    check(rt, heap, alloc, table, Reply::Unsupported, None);
+    check(rt, heap, alloc, pool(), Reply::Ok, None);
+    check(rt, heap, alloc, point(), Reply::Ok, None);
+    check(rt, heap, alloc, point(), Reply::Unsupported, None);
 }
 
 /// The move by which a segment of one grain is taken.
@@ -145,8 +145,8 @@ fn numbers_of_two_blocks(rt: HostRuntime) {
     let mut heap = FirstHeap::new(alloc);
     make(&rt, &mut heap, alloc, 8);
     let null = Reply::Refused(Refusal::NullRef);
-    tell(&rt, &mut heap, alloc, number(0, 2), null, None);
-    tell(
+    check(&rt, &mut heap, alloc, number(0, 2), null, None);
+    check(
         &rt,
         &mut heap,
         alloc,
@@ -154,7 +154,7 @@ fn numbers_of_two_blocks(rt: HostRuntime) {
         Reply::Unsupported,
         None,
     );
-    tell(
+    check(
         &rt,
         &mut heap,
         alloc,
@@ -162,7 +162,7 @@ fn numbers_of_two_blocks(rt: HostRuntime) {
         Reply::Ok,
         segment(),
     );
-    tell(
+    check(
         &rt,
         &mut heap,
         alloc,
@@ -170,10 +170,10 @@ fn numbers_of_two_blocks(rt: HostRuntime) {
         Reply::Unsupported,
         None,
     );
-    tell(&rt, &mut heap, alloc, init(2, 7), Reply::Ok, None);
-    tell(&rt, &mut heap, alloc, init(1, 7), Reply::Unsupported, None);
-    tell(&rt, &mut heap, alloc, init(3, 7), Reply::Unsupported, None);
-    tell(
+    check(&rt, &mut heap, alloc, init(2, 7), Reply::Ok, None);
+    check(&rt, &mut heap, alloc, init(1, 7), Reply::Unsupported, None);
+    check(&rt, &mut heap, alloc, init(3, 7), Reply::Unsupported, None);
+    check(
         &rt,
         &mut heap,
         alloc,
@@ -181,8 +181,8 @@ fn numbers_of_two_blocks(rt: HostRuntime) {
         Reply::Ok,
         committed(0x1000, 3),
     );
-    tell(&rt, &mut heap, alloc, commit(0), Reply::Unsupported, None);
-    tell(
+    check(&rt, &mut heap, alloc, commit(0), Reply::Unsupported, None);
+    check(
         &rt,
         &mut heap,
         alloc,
@@ -190,8 +190,8 @@ fn numbers_of_two_blocks(rt: HostRuntime) {
         Reply::Ok,
         None,
     );
-    tell(&rt, &mut heap, alloc, init(2, u64::MAX), Reply::Ok, None);
-    tell(
+    check(&rt, &mut heap, alloc, init(2, u64::MAX), Reply::Ok, None);
+    check(
         &rt,
         &mut heap,
         alloc,
@@ -199,8 +199,8 @@ fn numbers_of_two_blocks(rt: HostRuntime) {
         Reply::Ok,
         committed(0x1018, 3),
     );
-    tell(&rt, &mut heap, alloc, number(0, 2), Reply::Number(7), None);
-    tell(
+    check(&rt, &mut heap, alloc, number(0, 2), Reply::Number(7), None);
+    check(
         &rt,
         &mut heap,
         alloc,
@@ -208,7 +208,7 @@ fn numbers_of_two_blocks(rt: HostRuntime) {
         Reply::Number(u64::MAX),
         None,
     );
-    tell(
+    check(
         &rt,
         &mut heap,
         alloc,
@@ -216,7 +216,7 @@ fn numbers_of_two_blocks(rt: HostRuntime) {
         Reply::Unsupported,
         None,
     );
-    tell(
+    check(
         &rt,
         &mut heap,
         alloc,
@@ -236,7 +236,7 @@ fn a_full_arena(rt: HostRuntime) {
         need: 1,
         limit: 1,
     };
-    tell(
+    check(
         &rt,
         &mut heap,
         alloc,
@@ -244,7 +244,7 @@ fn a_full_arena(rt: HostRuntime) {
         Reply::Ok,
         segment(),
     );
-    tell(
+    check(
         &rt,
         &mut heap,
         alloc,
@@ -252,7 +252,7 @@ fn a_full_arena(rt: HostRuntime) {
         Reply::Ok,
         committed(0x1000, 512),
     );
-    tell(
+    check(
         &rt,
         &mut heap,
         alloc,
@@ -260,8 +260,8 @@ fn a_full_arena(rt: HostRuntime) {
         Reply::Refused(full),
         None,
     );
-    tell(&rt, &mut heap, alloc, Call::Other, Reply::Unsupported, None);
-    tell(
+    check(&rt, &mut heap, alloc, Call::Other, Reply::Unsupported, None);
+    check(
         &rt,
         &mut heap,
         alloc,

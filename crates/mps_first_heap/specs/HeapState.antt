@@ -7,7 +7,7 @@ use Rattle.mps_format.specs.Fields.{size_field}
 use Rattle.mps_format.specs.Front.{is_front, front_layout}
 use Rattle.mps_model.specs.Graph.{same_name}
 
-pub record Kept : Type 0 where
+pub record HeapState : Type 0 where
   -- the grains of the arena, numbered from 1; 0 before it is made
   pub grains : ℕ
   -- the commit limit, in grains
@@ -18,22 +18,22 @@ pub record Kept : Type 0 where
   pub words : List ℕ
   -- the name of the table, where there is one
   pub table : Option Name
-  -- its slots: the place of an object, or 0
+  -- its slots: the address of an object, or 0
   pub slots : List ℕ
   -- the name of the pool, where there is one
   pub pool : Option Name
   -- the name of the point, where there is one
   pub point : Option Name
   -- the first word at hand at the point, and the first after them
-  pub front : ℕ
-  pub following : ℕ
+  pub buffer_start : ℕ
+  pub buffer_end : ℕ
   -- where the point reserved last, and whether that reservation is open
   pub reserved : ℕ
   pub is_open : Bool
 
 -- before the arena is made
-abbrev pub nothing_kept : Kept
-nothing_kept = record {
+abbrev pub empty_heap : HeapState
+empty_heap = record {
   grains = 0;
   limit = 0;
   held = 0;
@@ -42,32 +42,32 @@ nothing_kept = record {
   slots = [];
   pool = None;
   point = None;
-  front = 0;
-  following = 0;
+  buffer_start = 0;
+  buffer_end = 0;
   reserved = 0;
   is_open = false;
 }
 
 -- whether there is a name, and it is this one
-abbrev pub is_name : Option Name → Name → Bool
-is_name None name = false
-is_name (Some other) name = same_name other name
+abbrev pub is_named : Option Name → Name → Bool
+is_named None name = false
+is_named (Some other) name = same_name other name
 
 -- whether something has this name
-abbrev pub is_taken : Kept → Name → Bool
-is_taken h name = is_name h.table name || is_name h.pool name || is_name h.point name
+abbrev pub is_taken : HeapState → Name → Bool
+is_taken h name = is_named h.table name || is_named h.pool name || is_named h.point name
 
 -- whether the pool has this name
-abbrev pub is_pool : Kept → Name → Bool
-is_pool h name = not (is_name h.table name) && is_name h.pool name
+abbrev pub is_pool : HeapState → Name → Bool
+is_pool h name = not (is_named h.table name) && is_named h.pool name
 
 -- whether the point has this name
-abbrev pub is_point : Kept → Name → Bool
-is_point h name = not (is_name h.table name) && not (is_name h.pool name) && is_name h.point name
+abbrev pub is_point : HeapState → Name → Bool
+is_point h name = not (is_named h.table name) && not (is_named h.pool name) && is_named h.point name
 
 -- whether the table has this slot
-abbrev pub has_slot : Kept → Slot → Bool
-has_slot h slot = is_name h.table slot.name && nat_lt slot.index (length h.slots)
+abbrev pub has_slot : HeapState → Slot → Bool
+has_slot h slot = is_named h.table slot.name && nat_lt slot.index (length h.slots)
 
 -- how many words a block with this head has; 0 where it is no head
 abbrev pub words_of_head : (head : ℕ) → ℕ
@@ -78,9 +78,9 @@ abbrev pub is_number_cell : (head cell : ℕ) → Bool
 is_number_cell head cell =
     nat_lt 0 cell && nat_lt cell (words_of_head head) && not (front_layout.is_reference head cell)
 
--- the head of the block at a place
-abbrev pub head_at : Kept → (place : ℕ) → ℕ
-head_at h place = slice_index h.words place
+-- the head of the block at an address
+abbrev pub head_at : HeapState → (address : ℕ) → ℕ
+head_at h address = slice_index h.words address
 
 two_words : words_of_head 0x201 ≡ 2
 two_words = refl
