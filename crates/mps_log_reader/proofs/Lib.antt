@@ -8,5 +8,6 @@ pub mod PartPut
 pub mod Stops
 pub mod Records
 pub mod Opening
+pub mod LogPrefix
 pub mod Reported
 pub mod TwoReadings

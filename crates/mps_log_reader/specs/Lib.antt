@@ -5,4 +5,5 @@ pub mod Left
 pub mod PutOut
 pub mod Opening
 pub mod Ending
+pub mod LogPrefix
 pub mod RecordLine

@@ -1,7 +1,7 @@
 -- Why a program stops, with what it reports then and its status.
-use Rattle.std.specs.Prelude.{◌≡◌, ℕ, ◌⊎◌, codes, List, Result, Ok, Err, ◌++◌, refl}
+use Rattle.std.specs.Prelude.{◌≡◌, ℕ, codes, List, Result, Ok, Err, ◌++◌}
 use Rattle.std.specs.Option.{option_map}
-use Rattle.mps_base.specs.Desk.{Outside, HasRisen}
+use Rattle.mps_base.specs.Desk.{Outside}
 use Rattle.mps_report.specs.Streams.{HasReported}
 use Rattle.mps_report.specs.declared.stop.Stop.{Stop}
 use Rattle.mps_report.specs.declared.stop.Stop.TheVariants as stop
@@ -39,3 +39,9 @@ pub record ReportsStatus {E : Type 0} (text : E → List ℕ) (status : ℕ) (ol
   pub ending : Result (Unit {0}) (Stop E)
   pub status_is : status ≡ status_of_ending ending
   pub reported : HasReportedEnding text ending old new
+
+-- the program ends so: with the status of this ending, with this text printed, and with the line of the ending reported
+pub record ProgramEnds {E : Type 0} (text_of : E → List ℕ) (ending : Result (Unit {0}) (Stop E)) (text : List ℕ) (status : ℕ) (old new : Outside) : Type 0 where
+  pub status_is : status ≡ status_of_ending ending
+  pub printed : new.printed ≡ option_map (λ before. before ++ text) old.printed
+  pub reported : HasReportedEnding text_of ending old new
