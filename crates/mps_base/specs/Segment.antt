@@ -9,7 +9,7 @@ use Rattle.mps_base.specs.declared.names.Rank.TheVariants as rank
 -- a run of whole grains that the arena holds for a pool
 pub record Segment : Type 0 where
   -- the address at which it begins
-  pub base : ℕ
+  pub base : Address
   pub grains : ℕ
   pub pool : ℕ
   pub generation : ℕ

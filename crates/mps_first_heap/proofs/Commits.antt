@@ -18,7 +18,7 @@ use Rattle.mps_model.specs.Replay.{replay_from, after_making}
 use Rattle.mps_model.specs.World.{World}
 use Rattle.mps_model.specs.History.{live_blocks, with_client_remembered}
 use Rattle.mps_model.specs.Reply.{answer_from, world_from}
-use Rattle.mps_model.specs.Effect.{with_next_place}
+use Rattle.mps_model.specs.Effect.{with_next_address}
 use Rattle.mps_first_heap.specs.HeapState.{HeapState, is_named, is_point, has_slot, head_at, words_of_head}
 use Rattle.mps_first_heap.specs.Outcome.{ok_with_move, unsupported, commit_move, after_commit}
 use Rattle.mps_first_heap.specs.StandsFor.{Past, Agrees, world_of, world_with, step_of, object_in, cells_at, segments_from, some_address, one_if, point_with, reservation_in, front_pool, point_memory_of, address_in_slot, is_null_or_below, end_of_objects}
@@ -186,7 +186,7 @@ right_with_object h p line name slot a point o there =
     (point_named_there h p a name point) (table_named h p a slot both.0) at.1 in
     right_step (world_committing h p) (step_committed h line name slot) (with_object h slot) (past_with_object h p slot) refl
     (record { moves_are_legal = (legal_commit h p name slot a point o, tt); moves_are_due = refl; answer_is_due = sym (ap answer_from e); marked = tt })
-    (ap (λ r. with_client_remembered (world_from (with_next_place (world_committing h p) (8 * h.reserved)) r)) e ∙ world_committed h p slot t q)
+    (ap (λ r. with_client_remembered (world_from (with_next_address (world_committing h p) (8 * h.reserved)) r)) e ∙ world_committed h p slot t q)
     (agrees_with_object h p slot a q o)
     (λ pools. replayed h p line name slot pools a t q o)
 

@@ -1,6 +1,7 @@
 -- The commands on objects, slots and areas.
 use Rattle.std.specs.Prelude.{ℕ, ◌-◌, Bool, true, false, not, ◌||◌, ◌==◌, if◌then◌else◌, Option, Some, None, is_none, slice_set, Ok, Err}
 use Rattle.std.specs.Option.{option_map_or}
+use Rattle.mps_base.specs.Address.{Id, Address}
 use Rattle.mps_base.specs.declared.names.Slot.{Slot}
 use Rattle.mps_base.specs.declared.refusal.Refusal.TheVariants as refusal
 use Rattle.mps_model.specs.declared.reply.Reply.TheVariants as reply
@@ -80,7 +81,7 @@ act_head w slot = do
   says (reply.Head (head_of_body object.value.body)) w
 
 -- the address of a live object; a client never holds another
-abbrev pub address_or_null : World → (id : ℕ) → ℕ
+abbrev pub address_or_null : World → (id : Id) → Address
 address_or_null w id = option_map_or (λ at. at) (address_of w id) 0
 
 abbrev pub act_address : World → Slot → Checked Act
@@ -105,13 +106,13 @@ pub data Poked : Type 0 where
   AsMarked : Poked
 
 -- in a running collection: a number where the block is condemned, not settled, and of a copying pool
-abbrev pub poked_in : World → (id : ℕ) → Option Collection → Poked
+abbrev pub poked_in : World → (id : Id) → Option Collection → Poked
 poked_in w id None = AsBlock
 poked_in w id (Some c) =
     if not (is_condemned c id) || is_settled c id then AsBlock
     else (if is_copying_object w id then AsNumber else AsMarked)
 
-abbrev pub poked : World → (id : ℕ) → Poked
+abbrev pub poked : World → (id : Id) → Poked
 poked w id = poked_in w id w.collection
 
 -- an area word that holds an object, by a word that lies in it

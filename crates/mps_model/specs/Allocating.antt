@@ -1,7 +1,7 @@
 -- The commands that reserve, initialise and commit objects, and those on manual blocks.
 use Rattle.std.specs.Prelude.{ℕ, ◌+◌, ◌-◌, Bool, false, not, ◌&&◌, ◌==◌, if◌then◌else◌, Option, Some, None, is_some, List, [], length, replicate, slice_get, slice_set, Ok, Err}
 use Rattle.std.specs.Option.{option_map_or}
-use Rattle.mps_base.specs.Address.{address_of_word, address_of_grain}
+use Rattle.mps_base.specs.Address.{Address, Id, address_of_word, address_of_grain}
 use Rattle.mps_base.specs.Run.{Run}
 use Rattle.mps_base.specs.Placement.{Placement, Place, NewSegment, OverLimit, NoFreeRun}
 use Rattle.mps_base.specs.declared.names.Name.{Name}
@@ -78,7 +78,7 @@ buffer_after w number p words =
     if is_copying_pool w p.pool then without_front (buffer_of w number) words else buffer_of w number
 
 -- the world with a reservation at a point, at an address
-abbrev pub with_reserved : World → Numbered Point → Reservation → (address : ℕ) → World
+abbrev pub with_reserved : World → Numbered Point → Reservation → (address : Address) → World
 with_reserved w point r address = record w {
   graph = with_reservation w.graph point (Some r);
   point_memories = slice_set w.point_memories point.number (record {
@@ -173,7 +173,7 @@ act_free w from = do
   block_in place
   done (with_graph w (with_block_place w.graph place None))
 
-abbrev pub words_at : Graph → (id : ℕ) → List ℕ
+abbrev pub words_at : Graph → (id : Id) → List ℕ
 words_at g id = option_map_or (λ o. words_of_body o.body) (object_at g id) []
 
 abbrev pub act_load : World → Slot → (k : ℕ) → Checked Act

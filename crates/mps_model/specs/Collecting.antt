@@ -1,6 +1,7 @@
 -- The commands of collection: what they answer and leave, beside what their moves do.
 use Rattle.std.specs.Prelude.{ℕ, ◌+◌, ◌-◌, nat_lt, nat_le, if◌then◌else◌, Option, Some, option_map, List, [], ◌∷◌, length, sum_by, Ok}
 use Rattle.std.specs.Option.{option_map_or}
+use Rattle.mps_base.specs.Address.{Id, Address}
 use Rattle.mps_base.specs.declared.names.Name.{Name}
 use Rattle.mps_base.specs.declared.names.Slot.{Slot}
 use Rattle.mps_base.specs.declared.refusal.Refusal.TheVariants as refusal
@@ -104,14 +105,14 @@ act_message w slot = do
 
 -- ---- what lives
 
-abbrev pub words_of_id : World → (id : ℕ) → ℕ
+abbrev pub words_of_id : World → (id : Id) → ℕ
 words_of_id w id = option_map_or size_of (object_at w.graph id) 0
 
 -- how many blocks live, and the sum of their words
 abbrev pub act_live : World → Checked Act
 act_live w = says (reply.Pair (length (live_ids w)) (sum_by (words_of_id w) (live_ids w))) w
 
-abbrev pub act_dump : World → (address : ℕ) → Checked Act
+abbrev pub act_dump : World → (address : Address) → Checked Act
 act_dump w address = do
   refuse_when (is_running w) refusal.Running
   id ← required (id_at w address) refusal.NotABlock

@@ -1,5 +1,6 @@
 -- What a running collection remembers.
 use Rattle.std.specs.Prelude.{ℕ, Bool, ◌||◌, ◌⊎◌, List, [], ◌∷◌}
+use Rattle.mps_base.specs.Address.{Id, Address}
 use Rattle.mps_model.specs.Graph.{Graph, contains}
 use Rattle.mps_model.specs.Reachable.{IsLinked}
 
@@ -18,15 +19,15 @@ pub record Origin : Type 0 where
 
 pub record Collection : Type 0 where
   -- the bases of the condemned segments that are still held
-  pub condemned_segments : List ℕ
+  pub condemned_segments : List Address
   -- the automatic objects that lay in condemned segments at the flip
-  pub condemned : List ℕ
+  pub condemned : List Id
   -- the condemned objects in which an area word lay at the flip
-  pub pinned : List ℕ
-  -- the objects that were moved, or told to stay
-  pub placed : List ℕ
+  pub pinned : List Id
+  -- the objects that were moved, or made to stay
+  pub placed : List Id
   -- the objects that were posted, and those that the client held after some call since the flip
-  pub had : List ℕ
+  pub had : List Id
   -- from where what may survive is linked: the roots at the flip, and then each posted object at its post
   pub origins : List Origin
   -- of the registrations, n from the front on were made before the flip
@@ -41,23 +42,23 @@ pub record Collection : Type 0 where
   -- how many units were asked of it by steps and polls
   pub spent : ℕ
 
-abbrev pub is_condemned : Collection → (id : ℕ) → Bool
+abbrev pub is_condemned : Collection → (id : Id) → Bool
 is_condemned c id = contains c.condemned id
 
 -- pinned, or with a place: what the client may hold of a copying pool
-abbrev pub is_kept_in_place : Collection → (id : ℕ) → Bool
+abbrev pub is_kept_in_place : Collection → (id : Id) → Bool
 is_kept_in_place c id = contains c.pinned id || contains c.placed id
 
 -- settled: it won't be moved or freed by this collection any more
-abbrev pub is_settled : Collection → (id : ℕ) → Bool
+abbrev pub is_settled : Collection → (id : Id) → Bool
 is_settled c id = contains c.pinned id || (contains c.placed id || contains c.had id)
 
 -- an id to which some origin links
-abbrev pub IsLinkedFromSome : List Origin → (id : ℕ) → Type 0
+abbrev pub IsLinkedFromSome : List Origin → (id : Id) → Type 0
 IsLinkedFromSome [] id = ⊥
 IsLinkedFromSome (o ∷ os) id = IsLinked o.graph o.ids id ⊎ IsLinkedFromSome os id
 
 -- what may survive this collection: whatever a path led to, through any references, from the roots at the flip or from a
 -- posted object at its post. All else that was condemned must be gone at the end
-abbrev pub MaySurvive : Collection → (id : ℕ) → Type 0
+abbrev pub MaySurvive : Collection → (id : Id) → Type 0
 MaySurvive c id = IsLinkedFromSome c.origins id

@@ -2,7 +2,7 @@
 -- open reservations, a splat makes a reference null, and a post makes a registration a message.
 use Rattle.std.specs.Prelude.{ℕ, ◌+◌, ◌-◌, ◌*◌, Bool, true, false, not, ◌&&◌, ◌||◌, ◌==◌, nat_le, if◌then◌else◌, Option, Some, None, option_map, List, [], ◌∷◌, ◌++◌, map, length, slice_get, slice_set, filter}
 use Rattle.std.specs.Option.{option_map_or}
-use Rattle.mps_base.specs.Address.{word_of}
+use Rattle.mps_base.specs.Address.{Address, Id, word_of}
 use Rattle.mps_base.specs.Run.{Run}
 use Rattle.mps_base.specs.Zones.{zones_of_runs}
 use Rattle.mps_base.specs.declared.moves.Move.{Move}
@@ -60,7 +60,7 @@ condemned_zones w what =
     zones_of_runs (map grains_of_segment (filter (λ s. is_copying_pool w s.pool) (condemned_by w what)))
 
 -- whether a live object lies in one of these segments
-abbrev pub lies_in_one : World → List Segment → (id : ℕ) → Bool
+abbrev pub lies_in_one : World → List Segment → (id : Id) → Bool
 lies_in_one w [] id = false
 lies_in_one w (s ∷ ss) id = option_map_or (is_in_segment s) (address_of w id) false || lies_in_one w ss id
 
@@ -182,7 +182,7 @@ after_segment call w s next =
 abbrev pub with_collection : World → (Collection → Collection) → World
 with_collection w change = record w { collection = option_map change w.collection }
 
--- an object was moved or told to stay
+-- an object was moved or made to stay
 abbrev pub placing : Option ℕ → Collection → Collection
 placing None c = c
 placing (Some id) c = record c { placed = id ∷ c.placed }
@@ -191,11 +191,11 @@ abbrev pub splatting : Collection → Collection
 splatting c = record c { phase = Splatting }
 
 -- something in a condemned segment was swept
-abbrev pub reclaiming : (base : ℕ) → Collection → Collection
+abbrev pub reclaiming : (base : Address) → Collection → Collection
 reclaiming base c = record c { phase = Reclaiming; reclaimed_to = base }
 
 -- a condemned segment was given back
-abbrev pub giving_back : (base : ℕ) → Collection → Collection
+abbrev pub giving_back : (base : Address) → Collection → Collection
 giving_back base c =
     if contains c.condemned_segments base then reclaiming base (record c { condemned_segments = without_first c.condemned_segments base })
     else c
@@ -217,7 +217,7 @@ with_address w None at = w
 with_address w (Some id) at = record w { addresses = slice_set w.addresses id at }
 
 -- the words of a segment from an address on
-abbrev pub rest_of_segment : Segment → (address : ℕ) → Run
+abbrev pub rest_of_segment : Segment → (address : Address) → Run
 rest_of_segment s address = record { from = word_of address; count = word_of (end_of_segment s) - word_of address }
 
 -- the words after a block of n words at an address, in its segment
@@ -244,7 +244,7 @@ after_splat w (Some holder) cell =
     with_collection (record w { graph = graph_with_cells w.graph holder (λ cells. with_target cells cell None) }) splatting
 
 -- the first registration of an object becomes the last message
-abbrev pub graph_posted : Graph → (id : ℕ) → Graph
+abbrev pub graph_posted : Graph → (id : Id) → Graph
 graph_posted g id = record g { registered = without_first g.registered id; messages = with_last g.messages id }
 
 abbrev pub after_post : World → Option ℕ → World
@@ -254,19 +254,19 @@ after_post w (Some id) =
     (posting (graph_posted w.graph id) id (option_map_or (λ position. position) (position_of_first w.graph.registered id) 0))
 
 -- the base of the segment in which an address lies
-abbrev pub base_of : World → (address : ℕ) → ℕ
+abbrev pub base_of : World → (address : Address) → Address
 base_of w address = option_map_or (λ (s : Segment). s.base) (segment_of w address) 0
 
 -- a block is freed. Freeing an automatic block is the collector's work
-abbrev pub after_free : World → Option ℕ → (at : ℕ) → World
+abbrev pub after_free : World → Option ℕ → (at : Address) → World
 after_free w None at = w
 after_free w (Some id) at =
     if object_is is_automatic w id then with_collection (with_address w (Some id) None) (reclaiming (base_of w at))
     else with_address w (Some id) None
 
 -- the object that the call is about to make, the next one, has this address
-abbrev pub with_next_place : World → (address : ℕ) → World
-with_next_place w address = record w { addresses = with_last w.addresses (Some address) }
+abbrev pub with_next_address : World → (address : Address) → World
+with_next_address w address = record w { addresses = with_last w.addresses (Some address) }
 
 -- the world after a move of a call, where the move after it in the call is this one
 abbrev pub world_after_move : Call → World → Move → (next : Option Move) → World
@@ -280,8 +280,8 @@ world_after_move call w (moves.Moved from to) next = after_moved w (id_at w from
 world_after_move call w (moves.Stay at) next = with_collection w (placing (id_at w at.0))
 world_after_move call w (moves.Splat holder cell) next = after_splat w (id_at w holder.0) cell
 world_after_move call w (moves.Post at) next = after_post w (id_at w at.0)
-world_after_move call w (moves.Commit at words pool) next = with_next_place w at.0
-world_after_move call w (moves.Alloc at words pool) next = with_next_place w at.0
+world_after_move call w (moves.Commit at words pool) next = with_next_address w at.0
+world_after_move call w (moves.Alloc at words pool) next = with_next_address w at.0
 world_after_move call w (moves.Free at) next = after_free w (id_at w at.0) at.0
 
 abbrev pub first_move : List Move → Option Move

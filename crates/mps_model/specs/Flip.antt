@@ -1,7 +1,7 @@
 -- The act of a flip: its moves are a function of the world.
 use Rattle.std.specs.Prelude.{ℕ, Bool, true, false, not, ◌&&◌, if◌then◌else◌, None, List, [], ◌∷◌, ◌++◌}
 use Rattle.std.specs.Option.{option_map_or}
-use Rattle.mps_base.specs.Address.{address_of_word, address_of_grain}
+use Rattle.mps_base.specs.Address.{Id, address_of_word, address_of_grain}
 use Rattle.mps_base.specs.Placement.{Placement, Place, NewSegment, OverLimit, NoFreeRun}
 use Rattle.mps_base.specs.declared.address.Addr.{Addr}
 use Rattle.mps_base.specs.declared.moves.Move.{Move}
@@ -19,15 +19,15 @@ abbrev pub at_address : ℕ → Addr
 at_address address = record { 0 = address }
 
 -- whether an object has to be moved before the client may hold it: condemned, of a copying pool, and not settled
-abbrev pub must_be_fixed : World → (id : ℕ) → Bool
+abbrev pub must_be_fixed : World → (id : Id) → Bool
 must_be_fixed w id = option_map_or (λ c. is_condemned c id && not (is_settled c id)) w.collection false && is_copying_object w id
 
 -- the number of an object's pool
-abbrev pub pool_of : World → (id : ℕ) → ℕ
+abbrev pub pool_of : World → (id : Id) → ℕ
 pool_of w id = option_map_or (λ o. o.pool) (object_at w.graph id) 0
 
 -- how an object is kept, by its placement: it moves, where need be into a new segment, or it stays
-abbrev pub moves_to : World → (id : ℕ) → Placement → List Move
+abbrev pub moves_to : World → (id : Id) → Placement → List Move
 moves_to w id (Place word) = moves.Moved (at_address (address_or_null w id)) (at_address (address_of_word word)) ∷ []
 moves_to w id (NewSegment grain grains) =
     moves.Seg (at_address (address_of_grain grain)) grains (pool_of w id) (target_of w (pool_of w id) (generation_of w id))
@@ -37,7 +37,7 @@ moves_to w id (OverLimit committed need limit) = moves.Stay (at_address (address
 moves_to w id (NoFreeRun need longest) = moves.Stay (at_address (address_or_null w id)) ∷ []
 
 -- the moves by which an object is fixed: none where it needn't be
-abbrev pub fix : World → (id : ℕ) → List Move
+abbrev pub fix : World → (id : Id) → List Move
 fix w id = if must_be_fixed w id then moves_to w id (placement_of w (ForMove id)) else []
 
 -- the moves by which objects are fixed, one after the other

@@ -3,6 +3,7 @@
 use Rattle.std.specs.Prelude.{ℕ, zero, suc, ◌+◌, ◌-◌, Bool, true, false, ◌&&◌, ◌==◌, bytes_eq, if◌then◌else◌, Option, Some, None, option_and_then, option_map, is_some, List, [], ◌∷◌, ◌++◌, map, length, slice_get, slice_set}
 use Rattle.std.specs.List.{list_any, flat_map}
 use Rattle.std.specs.Option.{option_map_or}
+use Rattle.mps_base.specs.Address.{Id}
 use Rattle.mps_base.specs.declared.names.Name.{Name}
 use Rattle.mps_base.specs.declared.names.Rank.{Rank}
 use Rattle.mps_format.specs.Layout.{Layout}
@@ -75,9 +76,9 @@ pub record Graph : Type 0 where
   -- allocation points by their numbers; none where the point was dropped
   pub points : List (Option Point)
   -- the registrations for finalization, in order: an object may be registered more than once
-  pub registered : List ℕ
+  pub registered : List Id
   -- the finalization messages that wait, in order
-  pub messages : List ℕ
+  pub messages : List Id
   -- what each live name stands for
   pub names : List NamedThing
 
@@ -135,7 +136,7 @@ without_name (n ∷ ns) name = if same_name n.name name then ns else n ∷ witho
 
 -- ---- objects
 
-abbrev pub object_at : Graph → (id : ℕ) → Option Object
+abbrev pub object_at : Graph → (id : Id) → Option Object
 object_at g id = slice_get g.objects id
 
 abbrev pub size_of_body : Body → ℕ
@@ -183,10 +184,10 @@ targets_of o = targets_of_body o.body
 abbrev pub strong_targets_of : Object → List ℕ
 strong_targets_of o = if is_weak_object o then [] else targets_of o
 
-abbrev pub targets : Graph → (id : ℕ) → List ℕ
+abbrev pub targets : Graph → (id : Id) → List Id
 targets g id = option_map_or targets_of (object_at g id) []
 
-abbrev pub strong_targets : Graph → (id : ℕ) → List ℕ
+abbrev pub strong_targets : Graph → (id : Id) → List Id
 strong_targets g id = option_map_or strong_targets_of (object_at g id) []
 
 abbrev pub is_reference_cell : Cell → Bool
@@ -227,7 +228,7 @@ abbrev pub object_with_cells : Object → (List Cell → List Cell) → Object
 object_with_cells o change = record o { body = body_with_cells o.body change }
 
 -- a graph with the cells of one object changed
-abbrev pub graph_with_cells : Graph → (id : ℕ) → (List Cell → List Cell) → Graph
+abbrev pub graph_with_cells : Graph → (id : Id) → (List Cell → List Cell) → Graph
 graph_with_cells g id change = record g {
   objects = option_map_or (λ o. slice_set g.objects id (object_with_cells o change)) (object_at g id) g.objects;
 }

@@ -3,7 +3,7 @@
 use Rattle.std.specs.Prelude.{◌≡◌, ℕ, Bool, true, false, not, ◌&&◌, ◌||◌, nat_lt, IsTrue, MatchBool, if◌then◌else◌, Option, Some, None, option_and_then, Ok, Err, List, [], ◌∷◌, ◌++◌, length}
 use Rattle.std.specs.List.{list_all, flat_map}
 use Rattle.std.specs.Option.{option_map_or}
-use Rattle.mps_base.specs.Address.{address_of_grain}
+use Rattle.mps_base.specs.Address.{Address, Id, address_of_grain}
 use Rattle.mps_base.specs.Generation.{Due}
 use Rattle.mps_base.specs.Placement.{Placement, Place, NewSegment, OverLimit, NoFreeRun}
 use Rattle.mps_base.specs.declared.moves.Move.{Move}
@@ -163,11 +163,11 @@ give_back_empty w None = []
 give_back_empty w (Some s) =
     if pool_is is_any_size_kind w s.pool && is_empty_segment w s then moves.Unseg (at_address s.base) ∷ [] else []
 
-abbrev pub free_at : (address : ℕ) → List Move
+abbrev pub free_at : (address : Address) → List Move
 free_at address = moves.Free (at_address address) ∷ []
 
 -- a block is freed, and its segment given back where that is due
-abbrev pub moves_of_free : Call → World → (id : ℕ) → List Move
+abbrev pub moves_of_free : Call → World → (id : Id) → List Move
 moves_of_free call w id =
     free_at (address_or_null w id)
     ++ give_back_empty (world_after_moves call w (free_at (address_or_null w id))) (segment_of w (address_or_null w id))
@@ -232,8 +232,8 @@ pub record HeldAreLive (w : World) : Type 0 where
   pub blocks : IsTrue (list_all (is_live w) (ids_in_blocks w.graph))
   pub referred : IsTrue (is_running w || list_all (is_live w) (flat_map (targets w.graph) (live_ids w)))
 
--- what the client holds of condemned copying pools was pinned, moved, or told to stay
-abbrev pub is_held_rightly : World → Collection → (id : ℕ) → Bool
+-- what the client holds of condemned copying pools was pinned, moved, or made to stay
+abbrev pub is_held_rightly : World → Collection → (id : Id) → Bool
 is_held_rightly w c id = not (is_condemned c id && is_copying_object w id) || is_kept_in_place c id
 
 abbrev pub are_held_kept : World → Bool
@@ -244,7 +244,7 @@ abbrev pub has_units_left : World → Bool
 has_units_left w = option_map_or (λ c. nat_lt c.spent c.units) w.collection true
 
 -- a block whose fate isn't decided may survive, where `poke` says that it is marked
-abbrev pub OfPoked : World → (id : ℕ) → Poked → Type 0
+abbrev pub OfPoked : World → (id : Id) → Poked → Type 0
 OfPoked w id AsMarked = ForOne w.collection (λ c. MaySurvive c id)
 OfPoked w id AsBlock = Unit {0}
 OfPoked w id AsNumber = Unit {0}
@@ -293,9 +293,9 @@ IsLegalHistory history = IsLegalFrom empty_world history
 abbrev pub world_after_history : History → World
 world_after_history history = world_after_steps empty_world history
 
--- ---- live blocks, as a replayed log tells them
+-- ---- live blocks, as the replay of a log gives them
 
-abbrev pub block_of : World → (id : ℕ) → Block
+abbrev pub block_of : World → (id : Id) → Block
 block_of w id = record {
   at = address_or_null w id;
   words = option_map_or size_of (object_at w.graph id) 0;

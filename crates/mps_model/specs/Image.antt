@@ -1,6 +1,7 @@
 -- The image of a block: the words that it has in an arena in which no collection runs.
 use Rattle.std.specs.Prelude.{ℕ, ◌≡◌, ◌+◌, false, Option, Some, None, List, [], ◌∷◌, map, refl}
 use Rattle.std.specs.Option.{option_map_or}
+use Rattle.mps_base.specs.Address.{Id}
 use Rattle.mps_model.specs.Graph.{Cell, HeadCell, NumberCell, ReferenceCell, Body, Automatic, Manual, object_at, empty_graph}
 use Rattle.mps_model.specs.World.{World, address_of, empty_world}
 
@@ -20,7 +21,7 @@ image_of_body w (Automatic head cells is_weak) = map (image_of_cell w head) cell
 image_of_body w (Manual words) = words
 
 -- the words of an object
-abbrev pub image_of : World → (id : ℕ) → List ℕ
+abbrev pub image_of : World → (id : Id) → List ℕ
 image_of w id = option_map_or (λ o. image_of_body w o.body) (object_at w.graph id) []
 
 -- a block at 0x1000 whose cell 1 leads to one at 0x1020 and has the tag 3, and a manual block that was freed

@@ -2,7 +2,7 @@
 use Rattle.std.specs.Prelude.{◌≡◌, ℕ, Bool, true, false, not, ◌&&◌, ◌||◌, ◌⊎◌, ◌==◌, nat_lt, nat_le, IsTrue, MatchBool, Option, Some, None, option_and_then, Ok, Err, List, [], ◌∷◌, length, slice_get, filter}
 use Rattle.std.specs.List.{list_all, AllByRecursion}
 use Rattle.std.specs.Option.{option_map_or}
-use Rattle.mps_base.specs.Address.{address_of_word, address_of_grain}
+use Rattle.mps_base.specs.Address.{Address, Id, address_of_word, address_of_grain}
 use Rattle.mps_base.specs.Placement.{Placement, Place, NewSegment, OverLimit, NoFreeRun}
 use Rattle.mps_base.specs.declared.moves.Move.{Move}
 use Rattle.mps_base.specs.declared.moves.Move.TheVariants as moves
@@ -41,7 +41,7 @@ may_splat Reclaiming = false
 -- ---- what a placement is
 
 -- there is an address, and it is this one
-abbrev pub IsPlaceAt : Placement → (address : ℕ) → Type 0
+abbrev pub IsPlaceAt : Placement → (address : Address) → Type 0
 IsPlaceAt (Place word) address = address_of_word word ≡ address
 IsPlaceAt (NewSegment grain grains) address = ⊥
 IsPlaceAt (OverLimit committed need limit) address = ⊥
@@ -72,7 +72,7 @@ pub record IsLegalMoved (w : World) (c : Collection) (id to : ℕ) : Type 0 wher
   pub at_placement : IsPlaceAt (placement_of w (ForMove id)) to
 
 -- it stays only where there is no room for it
-pub record IsLegalStay (w : World) (c : Collection) (id : ℕ) : Type 0 where
+pub record IsLegalStay (w : World) (c : Collection) (id : Id) : Type 0 where
   pub tracing : IsTrue (is_tracing c.phase)
   pub condemned : IsTrue (is_condemned c id)
   pub not_settled : IsTrue (not (is_settled c id))
@@ -82,7 +82,7 @@ pub record IsLegalStay (w : World) (c : Collection) (id : ℕ) : Type 0 where
 -- ---- splats and posts
 
 -- an object whose references a collection may look at: it isn't condemned, or it is settled, or it may survive
-abbrev pub MayBeScanned : Collection → (id : ℕ) → Type 0
+abbrev pub MayBeScanned : Collection → (id : Id) → Type 0
 MayBeScanned c id = IsTrue (not (is_condemned c id)) ⊎ IsTrue (is_settled c id) ⊎ MaySurvive c id
 
 -- what a cell of an object refers to
@@ -91,7 +91,7 @@ target_in_cell w id cell =
     option_and_then target_of_cell (option_and_then (λ o. slice_get (cells_of_body o.body) cell) (object_at w.graph id))
 
 -- a target that is gone: condemned, not settled, and not reachable
-pub record IsGone (w : World) (c : Collection) (id : ℕ) : Type 0 where
+pub record IsGone (w : World) (c : Collection) (id : Id) : Type 0 where
   pub condemned : IsTrue (is_condemned c id)
   pub not_settled : IsTrue (not (is_settled c id))
   pub not_reachable : ¬ IsReachable w.graph id
@@ -103,8 +103,8 @@ pub record IsLegalSplat (w : World) (c : Collection) (holder cell : ℕ) : Type 
   pub scanned : MayBeScanned c holder
   pub target_is_gone : ForOne (target_in_cell w holder cell) (IsGone w c)
 
--- whether a move is the one by which the block at an address was moved there or told to stay
-abbrev pub keeps_at : (address : ℕ) → Move → Bool
+-- whether a move is the one by which the block at an address was moved there or made to stay
+abbrev pub keeps_at : (address : Address) → Move → Bool
 keeps_at address (moves.Moved from to) = to.0 == address
 keeps_at address (moves.Stay at) = at.0 == address
 keeps_at address _ = false
@@ -125,17 +125,17 @@ pub record IsLegalPost (w : World) (c : Collection) (before : Option Move) (id a
 -- ---- freeing
 
 -- a collection frees a condemned object that is neither settled nor reachable nor registered
-pub record IsLegalSweep (w : World) (c : Collection) (id : ℕ) : Type 0 where
+pub record IsLegalSweep (w : World) (c : Collection) (id : Id) : Type 0 where
   pub gone : IsGone w c id
   pub not_registered : IsTrue (not (contains w.graph.registered id))
 
 -- the block in the place of a `free`
-abbrev pub IsBlockOfFree : World → Call → (id : ℕ) → Type 0
+abbrev pub IsBlockOfFree : World → Call → (id : Id) → Type 0
 IsBlockOfFree w (call.Free place) id = ForChecked (block_place_in w place) (λ at. at.value ≡ Some id)
 IsBlockOfFree w _ id = ⊥
 
 -- a manual block is freed by `free` alone
-abbrev pub IsLegalFree : Call → World → (id : ℕ) → Type 0
+abbrev pub IsLegalFree : Call → World → (id : Id) → Type 0
 IsLegalFree call w id = MatchBool (object_is is_automatic w id) (ForOne w.collection (λ c. IsLegalSweep w c id)) (IsBlockOfFree w call id)
 
 -- ---- segments
@@ -175,7 +175,7 @@ IsLegalSegment call w base grains pool generation (Some (moves.Alloc at words of
 IsLegalSegment call w base grains pool generation (Some _) = ⊥
 
 -- whether the running collection condemned the segment at a base
-abbrev pub is_condemned_segment : World → (base : ℕ) → Bool
+abbrev pub is_condemned_segment : World → (base : Address) → Bool
 is_condemned_segment w base = option_map_or (λ c. contains c.condemned_segments base) w.collection false
 
 -- whether a move frees a block in a segment
@@ -219,21 +219,21 @@ IsLegalAlloc _ w at words pool = ⊥
 abbrev pub live_condemned : World → Collection → List ℕ
 live_condemned w c = filter (is_live w) c.condemned
 
-abbrev pub holds_something : World → (base : ℕ) → Bool
+abbrev pub holds_something : World → (base : Address) → Bool
 holds_something w base = option_map_or (λ s. not (is_empty_segment w s)) (segment_at w base) false
 
 -- a collection ends where all that must go is gone
 pub record IsLegalEnd (w : World) (c : Collection) : Type 0 where
   -- what is left of the condemned objects is settled or may survive
   pub survivors : AllByRecursion (λ id. IsTrue (is_settled c id) ⊎ MaySurvive c id) (live_condemned w c)
-  -- what is left of them in copying pools was moved, told to stay, or pinned
+  -- what is left of them in copying pools was moved, made to stay, or pinned
   pub copied : IsTrue (list_all (is_kept_in_place c) (filter (is_copying_object w) (live_condemned w c)))
   -- what is left of the condemned segments holds a block or a reservation
   pub segments : IsTrue (list_all (holds_something w) c.condemned_segments)
 
 -- ---- all moves
 
--- a collection begins where none runs, and tells the zones of what it condemns in copying pools
+-- a collection begins where none runs, and records the zones of what it condemns in copying pools
 pub record IsLegalFlip (w : World) (zones chain generation : ℕ) : Type 0 where
   pub none_runs : IsTrue (not (is_running w))
   pub of_zones : zones ≡ condemned_zones w (condemnation_of chain generation)

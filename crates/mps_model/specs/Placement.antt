@@ -1,7 +1,7 @@
 -- Where a block is placed: a function of the extents of blocks, reservations and segments.
 use Rattle.std.specs.Prelude.{ℕ, nat_le, if◌then◌else◌, List, slice_get}
 use Rattle.std.specs.Option.{option_map_or}
-use Rattle.mps_base.specs.Address.{grains_needed}
+use Rattle.mps_base.specs.Address.{Id, grains_needed}
 use Rattle.mps_base.specs.Run.{Run, lowest_fitting}
 use Rattle.mps_base.specs.Placement.{Placement, Place, run_placement}
 use Rattle.mps_base.specs.declared.names.Rank.TheVariants as rank
@@ -14,7 +14,7 @@ pub data Request : Type 0 where
   -- a reservation of n words at a point
   ForReserve : (point words : ℕ) → Request
   -- an object that a collection moves
-  ForMove : (id : ℕ) → Request
+  ForMove : (id : Id) → Request
   -- a block of n words of a manual pool
   ForAlloc : (pool words : ℕ) → Request
 

@@ -1,14 +1,15 @@
 -- Which registrations a whole collection makes messages.
 use Rattle.std.specs.Prelude.{◌≡◌, ◌⊎◌, ℕ, List, [], ◌∷◌, ◌++◌}
+use Rattle.mps_base.specs.Address.{Id}
 use Rattle.mps_model.specs.Reachable.{IsReachableWith}
 use Rattle.mps_model.specs.World.{World, ids_of_area_words}
 
 -- widely reachable, where these objects are roots too
-abbrev pub IsWidelyReachableWith : World → (posted : List ℕ) → (id : ℕ) → Type 0
+abbrev pub IsWidelyReachableWith : World → (posted : List ℕ) → (id : Id) → Type 0
 IsWidelyReachableWith w posted id = IsReachableWith w.graph (ids_of_area_words w ++ posted) id
 
 -- the next post is this object's
-abbrev pub BeginsWithPost : (id : ℕ) → (posts : List ℕ) → (List ℕ → Type 0) → Type 0
+abbrev pub BeginsWithPost : (id : Id) → (posts : List ℕ) → (List ℕ → Type 0) → Type 0
 BeginsWithPost id [] Rest = ⊥
 BeginsWithPost id (p ∷ ps) Rest = (p ≡ id) × Rest ps
 

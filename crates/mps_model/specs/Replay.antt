@@ -1,5 +1,6 @@
 -- Replaying a log: which blocks are live at its end. The blocks stand in ascending order of their addresses.
 use Rattle.std.specs.Prelude.{◌≡◌, ℕ, Bool, ◌==◌, nat_lt, if◌then◌else◌, Option, Some, None, option_and_then, is_some, List, [], ◌∷◌, slice_index, refl}
+use Rattle.mps_base.specs.Address.{Address}
 use Rattle.mps_base.specs.Record.{Record, commit_code, alloc_code, move_code, stay_code, post_code, free_code}
 
 -- a live block: its address, its size in words, and the number of its pool
@@ -13,12 +14,12 @@ abbrev pub Store : Type 0
 Store = List Block
 
 -- the block that begins at an address
-abbrev pub block_at : Store → (address : ℕ) → Option Block
+abbrev pub block_at : Store → (address : Address) → Option Block
 block_at [] address = None
 block_at (b ∷ bs) address = if b.at == address then Some b else block_at bs address
 
 -- whether a block begins at an address
-abbrev pub is_live : Store → (address : ℕ) → Bool
+abbrev pub is_live : Store → (address : Address) → Bool
 is_live store address = is_some (block_at store address)
 
 -- one more block, before the first that begins after it
@@ -27,7 +28,7 @@ with_block new [] = new ∷ []
 with_block new (b ∷ bs) = if nat_lt new.at b.at then new ∷ b ∷ bs else b ∷ with_block new bs
 
 -- all but the block at an address
-abbrev pub without_block : Store → (address : ℕ) → Store
+abbrev pub without_block : Store → (address : Address) → Store
 without_block [] address = []
 without_block (b ∷ bs) address = if b.at == address then bs else b ∷ without_block bs address
 
@@ -37,7 +38,7 @@ after_making store at words pool =
     if is_live store at then None else Some (with_block (record { at = at; words = words; pool = pool }) store)
 
 -- a block moves: none where it isn't live, or where one is live at the new address already
-abbrev pub after_moving : Store → (from to : ℕ) → Option Store
+abbrev pub after_moving : Store → (from to : Address) → Option Store
 after_moving store from to = if is_live store to then None else moved (block_at store from)
   where
     moved : Option Block → Option Store
@@ -45,11 +46,11 @@ after_moving store from to = if is_live store to then None else moved (block_at 
     moved (Some b) = Some (with_block (record b { at = to }) (without_block store from))
 
 -- a block stays as it is: none where it isn't live
-abbrev pub after_touching : Store → (at : ℕ) → Option Store
+abbrev pub after_touching : Store → (at : Address) → Option Store
 after_touching store at = if is_live store at then Some store else None
 
 -- a block is freed: none where it isn't live
-abbrev pub after_freeing : Store → (at : ℕ) → Option Store
+abbrev pub after_freeing : Store → (at : Address) → Option Store
 after_freeing store at = if is_live store at then Some (without_block store at) else None
 
 -- the blocks after a record: none where the record is a bad replay. Records of other codes leave the blocks as they are

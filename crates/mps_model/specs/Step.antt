@@ -1,4 +1,4 @@
--- Histories: what a client did, what moved meanwhile, and what it was told.
+-- Histories: what a client did, what moved meanwhile, and the replies.
 use Rattle.std.specs.Prelude.{ℕ, List}
 use Rattle.mps_base.specs.declared.moves.Move.{Move}
 use Rattle.mps_model.specs.declared.call.Call.{Call}

@@ -2,6 +2,7 @@
 use Rattle.std.specs.Prelude.{◌≡◌, ℕ, Bool, true, false, not, ◌&&◌, ◌⊎◌, ◌==◌, ◌<◌, nat_lt, nat_le, IsTrue, Option, List, [], ◌∷◌, ◌++◌, map, length}
 use Rattle.std.specs.List.{list_any, list_all, flat_map}
 use Rattle.std.specs.Option.{option_map_or}
+use Rattle.mps_base.specs.Address.{Id, Address}
 use Rattle.mps_base.specs.declared.moves.Move.{Move}
 use Rattle.mps_base.specs.declared.moves.Move.TheVariants as moves
 use Rattle.mps_model.specs.declared.call.Call.{Call}
@@ -16,10 +17,10 @@ use Rattle.mps_model.specs.Flip.{at_address, end_where}
 -- ---- scanning one object
 
 -- whether the object at an address is one of these
-abbrev pub is_one_of : World → List ℕ → (address : ℕ) → Bool
+abbrev pub is_one_of : World → List ℕ → (address : Address) → Bool
 is_one_of w ids address = option_map_or (contains ids) (id_at w address) false
 
--- whether a move moves one of these objects, or tells it to stay. A segment is taken for the move after it
+-- whether a move moves one of these objects, or makes it stay. A segment is taken for the move after it
 abbrev pub keeps_one_of : World → List ℕ → Move → (next : Option Move) → Bool
 keeps_one_of w ids (moves.Seg base grains pool generation) next = is_move_next next
 keeps_one_of w ids (moves.Moved from to) next = is_one_of w ids from.0
@@ -41,7 +42,7 @@ pub record IsScan (w : World) (piece : List Move) : Type 0 where
 -- ---- examining one registration
 
 -- the one post of the object at an address
-abbrev pub is_post_at : (address : ℕ) → List Move → Bool
+abbrev pub is_post_at : (address : Address) → List Move → Bool
 is_post_at address (moves.Post at ∷ []) = at.0 == address
 is_post_at address _ = false
 
@@ -60,13 +61,13 @@ is_examination _ = false
 
 -- ---- splatting one object
 
-abbrev pub splats : (holder : ℕ) → Move → Bool
+abbrev pub splats : (holder : Id) → Move → Bool
 splats holder (moves.Splat at cell) = at.0 == holder
 splats holder _ = false
 
 -- a unit that splats the dead references of one weak object
 abbrev pub AreSplatsOfOne : List Move → Type 0
-AreSplatsOfOne piece = (holder : ℕ) × IsTrue (list_all (splats holder) piece)
+AreSplatsOfOne piece = (holder : Id) × IsTrue (list_all (splats holder) piece)
 
 -- ---- reclaiming one segment
 
@@ -80,26 +81,26 @@ is_ascending above [] = true
 is_ascending above (n ∷ ns) = nat_lt above n && is_ascending n ns
 
 -- the segment at a base is given back exactly where nothing is left in it
-abbrev pub give_back_where : (base : ℕ) → Bool → List Move
+abbrev pub give_back_where : (base : Address) → Bool → List Move
 give_back_where base true = moves.Unseg (at_address base) ∷ []
 give_back_where base false = []
 
-abbrev pub nothing_left : World → (base : ℕ) → Bool
+abbrev pub nothing_left : World → (base : Address) → Bool
 nothing_left w base = option_map_or (is_empty_segment w) (segment_at w base) false
 
 -- whether no condemned segment lies after this one
-abbrev pub is_last_condemned : Collection → (base : ℕ) → Bool
+abbrev pub is_last_condemned : Collection → (base : Address) → Bool
 is_last_condemned c base = list_all (λ other. nat_le other base) c.condemned_segments
 
 -- the moves that reclaim a segment in which blocks at these addresses go
-abbrev pub reclaim_of : Call → World → Collection → (base : ℕ) → (freed : List ℕ) → List Move
+abbrev pub reclaim_of : Call → World → Collection → (base : Address) → (freed : List ℕ) → List Move
 reclaim_of call w c base freed =
     frees_at freed ++ give_back_where base (nothing_left (world_after_moves call w (frees_at freed)) base)
     ++ end_where (is_last_condemned c base)
 
 -- a unit that reclaims one condemned segment, above those that were reclaimed before
 pub record IsReclaim (call : Call) (w : World) (piece : List Move) (c : Collection) : Type 0 where
-  pub base : ℕ
+  pub base : Address
   pub freed : List ℕ
   pub condemned : IsTrue (contains c.condemned_segments base)
   pub in_turn : IsTrue (nat_lt c.reclaimed_to base)
@@ -159,7 +160,7 @@ pub record AreUnitsToEnd (call : Call) (w : World) (all : List Move) : Type 0 wh
 -- ---- the read barrier
 
 -- some live object in a segment refers to this one
-pub record IsTargetOfSome (w : World) (s : Segment) (target : ℕ) : Type 0 where
+pub record IsTargetOfSome (w : World) (s : Segment) (target : Id) : Type 0 where
   pub holder : ℕ
   pub in_segment : IsTrue (option_map_or (is_in_segment s) (address_of w holder) false && object_is is_automatic w holder)
   pub scanned : ForOne w.collection (λ c. MayBeScanned c holder)

@@ -3,7 +3,7 @@
 use Rattle.std.specs.Prelude.{ℕ, ◌+◌, ◌*◌, Bool, true, false, not, ◌&&◌, ◌==◌, nat_lt, nat_le, if◌then◌else◌, Option, Some, None, option_map, option_and_then, is_some, List, [], ◌∷◌, ◌++◌, map, length, slice_get, find, sum_by, filter}
 use Rattle.std.specs.List.{list_any, flat_map}
 use Rattle.std.specs.Option.{option_map_or}
-use Rattle.mps_base.specs.Address.{word_of, bytes_of_word, address_of_word}
+use Rattle.mps_base.specs.Address.{Address, Id, word_of, bytes_of_word, address_of_word}
 use Rattle.mps_base.specs.Run.{Run, in_order}
 use Rattle.mps_base.specs.Segment.{Segment, is_in_segment, segment_over, grains_of_segment}
 use Rattle.mps_base.specs.Generation.{target_generation}
@@ -34,7 +34,7 @@ pub record Pool : Type 0 where
 -- what a point has in the arena
 pub record PointMemory : Type 0 where
   -- the address of its open reservation, where it has one
-  pub reserved_at : ℕ
+  pub reserved_at : Address
   -- the words at hand: what is left of the segment that its last new segment gave, in a copying pool
   pub buffer : Run
 
@@ -72,7 +72,7 @@ pub record World : Type 0 where
   -- the held segments, in ascending order
   pub segments : List Segment
   -- the address of each object, by its id; none where it isn't live
-  pub addresses : List (Option ℕ)
+  pub addresses : List (Option Address)
   -- by the number of the point
   pub point_memories : List PointMemory
   pub tails : List Tail
@@ -168,11 +168,11 @@ target_of w pool generation = target_generation (generations_of w pool) generati
 -- ---- segments
 
 -- the held segment that begins at an address
-abbrev pub segment_at : World → (base : ℕ) → Option Segment
+abbrev pub segment_at : World → (base : Address) → Option Segment
 segment_at w base = find (λ s. s.base == base) w.segments
 
 -- the held segment in which an address lies
-abbrev pub segment_of : World → (address : ℕ) → Option Segment
+abbrev pub segment_of : World → (address : Address) → Option Segment
 segment_of w address = segment_over w.segments address
 
 -- the runs of grains that are held, in ascending order
@@ -186,13 +186,13 @@ committed w = sum_by (λ s. s.grains) w.segments
 -- ---- blocks and reservations
 
 -- the address of an object, where it is live
-abbrev pub address_of : World → (id : ℕ) → Option ℕ
+abbrev pub address_of : World → (id : Id) → Option ℕ
 address_of w id = entry_at w.addresses id
 
-abbrev pub is_live : World → (id : ℕ) → Bool
+abbrev pub is_live : World → (id : Id) → Bool
 is_live w id = is_some (address_of w id)
 
-abbrev pub is_at : (address : ℕ) → Option ℕ → Bool
+abbrev pub is_at : (address : Address) → Option ℕ → Bool
 is_at address None = false
 is_at address (Some other) = other == address
 
@@ -210,11 +210,11 @@ first_of [] = None
 first_of (n ∷ ns) = Some n
 
 -- the live object at an address
-abbrev pub id_at : World → (address : ℕ) → Option ℕ
+abbrev pub id_at : World → (address : Address) → Option ℕ
 id_at w address = first_of (numbers_of (is_at address) 0 w.addresses)
 
 -- whether the object passes a test
-abbrev pub object_is : (Object → Bool) → World → (id : ℕ) → Bool
+abbrev pub object_is : (Object → Bool) → World → (id : Id) → Bool
 object_is test w id = option_map_or test (object_at w.graph id) false
 
 -- the ids of all live objects of automatic pools, in ascending order
@@ -222,7 +222,7 @@ abbrev pub live_automatic_ids : World → List ℕ
 live_automatic_ids w = filter (object_is is_automatic w) (live_ids w)
 
 -- whether a collection moves this object
-abbrev pub is_copying_object : World → (id : ℕ) → Bool
+abbrev pub is_copying_object : World → (id : Id) → Bool
 is_copying_object w id = object_is (λ o. is_copying_pool w o.pool) w id
 
 abbrev pub extent : (address words : ℕ) → Run
@@ -260,7 +260,7 @@ abbrev pub is_empty_segment : World → Segment → Bool
 is_empty_segment w s = not (list_any (begins_in s) (covered w))
 
 -- the generation of a live object: that of its segment
-abbrev pub generation_of : World → (id : ℕ) → ℕ
+abbrev pub generation_of : World → (id : Id) → ℕ
 generation_of w id = option_map_or (λ s. s.generation) (option_and_then (segment_of w) (address_of w id)) 0
 
 -- ---- area words
@@ -294,7 +294,7 @@ abbrev pub block_of_word : World → (word : ℕ) → Option ℕ
 block_of_word w word = find (λ id. lies_in w word id) (live_ids w)
 
 -- whether an area word lies in an object
-abbrev pub has_area_word : World → (id : ℕ) → Bool
+abbrev pub has_area_word : World → (id : Id) → Bool
 has_area_word w id = list_any (λ word. lies_in w word id) (area_words w)
 
 -- ---- tails
@@ -319,5 +319,5 @@ abbrev pub ids_of_area_words : World → List ℕ
 ids_of_area_words w = filter (has_area_word w) (live_automatic_ids w)
 
 -- reachable, where the objects in which area words lie are roots too
-abbrev pub IsWidelyReachable : World → (id : ℕ) → Type 0
+abbrev pub IsWidelyReachable : World → (id : Id) → Type 0
 IsWidelyReachable w id = IsReachableWith w.graph (ids_of_area_words w) id
