@@ -14,7 +14,7 @@ use Rattle.mps_base.specs.Segment.{Segment}
 use Rattle.mps_model.specs.World.{Pool, PointMemory}
 use Rattle.mps_model.specs.Checked.{says, done, number_at}
 use Rattle.mps_model.specs.Accessing.{act_number}
-use Rattle.mps_model.specs.Making.{act_table, act_pool, act_point}
+use Rattle.mps_model.specs.Making.{most_slots, act_table, act_pool, act_point}
 use Rattle.mps_model.specs.Allocating.{act_commit, act_init_number, check_reserve}
 use Rattle.mps_first_heap.specs.StandsFor.{world_with, point_with, front_pool}
 
@@ -42,7 +42,7 @@ pub act_of_init : (grains limit : ℕ) (names : List NamedThing) (objects : List
 act_of_init grains limit names objects tables head cells pools segments addresses point_memories name cell value was point at = rw (point, at) refl
 
 pub act_of_table : (grains limit : ℕ) (names : List NamedThing) (objects : List Object) (points : List (Option Point)) (pools : List Pool) (segments : List Segment) (addresses : List (Option ℕ)) (point_memories : List PointMemory) (name : Name) (slots : ℕ)
-    → thing_in names name ≡ None → nat_lt 65536 (0 + slots) ≡ false
+    → thing_in names name ≡ None → nat_lt most_slots (0 + slots) ≡ false
     → act_table (world_with grains limit names objects [] points pools segments addresses point_memories) name slots
     ≡ done (world_with grains limit (with_last names (record { name = name; thing = TableThing 0 })) objects (Some (replicate slots None) ∷ []) points pools segments addresses point_memories)
 act_of_table grains limit names objects points pools segments addresses point_memories name slots free fits = rw (free, fits) refl

@@ -4,6 +4,7 @@ use Rattle.std.specs.Prelude.{slice_set, nat_lt, is_some, ◌&&◌, if◌then◌
 use Rattle.std.specs.List.{list_all}
 use Rattle.std.proofs.lemmas.List.{length-map, map_push, map-set, length_push}
 use Rattle.std.proofs.lemmas.Bool.{false≢true, and_parts, and_from, ltb-true, lt-ltb, cond-true}
+use Rattle.mps_base.specs.Address.{bytes_of_word}
 use Rattle.mps_base.specs.declared.names.Name.{Name}
 use Rattle.mps_base.specs.declared.names.Slot.{Slot}
 use Rattle.mps_format.specs.Fields.{size_field}
@@ -85,7 +86,7 @@ slots_kept addresses address (held ∷ ids) h =
     ap (λ x. x ∷ map (address_in_slot addresses) ids) (held_pushed addresses address held both.0)
     ∙ ap (λ rest. address_in_slot (addresses ++ address ∷ []) held ∷ rest) (slots_kept addresses address ids both.1)
 
--- the slots with one with_number, over addresses with one more
+-- the slots with one written, over addresses with one more
 slots_pushed : (addresses : List ℕ) (address : ℕ) (ids : List (Option ℕ)) (i : ℕ) → list_all (is_null_or_below (length addresses)) ids ≡ true
     → slice_set (map (address_in_slot addresses) ids) i address ≡ map (address_in_slot (addresses ++ address ∷ [])) (slice_set ids i (Some (length addresses)))
 slots_pushed addresses address ids i h =
@@ -131,7 +132,7 @@ agrees_with_object h p slot a q o =
       arena = a.arena;
       blocks = blocks_push h.words h.buffer_start h.reserved p.addresses (blocks_later h.words (end_of_objects h) h.buffer_start p.addresses (omega (arith, bound)) a.blocks) block;
       reservation = λ e. absurd (false≢true e);
-      at_hand = a.at_hand;
+      buffer = a.buffer;
       not_null = a.not_null;
       fresh = a.fresh;
       before_arena = a.before_arena;
@@ -145,7 +146,7 @@ reserved_block : (h : HeapState) (p : Past) → Agrees h p → is_some h.point �
 reserved_block h p a q o =
     let made = made_with_pool h p a (pool_with_point h p a q) in
     let within = at_hand_within h p a made in
-    let hand = a.at_hand in
+    let hand = a.buffer in
     let block = a.reservation o in
     let below = block.below in
     let size = size_field (slice_index h.words h.reserved) in
@@ -156,9 +157,9 @@ reserved_block h p a q o =
 point_there : (h : HeapState) (p : Past) (name : Name) → thing_in p.names name ≡ Some (PointThing 0) → point_named (world_committing h p) name ≡ Ok (record { number = 0; value = point_with (Some (reservation_in h.words h.reserved)) })
 point_there h p name e = rw e refl
 
-legal_commit : (h : HeapState) (p : Past) (name : Name) (slot : Slot) → Agrees h p → is_point h name ≡ true → h.is_open ≡ true → IsLegalCommit (call.Commit name slot) (world_committing h p) (8 * h.reserved) (words_of_head (head_at h h.reserved)) 0
+legal_commit : (h : HeapState) (p : Past) (name : Name) (slot : Slot) → Agrees h p → is_point h name ≡ true → h.is_open ≡ true → IsLegalCommit (call.Commit name slot) (world_committing h p) (bytes_of_word * h.reserved) (words_of_head (head_at h h.reserved)) 0
 legal_commit h p name slot a point o =
-    subst (λ (c : Checked (Numbered Point)). ForChecked c (λ at. ForOne at.value.reservation (IsReserved (world_committing h p) (8 * h.reserved) (words_of_head (head_at h h.reserved)) 0 at)))
+    subst (λ (c : Checked (Numbered Point)). ForChecked c (λ at. ForOne at.value.reservation (IsReserved (world_committing h p) (bytes_of_word * h.reserved) (words_of_head (head_at h h.reserved)) 0 at)))
     (sym (point_there h p name (point_named_there h p a name point)))
     (record { at_address = refl; of_words = reserved_block h p a (is_point_some h name point) o; of_pool = refl })
 
@@ -168,7 +169,7 @@ replayed : (h : HeapState) (p : Past) (line : ℕ) (name : Name) (slot : Slot) (
     → replay_from (live_blocks (world_committing h p)) (records_of_step pools (step_committed h line name slot)) ≡ Some (stored h.words (p.addresses ++ h.reserved ∷ []))
 replayed h p line name slot pools a t q o =
     let bound : end_of_objects h ≡ h.reserved = ap (λ b. if b then h.reserved else h.buffer_start) o in
-    ap (λ store. option_and_then (λ after. Some after) (after_making store (8 * h.reserved) (words_of_head (head_at h h.reserved)) 0))
+    ap (λ store. option_and_then (λ after. Some after) (after_making store (bytes_of_word * h.reserved) (words_of_head (head_at h h.reserved)) 0))
     (ap live_blocks (sym (is_world_committing h p t q o)) ∙ live_blocks-world_of h p)
     ∙ ap (option_and_then (λ after. Some after)) (making_pushed h.words h.reserved (words_of_head (head_at h h.reserved)) p.addresses (blocks_later h.words (end_of_objects h) h.reserved p.addresses (omega (arith, bound)) a.blocks) (reserved_block h p a q o))
 
@@ -186,7 +187,7 @@ right_with_object h p line name slot a point o there =
     (point_named_there h p a name point) (table_named h p a slot both.0) at.1 in
     right_step (world_committing h p) (step_committed h line name slot) (with_object h slot) (past_with_object h p slot) refl
     (record { moves_are_legal = (legal_commit h p name slot a point o, tt); moves_are_due = refl; answer_is_due = sym (ap answer_from e); marked = tt })
-    (ap (λ r. with_client_remembered (world_from (with_next_address (world_committing h p) (8 * h.reserved)) r)) e ∙ world_committed h p slot t q)
+    (ap (λ r. with_client_remembered (world_from (with_next_address (world_committing h p) (bytes_of_word * h.reserved)) r)) e ∙ world_committed h p slot t q)
     (agrees_with_object h p slot a q o)
     (λ pools. replayed h p line name slot pools a t q o)
 

@@ -12,7 +12,7 @@ use Rattle.mps_model.specs.declared.call.Call.TheVariants as call
 use Rattle.mps_model.specs.declared.reply.Reply.{Reply}
 use Rattle.mps_model.specs.declared.reply.Reply.TheVariants as reply
 use Rattle.mps_model.specs.Checked.{Act, Checked, Numbered, pool_named, refuse_when, ◌>>=◌, ◌>>◌}
-use Rattle.mps_model.specs.Making.{act_table, act_pool, act_point}
+use Rattle.mps_model.specs.Making.{most_slots, act_table, act_pool, act_point}
 use Rattle.mps_model.specs.World.{World, Pool}
 use Rattle.mps_first_heap.specs.HeapState.{HeapState, is_taken, is_pool}
 use Rattle.mps_first_heap.specs.Outcome.{accepted_if, pool_made_if, is_arena_made, may_make_first, is_amc, is_implemented_pool, is_exact, after_arena, after_table, after_pool, after_point}
@@ -62,7 +62,7 @@ why_not h there name e = by_made (is_arena_made h) refl
 table_taken : (h : HeapState) (p : Past) (name : Name) (slots : ℕ) → Agrees h p → is_taken h name ≡ true → act_table (world_of h p) name slots ≡ Err refusal.NameTaken
 table_taken h p name slots a e = let t = taken_thing h p name a e in let named = t.1 in rw named refl
 
-exact_table_where : (h : HeapState) (p : Past) (name : Name) (slots : ℕ) → slots ≤ 65536 → Agrees h p → (b : Bool) → may_make_first h h.table name ≡ b → IsExact (world_of h p) (call.Table name slots) (made_reply b)
+exact_table_where : (h : HeapState) (p : Past) (name : Name) (slots : ℕ) → slots ≤ most_slots → Agrees h p → (b : Bool) → may_make_first h h.table name ≡ b → IsExact (world_of h p) (call.Table name slots) (made_reply b)
 exact_table_where h p name slots few a true e =
     let may = may_make_facts h h.table name e in
     exact_answered (world_of h p) (call.Table name slots) reply.Ok refl
@@ -71,7 +71,7 @@ exact_table_where h p name slots few a true e =
     (ap (λ w. is_unreported (act_table w name slots)) (world_of-parts h p false (is_some h.point) (is_some h.pool) h.is_open (not_some h.table may.first) refl refl refl)
     ∙ ap is_unreported (act_of_table h.grains h.limit p.names (map (object_in h.words) p.addresses) (one_if (is_some h.point) (Some (point_with (some_if h.is_open (reservation_in h.words h.reserved)))))
     (one_if (is_some h.pool) front_pool) (segments_from 1 p.segments) (map some_address p.addresses) (one_if (is_some h.point) (point_memory_of h)) name slots
-    (a.names name ∙ not_taken h name may.free) (le-ltb 65536 (0 + slots) (omega arith)))))
+    (a.names name ∙ not_taken h name may.free) (le-ltb most_slots (0 + slots) (omega arith)))))
 exact_table_where h p name slots few a false e =
     exact_unsupported (world_of h p) (call.Table name slots)
     (elim (why_not h h.table name e) [
@@ -80,7 +80,7 @@ exact_table_where h p name slots few a false e =
       | taken t ↦ by_unreported (world_of h p) (call.Table name slots) refusal.NameTaken (table_taken h p name slots a t) refl
     ])
 
-pub exact_table : (h : HeapState) (p : Past) (name : Name) (slots : ℕ) → slots ≤ 65536 → Agrees h p → IsExact (world_of h p) (call.Table name slots) (after_table h name slots).done.reply
+pub exact_table : (h : HeapState) (p : Past) (name : Name) (slots : ℕ) → slots ≤ most_slots → Agrees h p → IsExact (world_of h p) (call.Table name slots) (after_table h name slots).done.reply
 exact_table h p name slots few a =
     subst (λ (r : Reply). IsExact (world_of h p) (call.Table name slots) r) (sym (accepted_reply h (record h { table = Some name; slots = Rattle.std.specs.Prelude.replicate slots 0 }) (may_make_first h h.table name)))
     (exact_table_where h p name slots few a (may_make_first h h.table name) refl)

@@ -131,13 +131,13 @@ exact_at h p name head a false point =
 -- ---- the reply of what comes
 
 after_reply : (h : HeapState) (head need : ℕ) (over past : Bool)
-    → (if over then Rattle.mps_first_heap.specs.Outcome.with_reply h (reply.Refused (refusal.CommitLimit h.held need h.limit)) else (if past then unsupported h else record { done = ok_with_move (Rattle.mps_first_heap.specs.Outcome.segment_move h need); state = Rattle.mps_first_heap.specs.Outcome.reserved_at_front (segment_taken h need) head })).done.reply
+    → (if over then Rattle.mps_first_heap.specs.Outcome.with_reply h (reply.Refused (refusal.CommitLimit h.held need h.limit)) else (if past then unsupported h else record { done = ok_with_move (Rattle.mps_first_heap.specs.Outcome.segment_move h need); state = Rattle.mps_first_heap.specs.Outcome.reserved_in_buffer (segment_taken h need) head })).done.reply
     ≡ (if over then reply.Refused (refusal.CommitLimit h.held need h.limit) else (if past then reply.Unsupported else reply.Ok))
 after_reply h head need true past = refl
 after_reply h head need false true = refl
 after_reply h head need false false = refl
 
-at_hand_reply : (h : HeapState) (head : ℕ) (b : Bool) → (if b then Rattle.mps_first_heap.specs.Outcome.with_reply (Rattle.mps_first_heap.specs.Outcome.reserved_at_front h head) reply.Ok else reserve_after h head (grains_needed (size_field head))).done.reply ≡ placed_reply h head b
+at_hand_reply : (h : HeapState) (head : ℕ) (b : Bool) → (if b then Rattle.mps_first_heap.specs.Outcome.with_reply (Rattle.mps_first_heap.specs.Outcome.reserved_in_buffer h head) reply.Ok else reserve_after h head (grains_needed (size_field head))).done.reply ≡ placed_reply h head b
 at_hand_reply h head true = refl
 at_hand_reply h head false = after_reply h head (grains_needed (size_field head)) (nat_lt h.limit (h.held + grains_needed (size_field head))) (nat_lt h.grains (h.held + grains_needed (size_field head)))
 

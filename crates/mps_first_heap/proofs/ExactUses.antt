@@ -48,7 +48,7 @@ exact_number_where h p slot cell id a name there false number =
     let made = made_with_table h p a t in
     let le = end_of_objects-le h p a in
     let within = at_hand_within h p a made in
-    let hand = a.at_hand in
+    let hand = a.buffer in
     let refused = λ (why : Refusal) (e : number_at (cells_at h.words at) cell ≡ Err why).
     ap (λ w. act_number w slot cell) (is_world_with_table h p t)
     ∙ number_no_number h.grains h.limit p.names (map (object_of h.words) p.addresses) p.ids (points_of h) (one_if (is_some h.pool) front_pool) (segments_from 1 p.segments) (map some_address p.addresses) (one_if (is_some h.point) (point_memory_of h))
@@ -117,7 +117,7 @@ exact_init_in h p name cell value a point o true number =
     let q = is_point_some h name point in
     let made = made_with_point h p name a point in
     let within = at_hand_within h p a made in
-    let hand = a.at_hand in
+    let hand = a.buffer in
     exact_answered (world_of h p) (call.InitNumber name cell value) reply.Ok refl
     (supported (world_of h p) (call.InitNumber name cell value) refl (in_turn h made) refl
     (ap (λ w. is_unreported (act_init_number w name cell value)) (is_world_reserving h p q o)
@@ -128,7 +128,7 @@ exact_init_in h p name cell value a point o false number =
     let q = is_point_some h name point in
     let made = made_with_point h p name a point in
     let within = at_hand_within h p a made in
-    let hand = a.at_hand in
+    let hand = a.buffer in
     let refused = λ (why : Refusal) (e : number_at (cells_at h.words h.reserved) cell ≡ Err why).
     ap (λ w. act_init_number w name cell value) (is_world_reserving h p q o)
     ∙ init_no_number h.grains h.limit p.names (map (object_of h.words) p.addresses) (one_if (is_some h.table) (Some p.ids)) (slice_index h.words h.reserved) (cells_at h.words h.reserved)

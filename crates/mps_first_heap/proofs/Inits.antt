@@ -98,7 +98,7 @@ agrees_with_number h p cell value a o pos number =
       arena = λ made. length-set h.words (h.reserved + cell) value ∙ a.arena made;
       blocks = blocks-set_after h.words (end_of_objects h) (end_of_objects h) (h.reserved + cell) value p.addresses le (omega arith) a.blocks;
       reservation = λ _. block_written h.words h.buffer_start h.reserved (h.reserved + cell) value (omega arith) block;
-      at_hand = a.at_hand;
+      buffer = a.buffer;
       not_null = a.not_null;
       fresh = λ k le. get_or-set_other h.words (h.reserved + cell) k value 0 (λ e. omega arith) ∙ a.fresh k le;
       before_arena = a.before_arena;
@@ -120,7 +120,7 @@ right_with_number h p line name cell value a point o number =
     let pos = ltb-true 0 cell (and_parts (nat_lt 0 cell) (nat_lt cell (words_of_head (head_at h h.reserved))) both.0).0 in
     let made = made_with_pool h p a (pool_with_point h p a q) in
     let within = at_hand_within h p a made in
-    let hand = a.at_hand in
+    let hand = a.buffer in
     let e = act_of_init h.grains h.limit p.names (map (object_in h.words) p.addresses) (one_if (is_some h.table) (Some p.ids)) (slice_index h.words h.reserved) (cells_at h.words h.reserved)
     (one_if (is_some h.pool) front_pool) (segments_from 1 p.segments) (map some_address p.addresses) (point_memory_of h ∷ []) name cell value (slice_index h.words (h.reserved + cell))
     (point_named_there h p a name point) (number_cell_at h.words h.buffer_start h.reserved cell (a.reservation o) (omega arith) number) in

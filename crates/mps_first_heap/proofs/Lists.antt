@@ -116,7 +116,7 @@ cells_in-set head k (w ∷ ws) (suc i) v =
     ap (λ rest. cell_in head k w ∷ rest) (cells_in-set head (suc k) ws i v)
     ∙ ap (λ n. cell_in head k w ∷ slice_set (cells_in head (suc k) ws) i (cell_in head n v)) (let e : suc k + i ≡ k + suc i = omega arith in e)
 
--- the words of a block, with one with_number
+-- the words of a block, with one written
 pub block_words-set : (words : List ℕ) (address size i v : ℕ) → take size (drop address (slice_set words (address + i) v)) ≡ slice_set (take size (drop address words)) i v
 block_words-set words address size i v = ap (take size) (drop-set-add address words i v) ∙ take-set_within size i v (drop address words)
 

@@ -4,6 +4,7 @@ use Rattle.std.specs.Prelude.{is_some, not, ◌&&◌, ◌||◌, ◌==◌, if◌t
 use Rattle.std.specs.List.{AllByRecursion, list_all}
 use Rattle.std.proofs.lemmas.List.{length-replicate}
 use Rattle.std.proofs.lemmas.Bool.{false≢true, and_parts, or_parts, ltb-true, ltb-false, le-ltb, eqb-true, not-true}
+use Rattle.mps_base.specs.Address.{bytes_of_word, words_of_grain}
 use Rattle.mps_base.specs.declared.names.Kind.{Kind}
 use Rattle.mps_base.specs.declared.names.Kind.TheVariants as kind
 use Rattle.mps_base.specs.declared.names.Name.{Name}
@@ -15,6 +16,7 @@ use Rattle.mps_model.specs.Graph.{Thing, TableThing, PoolThing, PointThing, same
 use Rattle.mps_model.specs.World.{World, PointMemory}
 use Rattle.mps_model.specs.History.{live_blocks, with_client_remembered}
 use Rattle.mps_model.specs.Reply.{answer_from, world_from}
+use Rattle.mps_model.specs.Making.{most_slots}
 use Rattle.mps_first_heap.specs.HeapState.{HeapState, is_named, is_taken, is_pool}
 use Rattle.mps_first_heap.specs.Outcome.{reply_only, accepted_if, pool_made_if, is_arena_made, may_make_first, is_amc, is_implemented_pool, is_exact, arena_made, after_arena, after_table, after_pool, after_point}
 use Rattle.mps_first_heap.specs.StandsFor.{Past, Agrees, world_of, world_with, step_of, object_in, segments_from, some_address, one_if, point_with, some_if, reservation_in, front_pool, point_memory_of, address_in_slot, is_null_or_below, end_of_objects, IsBlockAt, thing_of}
@@ -84,7 +86,7 @@ agrees_with_table h p name slots a may = record {
   arena = a.arena;
   blocks = a.blocks;
   reservation = a.reservation;
-  at_hand = a.at_hand;
+  buffer = a.buffer;
   not_null = a.not_null;
   fresh = a.fresh;
   before_arena = λ z. absurd (not_zero h.grains may.made z);
@@ -95,20 +97,20 @@ agrees_with_table h p name slots a may = record {
 abbrev pub world_without_table : HeapState → Past → World
 world_without_table h p = world_by h p false (is_some h.point) (is_some h.pool) h.is_open
 
-right_with_table : (h : HeapState) (p : Past) (line : ℕ) (name : Name) (slots : ℕ) → slots ≤ 65536 → Agrees h p → MayMake h h.table name
+right_with_table : (h : HeapState) (p : Past) (line : ℕ) (name : Name) (slots : ℕ) → slots ≤ most_slots → Agrees h p → MayMake h h.table name
     → IsRightStep (world_without_table h p) (step_of line (call.Table name slots) (reply_only reply.Ok)) (with_table h name slots)
 right_with_table h p line name slots few a may =
     let w = world_of-parts h p false (is_some h.point) (is_some h.pool) h.is_open (not_some h.table may.first) refl refl refl in
     let e = act_of_table h.grains h.limit p.names (map (object_in h.words) p.addresses) (one_if (is_some h.point) (Some (point_with (some_if h.is_open (reservation_in h.words h.reserved)))))
     (one_if (is_some h.pool) front_pool) (segments_from 1 p.segments) (map some_address p.addresses) (one_if (is_some h.point) (point_memory_of h)) name slots
-    (a.names name ∙ not_taken h name may.free) (le-ltb 65536 (0 + slots) (omega arith)) in
+    (a.names name ∙ not_taken h name may.free) (le-ltb most_slots (0 + slots) (omega arith)) in
     right_step (world_without_table h p) (step_of line (call.Table name slots) (reply_only reply.Ok)) (with_table h name slots) (past_with_table p name slots) refl
     (record { moves_are_legal = tt; moves_are_due = refl; answer_is_due = sym (ap answer_from e); marked = tt })
     (ap (λ r. with_client_remembered (world_from (world_without_table h p) r)) e)
     (agrees_with_table h p name slots a may)
     (λ pools. ap Some (ap live_blocks (sym w) ∙ live_blocks-world_of h p))
 
-table_where : (h : HeapState) (p : Past) (line : ℕ) (name : Name) (slots : ℕ) → slots ≤ 65536 → Agrees h p → (b : Bool) → may_make_first h h.table name ≡ b
+table_where : (h : HeapState) (p : Past) (line : ℕ) (name : Name) (slots : ℕ) → slots ≤ most_slots → Agrees h p → (b : Bool) → may_make_first h h.table name ≡ b
     → IsRightStep (world_of h p) (step_of line (call.Table name slots) (accepted_if b h (with_table h name slots)).done) (accepted_if b h (with_table h name slots)).state
 table_where h p line name slots few a false e = unsupported_step h p line (call.Table name slots) a
 table_where h p line name slots few a true e =
@@ -117,7 +119,7 @@ table_where h p line name slots few a true e =
     (sym (world_of-parts h p false (is_some h.point) (is_some h.pool) h.is_open (not_some h.table may.first) refl refl refl))
     (right_with_table h p line name slots few a may)
 
-pub right_table : (h : HeapState) (p : Past) (line : ℕ) (name : Name) (slots : ℕ) → slots ≤ 65536 → Agrees h p
+pub right_table : (h : HeapState) (p : Past) (line : ℕ) (name : Name) (slots : ℕ) → slots ≤ most_slots → Agrees h p
     → IsRightStep (world_of h p) (step_of line (call.Table name slots) (after_table h name slots).done) (after_table h name slots).state
 right_table h p line name slots few a = table_where h p line name slots few a (may_make_first h h.table name) refl
 
@@ -156,7 +158,7 @@ agrees_with_pool h p name a may = record {
   arena = a.arena;
   blocks = a.blocks;
   reservation = a.reservation;
-  at_hand = a.at_hand;
+  buffer = a.buffer;
   not_null = a.not_null;
   fresh = a.fresh;
   before_arena = λ z. absurd (not_zero h.grains may.made z);
@@ -230,7 +232,7 @@ agrees_with_point h p name pool a may there = record {
   arena = a.arena;
   blocks = a.blocks;
   reservation = a.reservation;
-  at_hand = a.at_hand;
+  buffer = a.buffer;
   not_null = a.not_null;
   fresh = a.fresh;
   before_arena = a.before_arena;
@@ -258,7 +260,7 @@ pointed_with h p name address =
     (front_pool ∷ []) (segments_from 1 p.segments) (map some_address p.addresses) (address ∷ [])
 
 abbrev memory_with : (reserved start end : ℕ) → PointMemory
-memory_with reserved start end = record { reserved_at = 8 * reserved; buffer = record { from = start; count = end - start } }
+memory_with reserved start end = record { reserved_at = bytes_of_word * reserved; buffer = record { from = start; count = end - start } }
 
 world_pointed : (h : HeapState) (p : Past) (name pool : Name) → Agrees h p → h.point ≡ None → is_pool h pool ≡ true
     → pointed_with h p name (record { reserved_at = 0; buffer = record { from = 0; count = 0 } }) ≡ world_of (with_point h name) (past_with_point p name)
@@ -343,12 +345,12 @@ agrees_arena h p grains limit a z =
       ids = refl;
       held = let i = a.in_arena in let e : 0 ≡ h.held = omega arith in e ∙ a.held;
       in_arena = omega arith;
-      arena = λ _. length-replicate (512 * (grains + 1)) 0;
+      arena = λ _. length-replicate (words_of_grain * (grains + 1)) 0;
       blocks = tt;
       reservation = λ e. absurd (false≢true e);
-      at_hand = (omega arith, omega arith);
+      buffer = (omega arith, omega arith);
       not_null = λ _. refl;
-      fresh = λ k _. zeros_read (512 * (grains + 1)) k;
+      fresh = λ k _. zeros_read (words_of_grain * (grains + 1)) k;
       before_arena = λ _. (refl, refl);
       before_pool = λ _. refl;
       before_point = λ _. record { buffer_start = refl; buffer_end = refl; reserved = refl; not_open = refl };

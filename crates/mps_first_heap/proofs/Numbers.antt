@@ -59,7 +59,7 @@ act_number_there h p slot cell id a name there number =
     let block = block_there_at h.words (end_of_objects h) p.addresses id a.blocks below in
     let le = end_of_objects-le h p a in
     let within = at_hand_within h p a made in
-    let hand = a.at_hand in
+    let hand = a.buffer in
     act_of_number h.grains h.limit p.names (map (object_in h.words) p.addresses) p.ids
     (one_if (is_some h.point) (Some (point_with (some_if h.is_open (reservation_in h.words h.reserved)))))
     (one_if (is_some h.pool) front_pool) (segments_from 1 p.segments) (map some_address p.addresses) (one_if (is_some h.point) (point_memory_of h))

@@ -15,7 +15,7 @@ use Rattle.mps_model.specs.declared.reply.Reply.TheVariants as reply
 use Rattle.mps_model.specs.Answer.{Answer, Replied, is_accepted}
 use Rattle.mps_model.specs.Log.{pools_made_by, pools_of_accepted}
 use Rattle.mps_first_heap.specs.HeapState.{HeapState, is_point, is_pool, has_slot}
-use Rattle.mps_first_heap.specs.Outcome.{Outcome, outcome, ok_with_move, with_reply, unsupported, accepted_if, pool_made_if, is_arena_made, may_make_first, is_implemented_pool, is_exact, arena_made, reserved_at_front, segment_taken, segment_move, reserve_after, reserve_placed, after_reserve, may_init, commit_move, after_commit, number_reply}
+use Rattle.mps_first_heap.specs.Outcome.{Outcome, outcome, ok_with_move, with_reply, unsupported, accepted_if, pool_made_if, is_arena_made, may_make_first, is_implemented_pool, is_exact, arena_made, reserved_in_buffer, segment_taken, segment_move, reserve_after, reserve_placed, after_reserve, may_init, commit_move, after_commit, number_reply}
 use Rattle.mps_first_heap.specs.StandsFor.{Past, Agrees, one_if, some_if, front_pool}
 use Rattle.mps_first_heap.proofs.Makings.{may_make_facts, not_some}
 
@@ -77,7 +77,7 @@ counts_reserve_after h name head need =
     c = call.Reserve name head
 
     taken : Outcome
-    taken = record { done = ok_with_move (segment_move h need); state = reserved_at_front (segment_taken h need) head }
+    taken = record { done = ok_with_move (segment_move h need); state = reserved_in_buffer (segment_taken h need) head }
 
     rest : Outcome
     rest = if nat_lt h.grains (h.held + need) then unsupported h else taken
@@ -85,8 +85,8 @@ counts_reserve_after h name head need =
 counts_reserve : (h : HeapState) (name : Name) (head : ℕ) → CountsPools h (call.Reserve name head) (after_reserve h name head)
 counts_reserve h name head =
     counts_if h c (is_point h name && is_front head && not h.is_open) (reserve_placed h head) (unsupported h)
-    (counts_if h c (nat_le (size_field head) (h.buffer_end - h.buffer_start)) (with_reply (reserved_at_front h head) reply.Ok) (reserve_after h head (grains_needed (size_field head)))
-    (counts_none h c (with_reply (reserved_at_front h head) reply.Ok) refl refl refl)
+    (counts_if h c (nat_le (size_field head) (h.buffer_end - h.buffer_start)) (with_reply (reserved_in_buffer h head) reply.Ok) (reserve_after h head (grains_needed (size_field head)))
+    (counts_none h c (with_reply (reserved_in_buffer h head) reply.Ok) refl refl refl)
     (counts_reserve_after h name head (grains_needed (size_field head))))
     (counts_unsupported h c)
   where

@@ -3,7 +3,7 @@ use Rattle.std.proofs.Common.{◌≡◌, ℕ, ◌+◌, ◌-◌, ◌*◌, ◌/◌
 use Rattle.std.specs.Prelude.{slice_set, nat_lt, nat_le, is_some, not, ◌&&◌, if◌then◌else◌, option_and_then, MatchBool}
 use Rattle.std.proofs.lemmas.List.{length-set, get_or-set_other}
 use Rattle.std.proofs.lemmas.Bool.{false≢true, cases_lt, and_parts, ltb-false, leb-true, le-leb, not-true}
-use Rattle.mps_base.specs.Address.{grains_needed}
+use Rattle.mps_base.specs.Address.{grains_needed, bytes_of_word, words_of_grain, bytes_of_grain}
 use Rattle.mps_base.specs.Placement.{Placement, Place, NewSegment, OverLimit, run_placement}
 use Rattle.mps_base.specs.declared.moves.Move.{Move}
 use Rattle.mps_base.specs.declared.names.Name.{Name}
@@ -27,7 +27,7 @@ use Rattle.mps_model.specs.Step.{Step}
 use Rattle.mps_model.specs.History.{IsPoll, segment_taken, segment_of_reserve, live_blocks, with_client_remembered}
 use Rattle.mps_model.specs.Reply.{answer_from, world_from}
 use Rattle.mps_first_heap.specs.HeapState.{HeapState, is_point}
-use Rattle.mps_first_heap.specs.Outcome.{Outcome, with_reply, ok_with_move, reply_only, unsupported, reserved_at_front, segment_move, reserve_after, reserve_placed, after_reserve}
+use Rattle.mps_first_heap.specs.Outcome.{Outcome, with_reply, ok_with_move, reply_only, unsupported, reserved_in_buffer, segment_move, reserve_after, reserve_placed, after_reserve}
 use Rattle.mps_first_heap.specs.Outcome as outcome
 use Rattle.mps_first_heap.specs.StandsFor.{Past, Agrees, world_of, world_with, step_of, object_in, cells_in, segment_from, segments_from, some_address, one_if, point_with, reservation_in, front_pool, end_of_objects}
 use Rattle.mps_first_heap.specs.RightStep.{IsRightStep}
@@ -69,11 +69,11 @@ placement_there h p size = refl
 abbrev taken_from : HeapState → (head : ℕ) → Reservation
 taken_from h head = record { head = head; cells = new_cells front_layout head; is_doomed = false }
 
-agrees_reserved : (h : HeapState) (p : Past) (head : ℕ) → Agrees h p → is_some h.point ≡ true → h.is_open ≡ false → is_front head ≡ true → size_field head ≤ h.buffer_end - h.buffer_start → 0 < h.buffer_start → Agrees (reserved_at_front h head) p
+agrees_reserved : (h : HeapState) (p : Past) (head : ℕ) → Agrees h p → is_some h.point ≡ true → h.is_open ≡ false → is_front head ≡ true → size_field head ≤ h.buffer_end - h.buffer_start → 0 < h.buffer_start → Agrees (reserved_in_buffer h head) p
 agrees_reserved h p head a q o valid room pos =
     let made = made_with_pool h p a (pool_with_point h p a q) in
     let within = at_hand_within h p a made in
-    let hand = a.at_hand in
+    let hand = a.buffer in
     let f = front_facts head valid in
     let bound : end_of_objects h ≡ h.buffer_start = ap (λ b. if b then h.reserved else h.buffer_start) o in
     let le : end_of_objects h ≤ h.buffer_start = omega (arith, bound) in
@@ -91,7 +91,7 @@ agrees_reserved h p head a q o valid room pos =
         head = ap is_front same ∙ valid;
         below = subst (λ (n : ℕ). h.buffer_start + size_field n ≤ h.buffer_start + size_field head) (sym same) (omega arith);
       };
-      at_hand = (omega arith, hand.1);
+      buffer = (omega arith, hand.1);
       not_null = λ z. absurd (omega (arith, z));
       fresh = λ k le. get_or-set_other h.words h.buffer_start k head 0 (λ e. omega arith) ∙ a.fresh k (omega arith);
       before_arena = a.before_arena;
@@ -103,7 +103,7 @@ abbrev reserved_with : HeapState → Past → List Object → Reservation → (f
 reserved_with h p objects r from left =
     world_with h.grains h.limit p.names objects (one_if (is_some h.table) (Some p.ids)) (Some (point_with (Some r)) ∷ [])
     (front_pool ∷ []) (segments_from 1 p.segments) (map some_address p.addresses)
-    (record { reserved_at = 8 * h.buffer_start; buffer = record { from = from; count = left } } ∷ [])
+    (record { reserved_at = bytes_of_word * h.buffer_start; buffer = record { from = from; count = left } } ∷ [])
 
 reservation_made : (h : HeapState) (head : ℕ) → is_front head ≡ true → h.buffer_start + size_field head ≤ length h.words → ((k : ℕ) → h.buffer_start ≤ k → slice_index h.words k ≡ 0) → reservation_in (slice_set h.words h.buffer_start head) h.buffer_start ≡ taken_from h head
 reservation_made h head valid fits fresh =
@@ -112,11 +112,11 @@ reservation_made h head valid fits fresh =
     ∙ ap (λ (cells : List Cell). record { head = head; cells = cells; is_doomed = false }) (new_cells_at h.words h.buffer_start head valid fits fresh)
 
 world_reserved : (h : HeapState) (p : Past) (head : ℕ) → Agrees h p → is_some h.point ≡ true → h.is_open ≡ false → is_front head ≡ true → size_field head ≤ h.buffer_end - h.buffer_start
-    → with_reserved (world_at_rest h p) at_rest (taken_from h head) (8 * h.buffer_start) ≡ world_of (reserved_at_front h head) p
+    → with_reserved (world_at_rest h p) at_rest (taken_from h head) (bytes_of_word * h.buffer_start) ≡ world_of (reserved_in_buffer h head) p
 world_reserved h p head a q o valid room =
     let made = made_with_pool h p a (pool_with_point h p a q) in
     let within = at_hand_within h p a made in
-    let hand = a.at_hand in
+    let hand = a.buffer in
     let f = front_facts head valid in
     let bound : end_of_objects h ≡ h.buffer_start = ap (λ b. if b then h.reserved else h.buffer_start) o in
     let le : end_of_objects h ≤ h.buffer_start = omega (arith, bound) in
@@ -124,9 +124,9 @@ world_reserved h p head a q o valid room =
     ∙ ap (λ n. reserved_with h p (map (object_in h.words) p.addresses) (taken_from h head) (h.buffer_start + size_field head) n) (let e : h.buffer_end - h.buffer_start - size_field head ≡ h.buffer_end - (h.buffer_start + size_field head) = omega arith in e)
     ∙ ap (λ objects. reserved_with h p objects (taken_from h head) (h.buffer_start + size_field head) (h.buffer_end - (h.buffer_start + size_field head))) (sym (objects-set_after h.words (end_of_objects h) h.buffer_start head p.addresses le a.blocks))
     ∙ ap (λ r. reserved_with h p (map (object_in (slice_set h.words h.buffer_start head)) p.addresses) r (h.buffer_start + size_field head) (h.buffer_end - (h.buffer_start + size_field head))) (sym (reservation_made h head valid (omega arith) a.fresh))
-    ∙ sym (world_of-parts (reserved_at_front h head) p (is_some h.table) true true true refl q (pool_with_point h p a q) refl)
+    ∙ sym (world_of-parts (reserved_in_buffer h head) p (is_some h.table) true true true refl q (pool_with_point h p a q) refl)
 
-stored_reserved : (h : HeapState) (p : Past) (head : ℕ) → Agrees h p → h.is_open ≡ false → stored h.words p.addresses ≡ stored (reserved_at_front h head).words p.addresses
+stored_reserved : (h : HeapState) (p : Past) (head : ℕ) → Agrees h p → h.is_open ≡ false → stored h.words p.addresses ≡ stored (reserved_in_buffer h head).words p.addresses
 stored_reserved h p head a o =
     let bound : end_of_objects h ≡ h.buffer_start = ap (λ b. if b then h.reserved else h.buffer_start) o in
     sym (stored-set_after h.words (end_of_objects h) h.buffer_start head p.addresses (omega (arith, bound)) a.blocks)
@@ -195,14 +195,14 @@ abbrev step_at_hand : (line : ℕ) → (name : Name) → (head : ℕ) → Step
 step_at_hand line name head = step_of line (call.Reserve name head) (reply_only reply.Ok)
 
 right_at_hand : (h : HeapState) (p : Past) (line : ℕ) (name : Name) (head : ℕ) → Agrees h p → is_point h name ≡ true → h.is_open ≡ false → is_front head ≡ true → nat_le (size_field head) (h.buffer_end - h.buffer_start) ≡ true
-    → IsRightStep (world_at_rest h p) (step_at_hand line name head) (reserved_at_front h head)
+    → IsRightStep (world_at_rest h p) (step_at_hand line name head) (reserved_in_buffer h head)
 right_at_hand h p line name head a point o valid fits =
     let q = is_point_some h name point in
     let named = point_named_there h p a name point in
     let room = leb-true (size_field head) (h.buffer_end - h.buffer_start) fits in
     let placed = placed_at_hand h p head valid fits in
     let e = act_placed h p h p name head named named valid (ap refuse_without_place placed) ∙ ap (λ placement. placing_done (world_at_rest h p) placement head) placed in
-    right_step (world_at_rest h p) (step_at_hand line name head) (reserved_at_front h head) p refl
+    right_step (world_at_rest h p) (step_at_hand line name head) (reserved_in_buffer h head) p refl
     (record { moves_are_legal = tt; moves_are_due = record { poll = no_poll h p name head; segment = segment_due h p name head (Place h.buffer_start) named valid placed }; answer_is_due = sym (ap answer_from e); marked = tt })
     (ap (λ r. with_client_remembered (world_from (world_at_rest h p) r)) e ∙ world_reserved h p head a q o valid room)
     (agrees_reserved h p head a q o valid room (front_not_null h p head a valid room))
@@ -245,9 +245,9 @@ past_taken p need = record p { segments = p.segments ++ need ∷ [] }
 
 pub agrees_taken : (h : HeapState) (p : Past) (need : ℕ) → Agrees h p → is_some h.point ≡ true → h.is_open ≡ false → h.held + need ≤ h.grains → Agrees (outcome.segment_taken h need) (past_taken p need)
 agrees_taken h p need a q o fits =
-    let hand = a.at_hand in
+    let hand = a.buffer in
     let bound : end_of_objects h ≡ h.buffer_start = ap (λ b. if b then h.reserved else h.buffer_start) o in
-    let bound' : end_of_objects (outcome.segment_taken h need) ≡ 512 * (h.held + 1) = ap (λ b. if b then h.reserved else 512 * (h.held + 1)) o in
+    let bound' : end_of_objects (outcome.segment_taken h need) ≡ words_of_grain * (h.held + 1) = ap (λ b. if b then h.reserved else words_of_grain * (h.held + 1)) o in
     record {
       names = a.names;
       slots = a.slots;
@@ -257,7 +257,7 @@ agrees_taken h p need a q o fits =
       arena = a.arena;
       blocks = blocks_later h.words (end_of_objects h) (end_of_objects (outcome.segment_taken h need)) p.addresses (omega (arith, bound, bound')) a.blocks;
       reservation = λ e. absurd (false≢true (sym o ∙ e));
-      at_hand = (omega arith, omega arith);
+      buffer = (omega arith, omega arith);
       not_null = λ z. absurd (omega (arith, z));
       fresh = λ k le. a.fresh k (omega arith);
       before_arena = a.before_arena;
@@ -268,7 +268,7 @@ agrees_taken h p need a q o fits =
 abbrev taken_with : HeapState → Past → List Segment → (from count : ℕ) → World
 taken_with h p segments from count =
     world_with h.grains h.limit p.names (map (object_in h.words) p.addresses) (one_if (is_some h.table) (Some p.ids)) (Some (point_with None) ∷ [])
-    (front_pool ∷ []) segments (map some_address p.addresses) (record { reserved_at = 8 * h.reserved; buffer = record { from = from; count = count } } ∷ [])
+    (front_pool ∷ []) segments (map some_address p.addresses) (record { reserved_at = bytes_of_word * h.reserved; buffer = record { from = from; count = count } } ∷ [])
 
 -- the world after the segment was taken
 pub world_taken : (h : HeapState) (p : Past) (name : Name) (head need : ℕ) → Agrees h p → thing_in p.names name ≡ Some (PointThing 0)
@@ -276,18 +276,18 @@ pub world_taken : (h : HeapState) (p : Past) (name : Name) (head need : ℕ) →
 world_taken h p name head need a named =
     let segment = segment_from (h.held + 1) need in
     ap (λ (t : Option Thing). after_segment_for (world_at_rest h p) segment (option_and_then as_point t)) named
-    ∙ ap (λ segments. taken_with h p segments (4096 * (h.held + 1) / 8) (512 * need)) (segments_push p.segments h.held need a.held)
-    ∙ ap (λ from. taken_with h p (segments_from 1 (p.segments ++ need ∷ [])) from (512 * need)) (let e : 4096 * (h.held + 1) / 8 ≡ 512 * (h.held + 1) = omega arith in e)
-    ∙ ap (λ count. taken_with h p (segments_from 1 (p.segments ++ need ∷ [])) (512 * (h.held + 1)) count) (let e : 512 * need ≡ 512 * (h.held + 1 + need) - 512 * (h.held + 1) = omega arith in e)
+    ∙ ap (λ segments. taken_with h p segments (bytes_of_grain * (h.held + 1) / 8) (words_of_grain * need)) (segments_push p.segments h.held need a.held)
+    ∙ ap (λ from. taken_with h p (segments_from 1 (p.segments ++ need ∷ [])) from (words_of_grain * need)) (let e : bytes_of_grain * (h.held + 1) / 8 ≡ words_of_grain * (h.held + 1) = omega arith in e)
+    ∙ ap (λ count. taken_with h p (segments_from 1 (p.segments ++ need ∷ [])) (words_of_grain * (h.held + 1)) count) (let e : words_of_grain * need ≡ words_of_grain * (h.held + 1 + need) - words_of_grain * (h.held + 1) = omega arith in e)
 
 -- the segment that is taken is the reserve's own
 legal_segment : (h : HeapState) (p : Past) (name : Name) (head need : ℕ) → thing_in p.names name ≡ Some (PointThing 0) → is_front head ≡ true
     → placement_of (world_at_rest h p) (ForReserve 0 (length (new_cells front_layout head))) ≡ NewSegment (h.held + 1) need
-    → IsOwnSegment (call.Reserve name head) (world_at_rest h p) (4096 * (h.held + 1)) need 0 0
+    → IsOwnSegment (call.Reserve name head) (world_at_rest h p) (bytes_of_grain * (h.held + 1)) need 0 0
 legal_segment h p name head need named valid placed =
-    subst (λ (c : Checked Reserving). ForChecked c (IsSegmentForReserve (world_at_rest h p) (4096 * (h.held + 1)) need 0 0)) (sym (check_there h p name head named valid))
+    subst (λ (c : Checked Reserving). ForChecked c (IsSegmentForReserve (world_at_rest h p) (bytes_of_grain * (h.held + 1)) need 0 0)) (sym (check_there h p name head named valid))
     (record {
-      placement = subst (λ (placement : Placement). IsNewSegmentAt placement (4096 * (h.held + 1)) need) (sym placed) (refl, refl);
+      placement = subst (λ (placement : Placement). IsNewSegmentAt placement (bytes_of_grain * (h.held + 1)) need) (sym placed) (refl, refl);
       of_pool = refl;
       of_generation = refl;
     })
@@ -297,7 +297,7 @@ step_after h line name head need = step_of line (call.Reserve name head) (ok_wit
 
 right_taken : (h : HeapState) (p : Past) (line : ℕ) (name : Name) (head : ℕ) → Agrees h p → is_point h name ≡ true → h.is_open ≡ false → is_front head ≡ true → nat_le (size_field head) (h.buffer_end - h.buffer_start) ≡ false
     → nat_lt h.limit (h.held + grains_needed (size_field head)) ≡ false → h.held + grains_needed (size_field head) ≤ h.grains
-    → IsRightStep (world_at_rest h p) (step_after h line name head (grains_needed (size_field head))) (reserved_at_front (outcome.segment_taken h (grains_needed (size_field head))) head)
+    → IsRightStep (world_at_rest h p) (step_after h line name head (grains_needed (size_field head))) (reserved_in_buffer (outcome.segment_taken h (grains_needed (size_field head))) head)
 right_taken h p line name head a point o valid fits limit inside =
     let q = is_point_some h name point in
     let named = point_named_there h p a name point in
@@ -313,7 +313,7 @@ right_taken h p line name head a point o valid fits limit inside =
     let placed' = placed_at_hand taken later head valid (le-leb size (taken.buffer_end - taken.buffer_start) room) in
     let w = world_taken h p name head need a named in
     let e = ap (λ (v : World). act_reserve (world_at_rest h p) v name head) w ∙ act_placed h p taken later name head named named valid (ap refuse_without_place placed) ∙ ap (λ placement. placing_done (world_at_rest taken later) placement head) placed' in
-    right_step (world_at_rest h p) (step_after h line name head need) (reserved_at_front taken head) later refl
+    right_step (world_at_rest h p) (step_after h line name head need) (reserved_in_buffer taken head) later refl
     (record {
       moves_are_legal = (legal_segment h p name head need named valid placed, tt);
       moves_are_due = record { poll = no_poll h p name head; segment = segment_due h p name head (NewSegment (h.held + 1) need) named valid placed };
@@ -331,16 +331,16 @@ is_right h p line name head o = IsRightStep (world_of h p) (step_of line (call.R
 
 right_in_arena : (h : HeapState) (p : Past) (line : ℕ) (name : Name) (head : ℕ) → Agrees h p → is_point h name ≡ true → h.is_open ≡ false → is_front head ≡ true → nat_le (size_field head) (h.buffer_end - h.buffer_start) ≡ false
     → nat_lt h.limit (h.held + grains_needed (size_field head)) ≡ false → (b : Bool) → nat_lt h.grains (h.held + grains_needed (size_field head)) ≡ b
-    → is_right h p line name head (if b then unsupported h else record { done = ok_with_move (segment_move h (grains_needed (size_field head))); state = reserved_at_front (outcome.segment_taken h (grains_needed (size_field head))) head })
+    → is_right h p line name head (if b then unsupported h else record { done = ok_with_move (segment_move h (grains_needed (size_field head))); state = reserved_in_buffer (outcome.segment_taken h (grains_needed (size_field head))) head })
 right_in_arena h p line name head a point o valid fits limit true e = unsupported_step h p line (call.Reserve name head) a
 right_in_arena h p line name head a point o valid fits limit false e =
     let need = grains_needed (size_field head) in
-    subst (λ (w : World). IsRightStep w (step_after h line name head need) (reserved_at_front (outcome.segment_taken h need) head)) (sym (is_world_at_rest h p a (is_point_some h name point) o))
+    subst (λ (w : World). IsRightStep w (step_after h line name head need) (reserved_in_buffer (outcome.segment_taken h need) head)) (sym (is_world_at_rest h p a (is_point_some h name point) o))
     (right_taken h p line name head a point o valid fits limit (ltb-false h.grains (h.held + need) e))
 
 right_in_limit : (h : HeapState) (p : Past) (line : ℕ) (name : Name) (head : ℕ) → Agrees h p → is_point h name ≡ true → h.is_open ≡ false → is_front head ≡ true → nat_le (size_field head) (h.buffer_end - h.buffer_start) ≡ false
     → (b : Bool) → nat_lt h.limit (h.held + grains_needed (size_field head)) ≡ b
-    → is_right h p line name head (if b then with_reply h (over_limit_reply h (grains_needed (size_field head))) else (if nat_lt h.grains (h.held + grains_needed (size_field head)) then unsupported h else record { done = ok_with_move (segment_move h (grains_needed (size_field head))); state = reserved_at_front (outcome.segment_taken h (grains_needed (size_field head))) head }))
+    → is_right h p line name head (if b then with_reply h (over_limit_reply h (grains_needed (size_field head))) else (if nat_lt h.grains (h.held + grains_needed (size_field head)) then unsupported h else record { done = ok_with_move (segment_move h (grains_needed (size_field head))); state = reserved_in_buffer (outcome.segment_taken h (grains_needed (size_field head))) head }))
 right_in_limit h p line name head a point o valid fits true e =
     subst (λ (w : World). IsRightStep w (step_refused h line name head (grains_needed (size_field head))) h) (sym (is_world_at_rest h p a (is_point_some h name point) o))
     (right_refused h p line name head a point o valid fits e)
@@ -349,9 +349,9 @@ right_in_limit h p line name head a point o valid fits false e =
 
 right_placed : (h : HeapState) (p : Past) (line : ℕ) (name : Name) (head : ℕ) → Agrees h p → is_point h name ≡ true → h.is_open ≡ false → is_front head ≡ true
     → (b : Bool) → nat_le (size_field head) (h.buffer_end - h.buffer_start) ≡ b
-    → is_right h p line name head (if b then with_reply (reserved_at_front h head) reply.Ok else reserve_after h head (grains_needed (size_field head)))
+    → is_right h p line name head (if b then with_reply (reserved_in_buffer h head) reply.Ok else reserve_after h head (grains_needed (size_field head)))
 right_placed h p line name head a point o valid true e =
-    subst (λ (w : World). IsRightStep w (step_at_hand line name head) (reserved_at_front h head)) (sym (is_world_at_rest h p a (is_point_some h name point) o))
+    subst (λ (w : World). IsRightStep w (step_at_hand line name head) (reserved_in_buffer h head)) (sym (is_world_at_rest h p a (is_point_some h name point) o))
     (right_at_hand h p line name head a point o valid e)
 right_placed h p line name head a point o valid false e =
     right_in_limit h p line name head a point o valid e (nat_lt h.limit (h.held + grains_needed (size_field head))) refl

@@ -5,7 +5,7 @@ use Rattle.std.proofs.lemmas.List.Sums.{sum_by-cons, sum_by_push}
 use Rattle.std.proofs.lemmas.Bool.{lt-ltb, le-ltb, le-leb, lt-leb}
 use Rattle.mps_base.specs.Run.{Run, gaps, between, lowest_fitting, total, longest}
 use Rattle.mps_base.specs.Placement.{Placement, NewSegment, OverLimit, NoFreeRun, run_placement}
-use Rattle.mps_base.specs.Address.{grain_of}
+use Rattle.mps_base.specs.Address.{grain_of, bytes_of_grain}
 use Rattle.mps_base.specs.Segment.{grains_of_segment, with_segment}
 use Rattle.mps_first_heap.specs.StandsFor.{segment_from, segments_from}
 
@@ -21,7 +21,7 @@ segments_push_at grain at [] need e = ap (λ g. segment_from g need ∷ []) (e �
 segments_push_at grain at (s ∷ ss) need e =
     let f : at ≡ grain + s + sum ss = omega (arith, e, sum_cons s ss) in
     ap (λ t. if t then segment_from at need ∷ segment_from grain s ∷ segments_from (grain + s) ss else segment_from grain s ∷ with_segment (segment_from at need) (segments_from (grain + s) ss))
-    (le-ltb (4096 * at) (4096 * grain) (omega arith))
+    (le-ltb (bytes_of_grain * at) (bytes_of_grain * grain) (omega arith))
     ∙ ap (λ rest. segment_from grain s ∷ rest) (segments_push_at (grain + s) at ss need f)
 
 -- the next segment is the last
@@ -34,14 +34,14 @@ runs grain sizes = map grains_of_segment (segments_from grain sizes)
 total_runs : (grain : ℕ) (sizes : List ℕ) → total (runs grain sizes) ≡ sum sizes
 total_runs grain [] = refl
 total_runs grain (s ∷ ss) =
-    sum_by-cons (λ (r : Run). r.count) (record { from = grain_of (4096 * grain); count = s }) (runs (grain + s) ss)
+    sum_by-cons (λ (r : Run). r.count) (record { from = grain_of (bytes_of_grain * grain); count = s }) (runs (grain + s) ss)
     ∙ ap (λ n. s + n) (total_runs (grain + s) ss) ∙ sym (sum_cons s ss)
 
 -- the one gap lies after them
 gaps_runs : (grain high at : ℕ) (sizes : List ℕ) → at ≡ grain + sum sizes → gaps grain high (runs grain sizes) ≡ between at high
 gaps_runs grain high at [] e = ap (λ g. between g high) (sym (e ∙ (let z : grain + 0 ≡ grain = omega arith in z)))
 gaps_runs grain high at (s ∷ ss) e =
-    let g : grain_of (4096 * grain) ≡ grain = omega arith in
+    let g : grain_of (bytes_of_grain * grain) ≡ grain = omega arith in
     let f : at ≡ grain + s + sum ss = omega (arith, e, sum_cons s ss) in
     ap (λ n. between grain n ++ gaps (n + s) high (runs (grain + s) ss)) g
     ∙ ap (λ t. (if t then record { from = grain; count = grain - grain } ∷ [] else []) ++ gaps (grain + s) high (runs (grain + s) ss)) (le-ltb grain grain (omega arith))

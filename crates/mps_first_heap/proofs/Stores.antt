@@ -3,6 +3,7 @@ use Rattle.std.proofs.Common.{◌≡◌, ℕ, ◌*◌, ◌<◌, ◌≤◌, true,
 use Rattle.std.specs.Prelude.{nat_lt, is_some, if◌then◌else◌}
 use Rattle.std.specs.List.{AllByRecursion}
 use Rattle.std.proofs.lemmas.Bool.{lt-ltb, le-ltb, ne_eqb}
+use Rattle.mps_base.specs.Address.{bytes_of_word}
 use Rattle.mps_format.specs.Laws.{front_facts}
 use Rattle.std.specs.Prelude.{slice_index, slice_set}
 use Rattle.mps_model.specs.Graph.{Object, size_of}
@@ -45,10 +46,10 @@ making_last n words store all =
 address_below : (words : List ℕ) (bound address : ℕ) → IsBlockAt words bound address → address < bound
 address_below words bound address b = let f = front_facts (slice_index words address) b.head in let below = b.below in omega arith
 
-stored_below : (words : List ℕ) (bound : ℕ) (addresses : List ℕ) → AllByRecursion (IsBlockAt words bound) addresses → AllBelow (8 * bound) (stored words addresses)
+stored_below : (words : List ℕ) (bound : ℕ) (addresses : List ℕ) → AllByRecursion (IsBlockAt words bound) addresses → AllBelow (bytes_of_word * bound) (stored words addresses)
 stored_below words bound [] all = tt
 stored_below words bound (p ∷ ps) all =
-    with_block_below (8 * bound) (block_in words p) (stored words ps) (let lt = address_below words bound p all.0 in omega arith) (stored_below words bound ps all.1)
+    with_block_below (bytes_of_word * bound) (block_in words p) (stored words ps) (let lt = address_below words bound p all.0 in omega arith) (stored_below words bound ps all.1)
 
 stored_push : (words : List ℕ) (bound : ℕ) (addresses : List ℕ) → AllByRecursion (IsBlockAt words bound) addresses → stored words (addresses ++ bound ∷ []) ≡ stored words addresses ++ block_in words bound ∷ []
 stored_push words bound [] all = refl
@@ -57,10 +58,10 @@ stored_push words bound (p ∷ ps) all =
     ∙ with_block_before_last (block_in words p) (block_in words bound) (stored words ps) (let lt = address_below words bound p all.0 in omega arith)
 
 -- a block is made after all others
-pub making_pushed : (words : List ℕ) (bound size : ℕ) (addresses : List ℕ) → AllByRecursion (IsBlockAt words bound) addresses → (block_in words bound).words ≡ size → after_making (stored words addresses) (8 * bound) size 0 ≡ Some (stored words (addresses ++ bound ∷ []))
+pub making_pushed : (words : List ℕ) (bound size : ℕ) (addresses : List ℕ) → AllByRecursion (IsBlockAt words bound) addresses → (block_in words bound).words ≡ size → after_making (stored words addresses) (bytes_of_word * bound) size 0 ≡ Some (stored words (addresses ++ bound ∷ []))
 making_pushed words bound size addresses all e =
-    making_last (8 * bound) size (stored words addresses) (stored_below words bound addresses all)
-    ∙ ap (λ n. Some (stored words addresses ++ record { at = 8 * bound; words = n; pool = 0 } ∷ [])) (sym e)
+    making_last (bytes_of_word * bound) size (stored words addresses) (stored_below words bound addresses all)
+    ∙ ap (λ n. Some (stored words addresses ++ record { at = bytes_of_word * bound; words = n; pool = 0 } ∷ [])) (sym e)
     ∙ ap Some (sym (stored_push words bound addresses all))
 
 -- a write after all blocks changes none
@@ -68,4 +69,4 @@ pub stored-set_after : (words : List ℕ) (bound i value : ℕ) (addresses : Lis
 stored-set_after words bound i value [] le all = refl
 stored-set_after words bound i value (p ∷ ps) le all =
     ap (with_block (block_in (slice_set words i value) p)) (stored-set_after words bound i value ps le all.1)
-    ∙ ap (λ (o : Object). with_block (record { at = 8 * p; words = size_of o; pool = 0 }) (stored words ps)) (object_in-set_after words bound i value p le all.0)
+    ∙ ap (λ (o : Object). with_block (record { at = bytes_of_word * p; words = size_of o; pool = 0 }) (stored words ps)) (object_in-set_after words bound i value p le all.0)

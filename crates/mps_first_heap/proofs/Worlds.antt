@@ -5,6 +5,7 @@ use Rattle.std.specs.List.{list_all, AllByRecursion, flat_map}
 use Rattle.std.specs.Option.{option_map_or}
 use Rattle.std.proofs.lemmas.Option.{none-some, same_Some}
 use Rattle.std.proofs.lemmas.List.{get_or-take, get_or-drop}
+use Rattle.mps_base.specs.Address.{bytes_of_word}
 use Rattle.mps_base.specs.declared.names.Name.{Name}
 use Rattle.mps_format.specs.Front.{is_front, front_layout}
 use Rattle.std.proofs.lemmas.Bool.{false≢true, cases_lt, not-true, cond-true, ltb-true, and_parts, and_from}
@@ -69,14 +70,14 @@ held_are_live h p a =
 
 -- the block whose words lie at an address
 abbrev pub block_in : List ℕ → (address : ℕ) → Block
-block_in words address = record { at = 8 * address; words = length (cells_at words address); pool = 0 }
+block_in words address = record { at = bytes_of_word * address; words = length (cells_at words address); pool = 0 }
 
 -- the blocks at some addresses
 abbrev pub stored : List ℕ → (addresses : List ℕ) → Store
 stored words [] = []
 stored words (p ∷ ps) = with_block (block_in words p) (stored words ps)
 
-entry_there : (addresses : List ℕ) (id : ℕ) → id < length addresses → entry_at (map some_address addresses) id ≡ Some (8 * slice_index addresses id)
+entry_there : (addresses : List ℕ) (id : ℕ) → id < length addresses → entry_at (map some_address addresses) id ≡ Some (bytes_of_word * slice_index addresses id)
 entry_there [] id h = absurd (omega (arith, h))
 entry_there (p ∷ ps) zero h = refl
 entry_there (p ∷ ps) (suc id) h = entry_there ps id (omega (arith, h))
@@ -97,7 +98,7 @@ block_by address object = record {
 block_there : (h : HeapState) (p : Past) (id : ℕ) → id < length p.addresses → block_of (world_of h p) id ≡ block_in h.words (slice_index p.addresses id)
 block_there h p id lt =
     ap (λ address. block_by address (slice_get (map (object_in h.words) p.addresses) id)) (entry_there p.addresses id lt)
-    ∙ ap (λ object. block_by (Some (8 * slice_index p.addresses id)) object) (object_there h.words p.addresses id lt)
+    ∙ ap (λ object. block_by (Some (bytes_of_word * slice_index p.addresses id)) object) (object_there h.words p.addresses id lt)
 
 blocks_there : (w : World) (words : List ℕ) (first : ℕ) (addresses : List ℕ) → ((i : ℕ) → i < length addresses → block_of w (first + i) ≡ block_in words (slice_index addresses i)) → blocks_of_ids w (numbers_of is_some first (map some_address addresses)) ≡ stored words addresses
 blocks_there w words first [] each = refl
@@ -150,7 +151,7 @@ made_with_pool h p a t = elim (cases_lt 0 h.grains) [ inl lt ↦ lt | inr le ↦
 -- ---- where blocks lie
 
 pub at_hand_within : (h : HeapState) (p : Past) → Agrees h p → 0 < h.grains → h.buffer_end ≤ length h.words
-at_hand_within h p a made = let l = a.arena made in let i = a.in_arena in let q = a.at_hand in omega arith
+at_hand_within h p a made = let l = a.arena made in let i = a.in_arena in let q = a.buffer in omega arith
 
 pub end_of_objects-le : (h : HeapState) (p : Past) → Agrees h p → end_of_objects h ≤ h.buffer_start
 end_of_objects-le h p a = by_open h.is_open refl

@@ -1,5 +1,5 @@
--- What the first heap keeps, as plain data: an arena of words, one table, one pool of the format `front`, and one point.
--- Places are numbers of words; 0 is null.
+-- The state of the first heap, as plain data: an arena of words, one table, one pool of the format `front`, and one point.
+-- An address is the number of a word here; 0 is null.
 use Rattle.std.specs.Prelude.{ℕ, Bool, false, nat_lt, not, ◌&&◌, ◌||◌, if◌then◌else◌, Option, Some, None, List, [], length, slice_index, ◌≡◌, refl, true}
 use Rattle.mps_base.specs.declared.names.Name.{Name}
 use Rattle.mps_base.specs.declared.names.Slot.{Slot}
@@ -12,9 +12,9 @@ pub record HeapState : Type 0 where
   pub grains : ℕ
   -- the commit limit, in grains
   pub limit : ℕ
-  -- how many grains are held: from grain 1 on
+  -- the number of grains that are held, from grain 1 on
   pub held : ℕ
-  -- the words of the arena, those of grain 0 first
+  -- the words of the arena, from grain 0 on
   pub words : List ℕ
   -- the name of the table, where there is one
   pub table : Option Name
@@ -24,14 +24,30 @@ pub record HeapState : Type 0 where
   pub pool : Option Name
   -- the name of the point, where there is one
   pub point : Option Name
-  -- the first word at hand at the point, and the first after them
+  -- the point's buffer: its first word, and the first word after it
   pub buffer_start : ℕ
   pub buffer_end : ℕ
-  -- where the point reserved last, and whether that reservation is open
+  -- the address at which the point reserved last, and whether that reservation is open
   pub reserved : ℕ
   pub is_open : Bool
 
--- before the arena is made
+-- the number of the only pool
+abbrev pub the_pool : ℕ
+the_pool = 0
+
+-- the number of the format `front`
+abbrev pub front_format : ℕ
+front_format = 1
+
+-- the most grains that an arena has, and that its limit is
+abbrev pub max_grains : ℕ
+max_grains = 2048
+
+-- the most words that a block has
+abbrev pub max_block_words : ℕ
+max_block_words = 65536
+
+-- the state before the arena is made
 abbrev pub empty_heap : HeapState
 empty_heap = record {
   grains = 0;
@@ -69,7 +85,7 @@ is_point h name = not (is_named h.table name) && not (is_named h.pool name) && i
 abbrev pub has_slot : HeapState → Slot → Bool
 has_slot h slot = is_named h.table slot.name && nat_lt slot.index (length h.slots)
 
--- how many words a block with this head has; 0 where it is no head
+-- the number of words of a block with this head; 0 where it is no head
 abbrev pub words_of_head : (head : ℕ) → ℕ
 words_of_head head = if is_front head then size_field head else 0
 

@@ -1,6 +1,6 @@
--- What each call does to what the heap keeps, and what it is told.
+-- What each call does to the heap's state, and what it answers.
 use Rattle.std.specs.Prelude.{◌≡◌, refl, ℕ, ◌+◌, ◌-◌, ◌*◌, Bool, true, false, nat_lt, nat_le, not, ◌&&◌, ◌==◌, if◌then◌else◌, Option, Some, None, is_some, length, replicate, slice_index, slice_set}
-use Rattle.mps_base.specs.Address.{grains_needed}
+use Rattle.mps_base.specs.Address.{words_of_grain, grains_needed, address_of_grain, address_of_word}
 use Rattle.mps_base.specs.declared.moves.Move.{Move}
 use Rattle.mps_base.specs.declared.moves.Move.TheVariants as moves
 use Rattle.mps_base.specs.declared.names.Kind.{Kind}
@@ -16,10 +16,10 @@ use Rattle.mps_model.specs.declared.call.Call.{Call}
 use Rattle.mps_model.specs.declared.call.Call.TheVariants as call
 use Rattle.mps_model.specs.declared.reply.Reply.{Reply}
 use Rattle.mps_model.specs.declared.reply.Reply.TheVariants as reply
-use Rattle.mps_first_heap.specs.HeapState.{HeapState, empty_heap, is_taken, has_slot, is_point, is_pool, words_of_head, is_number_cell, head_at}
+use Rattle.mps_first_heap.specs.HeapState.{HeapState, empty_heap, the_pool, front_format, is_taken, has_slot, is_point, is_pool, words_of_head, is_number_cell, head_at}
 use Rattle.mps_first_heap.specs.declared.done.Done.{Done}
 
--- what a call came to: what it was told, and what the heap keeps then
+-- what a call did, and the heap's state after it
 pub record Outcome : Type 0 where
   pub done : Done
   pub state : HeapState
@@ -37,7 +37,7 @@ reply_only reply = record { reply = reply; moved = None; pool = None }
 abbrev pub ok_with_move : Move → Done
 ok_with_move move = record { reply = reply.Ok; moved = Some move; pool = None }
 
--- nothing changes
+-- a reply alone, and this state
 abbrev pub with_reply : HeapState → Reply → Outcome
 with_reply h reply = record { done = reply_only reply; state = h }
 
@@ -57,12 +57,12 @@ is_arena_made h = nat_lt 0 h.grains
 
 abbrev pub arena_made : (grains limit : ℕ) → HeapState
 arena_made grains limit =
-    record empty_heap { grains = grains; limit = limit; words = replicate (512 * (grains + 1)) 0 }
+    record empty_heap { grains = grains; limit = limit; words = replicate (words_of_grain * (grains + 1)) 0 }
 
 abbrev pub after_arena : HeapState → (grains limit : ℕ) → Outcome
 after_arena h grains limit = accepted_if (not (is_arena_made h)) h (arena_made grains limit)
 
--- whether a thing of this kind can be made under this name: the first one, after the arena
+-- whether the first thing of its kind may be made under this name, where this one is there already
 abbrev pub may_make_first : HeapState → Option Name → Name → Bool
 may_make_first h there name = is_arena_made h && not (is_some there) && not (is_taken h name)
 
@@ -74,13 +74,9 @@ abbrev pub is_amc : Kind → Bool
 is_amc kind.Amc = true
 is_amc _ = false
 
--- the number of the only pool
-abbrev pub the_pool : ℕ
-the_pool = 0
-
 -- whether a pool is copying, of the format `front`
 abbrev pub is_implemented_pool : Kind → (format : ℕ) → Bool
-is_implemented_pool kind format = is_amc kind && format == 1
+is_implemented_pool kind format = is_amc kind && format == front_format
 
 -- the pool is made where this holds
 abbrev pub pool_made_if : Bool → HeapState → (after : HeapState) → Outcome
@@ -102,26 +98,26 @@ after_point h name pool at_rank =
 
 -- ---- reserve
 
--- a block with this head is reserved at a prefix of the words at hand
-abbrev pub reserved_at_front : HeapState → (head : ℕ) → HeapState
-reserved_at_front h head = record h {
+-- a block with this head is reserved at the start of the buffer
+abbrev pub reserved_in_buffer : HeapState → (head : ℕ) → HeapState
+reserved_in_buffer h head = record h {
   words = slice_set h.words h.buffer_start head;
   buffer_start = h.buffer_start + size_field head;
   reserved = h.buffer_start;
   is_open = true;
 }
 
--- the next grains are held, and their words are at hand
+-- the next grains are held, and their words are the buffer
 abbrev pub segment_taken : HeapState → (need : ℕ) → HeapState
 segment_taken h need = record h {
   held = h.held + need;
-  buffer_start = 512 * (h.held + 1);
-  buffer_end = 512 * (h.held + 1 + need);
+  buffer_start = words_of_grain * (h.held + 1);
+  buffer_end = words_of_grain * (h.held + 1 + need);
 }
 
 -- the move by which the next grains are held
 abbrev pub segment_move : HeapState → (need : ℕ) → Move
-segment_move h need = moves.Seg (record { 0 = 4096 * (h.held + 1) }) need 0 0
+segment_move h need = moves.Seg (record { 0 = address_of_grain (h.held + 1) }) need the_pool 0
 
 -- a reservation in a new segment
 abbrev pub reserve_after : HeapState → (head need : ℕ) → Outcome
@@ -130,12 +126,12 @@ reserve_after h head need =
     else (if nat_lt h.grains (h.held + need) then unsupported h
     else record {
       done = ok_with_move (segment_move h need);
-      state = reserved_at_front (segment_taken h need) head;
+      state = reserved_in_buffer (segment_taken h need) head;
     })
 
 abbrev pub reserve_placed : HeapState → (head : ℕ) → Outcome
 reserve_placed h head =
-    if nat_le (size_field head) (h.buffer_end - h.buffer_start) then with_reply (reserved_at_front h head) reply.Ok
+    if nat_le (size_field head) (h.buffer_end - h.buffer_start) then with_reply (reserved_in_buffer h head) reply.Ok
     else reserve_after h head (grains_needed (size_field head))
 
 abbrev pub after_reserve : HeapState → Name → (head : ℕ) → Outcome
@@ -154,7 +150,7 @@ after_init h name cell value =
 
 -- the move by which the open reservation becomes a block
 abbrev pub commit_move : HeapState → Move
-commit_move h = moves.Commit (record { 0 = 8 * h.reserved }) (words_of_head (head_at h h.reserved)) 0
+commit_move h = moves.Commit (record { 0 = address_of_word h.reserved }) (words_of_head (head_at h h.reserved)) the_pool
 
 abbrev pub after_commit : HeapState → Name → Slot → Outcome
 after_commit h name slot =
@@ -191,8 +187,8 @@ outcome h _ = unsupported h
 abbrev example : HeapState
 example = record empty_heap { grains = 2; limit = 2; held = 1; buffer_start = 512; buffer_end = 1024 }
 
-at_the_front_of_the_next_grain : (reserve_after example 0x20001 1).state.reserved ≡ 1024
-at_the_front_of_the_next_grain = refl
+at_the_start_of_the_next_grain : (reserve_after example 0x20001 1).state.reserved ≡ 1024
+at_the_start_of_the_next_grain = refl
 
 its_segment_is_in_the_move : (reserve_after example 0x20001 1).done.moved ≡ Some (moves.Seg (record { 0 = 0x2000 }) 1 0 0)
 its_segment_is_in_the_move = refl

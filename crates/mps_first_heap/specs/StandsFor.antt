@@ -1,6 +1,7 @@
--- When what the heap keeps stands for a world of the model.
+-- When the state of the heap stands for a world of the model.
 use Rattle.std.specs.Prelude.{◌≡◌, ℕ, zero, suc, ◌+◌, ◌-◌, ◌*◌, ◌<◌, ◌≤◌, Bool, true, false, nat_lt, IsTrue, if◌then◌else◌, Option, Some, None, is_some, List, [], ◌∷◌, map, length, take, drop, slice_index, sum, refl}
 use Rattle.std.specs.List.{list_all, AllByRecursion}
+use Rattle.mps_base.specs.Address.{words_of_grain, address_of_grain, address_of_word}
 use Rattle.mps_base.specs.declared.moves.Move.{Move}
 use Rattle.mps_base.specs.declared.names.Kind.TheVariants as kind
 use Rattle.mps_base.specs.declared.names.Name.{Name}
@@ -14,12 +15,12 @@ use Rattle.mps_model.specs.Step.{Step}
 use Rattle.mps_model.specs.Graph.{Cell, HeadCell, NumberCell, ReferenceCell, Automatic, Object, Point, Reservation, Thing, TableThing, PoolThing, PointThing, NamedThing, thing_in, Slots}
 use Rattle.mps_base.specs.Segment.{Segment}
 use Rattle.mps_model.specs.World.{World, empty_world, Pool, Collected, PointMemory, Unclamped}
-use Rattle.mps_first_heap.specs.HeapState.{HeapState, empty_heap, is_named}
+use Rattle.mps_first_heap.specs.HeapState.{HeapState, empty_heap, the_pool, front_format, is_named}
 use Rattle.mps_first_heap.specs.declared.done.Done.{Done}
 
 -- ---- the objects that words are
 
--- cell k of a block with this head, whose word is this. No reference was ever with_number
+-- cell k of a block with this head, whose word is this. No reference was ever written
 abbrev pub cell_in : (head k word : ℕ) → Cell
 cell_in head zero word = HeadCell
 cell_in head (suc k) word = if front_layout.is_reference head (suc k) then ReferenceCell None 0 else NumberCell word
@@ -38,22 +39,22 @@ cells_at words address = cells_in (slice_index words address) 0 (block_words wor
 
 -- the object whose words lie at an address
 abbrev pub object_in : List ℕ → (address : ℕ) → Object
-object_in words address = record { pool = 0; body = Automatic (slice_index words address) (cells_at words address) false }
+object_in words address = record { pool = the_pool; body = Automatic (slice_index words address) (cells_at words address) false }
 
 abbrev pub reservation_in : List ℕ → (address : ℕ) → Reservation
 reservation_in words address = record { head = slice_index words address; cells = cells_at words address; is_doomed = false }
 
 -- ---- the world
 
--- what the heap doesn't keep: the ids in the slots, the address of each object, the grains of each segment, and the names in
--- the order of making
+-- the history that the state does not have: the ids in the slots, the address of each object, the grains of each segment, and
+-- the names in the order of making
 pub record Past : Type 0 where
   pub ids : List (Option ℕ)
   pub addresses : List ℕ
   pub segments : List ℕ
   pub names : List NamedThing
 
--- one, where it is there
+-- this one alone, where the condition holds
 abbrev pub one_if : {A : Type 0} → Bool → A → List A
 one_if true x = x ∷ []
 one_if false x = []
@@ -63,11 +64,11 @@ some_if true x = Some x
 some_if false x = None
 
 abbrev pub front_pool : Pool
-front_pool = record { kind = Collected kind.Amc; format = 1; chain = None }
+front_pool = record { kind = Collected kind.Amc; format = front_format; chain = None }
 
 abbrev pub segment_from : (grain grains : ℕ) → Segment
 segment_from grain grains =
-    record { base = 4096 * grain; grains = grains; pool = 0; generation = 0; rank = rank.Exact }
+    record { base = address_of_grain grain; grains = grains; pool = the_pool; generation = 0; rank = rank.Exact }
 
 -- segments of these grains, one after the other
 abbrev pub segments_from : (grain : ℕ) → List ℕ → List Segment
@@ -75,13 +76,16 @@ segments_from grain [] = []
 segments_from grain (grains ∷ more) = segment_from grain grains ∷ segments_from (grain + grains) more
 
 abbrev pub point_with : Option Reservation → Point
-point_with reservation = record { pool = 0; rank = rank.Exact; reservation = reservation }
+point_with reservation = record { pool = the_pool; rank = rank.Exact; reservation = reservation }
 
 abbrev pub point_memory_of : HeapState → PointMemory
-point_memory_of h = record { reserved_at = 8 * h.reserved; buffer = record { from = h.buffer_start; count = h.buffer_end - h.buffer_start } }
+point_memory_of h = record {
+  reserved_at = address_of_word h.reserved;
+  buffer = record { from = h.buffer_start; count = h.buffer_end - h.buffer_start };
+}
 
 abbrev pub some_address : ℕ → Option ℕ
-some_address address = Some (8 * address)
+some_address address = Some (address_of_word address)
 
 -- the world made of these parts: nothing is registered, no collection ran
 abbrev pub world_with :
@@ -141,40 +145,40 @@ abbrev pub is_null_or_below : ℕ → Option ℕ → Bool
 is_null_or_below count None = true
 is_null_or_below count (Some id) = nat_lt id count
 
--- a whole block begins at an address and ends before or at a bound
+-- a whole block lies at an address, and ends at or before a bound
 pub record IsBlockAt (words : List ℕ) (bound address : ℕ) : Type 0 where
   pub not_null : 0 < address
   pub head : is_front (slice_index words address) ≡ true
   pub below : address + size_field (slice_index words address) ≤ bound
 
--- what lies before this is made
+-- no object reaches past this word
 abbrev pub end_of_objects : HeapState → ℕ
 end_of_objects h = if h.is_open then h.reserved else h.buffer_start
 
--- the point wasn't used
+-- the point was never used
 pub record IsUnused (h : HeapState) : Type 0 where
   pub buffer_start : h.buffer_start ≡ 0
   pub buffer_end : h.buffer_end ≡ 0
   pub reserved : h.reserved ≡ 0
   pub not_open : h.is_open ≡ false
 
--- what the heap keeps agrees with what it doesn't keep
+-- the state agrees with its past
 pub record Agrees (h : HeapState) (p : Past) : Type 0 where
-  -- each name stands for what the heap says
+  -- each name stands for the same thing in both
   pub names : (name : Name) → thing_in p.names name ≡ thing_of h name
   -- the slots hold the addresses of their ids
   pub slots : h.slots ≡ map (address_in_slot p.addresses) p.ids
   pub ids : IsTrue (list_all (is_null_or_below (length p.addresses)) p.ids)
-  -- the segments are what is held
+  -- the segments together have the grains that are held
   pub held : h.held ≡ sum p.segments
   pub in_arena : h.held ≤ h.grains
-  pub arena : 0 < h.grains → length h.words ≡ 512 * (h.grains + 1)
-  -- whole blocks lie at the addresses, below what is reserved or at hand
+  pub arena : 0 < h.grains → length h.words ≡ words_of_grain * (h.grains + 1)
+  -- whole blocks lie at the addresses, before the open reservation or the buffer
   pub blocks : AllByRecursion (IsBlockAt h.words (end_of_objects h)) p.addresses
-  -- so does the open reservation, up to what is at hand
+  -- the open reservation is a whole block too, before the buffer
   pub reservation : h.is_open ≡ true → IsBlockAt h.words h.buffer_start h.reserved
-  -- what is at hand lies in what is held, and all after its front is zero
-  pub at_hand : (h.buffer_start ≤ h.buffer_end) × (h.buffer_end ≤ 512 * (h.held + 1))
+  -- the buffer lies in the grains that are held, and all words from its start on are zero
+  pub buffer : (h.buffer_start ≤ h.buffer_end) × (h.buffer_end ≤ words_of_grain * (h.held + 1))
   pub not_null : h.buffer_start ≡ 0 → h.buffer_end ≡ 0
   pub fresh : (k : ℕ) → h.buffer_start ≤ k → slice_index h.words k ≡ 0
   -- first the arena, then the pool, then the point
@@ -182,7 +186,7 @@ pub record Agrees (h : HeapState) (p : Past) : Type 0 where
   pub before_pool : h.pool ≡ None → h.point ≡ None
   pub before_point : h.point ≡ None → IsUnused h
 
--- what the heap keeps stands for a world
+-- the state stands for a world
 pub record StandsFor (h : HeapState) (w : World) : Type 0 where
   pub past : Past
   pub world : w ≡ world_of h past
@@ -194,7 +198,7 @@ abbrev pub moves_of : Option Move → List Move
 moves_of None = []
 moves_of (Some move) = move ∷ []
 
--- the step of a call in a line that came to this
+-- the step of a call in a line that did this
 abbrev pub step_of : (line : ℕ) → Call → Done → Step
 step_of line call done = record { line = line; call = call; moves = moves_of done.moved; answer = Replied done.reply }
 

@@ -1,4 +1,4 @@
--- Which calls the first heap doesn't support.
+-- Which calls the first heap does not support.
 use Rattle.std.specs.Prelude.{◌≤◌, Bool, true, false, nat_lt, not, ◌||◌, ◌==◌, if◌then◌else◌, Ok, Err, length, ◌≡◌, ◌∷◌, [], None, refl}
 use Rattle.mps_base.specs.declared.names.Kind.TheVariants as kind
 use Rattle.mps_base.specs.declared.names.Rank.TheVariants as rank
@@ -7,21 +7,23 @@ use Rattle.mps_base.specs.declared.refusal.Refusal.TheVariants as refusal
 use Rattle.mps_model.specs.declared.call.Call.{Call}
 use Rattle.mps_model.specs.declared.call.Call.TheVariants as call
 use Rattle.mps_base.specs.declared.names.Name.{Name}
+use Rattle.mps_model.specs.Making.{most_slots}
 use Rattle.mps_model.specs.World.{World, Collected, empty_world}
 use Rattle.mps_model.specs.Checked.{Act, Checked}
 use Rattle.mps_model.specs.Reply.{act}
+use Rattle.mps_first_heap.specs.HeapState.{front_format, max_grains}
 
 -- the numbers of a call are in the ranges of the script
 abbrev pub IsInRange : Call → Type 0
-IsInRange (call.Arena grains limit) = (1 ≤ grains) × (grains ≤ 2048) × (limit ≤ 2048)
-IsInRange (call.Table table length) = (1 ≤ length) × (length ≤ 65536)
+IsInRange (call.Arena grains limit) = (1 ≤ grains) × (grains ≤ max_grains) × (limit ≤ max_grains)
+IsInRange (call.Table table length) = (1 ≤ length) × (length ≤ most_slots)
 IsInRange _ = Unit {0}
 
--- whether a call is in one of the eight forms that are built
+-- whether a call has one of the eight forms that are implemented
 abbrev pub is_implemented : Call → Bool
 is_implemented (call.Arena grains limit) = true
 is_implemented (call.Table table length) = true
-is_implemented (call.Pool pool kind.Amc format) = format == 1
+is_implemented (call.Pool pool kind.Amc format) = format == front_format
 is_implemented (call.Point point pool rank.Exact) = true
 is_implemented (call.Reserve point head) = true
 is_implemented (call.InitNumber point cell value) = true
@@ -38,7 +40,7 @@ is_arena _ = false
 abbrev pub has_arena : World → Bool
 has_arena w = nat_lt 0 w.grains
 
--- the arena comes first, and once
+-- whether a call comes before the arena, or makes it again
 abbrev pub is_out_of_turn : World → Call → Bool
 is_out_of_turn w call = if is_arena call then has_arena w else not (has_arena w)
 
@@ -49,13 +51,13 @@ makes_second w (call.Pool pool kind format) = nat_lt 0 (length w.pools)
 makes_second w (call.Point point pool rank) = nat_lt 0 (length w.graph.points)
 makes_second w _ = false
 
--- whether a refusal is told: that of a null slot, and that of the commit limit
+-- whether the heap reports a refusal: that of a null slot, and that of the commit limit
 abbrev pub is_reported : Refusal → Bool
 is_reported refusal.NullRef = true
 is_reported (refusal.CommitLimit with_object need limit) = true
 is_reported _ = false
 
--- whether a call comes to a refusal that isn't told
+-- whether the model refuses a call with a refusal that the heap does not report
 abbrev pub is_unreported : Checked Act → Bool
 is_unreported (Ok a) = false
 is_unreported (Err why) = not (is_reported why)

@@ -1,4 +1,4 @@
-// The fields of the heap. Places are numbers of words; 0 is null.
+// The fields of the heap. An address is the number of a word here; 0 is null.
 use mps_base::Name;
 
 #[derive(Drop)]
@@ -8,17 +8,17 @@ pub struct Arena {
     pub limit: u16,
     // The grains held, from grain 1 on.
     pub held: u16,
-    // The words of the arena, those of grain 0 first.
+    // The words of the arena, from grain 0 on.
     pub words: Vec<u64>,
     pub table: Option<Name>,
     // The addresses of the objects that the table's slots refer to.
     pub slots: Vec<u32>,
     pub pool: Option<Name>,
     pub point: Option<Name>,
-    // The words at hand at the point: the first, and the first after them.
+    // The point's buffer: its first word, and the first word after it.
     pub buffer_start: u32,
     pub buffer_end: u32,
-    // Where the point reserved last, and whether that reservation is open.
+    // The address at which the point reserved last, and whether that reservation is open.
     pub reserved: u32,
     pub is_open: bool,
 }

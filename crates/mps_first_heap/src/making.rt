@@ -1,14 +1,18 @@
 // The calls that make things.
 ghost use Rattle.std.specs.Prelude.{◌≡◌, ◌≤◌, IfOk, OnErr};
+ghost use Rattle.mps_first_heap.specs.HeapState.{max_grains};
 ghost use Rattle.mps_first_heap.specs.Outcome.{HasOutcome, is_arena_made, after_arena, after_table, after_pool, after_point};
 ghost use Rattle.mps_first_heap.specs.View.{state_of};
 
 use crate::arena::Arena;
 use crate::done::{Done, THE_POOL, reply_only};
 use crate::names::{is_pool, is_taken};
-use mps_base::{Kind, Name, Rank};
+use mps_base::{Kind, Name, Rank, WORDS_OF_GRAIN};
 use mps_model::Reply;
 use std::alloc::{AllocError, Global};
+
+/// The number of the format `front`.
+const FRONT_FORMAT: u64 = 1;
 
 /// Whether the arena was made.
 fn is_arena_made(heap: &Arena) -> bool
@@ -24,15 +28,15 @@ pub fn make_arena(
     grains: u64,
     limit: u64,
 ) -> Result<Done, AllocError>
-    requires grains { grains ≤ 2048 }
-    requires limit { limit ≤ 2048 }
+    requires grains { grains ≤ max_grains }
+    requires limit { limit ≤ max_grains }
     ensures ok { IfOk result (λ done. HasOutcome (after_arena (state_of heap.old) grains limit) done (state_of heap.new)) }
     ensures err { OnErr result (heap.new ≡ heap.old) }
 {
     if is_arena_made(heap) {
         return Ok(reply_only(Reply::Unsupported));
     }
-    let words = Vec::from_elem(alloc, 0, (512 * (grains + 1)) as usize)?;
+    let words = Vec::from_elem(alloc, 0, WORDS_OF_GRAIN * (grains as usize + 1))?;
     *heap = Arena {
         grains: grains as u16,
         limit: limit as u16,
@@ -72,7 +76,7 @@ pub fn make_table(
 pub fn make_pool(heap: &mut Arena, name: Name, kind: Kind, format: u64) -> Done
     ensures { HasOutcome (after_pool (state_of heap.old) name kind format) result (state_of heap.new) }
 {
-    let is_copying_front = kind == Kind::Amc && format == 1;
+    let is_copying_front = kind == Kind::Amc && format == FRONT_FORMAT;
     if !is_copying_front || !is_arena_made(heap) || heap.pool.is_some() || is_taken(heap, name) {
         return reply_only(Reply::Unsupported);
     }

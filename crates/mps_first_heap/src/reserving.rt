@@ -3,24 +3,25 @@ ghost use Rattle.std.specs.Prelude.{◌≡◌, ◌≤◌, ◌<◌, ◌+◌, ◌-
 ghost use Rattle.mps_base.specs.Address.{grains_needed};
 ghost use Rattle.mps_format.specs.Fields.{size_field};
 ghost use Rattle.mps_format.specs.Front.{is_front};
-ghost use Rattle.mps_first_heap.specs.Outcome.{HasOutcome, reserved_at_front, segment_taken, segment_move, reserve_after, reserve_placed, after_reserve};
+ghost use Rattle.mps_first_heap.specs.HeapState.{max_block_words};
+ghost use Rattle.mps_first_heap.specs.Outcome.{HasOutcome, reserved_in_buffer, segment_taken, segment_move, reserve_after, reserve_placed, after_reserve};
 ghost use Rattle.mps_first_heap.specs.View.{state_of};
 
 use crate::arena::Arena;
 use crate::done::{Done, THE_POOL, ok_with_move, reply_only};
 use crate::names::is_point;
-use mps_base::{Addr, Move, Name, Refusal};
+use mps_base::{Addr, Move, Name, Refusal, WORDS_OF_GRAIN};
 use mps_format::{Format, Front};
 use mps_model::Reply;
 
 /// The words of a grain.
-const GRAIN: u32 = 512;
+const WORDS: u32 = WORDS_OF_GRAIN as u32;
 
-/// Reserves a block with this head at a prefix of the words at hand.
-fn reserve_at_front(heap: &mut Arena, head: u64)
+/// Reserves a block with this head at the start of the buffer.
+fn reserve_in_buffer(heap: &mut Arena, head: u64)
     requires valid { IsTrue (is_front head) }
-    requires room { size_field head ≤ heap.old.buffer_end - heap.old.buffer_start }
-    ensures { state_of heap.new ≡ reserved_at_front (state_of heap.old) head }
+    requires fits { size_field head ≤ heap.old.buffer_end - heap.old.buffer_start }
+    ensures { state_of heap.new ≡ reserved_in_buffer (state_of heap.old) head }
 {
     let size = Front.words(head);
     let at = heap.buffer_start;
@@ -32,29 +33,29 @@ fn reserve_at_front(heap: &mut Arena, head: u64)
     heap.is_open = true;
 }
 
-/// Holds the next grains, whose words are then at hand, and tells the move.
+/// Takes the next grains as a segment, whose words are then the buffer, and returns the move.
 fn take_segment(heap: &mut Arena, need: u16) -> Move
     requires { heap.old.held + need < 2 ^ 16 }
     ensures after { state_of heap.new ≡ segment_taken (state_of heap.old) need }
-    ensures known { result ≡ segment_move (state_of heap.old) need }
+    ensures moved { result ≡ segment_move (state_of heap.old) need }
 {
     let first = u32::from(heap.held) + 1;
-    heap.buffer_start = GRAIN * first;
-    heap.buffer_end = GRAIN * (first + u32::from(need));
+    heap.buffer_start = WORDS * first;
+    heap.buffer_end = WORDS * (first + u32::from(need));
     heap.held += need;
     Move::Seg {
-        base: Addr(8 * u64::from(GRAIN * first)),
+        base: Addr::of_grain(first),
         grains: u32::from(need),
         pool: THE_POOL,
         generation: 0,
     }
 }
 
-/// Reserves a block with this head, of n words, in a new segment.
+/// Reserves a block with this head in a new segment of `need` grains.
 fn reserve_after(heap: &mut Arena, head: u64, need: u64) -> Done
     requires valid { IsTrue (is_front head) }
     requires need { need ≡ grains_needed (size_field head) }
-    requires small { size_field head ≤ 65536 }
+    requires at_most { size_field head ≤ max_block_words }
     ensures { HasOutcome (reserve_after (state_of heap.old) head need) result (state_of heap.new) }
 {
     let wanted = u64::from(heap.held) + need;
@@ -69,22 +70,22 @@ fn reserve_after(heap: &mut Arena, head: u64, need: u64) -> Done
         return reply_only(Reply::Unsupported);
     }
     let moved = take_segment(heap, need as u16);
-    reserve_at_front(heap, head);
+    reserve_in_buffer(heap, head);
     ok_with_move(moved)
 }
 
-/// Reserves a block with this head: at a prefix of the words at hand, or in a new segment.
+/// Reserves a block with this head, in the buffer where there is room and else in a new segment.
 fn reserve_placed(heap: &mut Arena, head: u64) -> Done
     requires valid { IsTrue (is_front head) }
-    requires small { size_field head ≤ 65536 }
+    requires at_most { size_field head ≤ max_block_words }
     ensures { HasOutcome (reserve_placed (state_of heap.old) head) result (state_of heap.new) }
 {
     let size = Front.words(head);
     if size <= heap.buffer_end.saturating_sub(heap.buffer_start) {
-        reserve_at_front(heap, head);
+        reserve_in_buffer(heap, head);
         return reply_only(Reply::Ok);
     }
-    let need = (u64::from(size) + 511) / u64::from(GRAIN);
+    let need = u64::from((size + (WORDS - 1)) / WORDS);
     reserve_after(heap, head, need)
 }
 

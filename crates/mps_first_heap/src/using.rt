@@ -7,7 +7,7 @@ use crate::arena::Arena;
 use crate::done::{Done, THE_POOL, ok_with_move, reply_only};
 use crate::heads::{is_number_cell, word_at, words_of_head};
 use crate::names::{has_slot, is_point};
-use mps_base::{Addr, Move, Name, Refusal, Slot};
+use mps_base::{Addr, BYTES_OF_WORD, Move, Name, Refusal, Slot};
 use mps_model::Reply;
 
 /// Whether the open reservation of the point of this name has a number in a cell.
@@ -38,7 +38,7 @@ fn commit_move(heap: &Arena) -> Move
 {
     let head = word_at(&heap.words, heap.reserved, 0);
     Move::Commit {
-        at: Addr(8 * u64::from(heap.reserved)),
+        at: Addr(BYTES_OF_WORD * u64::from(heap.reserved)),
         words: words_of_head(head),
         pool: THE_POOL,
     }
