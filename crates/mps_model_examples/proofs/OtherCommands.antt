@@ -4,12 +4,12 @@ use Rattle.mps_model.specs.World.{World, empty_world}
 use Rattle.mps_model.specs.History.{IsLegalFrom, IsLegalHistory, world_after_steps}
 use Rattle.mps_model.proofs.Appending.{IsLegalFrom-then}
 use Rattle.mps_model_examples.specs.OtherCommands as commands
-use Rattle.mps_model_examples.specs.OtherCommands.{one_mapped, area_written, roots_dropped, new_cells, written_cells, mapped_world, OtherCommandsIsLegal}
+use Rattle.mps_model_examples.specs.OtherCommands.{one_mapped, area_written, roots_dropped, cells_made, written_cells, mapped_world, OtherCommandsIsLegal}
 use Rattle.mps_model_examples.proofs.Steps.{answered}
 
 -- the block as it was made, as it was written, and with area words
 abbrev made : World
-made = mapped_world new_cells None (PlainWord 0 ∷ PlainWord 0 ∷ [])
+made = mapped_world cells_made None (PlainWord 0 ∷ PlainWord 0 ∷ [])
 
 abbrev written : World
 written = mapped_world written_cells (Some 0) (PlainWord 0 ∷ PlainWord 0 ∷ [])

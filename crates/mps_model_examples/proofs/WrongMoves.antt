@@ -6,7 +6,7 @@ use Rattle.mps_model_examples.specs.Weak.{weak_pair}
 use Rattle.mps_model_examples.specs.Incremental.{linked}
 use Rattle.mps_model_examples.specs.CollectingInOrder.{weak_and_linked}
 use Rattle.mps_model_examples.specs.WrongMoves as steps
-use Rattle.mps_model_examples.specs.WrongMoves.{unreachable_world, SplatOfReachable, splat_of_held, one_registration, two_posts, TwoPostsForOne, poked, MoveOfPinned, FreeOfWaiting, StayBesideRoom, MarkedInPlace, unreachable, UnknownFree, MoveAfterSplat}
+use Rattle.mps_model_examples.specs.WrongMoves.{unreachable_world, SplatOfReachable, splat_of_held, one_registration, two_posts, TwoPostsForOne, poked_history, MoveOfPinned, FreeOfWaiting, StayBesideRoom, MarkedInPlace, unreachable, UnknownFree, MoveAfterSplat}
 use Rattle.mps_model_examples.proofs.Refusing.{false_is_not_true, cannot_follow, cannot_follow_from}
 use Rattle.mps_model_examples.proofs.Weak.{held_world, pair_leaves}
 use Rattle.mps_model_examples.proofs.Finalized.{waiting_world, waiting_leaves}
@@ -22,7 +22,7 @@ pub two_posts_for_one : TwoPostsForOne
 two_posts_for_one = cannot_follow one_registration two_posts (λ s. s.moves_are_legal.1.1.1.1.0.registered)
 
 pub move_of_pinned : MoveOfPinned
-move_of_pinned = cannot_follow poked steps.move_of_pinned (λ s. false_is_not_true s.moves_are_legal.1.1.0.not_settled)
+move_of_pinned = cannot_follow poked_history steps.move_of_pinned (λ s. false_is_not_true s.moves_are_legal.1.1.0.not_settled)
 
 pub free_of_waiting : FreeOfWaiting
 free_of_waiting = cannot_follow_from waiting_world waiting steps.free_of_waiting waiting_leaves

@@ -47,8 +47,8 @@ moves_in_order =
 abbrev pub collected_in_order : History
 collected_in_order = collect_linked moves_in_order ∷ step 20 call.Live [] (reply.Pair 3 8) ∷ []
 
-abbrev pub in_order : History
-in_order = weak_and_linked ++ collected_in_order
+abbrev pub collecting_in_order : History
+collecting_in_order = weak_and_linked ++ collected_in_order
 
 -- the world before the collection
 abbrev pub weak_and_linked_world : World
@@ -95,4 +95,4 @@ weak_and_linked_world = record {
 
 -- the history is legal
 abbrev pub CollectingInOrderIsLegal : Type 0
-CollectingInOrderIsLegal = IsLegalHistory in_order
+CollectingInOrderIsLegal = IsLegalHistory collecting_in_order

@@ -104,8 +104,8 @@ mapped_world cells second area = record {
 }
 
 -- the cells before and after they were written
-abbrev pub new_cells : List Cell
-new_cells = HeadCell ∷ ReferenceCell None 0 ∷ NumberCell 0 ∷ NumberCell 0 ∷ []
+abbrev pub cells_made : List Cell
+cells_made = HeadCell ∷ ReferenceCell None 0 ∷ NumberCell 0 ∷ NumberCell 0 ∷ []
 
 abbrev pub written_cells : List Cell
 written_cells = HeadCell ∷ ReferenceCell (Some 0) 0 ∷ NumberCell 5 ∷ NumberCell 0 ∷ []

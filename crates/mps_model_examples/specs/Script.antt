@@ -15,38 +15,38 @@ use Rattle.mps_base.specs.Segment.{Segment}
 use Rattle.mps_model.specs.World.{Tail}
 
 -- the name of one letter
-abbrev pub letter : (code : ℕ) → Name
-letter code = record { len = 1; bytes = code ∷ replicate 15 0 }
+abbrev pub name_of_letter : (code : ℕ) → Name
+name_of_letter code = record { len = 1; bytes = code ∷ replicate 15 0 }
 
 abbrev pub a : Name
-a = letter 97
+a = name_of_letter 97
 
 abbrev pub b : Name
-b = letter 98
+b = name_of_letter 98
 
 abbrev pub d : Name
-d = letter 100
+d = name_of_letter 100
 
 abbrev pub p : Name
-p = letter 112
+p = name_of_letter 112
 
 abbrev pub q : Name
-q = letter 113
+q = name_of_letter 113
 
 abbrev pub t : Name
-t = letter 116
+t = name_of_letter 116
 
 abbrev pub v : Name
-v = letter 118
+v = name_of_letter 118
 
 abbrev pub w : Name
-w = letter 119
+w = name_of_letter 119
 
 abbrev pub x : Name
-x = letter 120
+x = name_of_letter 120
 
 abbrev pub y : Name
-y = letter 121
+y = name_of_letter 121
 
 -- a slot, word or place
 abbrev pub at_index : Name → ℕ → Slot

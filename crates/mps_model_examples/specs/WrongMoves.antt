@@ -46,8 +46,8 @@ abbrev pub TwoPostsForOne : Type 0
 TwoPostsForOne = CannotFollow one_registration two_posts
 
 -- an area word lies in the block at 0x1000
-abbrev pub poked : History
-poked =
+abbrev pub poked_history : History
+poked_history =
     one_block
     ++ step 9 (call.Area a 1) [] reply.Ok
     ∷ step 10 (call.Poke (at_index a 0) 0x1010) [] reply.Block
@@ -60,7 +60,7 @@ move_of_pinned =
         ∷ []) reply.Ok
 
 abbrev pub MoveOfPinned : Type 0
-MoveOfPinned = CannotFollow poked move_of_pinned
+MoveOfPinned = CannotFollow poked_history move_of_pinned
 
 -- and its block is freed
 abbrev pub free_of_waiting : Step
