@@ -10,7 +10,6 @@ use Rattle.mps_base.specs.declared.names.Slot.{Slot}
 use Rattle.mps_format.specs.Fields.{size_field}
 use Rattle.mps_format.specs.Front.{is_front}
 use Rattle.mps_model.specs.declared.call.Call.TheVariants as call
-use Rattle.mps_model.specs.declared.reply.Reply.TheVariants as reply
 use Rattle.mps_model.specs.Checked.{Checked, Numbered, point_named}
 use Rattle.mps_model.specs.Graph.{Object, PointThing, Point, thing_in}
 use Rattle.mps_model.specs.LegalMove.{ForOne, ForChecked, IsReserved, IsLegalCommit}
@@ -22,10 +21,10 @@ use Rattle.mps_model.specs.Reply.{answer_from, world_from}
 use Rattle.mps_model.specs.Effect.{with_next_address}
 use Rattle.mps_first_heap.specs.HeapState.{HeapState, is_named, is_point, has_slot, head_at, words_of_head}
 use Rattle.mps_first_heap.specs.Outcome.{ok_with_move, unsupported, commit_move, after_commit}
-use Rattle.mps_first_heap.specs.StandsFor.{Past, Agrees, world_of, world_with, step_of, object_in, cells_at, segments_from, some_address, one_if, point_with, reservation_in, front_pool, point_memory_of, address_in_slot, is_null_or_below, end_of_objects}
+use Rattle.mps_first_heap.specs.StandsFor.{Past, Agrees, world_of, world_with, step_of, object_in, cells_at, some_address, point_with, reservation_in, address_in_slot, is_null_or_below, end_of_objects}
 use Rattle.mps_first_heap.specs.RightStep.{IsRightStep}
 use Rattle.mps_first_heap.proofs.Lists.{length-cells_in, length-block_words, blocks_later, blocks_push}
-use Rattle.mps_first_heap.proofs.Worlds.{world_by, world_of-parts, is_named-some, pool_with_point, made_with_pool, at_hand_within, slot_there, live_blocks-world_of, stored}
+use Rattle.mps_first_heap.proofs.Worlds.{parts_by, world_by, world_of-parts, is_named-some, pool_with_point, made_with_pool, at_hand_within, slot_there, live_blocks-world_of, stored}
 use Rattle.mps_first_heap.proofs.Stores.{making_pushed}
 use Rattle.mps_first_heap.proofs.Steps.{right_step, unsupported_step}
 use Rattle.mps_first_heap.proofs.Numbers.{table_named}
@@ -52,7 +51,7 @@ step_committed h line name slot = step_of line (call.Commit name slot) (ok_with_
 
 abbrev committed_with : HeapState → Past → List Object → List (Option ℕ) → List (Option ℕ) → World
 committed_with h p objects ids addresses =
-    world_with h.grains h.limit p.names objects (Some ids ∷ []) (Some (point_with None) ∷ []) (one_if (is_some h.pool) front_pool) (segments_from 1 p.segments) addresses (point_memory_of h ∷ [])
+    world_with (record (parts_by h p true true (is_some h.pool) false) { objects = objects; tables = Some ids ∷ []; addresses = addresses })
 
 world_committed : (h : HeapState) (p : Past) (slot : Slot) → is_some h.table ≡ true → is_some h.point ≡ true
     → committed_with h p (map (object_in h.words) p.addresses ++ object_in h.words h.reserved ∷ []) (slice_set p.ids slot.index (Some (length (map (object_in h.words) p.addresses)))) (map some_address p.addresses ++ some_address h.reserved ∷ [])
@@ -182,9 +181,8 @@ right_with_object h p line name slot a point o there =
     let lt = ltb-true slot.index (length h.slots) both.1 in
     let lt' : slot.index < length (map (address_in_slot p.addresses) p.ids) = subst (λ (slots : List ℕ). slot.index < length slots) a.slots lt in
     let at = slot_there p.addresses p.ids slot.index lt' in
-    let e = act_of_commit h.grains h.limit p.names (map (object_in h.words) p.addresses) p.ids (slice_index h.words h.reserved) (cells_at h.words h.reserved)
-    (one_if (is_some h.pool) front_pool) (segments_from 1 p.segments) (map some_address p.addresses ++ some_address h.reserved ∷ []) (point_memory_of h ∷ []) name slot at.0
-    (point_named_there h p a name point) (table_named h p a slot both.0) at.1 in
+    let e = act_of_commit (record (parts_by h p true true (is_some h.pool) true) { addresses = map some_address p.addresses ++ some_address h.reserved ∷ [] })
+    name (point_named_there h p a name point) p.ids slot at.0 (table_named h p a slot both.0) at.1 (slice_index h.words h.reserved) (cells_at h.words h.reserved) in
     right_step (world_committing h p) (step_committed h line name slot) (with_object h slot) (past_with_object h p slot) refl
     (record { moves_are_legal = (legal_commit h p name slot a point o, tt); moves_are_due = refl; answer_is_due = sym (ap answer_from e); marked = tt })
     (ap (λ r. with_client_remembered (world_from (with_next_address (world_committing h p) (bytes_of_word * h.reserved)) r)) e ∙ world_committed h p slot t q)

@@ -1,5 +1,5 @@
 -- The calls that make things are unsupported exactly where that is said.
-use Rattle.std.proofs.Common.{◌≡◌, ℕ, ◌+◌, ◌≤◌, Bool, true, false, refl, sym, ◌∙◌, ap, subst, length, map, Some, Err, Option, arith}
+use Rattle.std.proofs.Common.{◌≡◌, ℕ, ◌+◌, ◌≤◌, Bool, true, false, refl, sym, ◌∙◌, ap, subst, length, Some, Err, Option, arith}
 use Rattle.std.specs.Prelude.{nat_lt, is_some, not, ◌&&◌, ◌||◌, ◌==◌, if◌then◌else◌}
 use Rattle.std.proofs.lemmas.Bool.{false≢true, and_parts, le-ltb, eqb-true}
 use Rattle.mps_base.specs.declared.names.Kind.{Kind}
@@ -16,9 +16,9 @@ use Rattle.mps_model.specs.Making.{most_slots, act_table, act_pool, act_point}
 use Rattle.mps_model.specs.World.{World, Pool}
 use Rattle.mps_first_heap.specs.HeapState.{HeapState, is_taken, is_pool}
 use Rattle.mps_first_heap.specs.Outcome.{accepted_if, pool_made_if, is_arena_made, may_make_first, is_amc, is_implemented_pool, is_exact, after_arena, after_table, after_pool, after_point}
-use Rattle.mps_first_heap.specs.StandsFor.{Past, Agrees, world_of, object_in, segments_from, some_address, one_if, point_with, some_if, reservation_in, front_pool, point_memory_of}
+use Rattle.mps_first_heap.specs.StandsFor.{Past, Agrees, world_of, one_if, point_with, some_if, reservation_in, front_pool}
 use Rattle.mps_first_heap.specs.Unsupported.{is_implemented, is_unreported}
-use Rattle.mps_first_heap.proofs.Worlds.{world_of-parts}
+use Rattle.mps_first_heap.proofs.Worlds.{parts_by, world_of-parts}
 use Rattle.mps_first_heap.proofs.Acts.{act_of_table, act_of_pool, act_of_point}
 use Rattle.mps_first_heap.proofs.NameLemmas.{not_taken}
 use Rattle.mps_first_heap.proofs.Refused.{taken_thing, no_pool}
@@ -69,9 +69,8 @@ exact_table_where h p name slots few a true e =
     (supported (world_of h p) (call.Table name slots) refl (in_turn h may.made)
     (ap (λ b. nat_lt 0 (length (one_if b (Some p.ids)))) (not_some h.table may.first))
     (ap (λ w. is_unreported (act_table w name slots)) (world_of-parts h p false (is_some h.point) (is_some h.pool) h.is_open (not_some h.table may.first) refl refl refl)
-    ∙ ap is_unreported (act_of_table h.grains h.limit p.names (map (object_in h.words) p.addresses) (one_if (is_some h.point) (Some (point_with (some_if h.is_open (reservation_in h.words h.reserved)))))
-    (one_if (is_some h.pool) front_pool) (segments_from 1 p.segments) (map some_address p.addresses) (one_if (is_some h.point) (point_memory_of h)) name slots
-    (a.names name ∙ not_taken h name may.free) (le-ltb most_slots (0 + slots) (omega arith)))))
+    ∙ ap is_unreported (act_of_table (parts_by h p false (is_some h.point) (is_some h.pool) h.is_open) name (a.names name ∙ not_taken h name may.free) slots
+    (le-ltb most_slots (0 + slots) (omega arith)))))
 exact_table_where h p name slots few a false e =
     exact_unsupported (world_of h p) (call.Table name slots)
     (elim (why_not h h.table name e) [
@@ -103,8 +102,7 @@ exact_pool_built h p name a may =
     (supported (world_of h p) (call.Pool name kind.Amc 1) refl (in_turn h may.made)
     (ap (λ b. nat_lt 0 (length (one_if b front_pool))) (not_some h.pool may.first))
     (ap (λ w. is_unreported (act_pool w name kind.Amc 1)) (world_of-parts h p (is_some h.table) (is_some h.point) false h.is_open refl refl (not_some h.pool may.first) refl)
-    ∙ ap is_unreported (act_of_pool h.grains h.limit p.names (map (object_in h.words) p.addresses) (one_if (is_some h.table) (Some p.ids)) (one_if (is_some h.point) (Some (point_with (some_if h.is_open (reservation_in h.words h.reserved)))))
-    (segments_from 1 p.segments) (map some_address p.addresses) (one_if (is_some h.point) (point_memory_of h)) name (a.names name ∙ not_taken h name may.free))))
+    ∙ ap is_unreported (act_of_pool (parts_by h p (is_some h.table) (is_some h.point) false h.is_open) name (a.names name ∙ not_taken h name may.free))))
 
 pool_of_kind : (h : HeapState) (p : Past) (name : Name) → Agrees h p → MayMake h h.pool name → (k : Kind) (format : ℕ) → is_amc k ≡ true → format ≡ 1 → IsExact (world_of h p) (call.Pool name k format) reply.Ok
 pool_of_kind h p name a may kind.Amc format k f = subst (λ (n : ℕ). IsExact (world_of h p) (call.Pool name kind.Amc n) reply.Ok) (sym f) (exact_pool_built h p name a may)
@@ -157,8 +155,7 @@ exact_point_pool h p name pool a may true there =
     (supported (world_of h p) (call.Point name pool rank.Exact) refl (in_turn h may.made)
     (ap (λ b. nat_lt 0 (length (one_if b (Some (point_with (some_if h.is_open (reservation_in h.words h.reserved))))))) (not_some h.point may.first))
     (ap (λ w. is_unreported (act_point w name pool rank.Exact)) (is_world_without_point h p pool a may.first there)
-    ∙ ap is_unreported (act_of_point h.grains h.limit p.names (map (object_in h.words) p.addresses) (one_if (is_some h.table) (Some p.ids))
-    (segments_from 1 p.segments) (map some_address p.addresses) name pool (a.names name ∙ not_taken h name may.free) (pool_there h p pool a there))))
+    ∙ ap is_unreported (act_of_point (parts_by h p (is_some h.table) false true false) name (a.names name ∙ not_taken h name may.free) pool (pool_there h p pool a there))))
 exact_point_pool h p name pool a may false there =
     exact_unsupported (world_of h p) (call.Point name pool rank.Exact)
     (by_unreported (world_of h p) (call.Point name pool rank.Exact) refusal.BadName (point_without_pool h p name pool a may.free there) refl)

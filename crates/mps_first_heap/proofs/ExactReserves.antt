@@ -1,5 +1,5 @@
 -- `reserve` is unsupported exactly where that is said.
-use Rattle.std.proofs.Common.{◌≡◌, ℕ, ◌+◌, ◌-◌, ◌<◌, Bool, true, false, refl, sym, ◌∙◌, ap, subst, [], ◌∷◌, map, Some, Err, Ok, arith}
+use Rattle.std.proofs.Common.{◌≡◌, ℕ, ◌+◌, ◌-◌, ◌<◌, Bool, true, false, refl, sym, ◌∙◌, ap, subst, Err, Ok, arith}
 use Rattle.std.specs.Prelude.{nat_lt, nat_le, is_some, not, ◌&&◌, if◌then◌else◌}
 use Rattle.std.proofs.lemmas.Bool.{ltb-true, ltb-false}
 use Rattle.mps_base.specs.Address.{grains_needed}
@@ -19,9 +19,9 @@ use Rattle.mps_model.specs.Allocating.{act_reserve, check_reserve, Reserving, re
 use Rattle.mps_model.specs.World.{World, pool_at}
 use Rattle.mps_first_heap.specs.HeapState.{HeapState, is_point}
 use Rattle.mps_first_heap.specs.Outcome.{ok_with_move, after_reserve, reserve_placed, reserve_after, segment_taken, unsupported}
-use Rattle.mps_first_heap.specs.StandsFor.{Past, Agrees, world_of, object_in, segments_from, some_address, one_if, point_with, reservation_in, point_memory_of}
+use Rattle.mps_first_heap.specs.StandsFor.{Past, Agrees, world_of, some_if, reservation_in}
 use Rattle.mps_first_heap.specs.Unsupported.{is_unreported, is_reported}
-use Rattle.mps_first_heap.proofs.Worlds.{world_of-parts, made_with_pool, pool_with_point}
+use Rattle.mps_first_heap.proofs.Worlds.{parts_by, world_of-parts, made_with_pool, pool_with_point}
 use Rattle.mps_first_heap.proofs.Acts.{reserve_bad_head, reserve_open}
 use Rattle.mps_first_heap.proofs.Inits.{point_named_there, is_point_some}
 use Rattle.mps_first_heap.proofs.Segments.{over_limit, no_run, new_segment}
@@ -113,7 +113,7 @@ exact_open h p name head a point valid true o =
     let q = is_point_some h name point in
     unsupported_check h p name head refusal.Open refl
     (ap (λ w. check_reserve w name head) (world_of-parts h p (is_some h.table) true true true refl q (pool_with_point h p a q) o)
-    ∙ reserve_open h.grains h.limit p.names (map (object_in h.words) p.addresses) (one_if (is_some h.table) (Some p.ids)) (reservation_in h.words h.reserved) (segments_from 1 p.segments) (map some_address p.addresses) (point_memory_of h ∷ []) name head (point_named_there h p a name point) valid)
+    ∙ reserve_open (parts_by h p (is_some h.table) true true true) name (point_named_there h p a name point) (reservation_in h.words h.reserved) head valid)
 
 exact_head : (h : HeapState) (p : Past) (name : Name) (head : ℕ) → Agrees h p → is_point h name ≡ true → (b : Bool) → is_front head ≡ b → IsExact (world_of h p) (call.Reserve name head) (reserve_reply h head (b && not h.is_open))
 exact_head h p name head a point true valid = exact_open h p name head a point valid h.is_open refl
@@ -121,7 +121,8 @@ exact_head h p name head a point false valid =
     let q = is_point_some h name point in
     unsupported_check h p name head refusal.BadHead refl
     (ap (λ w. check_reserve w name head) (world_of-parts h p (is_some h.table) true true h.is_open refl q (pool_with_point h p a q) refl)
-    ∙ reserve_bad_head h.grains h.limit p.names (map (object_in h.words) p.addresses) (one_if (is_some h.table) (Some p.ids)) (Rattle.mps_first_heap.specs.StandsFor.some_if h.is_open (reservation_in h.words h.reserved)) (segments_from 1 p.segments) (map some_address p.addresses) (point_memory_of h ∷ []) name head (point_named_there h p a name point) valid)
+    ∙ reserve_bad_head (parts_by h p (is_some h.table) true true h.is_open) name (point_named_there h p a name point)
+    (some_if h.is_open (reservation_in h.words h.reserved)) head valid)
 
 exact_at : (h : HeapState) (p : Past) (name : Name) (head : ℕ) → Agrees h p → (b : Bool) → is_point h name ≡ b → IsExact (world_of h p) (call.Reserve name head) (reserve_reply h head (b && is_front head && not h.is_open))
 exact_at h p name head a true point = exact_head h p name head a point (is_front head) refl

@@ -1,5 +1,5 @@
 -- `num`, `init`, `commit` and `reserve` are unsupported exactly where that is said.
-use Rattle.std.proofs.Common.{◌≡◌, ℕ, ◌+◌, ◌<◌, Bool, true, false, refl, sym, ◌∙◌, ap, subst, List, [], ◌∷◌, length, map, None, Some, Err, Ok, Option, arith, slice_index, inl, inr}
+use Rattle.std.proofs.Common.{◌≡◌, ℕ, ◌+◌, ◌<◌, Bool, true, false, refl, sym, ◌∙◌, ap, subst, List, length, map, None, Some, Err, Ok, Option, arith, slice_index, inl, inr}
 use Rattle.std.specs.Prelude.{slice_get, nat_lt, nat_le, is_some, not, ◌&&◌, ◌||◌, ◌==◌, if◌then◌else◌}
 use Rattle.std.proofs.lemmas.Bool.{and_parts, ltb-true, ne_eqb}
 use Rattle.mps_base.specs.declared.names.Name.{Name}
@@ -16,9 +16,9 @@ use Rattle.mps_model.specs.Allocating.{act_init_number, act_commit, act_reserve,
 use Rattle.mps_model.specs.World.{World}
 use Rattle.mps_first_heap.specs.HeapState.{HeapState, is_named, is_point, has_slot, is_number_cell, head_at}
 use Rattle.mps_first_heap.specs.Outcome.{ok_with_move, may_init, after_init, after_commit, number_at as number_reply_at, number_reply, after_reserve, reserve_placed, reserve_after}
-use Rattle.mps_first_heap.specs.StandsFor.{Past, Agrees, world_of, object_in as object_of, cells_at, segments_from, some_address, one_if, point_with, some_if, reservation_in, front_pool, point_memory_of, address_in_slot, end_of_objects}
+use Rattle.mps_first_heap.specs.StandsFor.{Past, Agrees, world_of, cells_at, one_if, point_with, some_if, reservation_in, address_in_slot, end_of_objects}
 use Rattle.mps_first_heap.specs.Unsupported.{is_unreported}
-use Rattle.mps_first_heap.proofs.Worlds.{world_of-parts, is_named-some, made_with_table, made_with_pool, pool_with_point, at_hand_within, end_of_objects-le, block_there_at, slot_there, id_there, number_cell_at, object_there}
+use Rattle.mps_first_heap.proofs.Worlds.{parts_by, world_of-parts, is_named-some, made_with_table, made_with_pool, pool_with_point, at_hand_within, end_of_objects-le, block_there_at, slot_there, id_there, number_cell_at, object_there}
 use Rattle.mps_first_heap.proofs.Acts.{act_of_null, act_of_init, act_of_commit, init_not_open, init_no_number, commit_not_open, number_no_number}
 use Rattle.mps_first_heap.proofs.Numbers.{table_named, is_world_with_table, act_number_there}
 use Rattle.mps_first_heap.proofs.Inits.{point_named_there, is_point_some, is_world_reserving}
@@ -51,8 +51,8 @@ exact_number_where h p slot cell id a name there false number =
     let hand = a.buffer in
     let refused = λ (why : Refusal) (e : number_at (cells_at h.words at) cell ≡ Err why).
     ap (λ w. act_number w slot cell) (is_world_with_table h p t)
-    ∙ number_no_number h.grains h.limit p.names (map (object_of h.words) p.addresses) p.ids (points_of h) (one_if (is_some h.pool) front_pool) (segments_from 1 p.segments) (map some_address p.addresses) (one_if (is_some h.point) (point_memory_of h))
-    slot id (slice_index h.words at) (cells_at h.words at) cell why (table_named h p a slot name) there (object_there h.words p.addresses id below) e in
+    ∙ number_no_number (parts_by h p true (is_some h.point) (is_some h.pool) h.is_open) p.ids slot (table_named h p a slot name)
+    id there (slice_index h.words at) (cells_at h.words at) (object_there h.words p.addresses id below) cell why e in
     exact_unsupported (world_of h p) (call.Number slot cell)
     (elim (no_number h.words (end_of_objects h) at cell (block_there_at h.words (end_of_objects h) p.addresses id a.blocks below) (omega arith) number) [
       | inl e ↦ by_unreported (world_of h p) (call.Number slot cell) refusal.BadIndex (refused refusal.BadIndex e) refl
@@ -66,7 +66,7 @@ exact_number_held h p slot cell None a name there =
     exact_answered (world_of h p) (call.Number slot cell) (reply.Refused refusal.NullRef) refl
     (supported (world_of h p) (call.Number slot cell) refl (in_turn h (made_with_table h p a t)) refl
     (ap (λ w. is_unreported (act_number w slot cell)) (is_world_with_table h p t)
-    ∙ ap is_unreported (act_of_null h.grains h.limit p.names (map (object_of h.words) p.addresses) p.ids (points_of h) (one_if (is_some h.pool) front_pool) (segments_from 1 p.segments) (map some_address p.addresses) (one_if (is_some h.point) (point_memory_of h)) slot cell (table_named h p a slot name) there)))
+    ∙ ap is_unreported (act_of_null (parts_by h p true (is_some h.point) (is_some h.pool) h.is_open) p.ids slot (table_named h p a slot name) cell there)))
 exact_number_held h p slot cell (Some id) a name there =
     let below = id_there (length p.addresses) p.ids slot.index id a.ids there in
     let block = block_there_at h.words (end_of_objects h) p.addresses id a.blocks below in
@@ -121,9 +121,8 @@ exact_init_in h p name cell value a point o true number =
     exact_answered (world_of h p) (call.InitNumber name cell value) reply.Ok refl
     (supported (world_of h p) (call.InitNumber name cell value) refl (in_turn h made) refl
     (ap (λ w. is_unreported (act_init_number w name cell value)) (is_world_reserving h p q o)
-    ∙ ap is_unreported (act_of_init h.grains h.limit p.names (map (object_of h.words) p.addresses) (one_if (is_some h.table) (Some p.ids)) (slice_index h.words h.reserved) (cells_at h.words h.reserved)
-    (one_if (is_some h.pool) front_pool) (segments_from 1 p.segments) (map some_address p.addresses) (point_memory_of h ∷ []) name cell value (slice_index h.words (h.reserved + cell))
-    (point_named_there h p a name point) (number_cell_at h.words h.buffer_start h.reserved cell (a.reservation o) (omega arith) number))))
+    ∙ ap is_unreported (act_of_init (parts_by h p (is_some h.table) true (is_some h.pool) true) name (point_named_there h p a name point)
+    (slice_index h.words h.reserved) (cells_at h.words h.reserved) cell value (slice_index h.words (h.reserved + cell)) (number_cell_at h.words h.buffer_start h.reserved cell (a.reservation o) (omega arith) number))))
 exact_init_in h p name cell value a point o false number =
     let q = is_point_some h name point in
     let made = made_with_point h p name a point in
@@ -131,8 +130,8 @@ exact_init_in h p name cell value a point o false number =
     let hand = a.buffer in
     let refused = λ (why : Refusal) (e : number_at (cells_at h.words h.reserved) cell ≡ Err why).
     ap (λ w. act_init_number w name cell value) (is_world_reserving h p q o)
-    ∙ init_no_number h.grains h.limit p.names (map (object_of h.words) p.addresses) (one_if (is_some h.table) (Some p.ids)) (slice_index h.words h.reserved) (cells_at h.words h.reserved)
-    (one_if (is_some h.pool) front_pool) (segments_from 1 p.segments) (map some_address p.addresses) (point_memory_of h ∷ []) name cell value why (point_named_there h p a name point) e in
+    ∙ init_no_number (parts_by h p (is_some h.table) true (is_some h.pool) true) name (point_named_there h p a name point)
+    (slice_index h.words h.reserved) (cells_at h.words h.reserved) cell value why e in
     exact_unsupported (world_of h p) (call.InitNumber name cell value)
     (elim (no_number h.words h.buffer_start h.reserved cell (a.reservation o) (omega arith) number) [
       | inl e ↦ by_unreported (world_of h p) (call.InitNumber name cell value) refusal.BadIndex (refused refusal.BadIndex e) refl
@@ -146,7 +145,7 @@ exact_init_open h p name cell value a point false o =
     exact_unsupported (world_of h p) (call.InitNumber name cell value)
     (by_unreported (world_of h p) (call.InitNumber name cell value) refusal.NotOpen
     (ap (λ w. act_init_number w name cell value) (world_of-parts h p (is_some h.table) true (is_some h.pool) false refl (is_point_some h name point) refl o)
-    ∙ init_not_open h.grains h.limit p.names (map (object_of h.words) p.addresses) (one_if (is_some h.table) (Some p.ids)) (one_if (is_some h.pool) front_pool) (segments_from 1 p.segments) (map some_address p.addresses) (point_memory_of h ∷ []) name cell value (point_named_there h p a name point))
+    ∙ init_not_open (parts_by h p (is_some h.table) true (is_some h.pool) false) name (point_named_there h p a name point) cell value)
     refl)
 
 exact_init_at : (h : HeapState) (p : Past) (name : Name) (cell value : ℕ) → Agrees h p → (b : Bool) → is_point h name ≡ b
@@ -191,13 +190,13 @@ exact_commit_open h p name slot a point there b o =
         exact_answered (world_of h p) (call.Commit name slot) reply.Ok refl
         (supported (world_of h p) (call.Commit name slot) refl (in_turn h (made_with_table h p a t)) refl
         (ap (λ w. is_unreported (act_commit w name slot)) (is_world_committing h p t q o)
-        ∙ ap is_unreported (act_of_commit h.grains h.limit p.names (map (object_of h.words) p.addresses) p.ids (slice_index h.words h.reserved) (cells_at h.words h.reserved)
-        (one_if (is_some h.pool) front_pool) (segments_from 1 p.segments) (map some_address p.addresses) (point_memory_of h ∷ []) name slot held (point_named_there h p a name point) table at)))
+        ∙ ap is_unreported (act_of_commit (parts_by h p true true (is_some h.pool) true) name (point_named_there h p a name point) p.ids slot held table at
+        (slice_index h.words h.reserved) (cells_at h.words h.reserved))))
     by_open q t held at table false o =
         exact_unsupported (world_of h p) (call.Commit name slot)
         (by_unreported (world_of h p) (call.Commit name slot) refusal.NotOpen
         (ap (λ w. act_commit w name slot) (world_of-parts h p true true (is_some h.pool) false t q refl o)
-        ∙ commit_not_open h.grains h.limit p.names (map (object_of h.words) p.addresses) p.ids (one_if (is_some h.pool) front_pool) (segments_from 1 p.segments) (map some_address p.addresses) (point_memory_of h ∷ []) name slot held (point_named_there h p a name point) table at)
+        ∙ commit_not_open (parts_by h p true true (is_some h.pool) false) name (point_named_there h p a name point) p.ids slot held table at)
         refl)
 
 exact_commit_slot : (h : HeapState) (p : Past) (name : Name) (slot : Slot) → Agrees h p → is_point h name ≡ true → (b : Bool) → has_slot h slot ≡ b → IsExact (world_of h p) (call.Commit name slot) (commit_reply (h.is_open && b))

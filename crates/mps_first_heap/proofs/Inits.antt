@@ -14,10 +14,10 @@ use Rattle.mps_model.specs.History.{live_blocks, with_client_remembered}
 use Rattle.mps_model.specs.Reply.{answer_from, world_from}
 use Rattle.mps_first_heap.specs.HeapState.{HeapState, is_named, is_point, is_number_cell, head_at, words_of_head}
 use Rattle.mps_first_heap.specs.Outcome.{reply_only, may_init, after_init, accepted_if}
-use Rattle.mps_first_heap.specs.StandsFor.{Past, Agrees, world_of, world_with, step_of, object_in, cells_at, cells_in, cell_in, segments_from, some_address, one_if, point_with, reservation_in, front_pool, point_memory_of, end_of_objects, IsBlockAt}
+use Rattle.mps_first_heap.specs.StandsFor.{Past, Agrees, world_of, world_with, step_of, object_in, cells_at, cells_in, cell_in, point_with, reservation_in, end_of_objects, IsBlockAt}
 use Rattle.mps_first_heap.specs.RightStep.{IsRightStep}
 use Rattle.mps_first_heap.proofs.Lists.{objects-set_after, blocks-set_after, slice_index-set_other, block_words-set, cells_in-set}
-use Rattle.mps_first_heap.proofs.Worlds.{world_by, world_of-parts, is_named-some, pool_with_point, made_with_pool, at_hand_within, number_cell, number_cell_at, number_cell_below, live_blocks-world_of, stored}
+use Rattle.mps_first_heap.proofs.Worlds.{parts_by, world_by, world_of-parts, is_named-some, pool_with_point, made_with_pool, at_hand_within, number_cell, number_cell_at, number_cell_below, live_blocks-world_of, stored}
 use Rattle.mps_first_heap.proofs.Stores.{stored-set_after}
 use Rattle.mps_first_heap.proofs.Steps.{right_step, unsupported_step}
 use Rattle.mps_first_heap.proofs.Acts.{act_of_init}
@@ -68,8 +68,7 @@ is_world_reserving h p q o = world_of-parts h p (is_some h.table) true (is_some 
 
 abbrev opened_with : HeapState → Past → List Object → Reservation → World
 opened_with h p objects r =
-    world_with h.grains h.limit p.names objects (one_if (is_some h.table) (Some p.ids)) (Some (point_with (Some r)) ∷ [])
-    (one_if (is_some h.pool) front_pool) (segments_from 1 p.segments) (map some_address p.addresses) (point_memory_of h ∷ [])
+    world_with (record (parts_by h p (is_some h.table) true (is_some h.pool) true) { objects = objects; points = Some (point_with (Some r)) ∷ [] })
 
 -- the world after the write
 world_written : (h : HeapState) (p : Past) (cell value : ℕ) → Agrees h p → is_some h.point ≡ true → h.is_open ≡ true → 0 < cell → is_number_cell (head_at h h.reserved) cell ≡ true
@@ -121,9 +120,8 @@ right_with_number h p line name cell value a point o number =
     let made = made_with_pool h p a (pool_with_point h p a q) in
     let within = at_hand_within h p a made in
     let hand = a.buffer in
-    let e = act_of_init h.grains h.limit p.names (map (object_in h.words) p.addresses) (one_if (is_some h.table) (Some p.ids)) (slice_index h.words h.reserved) (cells_at h.words h.reserved)
-    (one_if (is_some h.pool) front_pool) (segments_from 1 p.segments) (map some_address p.addresses) (point_memory_of h ∷ []) name cell value (slice_index h.words (h.reserved + cell))
-    (point_named_there h p a name point) (number_cell_at h.words h.buffer_start h.reserved cell (a.reservation o) (omega arith) number) in
+    let e = act_of_init (parts_by h p (is_some h.table) true (is_some h.pool) true) name (point_named_there h p a name point)
+    (slice_index h.words h.reserved) (cells_at h.words h.reserved) cell value (slice_index h.words (h.reserved + cell)) (number_cell_at h.words h.buffer_start h.reserved cell (a.reservation o) (omega arith) number) in
     right_step (world_reserving h p) (step_of line (call.InitNumber name cell value) (reply_only reply.Ok)) (with_number h cell value) p refl
     (record { moves_are_legal = tt; moves_are_due = refl; answer_is_due = sym (ap answer_from e); marked = tt })
     (ap (λ r. with_client_remembered (world_from (world_reserving h p) r)) e ∙ world_written h p cell value a q o pos number)

@@ -19,9 +19,9 @@ use Rattle.mps_model.specs.Reply.{answer_from, world_from}
 use Rattle.mps_model.specs.Making.{most_slots}
 use Rattle.mps_first_heap.specs.HeapState.{HeapState, is_named, is_taken, is_pool}
 use Rattle.mps_first_heap.specs.Outcome.{reply_only, accepted_if, pool_made_if, is_arena_made, may_make_first, is_amc, is_implemented_pool, is_exact, arena_made, after_arena, after_table, after_pool, after_point}
-use Rattle.mps_first_heap.specs.StandsFor.{Past, Agrees, world_of, world_with, step_of, object_in, segments_from, some_address, one_if, point_with, some_if, reservation_in, front_pool, point_memory_of, address_in_slot, is_null_or_below, end_of_objects, IsBlockAt, thing_of}
+use Rattle.mps_first_heap.specs.StandsFor.{Past, Agrees, world_of, world_with, step_of, address_in_slot, is_null_or_below, end_of_objects, IsBlockAt, thing_of}
 use Rattle.mps_first_heap.specs.RightStep.{IsRightStep}
-use Rattle.mps_first_heap.proofs.Worlds.{world_by, world_of-parts, is_named-some, live_blocks-world_of}
+use Rattle.mps_first_heap.proofs.Worlds.{parts_by, world_by, world_of-parts, is_named-some, live_blocks-world_of}
 use Rattle.mps_first_heap.proofs.Steps.{right_step, unsupported_step}
 use Rattle.mps_first_heap.proofs.NameLemmas.{names_made, not_taken, same_name_itself}
 use Rattle.mps_first_heap.proofs.Acts.{act_of_table, act_of_pool, act_of_point}
@@ -101,9 +101,7 @@ right_with_table : (h : HeapState) (p : Past) (line : ℕ) (name : Name) (slots 
     → IsRightStep (world_without_table h p) (step_of line (call.Table name slots) (reply_only reply.Ok)) (with_table h name slots)
 right_with_table h p line name slots few a may =
     let w = world_of-parts h p false (is_some h.point) (is_some h.pool) h.is_open (not_some h.table may.first) refl refl refl in
-    let e = act_of_table h.grains h.limit p.names (map (object_in h.words) p.addresses) (one_if (is_some h.point) (Some (point_with (some_if h.is_open (reservation_in h.words h.reserved)))))
-    (one_if (is_some h.pool) front_pool) (segments_from 1 p.segments) (map some_address p.addresses) (one_if (is_some h.point) (point_memory_of h)) name slots
-    (a.names name ∙ not_taken h name may.free) (le-ltb most_slots (0 + slots) (omega arith)) in
+    let e = act_of_table (parts_by h p false (is_some h.point) (is_some h.pool) h.is_open) name (a.names name ∙ not_taken h name may.free) slots (le-ltb most_slots (0 + slots) (omega arith)) in
     right_step (world_without_table h p) (step_of line (call.Table name slots) (reply_only reply.Ok)) (with_table h name slots) (past_with_table p name slots) refl
     (record { moves_are_legal = tt; moves_are_due = refl; answer_is_due = sym (ap answer_from e); marked = tt })
     (ap (λ r. with_client_remembered (world_from (world_without_table h p) r)) e)
@@ -173,8 +171,7 @@ right_with_pool : (h : HeapState) (p : Past) (line : ℕ) (name : Name) → Agre
     → IsRightStep (world_without_pool h p) (step_of line (call.Pool name kind.Amc 1) (reply_only reply.Ok)) (with_pool h name)
 right_with_pool h p line name a may =
     let w = world_of-parts h p (is_some h.table) (is_some h.point) false h.is_open refl refl (not_some h.pool may.first) refl in
-    let e = act_of_pool h.grains h.limit p.names (map (object_in h.words) p.addresses) (one_if (is_some h.table) (Some p.ids)) (one_if (is_some h.point) (Some (point_with (some_if h.is_open (reservation_in h.words h.reserved)))))
-    (segments_from 1 p.segments) (map some_address p.addresses) (one_if (is_some h.point) (point_memory_of h)) name (a.names name ∙ not_taken h name may.free) in
+    let e = act_of_pool (parts_by h p (is_some h.table) (is_some h.point) false h.is_open) name (a.names name ∙ not_taken h name may.free) in
     right_step (world_without_pool h p) (step_of line (call.Pool name kind.Amc 1) (reply_only reply.Ok)) (with_pool h name) (past_with_pool p name) refl
     (record { moves_are_legal = tt; moves_are_due = refl; answer_is_due = sym (ap answer_from e); marked = tt })
     (ap (λ r. with_client_remembered (world_from (world_without_pool h p) r)) e)
@@ -255,9 +252,8 @@ is_world_without_point h p pool a none there =
     world_of-parts h p (is_some h.table) false true false refl (not_some h.point none) (is_named-some h.pool pool (and_parts (not (is_named h.table pool)) (is_named h.pool pool) there).1) (a.before_point none).not_open
 
 abbrev pointed_with : HeapState → Past → Name → PointMemory → World
-pointed_with h p name address =
-    world_with h.grains h.limit (past_with_point p name).names (map (object_in h.words) p.addresses) (one_if (is_some h.table) (Some p.ids)) (Some (point_with None) ∷ [])
-    (front_pool ∷ []) (segments_from 1 p.segments) (map some_address p.addresses) (address ∷ [])
+pointed_with h p name memory =
+    world_with (record (parts_by h (past_with_point p name) (is_some h.table) true true false) { point_memories = memory ∷ [] })
 
 abbrev memory_with : (reserved start end : ℕ) → PointMemory
 memory_with reserved start end = record { reserved_at = bytes_of_word * reserved; buffer = record { from = start; count = end - start } }
@@ -275,8 +271,7 @@ right_with_point : (h : HeapState) (p : Past) (line : ℕ) (name pool : Name) �
     → IsRightStep (world_without_point h p) (step_of line (call.Point name pool rank.Exact) (reply_only reply.Ok)) (with_point h name)
 right_with_point h p line name pool a may there =
     let w = is_world_without_point h p pool a may.first there in
-    let e = act_of_point h.grains h.limit p.names (map (object_in h.words) p.addresses) (one_if (is_some h.table) (Some p.ids))
-    (segments_from 1 p.segments) (map some_address p.addresses) name pool (a.names name ∙ not_taken h name may.free) (pool_there h p pool a there) in
+    let e = act_of_point (parts_by h p (is_some h.table) false true false) name (a.names name ∙ not_taken h name may.free) pool (pool_there h p pool a there) in
     right_step (world_without_point h p) (step_of line (call.Point name pool rank.Exact) (reply_only reply.Ok)) (with_point h name) (past_with_point p name) refl
     (record { moves_are_legal = tt; moves_are_due = refl; answer_is_due = sym (ap answer_from e); marked = tt })
     (ap (λ r. with_client_remembered (world_from (world_without_point h p) r)) e ∙ world_pointed h p name pool a may.first there)

@@ -14,9 +14,9 @@ use Rattle.mps_model.specs.History.{live_blocks, with_client_remembered}
 use Rattle.mps_model.specs.Reply.{answer_from, world_from}
 use Rattle.mps_first_heap.specs.HeapState.{HeapState, is_named, has_slot, is_number_cell, head_at}
 use Rattle.mps_first_heap.specs.Outcome.{reply_only, number_at, number_reply}
-use Rattle.mps_first_heap.specs.StandsFor.{Past, Agrees, world_of, step_of, object_in, cells_at, segments_from, some_address, one_if, point_with, some_if, reservation_in, front_pool, point_memory_of, address_in_slot, end_of_objects}
+use Rattle.mps_first_heap.specs.StandsFor.{Past, Agrees, world_of, step_of, cells_at, address_in_slot, end_of_objects}
 use Rattle.mps_first_heap.specs.RightStep.{IsRightStep}
-use Rattle.mps_first_heap.proofs.Worlds.{world_by, world_of-parts, is_named-some, made_with_table, at_hand_within, end_of_objects-le, block_there_at, slot_there, id_there, number_cell_at, object_there, live_blocks-world_of}
+use Rattle.mps_first_heap.proofs.Worlds.{parts_by, world_by, world_of-parts, is_named-some, made_with_table, at_hand_within, end_of_objects-le, block_there_at, slot_there, id_there, number_cell_at, object_there, live_blocks-world_of}
 use Rattle.mps_first_heap.proofs.Steps.{right_step, unsupported_step}
 use Rattle.mps_first_heap.proofs.Acts.{act_of_number, act_of_null}
 
@@ -60,11 +60,8 @@ act_number_there h p slot cell id a name there number =
     let le = end_of_objects-le h p a in
     let within = at_hand_within h p a made in
     let hand = a.buffer in
-    act_of_number h.grains h.limit p.names (map (object_in h.words) p.addresses) p.ids
-    (one_if (is_some h.point) (Some (point_with (some_if h.is_open (reservation_in h.words h.reserved)))))
-    (one_if (is_some h.pool) front_pool) (segments_from 1 p.segments) (map some_address p.addresses) (one_if (is_some h.point) (point_memory_of h))
-    slot id (slice_index h.words at) (cells_at h.words at) cell (slice_index h.words (at + cell))
-    (table_named h p a slot name) there (object_there h.words p.addresses id below)
+    act_of_number (parts_by h p true (is_some h.point) (is_some h.pool) h.is_open) p.ids slot (table_named h p a slot name)
+    id there (slice_index h.words at) (cells_at h.words at) (object_there h.words p.addresses id below) cell (slice_index h.words (at + cell))
     (number_cell_at h.words (end_of_objects h) at cell block (omega arith) number)
 
 number_where : (h : HeapState) (p : Past) (line : ℕ) (slot : Slot) (cell id : ℕ) → Agrees h p → is_named h.table slot.name ≡ true → slice_get p.ids slot.index ≡ Some (Some id) → (b : Bool) → is_number_cell (head_at h (slice_index p.addresses id)) cell ≡ b
@@ -81,10 +78,7 @@ number_held h p line slot cell None a name there =
     let t = is_named-some h.table slot.name name in
     subst (λ (w : World). IsRightStep w (step_of line (call.Number slot cell) (reply_only (reply.Refused refusal.NullRef))) h) (sym (is_world_with_table h p t))
     (right_null h p line slot cell a t
-    (act_of_null h.grains h.limit p.names (map (object_in h.words) p.addresses) p.ids
-    (one_if (is_some h.point) (Some (point_with (some_if h.is_open (reservation_in h.words h.reserved)))))
-    (one_if (is_some h.pool) front_pool) (segments_from 1 p.segments) (map some_address p.addresses) (one_if (is_some h.point) (point_memory_of h))
-    slot cell (table_named h p a slot name) there))
+    (act_of_null (parts_by h p true (is_some h.point) (is_some h.pool) h.is_open) p.ids slot (table_named h p a slot name) cell there))
 number_held h p line slot cell (Some id) a name there =
     let below = id_there (length p.addresses) p.ids slot.index id a.ids there in
     let block = block_there_at h.words (end_of_objects h) p.addresses id a.blocks below in

@@ -29,10 +29,10 @@ use Rattle.mps_model.specs.Reply.{answer_from, world_from}
 use Rattle.mps_first_heap.specs.HeapState.{HeapState, is_point}
 use Rattle.mps_first_heap.specs.Outcome.{Outcome, with_reply, ok_with_move, reply_only, unsupported, reserved_in_buffer, segment_move, reserve_after, reserve_placed, after_reserve}
 use Rattle.mps_first_heap.specs.Outcome as outcome
-use Rattle.mps_first_heap.specs.StandsFor.{Past, Agrees, world_of, world_with, step_of, object_in, cells_in, segment_from, segments_from, some_address, one_if, point_with, reservation_in, front_pool, end_of_objects}
+use Rattle.mps_first_heap.specs.StandsFor.{Past, Agrees, world_of, world_with, step_of, object_in, cells_in, segment_from, segments_from, point_with, reservation_in, end_of_objects}
 use Rattle.mps_first_heap.specs.RightStep.{IsRightStep}
 use Rattle.mps_first_heap.proofs.Lists.{objects-set_after, blocks-set_after, slice_index-set_same, new_cells_at, blocks_later, length_new_cells}
-use Rattle.mps_first_heap.proofs.Worlds.{world_by, world_of-parts, pool_with_point, made_with_pool, at_hand_within, live_blocks-world_of, stored}
+use Rattle.mps_first_heap.proofs.Worlds.{parts_by, world_by, world_of-parts, pool_with_point, made_with_pool, at_hand_within, live_blocks-world_of, stored}
 use Rattle.mps_first_heap.proofs.Stores.{stored-set_after}
 use Rattle.mps_first_heap.proofs.Segments.{runs, over_limit, new_segment, segments_push, sum_push}
 use Rattle.mps_first_heap.proofs.Steps.{right_step, unsupported_step}
@@ -101,9 +101,11 @@ agrees_reserved h p head a q o valid room pos =
 
 abbrev reserved_with : HeapState → Past → List Object → Reservation → (following left : ℕ) → World
 reserved_with h p objects r from left =
-    world_with h.grains h.limit p.names objects (one_if (is_some h.table) (Some p.ids)) (Some (point_with (Some r)) ∷ [])
-    (front_pool ∷ []) (segments_from 1 p.segments) (map some_address p.addresses)
-    (record { reserved_at = bytes_of_word * h.buffer_start; buffer = record { from = from; count = left } } ∷ [])
+    world_with (record (parts_by h p (is_some h.table) true true true) {
+      objects = objects;
+      points = Some (point_with (Some r)) ∷ [];
+      point_memories = record { reserved_at = bytes_of_word * h.buffer_start; buffer = record { from = from; count = left } } ∷ [];
+    })
 
 reservation_made : (h : HeapState) (head : ℕ) → is_front head ≡ true → h.buffer_start + size_field head ≤ length h.words → ((k : ℕ) → h.buffer_start ≤ k → slice_index h.words k ≡ 0) → reservation_in (slice_set h.words h.buffer_start head) h.buffer_start ≡ taken_from h head
 reservation_made h head valid fits fresh =
@@ -267,8 +269,10 @@ agrees_taken h p need a q o fits =
 
 abbrev taken_with : HeapState → Past → List Segment → (from count : ℕ) → World
 taken_with h p segments from count =
-    world_with h.grains h.limit p.names (map (object_in h.words) p.addresses) (one_if (is_some h.table) (Some p.ids)) (Some (point_with None) ∷ [])
-    (front_pool ∷ []) segments (map some_address p.addresses) (record { reserved_at = bytes_of_word * h.reserved; buffer = record { from = from; count = count } } ∷ [])
+    world_with (record (parts_by h p (is_some h.table) true true false) {
+      segments = segments;
+      point_memories = record { reserved_at = bytes_of_word * h.reserved; buffer = record { from = from; count = count } } ∷ [];
+    })
 
 -- the world after the segment was taken
 pub world_taken : (h : HeapState) (p : Past) (name : Name) (head need : ℕ) → Agrees h p → thing_in p.names name ≡ Some (PointThing 0)

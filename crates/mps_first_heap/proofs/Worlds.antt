@@ -15,7 +15,7 @@ use Rattle.mps_model.specs.World.{World, live_ids, numbers_of}
 use Rattle.mps_model.specs.Replay.{Block, Store, with_block}
 use Rattle.mps_model.specs.History.{HeldAreLive, block_of, blocks_of_ids, live_blocks}
 use Rattle.mps_first_heap.specs.HeapState.{HeapState, is_named, words_of_head, is_number_cell}
-use Rattle.mps_first_heap.specs.StandsFor.{Past, Agrees, world_of, world_with, segments_from, front_pool, point_memory_of, address_in_slot, cell_in, cells_at, object_in, reservation_in, point_with, one_if, some_if, some_address, is_null_or_below, IsBlockAt, end_of_objects}
+use Rattle.mps_first_heap.specs.StandsFor.{Past, Agrees, Parts, parts_of, world_of, world_with, front_pool, point_memory_of, address_in_slot, cell_in, cells_at, object_in, reservation_in, point_with, one_if, some_if, some_address, is_null_or_below, IsBlockAt, end_of_objects}
 use Rattle.mps_first_heap.proofs.Lists.{no_targets, length-block_words, slice_get-cells_in}
 
 -- ---- live objects
@@ -112,14 +112,16 @@ live_blocks-world_of h p = blocks_there (world_of h p) h.words 0 p.addresses (λ
 -- ---- which parts there are
 
 -- the world of the heap, where it is known which parts there are
+abbrev pub parts_by : HeapState → Past → (table point pool is_open : Bool) → Parts
+parts_by h p table point pool is_open = record (parts_of h p) {
+  tables = one_if table (Some p.ids);
+  points = one_if point (Some (point_with (some_if is_open (reservation_in h.words h.reserved))));
+  pools = one_if pool front_pool;
+  point_memories = one_if point (point_memory_of h);
+}
+
 abbrev pub world_by : HeapState → Past → (table point pool is_open : Bool) → World
-world_by h p table point pool is_open =
-    world_with h.grains h.limit p.names (map (object_in h.words) p.addresses) (one_if table (Some p.ids))
-    (one_if point (Some (point_with (some_if is_open (reservation_in h.words h.reserved)))))
-    (one_if pool front_pool)
-    (segments_from 1 p.segments)
-    (map some_address p.addresses)
-    (one_if point (point_memory_of h))
+world_by h p table point pool is_open = world_with (parts_by h p table point pool is_open)
 
 pub world_of-parts : (h : HeapState) (p : Past) (table point pool is_open : Bool) → is_some h.table ≡ table → is_some h.point ≡ point → is_some h.pool ≡ pool → h.is_open ≡ is_open → world_of h p ≡ world_by h p table point pool is_open
 world_of-parts h p table point pool is_open t q l o =

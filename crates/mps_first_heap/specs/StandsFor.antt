@@ -87,29 +87,40 @@ point_memory_of h = record {
 abbrev pub some_address : ℕ → Option ℕ
 some_address address = Some (address_of_word address)
 
--- the world made of these parts: nothing is registered, no collection ran
-abbrev pub world_with :
-    (grains limit : ℕ) → List NamedThing → List Object → List (Option Slots) → List (Option Point) → List Pool → List Segment
-    → List (Option ℕ) → List PointMemory → World
-world_with grains limit names objects tables points pools segments addresses point_memories = record {
+-- the parts of a world that a heap has; the others are those of the empty world
+pub record Parts : Type 0 where
+  pub grains : ℕ
+  pub limit : ℕ
+  pub names : List NamedThing
+  pub objects : List Object
+  pub tables : List (Option Slots)
+  pub points : List (Option Point)
+  pub pools : List Pool
+  pub segments : List Segment
+  pub addresses : List (Option ℕ)
+  pub point_memories : List PointMemory
+
+-- the world with these parts: nothing is registered, no collection ran
+abbrev pub world_with : Parts → World
+world_with w = record {
   graph = record {
-    objects = objects;
-    tables = tables;
+    objects = w.objects;
+    tables = w.tables;
     areas = [];
     blocks = [];
-    points = points;
+    points = w.points;
     registered = [];
     messages = [];
-    names = names;
+    names = w.names;
   };
-  grains = grains;
-  limit = limit;
+  grains = w.grains;
+  limit = w.limit;
   formats = numbered_layout;
-  pools = pools;
+  pools = w.pools;
   chains = [];
-  segments = segments;
-  addresses = addresses;
-  point_memories = point_memories;
+  segments = w.segments;
+  addresses = w.addresses;
+  point_memories = w.point_memories;
   tails = [];
   state = Unclamped;
   flips = [];
@@ -117,14 +128,23 @@ world_with grains limit names objects tables points pools segments addresses poi
   collection = None;
 }
 
+abbrev pub parts_of : HeapState → Past → Parts
+parts_of h p = record {
+  grains = h.grains;
+  limit = h.limit;
+  names = p.names;
+  objects = map (object_in h.words) p.addresses;
+  tables = one_if (is_some h.table) (Some p.ids);
+  points = one_if (is_some h.point) (Some (point_with (some_if h.is_open (reservation_in h.words h.reserved))));
+  pools = one_if (is_some h.pool) front_pool;
+  segments = segments_from 1 p.segments;
+  addresses = map some_address p.addresses;
+  point_memories = one_if (is_some h.point) (point_memory_of h);
+}
+
+-- the world that a state and its past make together
 abbrev pub world_of : HeapState → Past → World
-world_of h p =
-    world_with h.grains h.limit p.names (map (object_in h.words) p.addresses) (one_if (is_some h.table) (Some p.ids))
-    (one_if (is_some h.point) (Some (point_with (some_if h.is_open (reservation_in h.words h.reserved)))))
-    (one_if (is_some h.pool) front_pool)
-    (segments_from 1 p.segments)
-    (map some_address p.addresses)
-    (one_if (is_some h.point) (point_memory_of h))
+world_of h p = world_with (parts_of h p)
 
 -- ---- what holds of it
 
