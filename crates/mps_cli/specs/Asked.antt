@@ -11,7 +11,7 @@ use Rattle.mps_log_reader.specs.Ending.{IsUnopened, is_input_verdict}
 use Rattle.mps_log_reader.specs.Opening.{OpensNothing}
 use Rattle.mps_blocks.specs.Listed.{ListedWith, IsOnly as IsOnlyList, ListsPart}
 use Rattle.mps_txt.specs.Text.{ReadWith, IsCutShort as IsCutShortText, IsOnlyReading}
-use Rattle.mps_cnv.specs.Converted.{ConvertedWith, Fails, IsCutShort, IsOnly}
+use Rattle.mps_cnv.specs.Converted.{ConvertedWith, ConvertsUntilReadFault, ConvertsUntilWriteFault, IsUnique as IsUniqueConversion}
 use Rattle.mps_workload.specs.Ending.{FailsWithin}
 use Rattle.mps_workload.specs.Script.{script as generated_script}
 use Rattle.mps_args.specs.Meaning.{Meaning, Runs, Converts, Reads, Lists, Generates}
@@ -57,15 +57,15 @@ pub record ConvertsLog (log : List ℕ) (kinds : ℕ) (status : ℕ) (old new : 
   -- that is reported
   pub converted : is_input_verdict status ≡ true → (bytes : List ℕ) → old.text log ≡ Some bytes → ConvertedWith kinds bytes status old new
   -- and nothing else
-  pub only : is_input_verdict status ≡ true → (bytes : List ℕ) → old.text log ≡ Some bytes → IsOnly kinds bytes status old new
+  pub only : is_input_verdict status ≡ true → (bytes : List ℕ) → old.text log ≡ Some bytes → IsUniqueConversion kinds bytes status old new
   -- where a read failed, the text of the whole records that had come was printed; a prefix of that, where a write failed too
-  pub broken : status ≡ 3 → (bytes : List ℕ) → old.text log ≡ Some bytes → Fails kinds bytes old new
+  pub broken : status ≡ 3 → (bytes : List ℕ) → old.text log ≡ Some bytes → ConvertsUntilReadFault kinds bytes old new
   -- a log that is not there is not read, and nothing is printed
   pub missing : OpensNothing old log → IsUnopened status old new
   -- memory runs out only before anything else happens
   pub no_memory : status ≡ 8 → ReportsText old new (report_of stop.OutOfMemory)
   -- where a write failed, a front of the text was printed
-  pub cut : status ≡ 4 → (bytes : List ℕ) → old.text log ≡ Some bytes → IsCutShort kinds bytes old new
+  pub cut : status ≡ 4 → (bytes : List ℕ) → old.text log ≡ Some bytes → ConvertsUntilWriteFault kinds bytes old new
   -- just the ending that has this status is reported
   pub reported : ReportsStatus status old new
 

@@ -11,6 +11,10 @@ use Rattle.mps_event.specs.Grammar.{IsRecord}
 use Rattle.mps_event.specs.Reading.{first_of}
 use Rattle.mps_report.specs.declared.stop.Stop.{Stop}
 use Rattle.mps_report.specs.declared.stop.Stop.TheVariants as stop
+use Rattle.mps_log_reader.specs.declared.bad_log.BadLog.{BadLog}
+use Rattle.mps_log_reader.specs.declared.bad_log.BadLog.TheVariants as bad_log
+use Rattle.mps_log_reader.specs.Ending.{max_records}
+use Rattle.mps_log_reader.specs.LogPrefix.{RecordsPrefix}
 use Rattle.mps_report.specs.Streams.{FlushedPrefix}
 use Rattle.mps_log_reader.specs.Input.{Buffered, ReadsMore, IsAtEnd}
 use Rattle.mps_log_reader.specs.Left.{left_of, LastGives}
@@ -19,7 +23,7 @@ use Rattle.mps_log_reader.proofs.Left.{left_same, split_pending, nothing_left, f
 use Rattle.mps_log_reader.proofs.PutOut.{put_same, put_more, nothing_put, one_put}
 use Rattle.mps_log_reader.proofs.Records.{none_yet, all_and_one, flat_one}
 use Rattle.mps_cnv.specs.Portable.{line_of_kinds}
-use Rattle.mps_cnv.specs.Converting.{PendingGives, NextGives, AllGive}
+use Rattle.mps_cnv.specs.Converting.{PendingGives, NextGives, PutsLines, AllGive}
 
 -- ---- one record
 
@@ -49,11 +53,11 @@ next_gives version kinds offset a b c x y p q r (Some size) at_end reads enough 
       put = ap (put_out c) gives.4 ∙ put_more q line c.printed ∙ ap (λ (o : Option (List ℕ)). option_map (λ all. all ++ line) o) (put ∙ before);
     }
 
-pub next_stops : (version : Version) (kinds offset : ℕ) (a b c : Outside) (x y : Buffered) (left_after : Option (List ℕ)) (p q r : List ℕ) (why : Stop)
+pub next_stops : (version : Version) (kinds offset : ℕ) (a b c : Outside) (x y : Buffered) (left_after : Option (List ℕ)) (p q r : List ℕ) (why : Stop BadLog)
     → IsAtEnd a x → ReadsMore a b x y → FlushedPrefix b c p q
     → PendingGives version kinds offset y q r (Err why)
     → NextGives version kinds offset (left_of a x) left_after (put_out a p) (put_out c r) (Err why)
-next_stops version kinds offset a b c x y left_after p q r (stop.BadRecord at fault) at_end reads kept gives =
+next_stops version kinds offset a b c x y left_after p q r (stop.Bad (bad_log.Record at fault)) at_end reads kept gives =
     let left : left_of b y ≡ left_of a x = left_same a b x y reads in
     let put : put_out c q ≡ put_out b p = put_same b c p q kept in
     let before : put_out b p ≡ put_out a p = ap (λ (o : Option (List ℕ)). option_map (λ printed. printed ++ p) o) reads.others.printed in (
@@ -62,14 +66,9 @@ next_stops version kinds offset a b c x y left_after p q r (stop.BadRecord at fa
       ap (put_out c) gives.2 ∙ put ∙ before,
     )
 next_stops version kinds offset a b c x y left_after p q r stop.ReadFailed at_end reads kept gives = tt
-next_stops version kinds offset a b c x y left_after p q r stop.WriteFailed at_end reads kept gives = tt
-next_stops version kinds offset a b c x y left_after p q r stop.BadHeader at_end reads kept gives = absurd gives
-next_stops version kinds offset a b c x y left_after p q r (stop.BadReplay at) at_end reads kept gives = absurd gives
-next_stops version kinds offset a b c x y left_after p q r (stop.BadLine line) at_end reads kept gives = absurd gives
-next_stops version kinds offset a b c x y left_after p q r stop.TooLong at_end reads kept gives = absurd gives
-next_stops version kinds offset a b c x y left_after p q r stop.OutOfMemory at_end reads kept gives = absurd gives
+next_stops version kinds offset a b c x y left_after p q r why at_end reads kept gives = absurd gives
 
-pub room_fails : (version : Version) (kinds offset : ℕ) (left left_after before after : Option (List ℕ)) (result : Result (Unit {0}) Stop) (why : Stop)
+pub room_fails : (version : Version) (kinds offset : ℕ) (left left_after before after : Option (List ℕ)) (result : Result (Unit {0}) (Stop BadLog)) (why : Stop BadLog)
     → result ≡ Err stop.WriteFailed → result ≡ Err why → NextGives version kinds offset left left_after before after (Err why)
 room_fails version kinds offset left left_after before after result why e f =
     let g : why ≡ stop.WriteFailed = cc in
@@ -111,72 +110,65 @@ one_more version kinds count offset size left left_after left_then before after 
           (one_put (flat_map (line_of_kinds version kinds) s.records) (line_of_kinds version kinds n.read) before after put s.put n.put);
     }
 
-pub all_read : (version : Version) (kinds count offset : ℕ) (left left_after left_then before after put : Option (List ℕ)) (bytes : List ℕ) → count < 4294967295
-    → SoFar version kinds count offset left left_after before after → NextGives version kinds offset left_after left_then after put (Ok None)
-    → left ≡ Some bytes → AllGive {T = Unit {0}} version kinds bytes before put (Ok tt)
-all_read version kinds count offset left left_after left_then before after put bytes few s n e =
-    let g = left_after_known (records_bytes s.records) bytes left left_after s.front e in
-    record {
-      records = s.records;
-      rest = g.0;
-      each = s.each;
-      few = omega (arith, s.counted);
-      spelled = g.2;
-      ends_at = subst (λ (o : Option (List ℕ)). IfSome o (λ bytes. bytes ≡ [])) g.1 n.0;
-      put = n.1 ∙ s.put;
-    }
+-- the records so far are a prefix of all that was left, where that is known
+pub record IsPrefix (version : Version) (kinds count offset : ℕ) (left_after before after : Option (List ℕ)) (bytes : List ℕ) : Type 0 where
+  pub prefix : RecordsPrefix version bytes
+  pub counted : length prefix.records ≡ count
+  pub offset_is : offset ≡ 8 + length (records_bytes prefix.records)
+  pub left : left_after ≡ Some prefix.rest
+  pub put : PutsLines kinds prefix before after
 
-pub all_stop : (version : Version) (kinds count offset : ℕ) (left left_after left_then before after put : Option (List ℕ)) (bytes : List ℕ) (why : Stop) → count < 4294967295
-    → SoFar version kinds count offset left left_after before after → NextGives version kinds offset left_after left_then after put (Err why)
-    → left ≡ Some bytes → AllGive {T = Unit {0}} version kinds bytes before put (Err why)
-all_stop version kinds count offset left left_after left_then before after put bytes (stop.BadRecord at fault) few s n e =
+pub known_prefix : (version : Version) (kinds count offset : ℕ) (left left_after before after : Option (List ℕ)) (bytes : List ℕ) → count ≤ max_records
+    → SoFar version kinds count offset left left_after before after → left ≡ Some bytes → IsPrefix version kinds count offset left_after before after bytes
+known_prefix version kinds count offset left left_after before after bytes le s e =
     let g = left_after_known (records_bytes s.records) bytes left left_after s.front e in
     record {
-      records = s.records;
-      rest = g.0;
-      each = s.each;
-      few = omega (arith, s.counted);
-      spelled = g.2;
-      ends_at = (n.0 ∙ s.place, subst (λ (o : Option (List ℕ)). IfSome o (λ bytes. first_of version true bytes ≡ Err fault)) g.1 n.1, omega (arith, s.counted));
-      put = n.2 ∙ s.put;
-    }
-all_stop version kinds count offset left left_after left_then before after put bytes stop.ReadFailed few s n e = tt
-all_stop version kinds count offset left left_after left_then before after put bytes stop.WriteFailed few s n e = tt
-all_stop version kinds count offset left left_after left_then before after put bytes stop.BadHeader few s n e = absurd n
-all_stop version kinds count offset left left_after left_then before after put bytes (stop.BadReplay at) few s n e = absurd n
-all_stop version kinds count offset left left_after left_then before after put bytes (stop.BadLine line) few s n e = absurd n
-all_stop version kinds count offset left left_after left_then before after put bytes stop.TooLong few s n e = absurd n
-all_stop version kinds count offset left left_after left_then before after put bytes stop.OutOfMemory few s n e = absurd n
-
-pub all_counted : (version : Version) (kinds count offset : ℕ) (left left_after before after : Option (List ℕ)) (bytes : List ℕ) (result : Result (Unit {0}) Stop) → count ≡ 4294967295
-    → SoFar version kinds count offset left left_after before after → LastGives left_after result
-    → left ≡ Some bytes → AllGive {T = Unit {0}} version kinds bytes before after result
-all_counted version kinds count offset left left_after before after bytes (Ok value) full s n e =
-    let g = left_after_known (records_bytes s.records) bytes left left_after s.front e in
-    record {
-      records = s.records;
-      rest = g.0;
-      each = s.each;
-      few = omega (arith, s.counted);
-      spelled = g.2;
-      ends_at = subst (λ (o : Option (List ℕ)). IfSome o (λ bytes. bytes ≡ [])) g.1 n;
+      prefix = record { records = s.records; rest = g.0; each = s.each; at_most = omega (arith, s.counted, le); spelled = g.2 };
+      counted = s.counted;
+      offset_is = s.place;
+      left = g.1;
       put = s.put;
     }
-all_counted version kinds count offset left left_after before after bytes (Err stop.TooLong) full s n e =
-    let g = left_after_known (records_bytes s.records) bytes left left_after s.front e in
-    record {
-      records = s.records;
-      rest = g.0;
-      each = s.each;
-      few = omega (arith, s.counted);
-      spelled = g.2;
-      ends_at = (s.counted ∙ full, subst (λ (o : Option (List ℕ)). IfSome o (λ bytes. 0 < length bytes)) g.1 n);
-      put = s.put;
-    }
-all_counted version kinds count offset left left_after before after bytes (Err stop.ReadFailed) full s n e = tt
-all_counted version kinds count offset left left_after before after bytes (Err stop.WriteFailed) full s n e = absurd n
-all_counted version kinds count offset left left_after before after bytes (Err stop.BadHeader) full s n e = absurd n
-all_counted version kinds count offset left left_after before after bytes (Err (stop.BadRecord at fault)) full s n e = absurd n
-all_counted version kinds count offset left left_after before after bytes (Err (stop.BadReplay at)) full s n e = absurd n
-all_counted version kinds count offset left left_after before after bytes (Err (stop.BadLine line)) full s n e = absurd n
-all_counted version kinds count offset left left_after before after bytes (Err stop.OutOfMemory) full s n e = absurd n
+
+module _ (version : Version) (kinds count offset : ℕ) (left left_after before after : Option (List ℕ)) (bytes : List ℕ) where
+  pub all_read : (left_then put : Option (List ℕ)) → count < max_records → SoFar version kinds count offset left left_after before after
+      → NextGives version kinds offset left_after left_then after put (Ok None) → left ≡ Some bytes → AllGive version kinds bytes before put (Ok tt)
+  all_read left_then put few s n e =
+      let p = known_prefix version kinds count offset left left_after before after bytes (omega (arith, few)) s e in
+      record {
+        prefix = p.prefix;
+        ends_at = subst (λ (o : Option (List ℕ)). IfSome o (λ bytes. bytes ≡ [])) p.left n.0;
+        put = n.1 ∙ p.put;
+      }
+
+  pub all_stop : (left_then put : Option (List ℕ)) (why : Stop BadLog) → count < max_records → SoFar version kinds count offset left left_after before after
+      → NextGives version kinds offset left_after left_then after put (Err why) → left ≡ Some bytes → AllGive version kinds bytes before put (Err why)
+  all_stop left_then put (stop.Bad (bad_log.Record at fault)) few s n e =
+      let p = known_prefix version kinds count offset left left_after before after bytes (omega (arith, few)) s e in
+      record {
+        prefix = p.prefix;
+        ends_at = (n.0 ∙ p.offset_is, subst (λ (o : Option (List ℕ)). IfSome o (λ bytes. first_of version true bytes ≡ Err fault)) p.left n.1, omega (arith, p.counted, few));
+        put = n.2 ∙ p.put;
+      }
+  all_stop left_then put stop.ReadFailed few s n e = tt
+  all_stop left_then put stop.WriteFailed few s n e = tt
+  all_stop left_then put why few s n e = absurd n
+
+  pub all_counted : (result : Result (Unit {0}) (Stop BadLog)) → count ≡ max_records → SoFar version kinds count offset left left_after before after
+      → LastGives left_after result → left ≡ Some bytes → AllGive version kinds bytes before after result
+  all_counted (Ok value) full s n e =
+      let p = known_prefix version kinds count offset left left_after before after bytes (omega (arith, full)) s e in
+      record {
+        prefix = p.prefix;
+        ends_at = subst (λ (o : Option (List ℕ)). IfSome o (λ bytes. bytes ≡ [])) p.left n;
+        put = p.put;
+      }
+  all_counted (Err stop.TooLong) full s n e =
+      let p = known_prefix version kinds count offset left left_after before after bytes (omega (arith, full)) s e in
+      record {
+        prefix = p.prefix;
+        ends_at = (p.counted ∙ full, subst (λ (o : Option (List ℕ)). IfSome o (λ bytes. 0 < length bytes)) p.left n);
+        put = p.put;
+      }
+  all_counted (Err stop.ReadFailed) full s n e = tt
+  all_counted result full s n e = absurd n

@@ -1,5 +1,5 @@
 pub mod Converting
-pub mod Wholly
-pub mod OneReading
-pub mod Broken
-pub mod Cut
+pub mod ReadFault
+pub mod WriteFault
+pub mod WholeReading
+pub mod Uniqueness

@@ -1,7 +1,7 @@
 -- The conversion of a log step by step.
-use Rattle.std.specs.Prelude.{◌≡◌, ℕ, ◌+◌, ◌<◌, true, false, Option, Some, None, IfSome, Result, Ok, Err, List, [], ◌++◌, length, drop, All}
+use Rattle.std.specs.Prelude.{◌≡◌, ℕ, true, false, Option, Some, None, IfSome, Result, Ok, Err, List, [], ◌++◌, length, drop}
 use Rattle.std.specs.Option.{option_map}
-use Rattle.mps_base.specs.Record.{Record, record_bytes, records_bytes}
+use Rattle.mps_base.specs.Record.{Record, record_bytes}
 use Rattle.mps_event.specs.declared.version.Version.{Version}
 use Rattle.mps_event.specs.Grammar.{IsRecord}
 use Rattle.mps_event.specs.Reading.{first_of}
@@ -10,7 +10,9 @@ use Rattle.mps_report.specs.declared.stop.Stop.{Stop}
 use Rattle.mps_report.specs.declared.stop.Stop.TheVariants as stop
 use Rattle.mps_log_reader.specs.Input.{Buffered}
 use Rattle.mps_log_reader.specs.PutOut.{PutsOut, PutsPart}
-use Rattle.mps_log_reader.specs.Ending.{EndsAt}
+use Rattle.mps_log_reader.specs.declared.bad_log.BadLog.{BadLog}
+use Rattle.mps_log_reader.specs.declared.bad_log.BadLog.TheVariants as bad_log
+use Rattle.mps_log_reader.specs.LogPrefix.{RecordsPrefix, RecordsEnd}
 use Rattle.mps_cnv.specs.Portable.{line_of_kinds}
 use Rattle.mps_cnv.specs.Converted.{IsCutRecord}
 
@@ -23,74 +25,51 @@ pub record ConvertsOne (version : Version) (kinds size : ℕ) (left left_after b
   pub put : PutsOut before after (line_of_kinds version kinds read)
 
 -- what the record that is pending gave
-abbrev pub PendingGives : Version → (kinds offset : ℕ) → Buffered → (before after : List ℕ) → Result (Option ℕ) Stop → Type 0
+abbrev pub PendingGives : Version → (kinds offset : ℕ) → Buffered → (before after : List ℕ) → Result (Option ℕ) (Stop BadLog) → Type 0
 PendingGives version kinds offset b before after (Ok (Some size)) =
     (r : Record) × IsRecord version r × (size ≡ length (record_bytes r)) × (b.pending ≡ record_bytes r ++ drop size b.pending) × (after ≡ before ++ line_of_kinds version kinds r)
 PendingGives version kinds offset b before after (Ok None) =
     (first_of version b.ended b.pending ≡ Ok None) × (b.failed ≡ false) × (after ≡ before)
-PendingGives version kinds offset b before after (Err (stop.BadRecord at fault)) =
+PendingGives version kinds offset b before after (Err (stop.Bad (bad_log.Record at fault))) =
     (at ≡ offset) × (first_of version b.ended b.pending ≡ Err fault) × (after ≡ before)
 PendingGives version kinds offset b before after (Err stop.ReadFailed) = Unit {0}
-PendingGives version kinds offset b before after (Err stop.WriteFailed) = ⊥
-PendingGives version kinds offset b before after (Err stop.BadHeader) = ⊥
-PendingGives version kinds offset b before after (Err (stop.BadReplay at)) = ⊥
-PendingGives version kinds offset b before after (Err (stop.BadLine line)) = ⊥
-PendingGives version kinds offset b before after (Err stop.TooLong) = ⊥
-PendingGives version kinds offset b before after (Err stop.OutOfMemory) = ⊥
+PendingGives version kinds offset b before after result = ⊥
 
 -- what the next record gave, of what was left
-abbrev pub NextGives : Version → (kinds offset : ℕ) → (left left_after before after : Option (List ℕ)) → Result (Option ℕ) Stop → Type 0
+abbrev pub NextGives : Version → (kinds offset : ℕ) → (left left_after before after : Option (List ℕ)) → Result (Option ℕ) (Stop BadLog) → Type 0
 NextGives version kinds offset left left_after before after (Ok (Some size)) =
     ConvertsOne version kinds size left left_after before after
 NextGives version kinds offset left left_after before after (Ok None) =
     IfSome left (λ bytes. bytes ≡ []) × (after ≡ before)
-NextGives version kinds offset left left_after before after (Err (stop.BadRecord at fault)) =
+NextGives version kinds offset left left_after before after (Err (stop.Bad (bad_log.Record at fault))) =
     (at ≡ offset) × IfSome left (λ bytes. first_of version true bytes ≡ Err fault) × (after ≡ before)
 NextGives version kinds offset left left_after before after (Err stop.ReadFailed) = Unit {0}
 NextGives version kinds offset left left_after before after (Err stop.WriteFailed) = Unit {0}
-NextGives version kinds offset left left_after before after (Err stop.BadHeader) = ⊥
-NextGives version kinds offset left left_after before after (Err (stop.BadReplay at)) = ⊥
-NextGives version kinds offset left left_after before after (Err (stop.BadLine line)) = ⊥
-NextGives version kinds offset left left_after before after (Err stop.TooLong) = ⊥
-NextGives version kinds offset left left_after before after (Err stop.OutOfMemory) = ⊥
+NextGives version kinds offset left left_after before after result = ⊥
+
+-- the lines of these records were put out
+abbrev pub PutsLines : {version : Version} {bytes : List ℕ} → (kinds : ℕ) → RecordsPrefix version bytes → (before after : Option (List ℕ)) → Type 0
+PutsLines {version = version} kinds prefix before after = PutsOut before after (flat_map (line_of_kinds version kinds) prefix.records)
 
 -- the records of what was left were converted, up to a rest
-pub record ConvertsAll {T : Type 0} (version : Version) (kinds : ℕ) (bytes : List ℕ) (before after : Option (List ℕ)) (ending : Result T Stop) : Type 0 where
-  pub records : List Record
-  pub rest : List ℕ
-  pub each : All (IsRecord version) records
-  pub few : length records < 4294967296
-  pub spelled : bytes ≡ records_bytes records ++ rest
-  pub ends_at : EndsAt version ending (length records) (8 + length (records_bytes records)) rest
-  pub put : PutsOut before after (flat_map (line_of_kinds version kinds) records)
+pub record ConvertsAll (version : Version) (kinds : ℕ) (bytes : List ℕ) (before after : Option (List ℕ)) (ending : Result (Unit {0}) (Stop BadLog)) : Type 0 where
+  pub prefix : RecordsPrefix version bytes
+  pub ends_at : RecordsEnd prefix ending
+  pub put : PutsLines kinds prefix before after
 
 -- the whole records of what was left were converted before a read failed
 pub record ConvertsFront (version : Version) (kinds : ℕ) (bytes : List ℕ) (unread before after : Option (List ℕ)) : Type 0 where
-  pub records : List Record
-  pub rest : List ℕ
-  pub each : All (IsRecord version) records
-  pub few : length records < 4294967296
-  pub spelled : bytes ≡ records_bytes records ++ rest
-  pub cut : IsCutRecord version rest unread
-  pub put : PutsOut before after (flat_map (line_of_kinds version kinds) records)
+  pub prefix : RecordsPrefix version bytes
+  pub cut : IsCutRecord version prefix.rest unread
+  pub put : PutsLines kinds prefix before after
 
 -- records at a prefix of what was left were converted, and a prefix of their lines, after what was gathered, was printed
 pub record ConvertsPart (version : Version) (kinds : ℕ) (bytes : List ℕ) (gathered : List ℕ) (old new : Option (List ℕ)) : Type 0 where
-  pub records : List Record
-  pub rest : List ℕ
-  pub each : All (IsRecord version) records
-  pub few : length records < 4294967296
-  pub spelled : bytes ≡ records_bytes records ++ rest
-  pub part : PutsPart old new (gathered ++ flat_map (line_of_kinds version kinds) records)
+  pub prefix : RecordsPrefix version bytes
+  pub part : PutsPart old new (gathered ++ flat_map (line_of_kinds version kinds) prefix.records)
 
 -- the same of every ending
-abbrev pub AllGive : {T : Type 0} → Version → (kinds : ℕ) → (bytes : List ℕ) → (before after : Option (List ℕ)) → Result T Stop → Type 0
-AllGive version kinds bytes before after (Ok value) = ConvertsAll version kinds bytes before after (Ok value)
-AllGive version kinds bytes before after (Err (stop.BadRecord at fault)) = ConvertsAll {T = Unit {0}} version kinds bytes before after (Err (stop.BadRecord at fault))
-AllGive version kinds bytes before after (Err stop.TooLong) = ConvertsAll {T = Unit {0}} version kinds bytes before after (Err stop.TooLong)
+abbrev pub AllGive : Version → (kinds : ℕ) → (bytes : List ℕ) → (before after : Option (List ℕ)) → Result (Unit {0}) (Stop BadLog) → Type 0
 AllGive version kinds bytes before after (Err stop.ReadFailed) = Unit {0}
 AllGive version kinds bytes before after (Err stop.WriteFailed) = Unit {0}
-AllGive version kinds bytes before after (Err stop.BadHeader) = ⊥
-AllGive version kinds bytes before after (Err (stop.BadReplay at)) = ⊥
-AllGive version kinds bytes before after (Err (stop.BadLine line)) = ⊥
-AllGive version kinds bytes before after (Err stop.OutOfMemory) = ⊥
+AllGive version kinds bytes before after ending = ConvertsAll version kinds bytes before after ending

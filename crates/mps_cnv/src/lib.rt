@@ -1,8 +1,8 @@
 //! `cnv`: the portable text of a log.
 #![tactic(auto)]
 
-mod cnv;
+mod conversion;
 #[cfg(test)]
 mod tests;
 
-pub use cnv::cnv;
+pub use conversion::cnv;

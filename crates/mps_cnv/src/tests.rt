@@ -1,8 +1,8 @@
 // The portable text of whole and damaged logs over a desk in memory.
-use mps_event::Kinds;
-use crate::cnv::cnv;
+use crate::conversion::cnv;
 use bitflags::Flags;
 use mps_base::{DeskCall, MemDesk};
+use mps_event::Kinds;
 use std::alloc::{AllocError, Global};
 use std::process::Abort;
 use std::test::Fail;

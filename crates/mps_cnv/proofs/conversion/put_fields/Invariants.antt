@@ -1,7 +1,7 @@
 use Rattle.std.proofs.Common.{◌≡◌, ◌≤◌, ◌+◌, ◌*◌, ◌++◌, length, take}
 use Rattle.std.specs.List.{flat_map}
 use Rattle.mps_log_reader.specs.RecordLine.{field_text}
-use Rattle.mps_cnv.proofs.cnv.put_fields.Given as goal
+use Rattle.mps_cnv.proofs.conversion.put_fields.Given as goal
 
 abbrev pub invariant-loop-i : goal.invariant-loop-i
 invariant-loop-i l = record {

@@ -3,7 +3,7 @@ use Rattle.mps_base.specs.Record.{record_bytes}
 use Rattle.mps_event.specs.Grammar.{IsRecord}
 use Rattle.mps_event.specs.Reading.{size_of_record}
 use Rattle.mps_log_reader.proofs.FirstRecord.{at_most_four, lies_within, length-record_bytes, is_at_front}
-use Rattle.mps_cnv.proofs.cnv.convert_record.Goals as goal
+use Rattle.mps_cnv.proofs.conversion.convert_record.Goals as goal
 
 pub returns-in-Ok-Some-clause-size : goal.returns-in-Ok-Some-clause-size
 returns-in-Ok-Some-clause-size c =

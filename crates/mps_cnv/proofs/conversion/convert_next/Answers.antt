@@ -8,9 +8,9 @@ use Rattle.mps_log_reader.specs.PutOut.{put_out}
 use Rattle.mps_cnv.specs.Converting.{NextGives}
 use Rattle.mps_log_reader.proofs.PartPut.{grows_by, puts_part}
 use Rattle.mps_log_reader.proofs.Stops.{handed_on}
-use Rattle.mps_cnv.proofs.Broken.{next_breaks}
+use Rattle.mps_cnv.proofs.ReadFault.{next_breaks}
 use Rattle.mps_cnv.proofs.Converting.{next_gives, next_stops}
-use Rattle.mps_cnv.proofs.cnv.convert_next.Goals as goal
+use Rattle.mps_cnv.proofs.conversion.convert_next.Goals as goal
 
 pub returns-in_err-size-clause-gives : goal.returns-in_err-size-clause-gives
 returns-in_err-size-clause-gives g c =

@@ -13,63 +13,68 @@ ghost use Rattle.mps_log_reader.specs.PutOut.{put_out, Grows, PutsPart};
 ghost use Rattle.mps_report.specs.Reports.{ReportsStatus};
 ghost use Rattle.mps_log_reader.specs.Ending.{is_input_verdict, IsUnopened};
 ghost use Rattle.mps_log_reader.specs.Opening.{OpensNothing};
-ghost use Rattle.mps_cnv.specs.Converted.{ConvertedWith, HasConverted, IsCutRecord, IsCutShort, Fails, IsOnly};
+ghost use Rattle.mps_cnv.specs.Converted.{ConvertedWith, HasConverted, IsCutRecord, ConvertsUntilReadFault, ConvertsUntilWriteFault, IsUnique};
 ghost use Rattle.mps_cnv.specs.Converting.{ConvertsPart, ConvertsFront, PendingGives, NextGives, AllGive};
 ghost use Rattle.mps_event.specs.KindSet.{bits_of};
 ghost use Rattle.mps_report.specs.Reports.{report_of};
 ghost use Rattle.mps_report.specs.Streams.{LeavesLogAlone, Reports};
-ghost use Rattle.mps_report.specs.declared.stop.Stop.TheVariants.{OutOfMemory};
-
+ghost use Rattle.mps_log_reader.specs.BadLog.{text_of_bad_log};
 
 use mps_base::Desk;
 use mps_event::{Event, Kinds, RecordRef, Version, first};
-use mps_report::{Output, Stop, report_ending};
 use mps_log_reader::{
-    Input, MAX_RECORD_BYTES, after_the_last, flush_after, make_room, open_log, put_first_line,
+    BadLog, Input, MAX_RECORD_BYTES, after_the_last, flush_after, make_room, open_log,
+    put_first_line,
 };
+use mps_report::{Output, Stop, report_ending};
 use std::alloc::Global;
 
-/// Prints the portable text of the log of this name, of the records of these kinds, and answers the status of the
+/// Prints the portable text of the log of this name, of the records of these kinds, and returns the status of the
 /// program: 0, or with a report 3 where a read failed, 4 where a write failed, 6 at the first record that is wrong, 7
 /// where record 2^32 begins, 8 for out of memory.
 pub fn cnv<D: Desk>(alloc: Global, log: &str, kinds: Kinds, desk: &mut D) -> u8
     ensures answers { StatusIsJustified (D.outside desk.old) (D.outside desk.new) result }
     // With any status its ending was reported, and nothing with 0.
-    ensures reported { ReportsStatus result (D.outside desk.old) (D.outside desk.new) }
-    // Where the opened file is told, and the status is none of a fault or for out of memory: exactly this was printed.
+    ensures reported { ReportsStatus text_of_bad_log result (D.outside desk.old) (D.outside desk.new) }
+    // Where it is known what the opened file holds, and the status is none of a fault or for out of memory: exactly this was printed.
     ensures converted { is_input_verdict result ≡ true → (bytes : List ℕ) → (D.outside desk.old).text log.now ≡ Some bytes
         → ConvertedWith (bits_of kinds) bytes result (D.outside desk.old) (D.outside desk.new) }
     // Where the log could not be read: the whole records that had come were printed; a prefix of that, where a write failed
     // too.
     ensures broken { result ≡ 3 → (bytes : List ℕ) → (D.outside desk.old).text log.now ≡ Some bytes
-        → Fails (bits_of kinds) bytes (D.outside desk.old) (D.outside desk.new) }
-    // Where the desk tells what it opens, a log that is not there is not read: nothing is printed.
+        → ConvertsUntilReadFault (bits_of kinds) bytes (D.outside desk.old) (D.outside desk.new) }
+    // Where it is known what the desk opens, a log that is not there is not read: nothing is printed.
     ensures missing { OpensNothing (D.outside desk.old) log.now → IsUnopened result (D.outside desk.old) (D.outside desk.new) }
     // Memory runs out only before the desk is called: that is reported, and nothing else happens.
-    ensures no_memory { result ≡ 8 → Reports (D.outside desk.old) (D.outside desk.new) (report_of OutOfMemory) }
-    // Where a write failed: a front of the text was printed.
+    ensures no_memory { result ≡ 8 → Reports (D.outside desk.old) (D.outside desk.new) (report_of text_of_bad_log Stop.OutOfMemory) }
+    // Where a write failed: a prefix of the text was printed.
     ensures cut { result ≡ 4 → (bytes : List ℕ) → (D.outside desk.old).text log.now ≡ Some bytes
-        → IsCutShort (bits_of kinds) bytes (D.outside desk.old) (D.outside desk.new) }
+        → ConvertsUntilWriteFault (bits_of kinds) bytes (D.outside desk.old) (D.outside desk.new) }
     // And nothing else: a whole log gives 0 and all of its text, one with a bad record gives 6 and the text before it.
-    ensures only { is_input_verdict result ≡ true → (bytes : List ℕ) → (D.outside desk.old).text log.now ≡ Some bytes
-        → IsOnly (bits_of kinds) bytes result (D.outside desk.old) (D.outside desk.new) }
+    ensures unique { is_input_verdict result ≡ true → (bytes : List ℕ) → (D.outside desk.old).text log.now ≡ Some bytes
+        → IsUnique (bits_of kinds) bytes result (D.outside desk.old) (D.outside desk.new) }
 {
     let ending = convert(alloc, log, kinds, desk);
     report_ending(ending, desk)
 }
 
-fn convert<D: Desk>(alloc: Global, log: &str, kinds: Kinds, desk: &mut D) -> Result<(), Stop>
+fn convert<D: Desk>(
+    alloc: Global,
+    log: &str,
+    kinds: Kinds,
+    desk: &mut D,
+) -> Result<(), Stop<BadLog>>
     ensures cause { IsCaused (D.outside desk.old) (D.outside desk.new) result }
     ensures runs { LeavesLogAlone (D.outside desk.old) (D.outside desk.new) }
     ensures reported { (D.outside desk.new).reported ≡ (D.outside desk.old).reported }
     ensures err_faults { (D.outside desk.new).err_faults ≡ (D.outside desk.old).err_faults }
     ensures broken { result ≡ Err Stop.ReadFailed → (bytes : List ℕ) → (D.outside desk.old).text log.now ≡ Some bytes
-        → Fails (bits_of kinds) bytes (D.outside desk.old) (D.outside desk.new) }
+        → ConvertsUntilReadFault (bits_of kinds) bytes (D.outside desk.old) (D.outside desk.new) }
     ensures missing { OpensNothing (D.outside desk.old) log.now
         → ((result ≡ Err Stop.ReadFailed) ⊎ (result ≡ Err Stop.OutOfMemory)) × ((D.outside desk.new).printed ≡ (D.outside desk.old).printed) }
     ensures no_memory { result ≡ Err Stop.OutOfMemory → D.outside desk.new ≡ D.outside desk.old }
     ensures cut { result ≡ Err Stop.WriteFailed → (bytes : List ℕ) → (D.outside desk.old).text log.now ≡ Some bytes
-        → IsCutShort (bits_of kinds) bytes (D.outside desk.old) (D.outside desk.new) }
+        → ConvertsUntilWriteFault (bits_of kinds) bytes (D.outside desk.old) (D.outside desk.new) }
     ensures converted { (bytes : List ℕ) → (D.outside desk.old).text log.now ≡ Some bytes
         → HasConverted (bits_of kinds) bytes result (D.outside desk.old) (D.outside desk.new) }
 {
@@ -81,7 +86,7 @@ fn convert<D: Desk>(alloc: Global, log: &str, kinds: Kinds, desk: &mut D) -> Res
         Ok(output) => output,
         Err(_) => return Err(Stop::OutOfMemory),
     };
-    let version = open_log(log, &mut input, desk)?;
+    let version = open_log(log, BadLog::Header, &mut input, desk)?;
     put_first_line(version, &mut output);
     let ending = convert_records(version, kinds, &mut input, &mut output, desk);
     flush_after(ending, &mut output, desk)
@@ -93,7 +98,7 @@ fn convert_records<D: Desk>(
     input: &mut Input,
     output: &mut Output,
     desk: &mut D,
-) -> Result<(), Stop>
+) -> Result<(), Stop<BadLog>>
     requires { IsAtEnd (D.outside desk.old) input.old }
     ensures works { WorksOnInput (D.outside desk.old) (D.outside desk.new) input.old input.new result }
     ensures reported { (D.outside desk.new).reported ≡ (D.outside desk.old).reported }
@@ -125,7 +130,7 @@ fn convert_next<D: Desk>(
     offset: u64,
     output: &mut Output,
     desk: &mut D,
-) -> Result<Option<usize>, Stop>
+) -> Result<Option<usize>, Stop<BadLog>>
     requires { IsAtEnd (D.outside desk.old) input.old }
     ensures works { WorksOnInput (D.outside desk.old) (D.outside desk.new) input.old input.new result }
     ensures size { IfOk result (λ o. IfSome o (λ size. size ≤ 40)) }
@@ -153,7 +158,7 @@ fn convert_record(
     input: &Input,
     offset: u64,
     output: &mut Output,
-) -> Result<Option<usize>, Stop>
+) -> Result<Option<usize>, Stop<BadLog>>
     requires { length output.old + 512 ≤ 65536 }
     ensures known { StopIsJustified input.now result }
     ensures size { IfOk result (λ o. IfSome o (λ size. (size ≤ 40) × (size ≤ length input.now.pending))) }
@@ -161,7 +166,7 @@ fn convert_record(
     ensures gives { PendingGives version (bits_of kinds) offset input.now output.old output.new result }
 {
     match first(input.pending(), input.has_ended(), version) {
-        Err(fault) => Err(Stop::BadRecord(offset, fault)),
+        Err(fault) => Err(Stop::Bad(BadLog::Record { offset, fault })),
         Ok(None) if input.has_failed() => Err(Stop::ReadFailed),
         Ok(None) => Ok(None),
         Ok(Some(entry)) => {

@@ -1,3 +1,4 @@
+use Rattle.mps_log_reader.specs.declared.bad_log.BadLog.{BadLog}
 use Rattle.std.proofs.Common.{◌∙◌, ◌++◌, ℕ, List, Option, Ok, ap, arith}
 use Rattle.std.specs.Option.{option_map}
 use Rattle.std.proofs.lemmas.Result.{err_from_is_err_and}
@@ -8,14 +9,14 @@ use Rattle.mps_log_reader.specs.PutOut.{put_out}
 use Rattle.mps_log_reader.proofs.Causes.{works-then}
 use Rattle.mps_log_reader.proofs.PartPut.{grows_none, grows_then}
 use Rattle.mps_log_reader.proofs.Stops.{not_at_the_end, handed_on}
-use Rattle.mps_cnv.proofs.Cut.{records_cut}
-use Rattle.mps_cnv.proofs.Broken.{front_breaks, last_breaks}
-use Rattle.mps_cnv.proofs.Converting.{one_more}
-use Rattle.mps_cnv.proofs.cnv.convert_records.Goals as goal
+use Rattle.mps_cnv.proofs.WriteFault.{records_cut}
+use Rattle.mps_cnv.proofs.ReadFault.{front_breaks, last_breaks}
+use Rattle.mps_cnv.proofs.Converting.{one_more, all_read, all_stop, all_counted}
+use Rattle.mps_cnv.proofs.conversion.convert_records.Goals as goal
 
 pub loop-preserved : goal.loop-preserved
 loop-preserved g c =
-    let works : WorksOnInput {T = Unit {0}} (g.D.Desk.outside c.args.desk.now) (g.D.Desk.outside c.loop.desk) c.args.input.now c.loop.input (Ok tt) = c.loop.invariant.works in
+    let works : WorksOnInput {T = Unit {0}} {E = BadLog} (g.D.Desk.outside c.args.desk.now) (g.D.Desk.outside c.loop.desk) c.args.input.now c.loop.input (Ok tt) = c.loop.invariant.works in
     let next = rw c.in-Some.is at c.in_ok-convert_next.ensures.gives in
     let step = c.in_ok-convert_next.ensures.works in
     record {
@@ -73,3 +74,31 @@ returns-in_err-convert_next-clause-cut g c failed bytes known =
 pub returns-clause-cut : goal.returns-clause-cut
 returns-clause-cut g c failed bytes known =
     not_at_the_end _ (left_of (g.D.Desk.outside c.loop.desk) c.loop.input) c.after_the_last.result (c.after_the_last.ensures.gives c.loop.invariant.at_end) failed
+
+pub returns-in_err-convert_next-clause-all : goal.returns-in_err-convert_next-clause-all
+returns-in_err-convert_next-clause-all g c bytes known =
+    let p = err_from_is_err_and c.from_residual.result c.from_residual.ensures.1 in
+    rw (p.1, p.2)
+    (all_stop c.args.version (bits_of c.args.kinds) c.loop.counter c.loop.offset
+    (left_of (g.D.Desk.outside c.args.desk.now) c.args.input.now) (left_of (g.D.Desk.outside c.loop.desk) c.loop.input)
+    (put_out (g.D.Desk.outside c.args.desk.now) c.args.output.now) (put_out (g.D.Desk.outside c.loop.desk) c.loop.output) bytes
+    (left_of (g.D.Desk.outside c.convert_next.new.desk) c.convert_next.new.input) (put_out (g.D.Desk.outside c.convert_next.new.desk) c.convert_next.new.output) _
+    (omega (arith, c.loop-test.true)) c.loop.invariant.so_far c.in_err-convert_next.ensures.gives known)
+
+pub returns-in-None-clause-all : goal.returns-in-None-clause-all
+returns-in-None-clause-all g c bytes known =
+    let next = rw c.in-None.is at c.in_ok-convert_next.ensures.gives in
+    all_read c.args.version (bits_of c.args.kinds) c.loop.counter c.loop.offset
+    (left_of (g.D.Desk.outside c.args.desk.now) c.args.input.now) (left_of (g.D.Desk.outside c.loop.desk) c.loop.input)
+    (put_out (g.D.Desk.outside c.args.desk.now) c.args.output.now) (put_out (g.D.Desk.outside c.loop.desk) c.loop.output) bytes
+    (left_of (g.D.Desk.outside c.convert_next.new.desk) c.convert_next.new.input) (put_out (g.D.Desk.outside c.convert_next.new.desk) c.convert_next.new.output)
+    (omega (arith, c.loop-test.true)) c.loop.invariant.so_far next known
+
+pub returns-clause-all : goal.returns-clause-all
+returns-clause-all g c bytes known =
+    let printed = ap (λ (o : Option (List ℕ)). option_map (λ printed. printed ++ c.loop.output) o) c.after_the_last.ensures.printed in
+    rw printed
+    (all_counted c.args.version (bits_of c.args.kinds) c.loop.counter c.loop.offset
+    (left_of (g.D.Desk.outside c.args.desk.now) c.args.input.now) (left_of (g.D.Desk.outside c.loop.desk) c.loop.input)
+    (put_out (g.D.Desk.outside c.args.desk.now) c.args.output.now) (put_out (g.D.Desk.outside c.loop.desk) c.loop.output) bytes
+    c.after_the_last.result (omega (arith, c.loop-test.false, c.loop.auto.counter-end)) c.loop.invariant.so_far (c.after_the_last.ensures.gives c.loop.invariant.at_end) known)

@@ -1,3 +1,4 @@
+use Rattle.mps_log_reader.specs.declared.bad_log.BadLog.{BadLog}
 use Rattle.std.proofs.Common.{◌≡◌, ◌≤◌, ◌+◌, ◌*◌, Ok}
 use Rattle.mps_log_reader.specs.Causes.{WorksOnInput}
 use Rattle.mps_log_reader.specs.Input.{IsAtEnd}
@@ -5,11 +6,11 @@ use Rattle.mps_event.specs.KindSet.{bits_of}
 use Rattle.mps_log_reader.specs.Left.{left_of}
 use Rattle.mps_log_reader.specs.PutOut.{put_out, Grows}
 use Rattle.mps_cnv.proofs.Converting.{SoFar}
-use Rattle.mps_cnv.proofs.cnv.convert_records.Given as goal
+use Rattle.mps_cnv.proofs.conversion.convert_records.Given as goal
 
 abbrev pub invariant-loop : goal.invariant-loop
 invariant-loop g l = record {
-  works : WorksOnInput {T = Unit {0}} (g.D.Desk.outside l.initial.desk) (g.D.Desk.outside l.desk) l.initial.input l.input (Ok tt);
+  works : WorksOnInput {T = Unit {0}} {E = BadLog} (g.D.Desk.outside l.initial.desk) (g.D.Desk.outside l.desk) l.initial.input l.input (Ok tt);
   offset : l.offset ≤ 8 + 40 * l.counter;
   reported : (g.D.Desk.outside l.desk).reported ≡ (g.D.Desk.outside l.initial.desk).reported;
   err_faults : (g.D.Desk.outside l.desk).err_faults ≡ (g.D.Desk.outside l.initial.desk).err_faults;

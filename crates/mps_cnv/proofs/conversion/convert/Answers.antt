@@ -2,10 +2,10 @@ use Rattle.std.proofs.Common.{◌++◌, ◌∙◌, ap, List, ℕ, arith}
 use Rattle.mps_log_reader.specs.Opening.{first_line}
 use Rattle.mps_event.specs.KindSet.{bits_of}
 use Rattle.mps_log_reader.specs.PutOut.{put_out}
-use Rattle.mps_cnv.proofs.Cut.{cuts_log}
-use Rattle.mps_cnv.proofs.Broken.{fails_log}
-use Rattle.mps_cnv.proofs.Wholly.{converts_log}
-use Rattle.mps_cnv.proofs.cnv.convert.Goals as goal
+use Rattle.mps_cnv.proofs.WriteFault.{cuts_log}
+use Rattle.mps_cnv.proofs.ReadFault.{fails_log}
+use Rattle.mps_cnv.proofs.WholeReading.{converts_log}
+use Rattle.mps_cnv.proofs.conversion.convert.Goals as goal
 
 pub returns-clause-converted : goal.returns-clause-converted
 returns-clause-converted g c bytes known =

@@ -1,15 +1,17 @@
 -- A conversion that ends where a read fails.
-use Rattle.std.proofs.Common.{◌≡◌, ℕ, ◌<◌, ◌≤◌, ◌⊎◌, Bool, true, false, List, [], ◌∷◌, ◌++◌, Option, Some, None, Result, Ok, Err, refl, sym, ap, subst, ◌∙◌, append_assoc, arith, inl, inr}
+use Rattle.std.proofs.Common.{◌≡◌, ℕ, ◌≤◌, ◌⊎◌, Bool, true, false, List, [], ◌∷◌, ◌++◌, Option, Some, None, Result, Ok, Err, refl, sym, ap, subst, ◌∙◌, arith, inl, inr}
 use Rattle.std.specs.Prelude.{OnOk, IfErr}
 use Rattle.std.specs.List.{flat_map}
 use Rattle.std.specs.Option.{option_map}
 use Rattle.mps_base.specs.Desk.{Outside}
-use Rattle.mps_base.specs.Record.{header_bytes, records_bytes}
+use Rattle.mps_base.specs.Record.{header_bytes}
 use Rattle.mps_event.specs.declared.version.Version.{Version}
 use Rattle.mps_event.specs.Event.{number_of_version}
 use Rattle.mps_event.specs.Reading.{first_of}
 use Rattle.mps_report.specs.declared.stop.Stop.{Stop}
 use Rattle.mps_report.specs.declared.stop.Stop.TheVariants as stop
+use Rattle.mps_log_reader.specs.declared.bad_log.BadLog.{BadLog}
+use Rattle.mps_log_reader.specs.BadLog.{text_of_bad_log}
 use Rattle.mps_report.specs.Reports.{status_of, report_of}
 use Rattle.mps_report.specs.Streams.{FlushedPrefix, Reports}
 use Rattle.mps_log_reader.specs.Input.{Buffered, ReadsMore}
@@ -17,14 +19,17 @@ use Rattle.mps_log_reader.specs.Left.{left_of}
 use Rattle.mps_log_reader.specs.PutOut.{put_out, Grows, PrintsAsFar}
 use Rattle.mps_log_reader.specs.Opening.{first_line, IsCutHeader}
 use Rattle.mps_log_reader.proofs.Extension.{none_short}
-use Rattle.mps_log_reader.proofs.Left.{left_same, left_after_known}
+use Rattle.mps_log_reader.proofs.Left.{left_same}
 use Rattle.mps_log_reader.proofs.PutOut.{put_same}
 use Rattle.mps_log_reader.proofs.PartPut.{as_far_of_text, as_far_later}
+use Rattle.mps_log_reader.specs.Ending.{max_records}
 use Rattle.mps_log_reader.proofs.Opening.{header_known}
-use Rattle.mps_cnv.specs.Portable.{line_of_kinds, portable}
-use Rattle.mps_cnv.specs.Converted.{IsCutRecord, FailsBefore, FailsBehind, Fails}
+use Rattle.mps_log_reader.proofs.LogPrefix.{after_header}
+use Rattle.mps_log_reader.proofs.Stops.{is_read_failed}
+use Rattle.mps_cnv.specs.Portable.{line_of_kinds}
+use Rattle.mps_cnv.specs.Converted.{text_of_prefix, IsCutRecord, FailsInHeader, FailsAfterRecords, ConvertsUntilReadFault}
 use Rattle.mps_cnv.specs.Converting.{ConvertsFront}
-use Rattle.mps_cnv.proofs.Converting.{SoFar}
+use Rattle.mps_cnv.proofs.Converting.{SoFar, known_prefix}
 
 -- ---- a part of a record
 
@@ -59,20 +64,12 @@ next_breaks version a b c x y p q r reads kept same gives = (
 
 -- ---- all records before
 
-pub front_breaks : (version : Version) (kinds count offset : ℕ) (left left_after unread before after put : Option (List ℕ)) (bytes : List ℕ) → count < 4294967296
+pub front_breaks : (version : Version) (kinds count offset : ℕ) (left left_after unread before after put : Option (List ℕ)) (bytes : List ℕ) → count ≤ max_records
     → SoFar version kinds count offset left left_after before after → NextBreaks version left_after unread after put
     → left ≡ Some bytes → ConvertsFront version kinds bytes unread before put
-front_breaks version kinds count offset left left_after unread before after put bytes few s n e =
-    let g = left_after_known (records_bytes s.records) bytes left left_after s.front e in
-    record {
-      records = s.records;
-      rest = g.0;
-      each = s.each;
-      few = omega (arith, s.counted, few);
-      spelled = g.2;
-      cut = n.0 g.0 g.1;
-      put = n.1 ∙ s.put;
-    }
+front_breaks version kinds count offset left left_after unread before after put bytes le s n e =
+    let p = known_prefix version kinds count offset left left_after before after bytes le s e in
+    record { prefix = p.prefix; cut = n.0 p.prefix.rest p.left; put = n.1 ∙ p.put }
 
 -- after the last record that can be counted nothing had come
 pub last_breaks : (version : Version) (left_after unread after put : Option (List ℕ)) → unread ≡ left_after → put ≡ after → NextBreaks version left_after unread after put
@@ -85,67 +82,47 @@ last_breaks version left_after unread after put same printed = (
 
 fails_after : (version : Version) (kinds : ℕ) (bytes left out gathered : List ℕ) (a b c d : Outside) → bytes ≡ header_bytes (number_of_version version) ++ left
     → b.printed ≡ a.printed → out ≡ first_line version → ConvertsFront version kinds left c.input (put_out b out) (put_out c gathered) → Grows b.printed c.printed → d.input ≡ c.input
-    → a.out_faults ≤ c.out_faults → PrintsAsFar c d gathered → FailsBehind kinds bytes a d
+    → a.out_faults ≤ c.out_faults → PrintsAsFar c d gathered → FailsAfterRecords kinds bytes a d
 fails_after version kinds bytes left out gathered a b c d is same line front grown input counted far = record {
-  version = version;
-  records = front.records;
-  rest = front.rest;
-  each = front.each;
-  few = front.few;
-  spelled = is ∙ ap (λ (x : List ℕ). header_bytes (number_of_version version) ++ x) front.spelled ∙ sym (append_assoc (header_bytes (number_of_version version)) (records_bytes front.records) front.rest);
-  cut = subst (λ (o : Option (List ℕ)). IsCutRecord version front.rest o) (sym input) front.cut;
-  printed = as_far_of_text out (first_line version) (flat_map (line_of_kinds version kinds) front.records) gathered a b c d same line front.put grown counted far;
+  prefix = after_header version bytes left is front.prefix;
+  cut = subst (λ (o : Option (List ℕ)). IsCutRecord version front.prefix.rest o) (sym input) front.cut;
+  printed = as_far_of_text out (first_line version) (flat_map (line_of_kinds version kinds) front.prefix.records) gathered a b c d same line front.put grown counted far;
 }
 
-read_failed : (R : Type 0) (ending result : Result (Unit {0}) Stop) → (result ≡ ending) ⊎ ((result ≡ Err stop.WriteFailed) × R) → result ≡ Err stop.ReadFailed → ending ≡ Err stop.ReadFailed
+read_failed : (R : Type 0) (ending result : Result (Unit {0}) (Stop BadLog)) → (result ≡ ending) ⊎ ((result ≡ Err stop.WriteFailed) × R) → result ≡ Err stop.ReadFailed → ending ≡ Err stop.ReadFailed
 read_failed R ending result (inl e) f = sym e ∙ f
 read_failed R ending result (inr e) f = absurd (let g : Err stop.WriteFailed ≡ Err stop.ReadFailed = sym e.0 ∙ f in cc)
 
-pub fails_log : (R : Type 0) (version : Version) (kinds : ℕ) (bytes out gathered : List ℕ) (a b c d : Outside) (x : Buffered) (ending result : Result (Unit {0}) Stop)
+pub fails_log : (R : Type 0) (version : Version) (kinds : ℕ) (bytes out gathered : List ℕ) (a b c d : Outside) (x : Buffered) (ending result : Result (Unit {0}) (Stop BadLog))
     → Some bytes ≡ option_map (λ rest. header_bytes (number_of_version version) ++ rest) (left_of b x) → b.printed ≡ a.printed → out ≡ first_line version
     → (ending ≡ Err stop.ReadFailed → (left : List ℕ) → left_of b x ≡ Some left → ConvertsFront version kinds left c.input (put_out b out) (put_out c gathered))
     → Grows b.printed c.printed → (result ≡ ending) ⊎ ((result ≡ Err stop.WriteFailed) × R) → d.input ≡ c.input → a.out_faults ≤ c.out_faults
-    → (result ≡ Err stop.ReadFailed → PrintsAsFar c d gathered) → result ≡ Err stop.ReadFailed → Fails kinds bytes a d
+    → (result ≡ Err stop.ReadFailed → PrintsAsFar c d gathered) → result ≡ Err stop.ReadFailed → ConvertsUntilReadFault kinds bytes a d
 fails_log R version kinds bytes out gathered a b c d x ending result opened same line front grown first input counted printed failed =
     let g = header_known (header_bytes (number_of_version version)) bytes (left_of b x) opened in
     inr (fails_after version kinds bytes g.0 out gathered a b c d g.2 same line (front (read_failed R ending result first failed) g.0 g.1) grown input counted (printed failed))
 
 -- ---- the status
 
-after_later : (kinds : ℕ) (bytes : List ℕ) (a b c : Outside) → FailsBehind kinds bytes a b → c.input ≡ b.input → c.printed ≡ b.printed → c.out_faults ≡ b.out_faults → FailsBehind kinds bytes a c
+after_later : (kinds : ℕ) (bytes : List ℕ) (a b c : Outside) → FailsAfterRecords kinds bytes a b → c.input ≡ b.input → c.printed ≡ b.printed → c.out_faults ≡ b.out_faults → FailsAfterRecords kinds bytes a c
 after_later kinds bytes a b c h input printed faults = record {
-  version = h.version;
-  records = h.records;
-  rest = h.rest;
-  each = h.each;
-  few = h.few;
-  spelled = h.spelled;
-  cut = subst (λ (o : Option (List ℕ)). IsCutRecord h.version h.rest o) (sym input) h.cut;
-  printed = as_far_later (portable h.version kinds h.records) a b c h.printed printed faults;
+  prefix = h.prefix;
+  cut = subst (λ (o : Option (List ℕ)). IsCutRecord h.prefix.version h.prefix.rest o) (sym input) h.cut;
+  printed = as_far_later (text_of_prefix kinds h.prefix) a b c h.printed printed faults;
 }
 
-before_later : (bytes : List ℕ) (a b c : Outside) → FailsBefore bytes a b → c.input ≡ b.input → c.printed ≡ b.printed → FailsBefore bytes a c
+before_later : (bytes : List ℕ) (a b c : Outside) → FailsInHeader bytes a b → c.input ≡ b.input → c.printed ≡ b.printed → FailsInHeader bytes a c
 before_later bytes a b c h input printed = record {
   cut = subst (λ (o : Option (List ℕ)). (o ≡ a.input) ⊎ IsCutHeader bytes o) (sym input) h.cut;
   printed = printed ∙ h.printed;
 }
 
-fails_later : (kinds : ℕ) (bytes : List ℕ) (a b c : Outside) → Fails kinds bytes a b → c.input ≡ b.input → c.printed ≡ b.printed → c.out_faults ≡ b.out_faults → Fails kinds bytes a c
+fails_later : (kinds : ℕ) (bytes : List ℕ) (a b c : Outside) → ConvertsUntilReadFault kinds bytes a b → c.input ≡ b.input → c.printed ≡ b.printed → c.out_faults ≡ b.out_faults → ConvertsUntilReadFault kinds bytes a c
 fails_later kinds bytes a b c (inl h) input printed faults = inl (before_later bytes a b c h input printed)
 fails_later kinds bytes a b c (inr h) input printed faults = inr (after_later kinds bytes a b c h input printed faults)
 
-three : (why : Stop) → status_of why ≡ 3 → why ≡ stop.ReadFailed
-three stop.ReadFailed e = refl
-three stop.WriteFailed e = absurd (omega (arith, e))
-three stop.BadHeader e = absurd (omega (arith, e))
-three (stop.BadRecord at fault) e = absurd (omega (arith, e))
-three (stop.BadReplay at) e = absurd (omega (arith, e))
-three (stop.BadLine line) e = absurd (omega (arith, e))
-three stop.TooLong e = absurd (omega (arith, e))
-three stop.OutOfMemory e = absurd (omega (arith, e))
-
-pub fails_with : (kinds status : ℕ) (bytes : List ℕ) (ending : Result (Unit {0}) Stop) (a b c : Outside) → status ≡ 3 → (ending ≡ Err stop.ReadFailed → Fails kinds bytes a b)
-    → OnOk ending (status ≡ 0) → IfErr ending (λ why. status ≡ status_of why) → IfErr ending (λ why. Reports b c (report_of why)) → Fails kinds bytes a c
+pub fails_with : (kinds status : ℕ) (bytes : List ℕ) (ending : Result (Unit {0}) (Stop BadLog)) (a b c : Outside) → status ≡ 3 → (ending ≡ Err stop.ReadFailed → ConvertsUntilReadFault kinds bytes a b)
+    → OnOk ending (status ≡ 0) → IfErr ending (λ why. status ≡ status_of why) → IfErr ending (λ why. Reports b c (report_of text_of_bad_log why)) → ConvertsUntilReadFault kinds bytes a c
 fails_with kinds status bytes (Ok value) a b c e h zero is reports = absurd (omega (arith, e, zero))
 fails_with kinds status bytes (Err why) a b c e h zero is reports =
-    fails_later kinds bytes a b c (h (ap (λ (w : Stop). Err w) (three why (sym is ∙ e)))) reports.others.input reports.others.printed reports.others.out_faults
+    fails_later kinds bytes a b c (h (ap (λ (w : Stop BadLog). Err w) (is_read_failed why (sym is ∙ e)))) reports.others.input reports.others.printed reports.others.out_faults
