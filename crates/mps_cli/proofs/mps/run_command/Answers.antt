@@ -4,7 +4,7 @@ pub returns-in-Convert-clause-asked : goal.returns-in-Convert-clause-asked
 returns-in-Convert-clause-asked g c = rw c.in-Convert.is (record {
   answers = c.cnv.ensures.answers;
   converted = c.cnv.ensures.converted;
-  only = c.cnv.ensures.only;
+  only = c.cnv.ensures.unique;
   broken = c.cnv.ensures.broken;
   missing = c.cnv.ensures.missing;
   no_memory = c.cnv.ensures.no_memory;
