@@ -3,6 +3,7 @@ pub mod Desk
 pub mod Held
 pub mod HostDesk
 pub mod MemDesk
+pub mod Name
 pub mod Run
 pub mod Segment
 pub mod Placement

@@ -3,6 +3,7 @@
 #![tactic(auto)]
 
 mod address;
+mod bytes;
 mod calls;
 mod desk;
 mod held;
@@ -16,6 +17,7 @@ mod stored_file;
 mod trail;
 
 pub use address::{Addr, BYTES_OF_GRAIN, BYTES_OF_WORD, WORDS_OF_GRAIN, ZoneSet};
+pub use bytes::{MAX_NAME_BYTES, find_byte, is_name};
 pub use desk::{Desk, Failed};
 pub use host_desk::HostDesk;
 pub use mem_desk::{DeskCall, MemDesk};
