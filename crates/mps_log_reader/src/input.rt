@@ -10,8 +10,8 @@ use mps_base::{Desk, Failed};
 use std::alloc::{AllocError, Global};
 use std::marker::Model;
 
-// The bytes that the buffer holds.
-const ROOM: usize = 65536;
+/// The bytes that the buffer holds.
+const BUFFER_BYTES: usize = 65536;
 
 /// What was read of the opened input and not taken yet, in a buffer of 64 KiB. Contracts see these bytes, whether all
 /// was read, and whether a read failed.
@@ -40,7 +40,7 @@ impl Input {
     pub fn new(alloc: Global) -> Result<Input, AllocError>
         ensures { IfOk result (λ input. input ≡ record { pending = []; ended = false; failed = false }) }
     {
-        let room = vec![in alloc; 0u8; ROOM]?;
+        let room = vec![in alloc; 0u8; BUFFER_BYTES]?;
         Ok(Input {
             room,
             from: 0,
@@ -85,14 +85,14 @@ impl Input {
         ensures read { ReadsMore (D.outside desk.old) (D.outside desk.new) self.old self.new }
         ensures enough { self.new.ended ≡ false → self.new.failed ≡ false → count ≤ length self.new.pending }
         // Where all had been read, it stays so, and no read fails.
-        ensures still { self.old.ended ≡ true → self.new ≡ self.old }
+        ensures unchanged { self.old.ended ≡ true → self.new ≡ self.old }
     {
         while self.needs(count) {
             self.read_once(desk);
         }
     }
 
-    // Whether more is to be read.
+    /// Whether more is to be read.
     fn needs(&self, count: usize) -> bool
         ensures more { OnTrue result (IsReadable self.now × (length self.now.pending < count)) }
         ensures enough { OnFalse result (self.now.ended ≡ false → self.now.failed ≡ false → count ≤ length self.now.pending) }
@@ -100,7 +100,7 @@ impl Input {
         self.to - self.from < count && !self.ended && !self.failed
     }
 
-    // Reads some bytes more.
+    /// Reads some more bytes.
     fn read_once<D: Desk>(&mut self, desk: &mut D)
         requires { length self.old.pending < 65536 }
         ensures read { ReadsMore (D.outside desk.old) (D.outside desk.new) self.old self.new }
@@ -117,22 +117,22 @@ impl Input {
     }
 }
 
-// Moves the bytes from one place to another to the front.
+/// Moves the bytes between two indices to the front.
 fn move_to_front(room: &mut [u8], from: usize, to: usize)
     requires ordered { from ≤ to }
-    requires within { to ≤ length room.old }
+    requires fits { to ≤ length room.old }
     ensures size { length room.new ≡ length room.old }
     ensures moved { take (to - from) room.new ≡ take (to - from) (drop from room.old) }
 {
     room[..to].rotate_left(from);
 }
 
-// Reads some bytes after those that are there, and answers how many: 0 at the end.
+/// Reads some bytes after those that are there, and returns how many: 0 at the end.
 fn read_after<D: Desk>(room: &mut [u8], to: usize, desk: &mut D) -> Result<usize, Failed>
     requires { to < length room.old }
-    ensures within { IfOk result (λ count. to + count ≤ length room.old) }
+    ensures fits { IfOk result (λ count. to + count ≤ length room.old) }
     ensures size { length room.new ≡ length room.old }
-    ensures kept { take to room.new ≡ take to room.old }
+    ensures unchanged { take to room.new ≡ take to room.old }
     ensures read { IfOk result (λ count. (D.outside desk.old).input ≡ option_map (λ left. take count (drop to room.new) ++ left) (D.outside desk.new).input) }
     ensures end { IfOk result (λ count. count ≡ 0 → IfSome (D.outside desk.old).input (λ left. left ≡ [])) }
     ensures failed { OnErr result ((D.outside desk.new).input ≡ (D.outside desk.old).input) }

@@ -80,8 +80,8 @@ pub fn put_first_line(version: Version, output: &mut Output)
 
 /// Makes room for a line, of 512 bytes. `WriteFailed` where what was gathered could not be printed.
 pub fn make_room<E: Copy, D: Desk>(output: &mut Output, desk: &mut D) -> Result<(), Stop<E>>
-    ensures room { OnOk result (length output.new + 512 ≤ 65536) }
-    ensures kept { OnOk result (FlushedPrefix (D.outside desk.old) (D.outside desk.new) output.old output.new) }
+    ensures fits { OnOk result (length output.new + 512 ≤ 65536) }
+    ensures flushed { OnOk result (FlushedPrefix (D.outside desk.old) (D.outside desk.new) output.old output.new) }
     ensures part { OnErr result (PrintsPart (D.outside desk.old) (D.outside desk.new) output.old) }
     ensures input { (D.outside desk.new).input ≡ (D.outside desk.old).input }
     ensures reported { (D.outside desk.new).reported ≡ (D.outside desk.old).reported }

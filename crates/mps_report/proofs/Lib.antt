@@ -1,2 +1,4 @@
+pub mod Appended
 pub mod Outside
 pub mod Gathering
+pub mod Logging

@@ -5,7 +5,9 @@
 mod notice;
 mod output;
 mod stop;
+mod write;
 
 pub use notice::Notice;
 pub use output::Output;
 pub use stop::{BadPlace, NoBadPlace, Stop, notice_of_stop, report_ending, status_of_stop};
+pub use write::{log_all, print_all, report_all};

@@ -3,6 +3,7 @@
 ghost use Rattle.std.specs.Prelude.{◌≡◌, ◌≤◌, ◌+◌, ◌++◌, length, take, decimal};
 ghost use Rattle.mps_report.specs.Streams.{Reports};
 
+use crate::write::report_all;
 use mps_base::Desk;
 use mps_numerals::{put_decimal, put_text};
 use std::marker::Model;
@@ -52,17 +53,5 @@ impl Notice {
         ensures { Reports (D.outside desk.old) (D.outside desk.new) self.now }
     {
         report_all(&self.bytes[..self.used], desk);
-    }
-}
-
-fn report_all<D: Desk>(bytes: &[u8], desk: &mut D)
-    ensures { Reports (D.outside desk.old) (D.outside desk.new) bytes.now }
-{
-    let mut at = 0;
-    while at < bytes.len() {
-        match desk.err(&bytes[at..]) {
-            Ok(count) => at += count,
-            Err(_) => return,
-        }
     }
 }

@@ -4,16 +4,17 @@ ghost use Rattle.std.specs.Prelude.{◌≡◌, ◌≤◌, ◌<◌, ◌+◌, ◌+
 ghost use Rattle.mps_numerals.specs.Hexadecimal.{hexadecimal};
 ghost use Rattle.mps_report.specs.Streams.{Prints, PrintsPart, FlushedPrefix};
 
+use crate::write::print_all;
 use mps_base::{Desk, Failed};
 use mps_numerals::{put_decimal, put_hexadecimal, put_text};
 use std::alloc::{AllocError, Global};
 use std::marker::Model;
 
-// The bytes that are gathered before they are printed.
-const ROOM: usize = 65536;
+/// The bytes of the buffer.
+const BUFFER_BYTES: usize = 65536;
 
-// The bytes that there is room for after `make_room`: those of a line, and more.
-const ROOM_FOR_A_LINE: usize = 512;
+/// The bytes that there is room for after `make_room`: no line has more.
+const MAX_LINE_BYTES: usize = 512;
 
 /// The bytes that are to be printed next, gathered in a buffer of 64 KiB. Contracts see these bytes.
 #[derive(Drop)]
@@ -37,19 +38,19 @@ impl Output {
     pub fn new(alloc: Global) -> Result<Output, AllocError>
         ensures { IfOk result (λ output. output ≡ []) }
     {
-        let room = vec![in alloc; 0u8; ROOM]?;
+        let room = vec![in alloc; 0u8; BUFFER_BYTES]?;
         Ok(Output { room, used: 0 })
     }
 
     /// Makes room for a line, of 512 bytes. `Failed` where a write failed, after some of the bytes were printed; what was
     /// gathered then stays.
     pub fn make_room<D: Desk>(&mut self, desk: &mut D) -> Result<(), Failed>
-        ensures room { OnOk result (length self.new + 512 ≤ 65536) }
-        ensures kept { OnOk result (FlushedPrefix (D.outside desk.old) (D.outside desk.new) self.old self.new) }
+        ensures fits { OnOk result (length self.new + 512 ≤ 65536) }
+        ensures flushed { OnOk result (FlushedPrefix (D.outside desk.old) (D.outside desk.new) self.old self.new) }
         ensures failed { OnErr result (PrintsPart (D.outside desk.old) (D.outside desk.new) self.old) }
-        ensures stays { OnErr result (self.new ≡ self.old) }
+        ensures unchanged { OnErr result (self.new ≡ self.old) }
     {
-        if ROOM - self.used < ROOM_FOR_A_LINE {
+        if BUFFER_BYTES - self.used < MAX_LINE_BYTES {
             self.flush(desk)
         } else {
             Ok(())
@@ -62,14 +63,14 @@ impl Output {
         ensures empty { OnOk result (self.new ≡ []) }
         ensures printed { OnOk result (Prints (D.outside desk.old) (D.outside desk.new) self.old) }
         ensures failed { OnErr result (PrintsPart (D.outside desk.old) (D.outside desk.new) self.old) }
-        ensures stays { OnErr result (self.new ≡ self.old) }
+        ensures unchanged { OnErr result (self.new ≡ self.old) }
     {
         print_all(&self.room[..self.used], desk)?;
         self.used = 0;
         Ok(())
     }
 
-    /// A text.
+    /// Gathers a text.
     pub fn text(&mut self, bytes: &[u8])
         requires { length self.old + length bytes.now ≤ 65536 }
         ensures { self.new ≡ self.old ++ bytes.now }
@@ -77,34 +78,21 @@ impl Output {
         self.used = put_text(bytes, &mut self.room, self.used);
     }
 
-    /// A number in decimal.
+    /// Gathers a number in decimal.
     pub fn decimal(&mut self, number: u64)
         requires { length self.old + 20 ≤ 65536 }
         ensures text { self.new ≡ self.old ++ decimal number }
-        ensures short { length self.new ≤ length self.old + 20 }
+        ensures at_most { length self.new ≤ length self.old + 20 }
     {
         self.used = put_decimal(number, &mut self.room, self.used);
     }
 
-    /// A number in hexadecimal, without `0x`.
+    /// Gathers a number in hexadecimal, without `0x`.
     pub fn hexadecimal(&mut self, number: u64)
         requires { length self.old + 16 ≤ 65536 }
         ensures text { self.new ≡ self.old ++ hexadecimal number }
-        ensures short { length self.new ≤ length self.old + 16 }
+        ensures at_most { length self.new ≤ length self.old + 16 }
     {
         self.used = put_hexadecimal(number, &mut self.room, self.used);
     }
-}
-
-// Prints bytes, in as many pieces as the desk takes them.
-fn print_all<D: Desk>(bytes: &[u8], desk: &mut D) -> Result<(), Failed>
-    ensures printed { OnOk result (Prints (D.outside desk.old) (D.outside desk.new) bytes.now) }
-    ensures failed { OnErr result (PrintsPart (D.outside desk.old) (D.outside desk.new) bytes.now) }
-{
-    let mut at = 0;
-    while at < bytes.len() {
-        let count = desk.out(&bytes[at..])?;
-        at += count;
-    }
-    Ok(())
 }

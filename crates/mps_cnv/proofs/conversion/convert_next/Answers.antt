@@ -18,7 +18,7 @@ returns-in_err-size-clause-gives g c =
     rw (p.1, p.2)
     (next_stops c.args.version (bits_of c.args.kinds) c.args.offset (g.D.Desk.outside c.args.desk.now) (g.D.Desk.outside c.fill.new.desk) (g.D.Desk.outside c.make_room.new.desk)
     c.args.input.now c.fill.new.self (left_of (g.D.Desk.outside c.make_room.new.desk) c.fill.new.self) c.args.output.now c.make_room.new.output c.convert_record.new.output _
-    c.requires c.fill.ensures.read c.in_ok-make_room.ensures.kept c.in_err-size.ensures.gives)
+    c.requires c.fill.ensures.read c.in_ok-make_room.ensures.flushed c.in_err-size.ensures.gives)
 
 pub returns-clause-gives : goal.returns-clause-gives
 returns-clause-gives g c =
@@ -29,14 +29,14 @@ returns-clause-gives g c =
     (sym after)
     (next_gives c.args.version (bits_of c.args.kinds) c.args.offset (g.D.Desk.outside c.args.desk.now) (g.D.Desk.outside c.fill.new.desk) (g.D.Desk.outside c.make_room.new.desk)
     c.args.input.now c.fill.new.self c.args.output.now c.make_room.new.output c.convert_record.new.output c.in_ok-size.size
-    c.requires c.fill.ensures.read c.fill.ensures.enough c.in_ok-make_room.ensures.kept c.make_room.ensures.input c.in_ok-size.ensures.gives)
+    c.requires c.fill.ensures.read c.fill.ensures.enough c.in_ok-make_room.ensures.flushed c.make_room.ensures.input c.in_ok-size.ensures.gives)
 
 pub returns-in_err-size-clause-broken : goal.returns-in_err-size-clause-broken
 returns-in_err-size-clause-broken g c failed =
     let p = err_from_is_err_and c.from_residual-in_err-size.result c.from_residual-in_err-size.ensures.1 in
     next_breaks c.args.version (g.D.Desk.outside c.args.desk.now) (g.D.Desk.outside c.fill.new.desk) (g.D.Desk.outside c.make_room.new.desk)
     c.args.input.now c.fill.new.self c.args.output.now c.make_room.new.output c.convert_record.new.output
-    c.fill.ensures.read c.in_ok-make_room.ensures.kept c.make_room.ensures.input
+    c.fill.ensures.read c.in_ok-make_room.ensures.flushed c.make_room.ensures.input
     (c.in_err-size.ensures.broken (handed_on _ _ c.from_residual-in_err-size.result p.0 _ _ p.1 p.2 failed))
 
 pub returns-in_err-make_room-clause-grows : goal.returns-in_err-make_room-clause-grows
@@ -51,12 +51,12 @@ returns-in_err-make_room-clause-cut g c failed =
 
 pub returns-in_err-size-clause-grows : goal.returns-in_err-size-clause-grows
 returns-in_err-size-clause-grows g c =
-    let k = c.in_ok-make_room.ensures.kept in
+    let k = c.in_ok-make_room.ensures.flushed in
     grows_by k.text (g.D.Desk.outside c.args.desk.now).printed (g.D.Desk.outside c.fill.new.desk).printed (g.D.Desk.outside c.make_room.new.desk).printed
     c.fill.ensures.read.others.printed k.printed.printed
 
 pub returns-clause-grows : goal.returns-clause-grows
 returns-clause-grows g c =
-    let k = c.in_ok-make_room.ensures.kept in
+    let k = c.in_ok-make_room.ensures.flushed in
     grows_by k.text (g.D.Desk.outside c.args.desk.now).printed (g.D.Desk.outside c.fill.new.desk).printed (g.D.Desk.outside c.make_room.new.desk).printed
     c.fill.ensures.read.others.printed k.printed.printed

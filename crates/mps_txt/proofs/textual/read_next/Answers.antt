@@ -15,7 +15,7 @@ returns-in_err-size-clause-gives g c =
     rw (p.1, p.2)
     (next_stops c.args.version c.args.number c.args.labels.now c.read_line.new.labels (g.D.Desk.outside c.args.desk.now) (g.D.Desk.outside c.fill.new.desk) (g.D.Desk.outside c.make_room.new.desk)
     c.args.input.now c.fill.new.self c.fill.new.self (left_of (g.D.Desk.outside c.make_room.new.desk) c.fill.new.self) c.args.output.now c.make_room.new.output c.read_line.new.output _
-    c.requires c.fill.ensures.read c.fill.ensures.enough c.in_ok-make_room.ensures.kept c.make_room.ensures.input c.in_err-size.ensures.gives)
+    c.requires c.fill.ensures.read c.fill.ensures.enough c.in_ok-make_room.ensures.flushed c.make_room.ensures.input c.in_err-size.ensures.gives)
 
 pub returns-clause-gives : goal.returns-clause-gives
 returns-clause-gives g c =
@@ -31,7 +31,7 @@ returns-clause-gives g c =
     (sym c.is_some.ensures)
     (next_line c.args.version c.args.number c.args.labels.now c.read_line.new.labels (g.D.Desk.outside c.args.desk.now) (g.D.Desk.outside c.fill.new.desk) (g.D.Desk.outside c.make_room.new.desk)
     c.args.input.now c.fill.new.self c.args.output.now c.make_room.new.output c.read_line.new.output c.in_ok-size.size
-    c.requires c.fill.ensures.read c.fill.ensures.enough c.in_ok-make_room.ensures.kept c.make_room.ensures.input c.in_ok-size.ensures.gives))
+    c.requires c.fill.ensures.read c.fill.ensures.enough c.in_ok-make_room.ensures.flushed c.make_room.ensures.input c.in_ok-size.ensures.gives))
 
 pub returns-in_err-make_room-clause-grows : goal.returns-in_err-make_room-clause-grows
 returns-in_err-make_room-clause-grows g c =
@@ -45,12 +45,12 @@ returns-in_err-make_room-clause-cut g c failed =
 
 pub returns-in_err-size-clause-grows : goal.returns-in_err-size-clause-grows
 returns-in_err-size-clause-grows g c =
-    let k = c.in_ok-make_room.ensures.kept in
+    let k = c.in_ok-make_room.ensures.flushed in
     grows_by k.text (g.D.Desk.outside c.args.desk.now).printed (g.D.Desk.outside c.fill.new.desk).printed (g.D.Desk.outside c.make_room.new.desk).printed
     c.fill.ensures.read.others.printed k.printed.printed
 
 pub returns-clause-grows : goal.returns-clause-grows
 returns-clause-grows g c =
-    let k = c.in_ok-make_room.ensures.kept in
+    let k = c.in_ok-make_room.ensures.flushed in
     grows_by k.text (g.D.Desk.outside c.args.desk.now).printed (g.D.Desk.outside c.fill.new.desk).printed (g.D.Desk.outside c.make_room.new.desk).printed
     c.fill.ensures.read.others.printed k.printed.printed

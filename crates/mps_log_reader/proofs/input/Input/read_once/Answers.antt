@@ -17,7 +17,7 @@ returns-in-Ok-clause-read g c =
     let now-size : length now ≡ room.len = c.read_after.ensures.size ∙ c.deref_mut-2.ensures.len in
     let now-is : (with_items (with_items room moved) now).items ≡ now = with_items_is (with_items room moved) now now-size in
     let kept : take at now ≡ take at (drop i.from room.items) =
-    c.read_after.ensures.kept
+    c.read_after.ensures.unchanged
     ∙ ap (λ (x : List ℕ). take at x) (c.deref_mut-2.ensures.value ∙ moved-is)
     ∙ c.move_to_front.ensures.moved
     ∙ ap (λ (x : List ℕ). take at (drop i.from x)) c.deref_mut.ensures.value in

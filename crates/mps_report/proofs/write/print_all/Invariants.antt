@@ -1,6 +1,6 @@
 use Rattle.std.proofs.Common.{◌-◌, ◌≤◌, length, take}
 use Rattle.mps_report.specs.Streams.{Prints}
-use Rattle.mps_report.proofs.output.print_all.Given as goal
+use Rattle.mps_report.proofs.write.print_all.Given as goal
 
 abbrev pub invariant-loop-at : goal.invariant-loop-at
 invariant-loop-at g l = (l.at ≤ length l.bytes) × Prints (g.D.Desk.outside l.initial.desk) (g.D.Desk.outside l.desk) (take l.at l.bytes)

@@ -1,7 +1,7 @@
 use Rattle.std.proofs.Common.{ℕ, arith}
 use Rattle.std.proofs.lemmas.List.{length-take, length-drop}
 use Rattle.mps_report.proofs.Outside.{reports_more}
-use Rattle.mps_report.proofs.notice.report_all.Goals as goal
+use Rattle.mps_report.proofs.write.report_all.Goals as goal
 
 pub loop-at-preserved : goal.loop-at-preserved
 loop-at-preserved g c =

@@ -1,6 +1,6 @@
 use Rattle.std.proofs.Common.{◌-◌, ◌≤◌, length, take}
 use Rattle.mps_report.proofs.Outside.{IsReporting}
-use Rattle.mps_report.proofs.notice.report_all.Given as goal
+use Rattle.mps_report.proofs.write.report_all.Given as goal
 
 abbrev pub invariant-loop-at : goal.invariant-loop-at
 invariant-loop-at g l = (l.at ≤ length l.bytes) × IsReporting (g.D.Desk.outside l.initial.desk) (g.D.Desk.outside l.desk) (take l.at l.bytes)
