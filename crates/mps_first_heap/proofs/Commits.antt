@@ -1,5 +1,5 @@
 -- `commit` is right.
-use Rattle.std.proofs.Common.{◌≡◌, ℕ, zero, suc, ◌*◌, ◌<◌, Bool, true, false, refl, sym, ◌∙◌, ap, subst, List, [], ◌∷◌, ◌++◌, length, map, take, drop, None, Some, Ok, Option, arith, slice_index}
+use Rattle.std.proofs.Common.{◌≡◌, ℕ, zero, suc, ◌*◌, ◌<◌, ◌≤◌, Bool, true, false, refl, sym, ◌∙◌, ap, subst, List, [], ◌∷◌, ◌++◌, length, map, take, drop, None, Some, Ok, Option, arith, slice_index}
 use Rattle.std.specs.Prelude.{slice_set, nat_lt, is_some, ◌&&◌, if◌then◌else◌, option_and_then}
 use Rattle.std.specs.List.{list_all}
 use Rattle.std.proofs.lemmas.List.{length-map, map_push, map-set, length_push}
@@ -11,7 +11,7 @@ use Rattle.mps_format.specs.Fields.{size_field}
 use Rattle.mps_format.specs.Front.{is_front}
 use Rattle.mps_model.specs.declared.call.Call.TheVariants as call
 use Rattle.mps_model.specs.Checked.{Checked, Numbered, point_named}
-use Rattle.mps_model.specs.Graph.{Object, PointThing, Point, thing_in}
+use Rattle.mps_model.specs.Graph.{Object, Point}
 use Rattle.mps_model.specs.LegalMove.{ForOne, ForChecked, IsReserved, IsLegalCommit}
 use Rattle.mps_model.specs.Log.{records_of_step}
 use Rattle.mps_model.specs.Replay.{replay_from, after_making}
@@ -19,19 +19,18 @@ use Rattle.mps_model.specs.World.{World}
 use Rattle.mps_model.specs.History.{live_blocks, with_client_remembered}
 use Rattle.mps_model.specs.Reply.{answer_from, world_from}
 use Rattle.mps_model.specs.Effect.{with_next_address}
-use Rattle.mps_first_heap.specs.HeapState.{HeapState, is_named, is_point, has_slot, head_at, words_of_head}
-use Rattle.mps_first_heap.specs.Outcome.{ok_with_move, unsupported, commit_move, after_commit}
+use Rattle.mps_first_heap.specs.HeapState.{HeapState, is_point, has_slot, head_at, words_of_head}
+use Rattle.mps_first_heap.specs.Outcome.{Outcome, ok_with_move, unsupported, commit_move, after_commit}
 use Rattle.mps_first_heap.specs.StandsFor.{Past, Agrees, world_of, world_with, step_of, object_in, cells_at, some_address, point_with, reservation_in, address_in_slot, is_null_or_below, end_of_objects}
 use Rattle.mps_first_heap.specs.RightStep.{IsRightStep}
 use Rattle.mps_first_heap.proofs.Lists.{length-cells_in, length-block_words, blocks_later, blocks_push}
-use Rattle.mps_first_heap.proofs.Worlds.{parts_by, world_by, world_of-parts, is_named-some, pool_with_point, made_with_pool, at_hand_within, slot_there, live_blocks-world_of, stored}
+use Rattle.mps_first_heap.proofs.Worlds.{parts_by, world_by, world_of-parts, live_blocks-world_of, stored}
+use Rattle.mps_first_heap.proofs.Premises.{NamesPoint, HasSlot, names_point, slot_facts}
 use Rattle.mps_first_heap.proofs.Stores.{making_pushed}
 use Rattle.mps_first_heap.proofs.Steps.{right_step, unsupported_step}
-use Rattle.mps_first_heap.proofs.Numbers.{table_named}
-use Rattle.mps_first_heap.proofs.Inits.{point_named_there, is_point_some}
 use Rattle.mps_first_heap.proofs.Acts.{act_of_commit}
 
--- what is kept after a commit, and what isn't
+-- the state after a commit, and its past
 abbrev with_object : HeapState → Slot → HeapState
 with_object h slot = record h { slots = slice_set h.slots slot.index h.reserved; is_open = false }
 
@@ -62,7 +61,7 @@ world_committed h p slot t q =
     ∙ ap (λ addresses. committed_with h p (map (object_in h.words) (p.addresses ++ h.reserved ∷ [])) (slice_set p.ids slot.index (Some (length p.addresses))) addresses) (sym (map_push some_address p.addresses h.reserved))
     ∙ sym (world_of-parts (with_object h slot) (past_with_object h p slot) true true (is_some h.pool) false t q refl refl)
 
--- ---- what is kept agrees
+-- ---- the state agrees with its past
 
 slot_pushed : (addresses : List ℕ) (address : ℕ) (id : ℕ) → id < length addresses → slice_index (addresses ++ address ∷ []) id ≡ slice_index addresses id
 slot_pushed [] address id h = absurd (omega (arith, h))
@@ -114,91 +113,95 @@ ids_pushed addresses address ids i h =
     subst (λ (n : ℕ). list_all (is_null_or_below n) (slice_set ids i (Some (length addresses))) ≡ true) (let e : suc (length addresses) ≡ length (addresses ++ address ∷ []) = omega (arith, length_push addresses address) in e)
     (ids_set (suc (length addresses)) ids i (length addresses) (omega arith) (ids_more (length addresses) ids h))
 
-some_or_none : (h : HeapState) → is_some h.point ≡ true → h.point ≡ None → ⊥
-some_or_none h q none = false≢true (sym (ap is_some none) ∙ q)
+module _ (h : HeapState) (p : Past) (name : Name) (slot : Slot) (n : NamesPoint h p name) (o : h.is_open ≡ true) where
+  bound : end_of_objects h ≡ h.reserved
+  bound = ap (λ b. if b then h.reserved else h.buffer_start) o
 
-agrees_with_object : (h : HeapState) (p : Past) (slot : Slot) → Agrees h p → is_some h.point ≡ true → h.is_open ≡ true → Agrees (with_object h slot) (past_with_object h p slot)
-agrees_with_object h p slot a q o =
-    let bound : end_of_objects h ≡ h.reserved = ap (λ b. if b then h.reserved else h.buffer_start) o in
-    let block = a.reservation o in
-    let below = block.below in
-    record {
-      names = a.names;
-      slots = ap (λ slots. slice_set slots slot.index h.reserved) a.slots ∙ slots_pushed p.addresses h.reserved p.ids slot.index a.ids;
-      ids = ids_pushed p.addresses h.reserved p.ids slot.index a.ids;
-      held = a.held;
-      in_arena = a.in_arena;
-      arena = a.arena;
-      blocks = blocks_push h.words h.buffer_start h.reserved p.addresses (blocks_later h.words (end_of_objects h) h.buffer_start p.addresses (omega (arith, bound)) a.blocks) block;
-      reservation = λ e. absurd (false≢true e);
-      buffer = a.buffer;
-      not_null = a.not_null;
-      fresh = a.fresh;
-      before_arena = a.before_arena;
-      before_pool = a.before_pool;
-      before_point = λ none. absurd (some_or_none h q none);
-    }
+  agrees_with_object : Agrees (with_object h slot) (past_with_object h p slot)
+  agrees_with_object =
+      let a = n.agrees in
+      let block = a.reservation o in
+      let below = block.below in
+      let le : end_of_objects h ≤ h.buffer_start = omega (arith, bound) in
+      record {
+        names = a.names;
+        slots = ap (λ slots. slice_set slots slot.index h.reserved) a.slots ∙ slots_pushed p.addresses h.reserved p.ids slot.index a.ids;
+        ids = ids_pushed p.addresses h.reserved p.ids slot.index a.ids;
+        held = a.held;
+        in_arena = a.in_arena;
+        arena = a.arena;
+        blocks = blocks_push h.words h.buffer_start h.reserved p.addresses (blocks_later h.words (end_of_objects h) h.buffer_start p.addresses le a.blocks) block;
+        reservation = λ e. absurd (false≢true e);
+        buffer = a.buffer;
+        not_null = a.not_null;
+        fresh = a.fresh;
+        before_arena = a.before_arena;
+        before_pool = a.before_pool;
+        before_point = λ none. absurd (false≢true (sym (ap is_some none) ∙ n.point));
+      }
 
--- ---- the move is legal
+  -- ---- the move is legal
 
-reserved_block : (h : HeapState) (p : Past) → Agrees h p → is_some h.point ≡ true → h.is_open ≡ true → length (cells_at h.words h.reserved) ≡ words_of_head (head_at h h.reserved)
-reserved_block h p a q o =
-    let made = made_with_pool h p a (pool_with_point h p a q) in
-    let within = at_hand_within h p a made in
-    let hand = a.buffer in
-    let block = a.reservation o in
-    let below = block.below in
-    let size = size_field (slice_index h.words h.reserved) in
-    length-cells_in (slice_index h.words h.reserved) 0 (take size (drop h.reserved h.words))
-    ∙ length-block_words h.words h.reserved size (omega arith)
-    ∙ sym (cond-true (is_front (slice_index h.words h.reserved)) size 0 block.head)
+  reserved_block : length (cells_at h.words h.reserved) ≡ words_of_head (head_at h h.reserved)
+  reserved_block =
+      let in_order = n.in_order in
+      let inside = n.inside in
+      let block = n.agrees.reservation o in
+      let below = block.below in
+      let head = slice_index h.words h.reserved in
+      length-cells_in head 0 (take (size_field head) (drop h.reserved h.words))
+      ∙ length-block_words h.words h.reserved (size_field head) (omega arith)
+      ∙ sym (cond-true (is_front head) (size_field head) 0 block.head)
 
-point_there : (h : HeapState) (p : Past) (name : Name) → thing_in p.names name ≡ Some (PointThing 0) → point_named (world_committing h p) name ≡ Ok (record { number = 0; value = point_with (Some (reservation_in h.words h.reserved)) })
-point_there h p name e = rw e refl
+  point_there : point_named (world_committing h p) name ≡ Ok (record { number = 0; value = point_with (Some (reservation_in h.words h.reserved)) })
+  point_there = let e = n.named in rw e refl
 
-legal_commit : (h : HeapState) (p : Past) (name : Name) (slot : Slot) → Agrees h p → is_point h name ≡ true → h.is_open ≡ true → IsLegalCommit (call.Commit name slot) (world_committing h p) (bytes_of_word * h.reserved) (words_of_head (head_at h h.reserved)) 0
-legal_commit h p name slot a point o =
-    subst (λ (c : Checked (Numbered Point)). ForChecked c (λ at. ForOne at.value.reservation (IsReserved (world_committing h p) (bytes_of_word * h.reserved) (words_of_head (head_at h h.reserved)) 0 at)))
-    (sym (point_there h p name (point_named_there h p a name point)))
-    (record { at_address = refl; of_words = reserved_block h p a (is_point_some h name point) o; of_pool = refl })
+  legal_commit : IsLegalCommit (call.Commit name slot) (world_committing h p) (bytes_of_word * h.reserved) (words_of_head (head_at h h.reserved)) 0
+  legal_commit =
+      subst (λ (c : Checked (Numbered Point)). ForChecked c (λ at. ForOne at.value.reservation
+      (IsReserved (world_committing h p) (bytes_of_word * h.reserved) (words_of_head (head_at h h.reserved)) 0 at)))
+      (sym point_there)
+      (record { at_address = refl; of_words = reserved_block; of_pool = refl })
 
--- ---- the step is right
+  -- ---- the step is right
 
-replayed : (h : HeapState) (p : Past) (line : ℕ) (name : Name) (slot : Slot) (pools : ℕ) → Agrees h p → is_some h.table ≡ true → is_some h.point ≡ true → h.is_open ≡ true
-    → replay_from (live_blocks (world_committing h p)) (records_of_step pools (step_committed h line name slot)) ≡ Some (stored h.words (p.addresses ++ h.reserved ∷ []))
-replayed h p line name slot pools a t q o =
-    let bound : end_of_objects h ≡ h.reserved = ap (λ b. if b then h.reserved else h.buffer_start) o in
-    ap (λ store. option_and_then (λ after. Some after) (after_making store (bytes_of_word * h.reserved) (words_of_head (head_at h h.reserved)) 0))
-    (ap live_blocks (sym (is_world_committing h p t q o)) ∙ live_blocks-world_of h p)
-    ∙ ap (option_and_then (λ after. Some after)) (making_pushed h.words h.reserved (words_of_head (head_at h h.reserved)) p.addresses (blocks_later h.words (end_of_objects h) h.reserved p.addresses (omega (arith, bound)) a.blocks) (reserved_block h p a q o))
+  module _ (line : ℕ) (s : HasSlot h p slot) where
+    replayed : (pools : ℕ) → replay_from (live_blocks (world_committing h p)) (records_of_step pools (step_committed h line name slot))
+        ≡ Some (stored h.words (p.addresses ++ h.reserved ∷ []))
+    replayed pools =
+        let size = words_of_head (head_at h h.reserved) in
+        let blocks = blocks_later h.words (end_of_objects h) h.reserved p.addresses (omega (arith, bound)) n.agrees.blocks in
+        ap (λ store. option_and_then (λ after. Some after) (after_making store (bytes_of_word * h.reserved) size 0))
+        (ap live_blocks (sym (is_world_committing h p s.table n.point o)) ∙ live_blocks-world_of h p)
+        ∙ ap (option_and_then (λ after. Some after)) (making_pushed h.words h.reserved size p.addresses blocks reserved_block)
 
-right_with_object : (h : HeapState) (p : Past) (line : ℕ) (name : Name) (slot : Slot) → Agrees h p → is_point h name ≡ true → h.is_open ≡ true → has_slot h slot ≡ true
-    → IsRightStep (world_committing h p) (step_committed h line name slot) (with_object h slot)
-right_with_object h p line name slot a point o there =
-    let both = and_parts (is_named h.table slot.name) (nat_lt slot.index (length h.slots)) there in
-    let t = is_named-some h.table slot.name both.0 in
-    let q = is_point_some h name point in
-    let lt = ltb-true slot.index (length h.slots) both.1 in
-    let lt' : slot.index < length (map (address_in_slot p.addresses) p.ids) = subst (λ (slots : List ℕ). slot.index < length slots) a.slots lt in
-    let at = slot_there p.addresses p.ids slot.index lt' in
-    let e = act_of_commit (record (parts_by h p true true (is_some h.pool) true) { addresses = map some_address p.addresses ++ some_address h.reserved ∷ [] })
-    name (point_named_there h p a name point) p.ids slot at.0 (table_named h p a slot both.0) at.1 (slice_index h.words h.reserved) (cells_at h.words h.reserved) in
-    right_step (world_committing h p) (step_committed h line name slot) (with_object h slot) (past_with_object h p slot) refl
-    (record { moves_are_legal = (legal_commit h p name slot a point o, tt); moves_are_due = refl; answer_is_due = sym (ap answer_from e); marked = tt })
-    (ap (λ r. with_client_remembered (world_from (with_next_address (world_committing h p) (bytes_of_word * h.reserved)) r)) e ∙ world_committed h p slot t q)
-    (agrees_with_object h p slot a q o)
-    (λ pools. replayed h p line name slot pools a t q o)
+    right_with_object : IsRightStep (world_committing h p) (step_committed h line name slot) (with_object h slot)
+    right_with_object =
+        let moved = record (parts_by h p true true (is_some h.pool) true) { addresses = map some_address p.addresses ++ some_address h.reserved ∷ [] } in
+        let e = act_of_commit moved name n.named p.ids slot s.held s.named s.there (slice_index h.words h.reserved) (cells_at h.words h.reserved) in
+        right_step (world_committing h p) (step_committed h line name slot) (with_object h slot) (past_with_object h p slot) refl
+        (record { moves_are_legal = (legal_commit, tt); moves_are_due = refl; answer_is_due = sym (ap answer_from e); marked = tt })
+        (ap (λ r. with_client_remembered (world_from (with_next_address (world_committing h p) (bytes_of_word * h.reserved)) r)) e
+        ∙ world_committed h p slot s.table n.point)
+        agrees_with_object
+        replayed
 
-commit_where : (h : HeapState) (p : Past) (line : ℕ) (name : Name) (slot : Slot) → Agrees h p → (b : Bool) → (is_point h name && h.is_open && has_slot h slot) ≡ b
-    → IsRightStep (world_of h p) (step_of line (call.Commit name slot) (if b then record { done = ok_with_move (commit_move h); state = with_object h slot } else unsupported h).done)
-    (if b then record { done = ok_with_move (commit_move h); state = with_object h slot } else unsupported h).state
+-- what a commit does, by whether it may
+abbrev pub commit_outcome : HeapState → Slot → Bool → Outcome
+commit_outcome h slot b = if b then record { done = ok_with_move (commit_move h); state = with_object h slot } else unsupported h
+
+commit_where : (h : HeapState) (p : Past) (line : ℕ) (name : Name) (slot : Slot) → Agrees h p
+    → (b : Bool) → (is_point h name && h.is_open && has_slot h slot) ≡ b
+    → IsRightStep (world_of h p) (step_of line (call.Commit name slot) (commit_outcome h slot b).done) (commit_outcome h slot b).state
 commit_where h p line name slot a false e = unsupported_step h p line (call.Commit name slot) a
 commit_where h p line name slot a true e =
     let both = and_parts (is_point h name && h.is_open) (has_slot h slot) e in
     let first = and_parts (is_point h name) h.is_open both.0 in
-    let t = is_named-some h.table slot.name (and_parts (is_named h.table slot.name) (nat_lt slot.index (length h.slots)) both.1).0 in
-    subst (λ (w : World). IsRightStep w (step_committed h line name slot) (with_object h slot)) (sym (is_world_committing h p t (is_point_some h name first.0) first.1))
-    (right_with_object h p line name slot a first.0 first.1 both.1)
+    let n = names_point h p name a first.0 in
+    let s = slot_facts h p slot a both.1 in
+    subst (λ (w : World). IsRightStep w (step_committed h line name slot) (with_object h slot))
+    (sym (is_world_committing h p s.table n.point first.1))
+    (right_with_object h p name slot n first.1 line s)
 
 pub right_commit : (h : HeapState) (p : Past) (line : ℕ) (name : Name) (slot : Slot) → Agrees h p
     → IsRightStep (world_of h p) (step_of line (call.Commit name slot) (after_commit h name slot).done) (after_commit h name slot).state

@@ -6,6 +6,7 @@ pub mod Numbers
 pub mod Stores
 pub mod Inits
 pub mod Commits
+pub mod Premises
 pub mod Segments
 pub mod Reserves
 pub mod NameLemmas

@@ -36,7 +36,7 @@ use Rattle.mps_first_heap.proofs.Worlds.{parts_by, world_by, world_of-parts, poo
 use Rattle.mps_first_heap.proofs.Stores.{stored-set_after}
 use Rattle.mps_first_heap.proofs.Segments.{runs, over_limit, new_segment, segments_push, sum_push}
 use Rattle.mps_first_heap.proofs.Steps.{right_step, unsupported_step}
-use Rattle.mps_first_heap.proofs.Inits.{point_named_there, is_point_some}
+use Rattle.mps_first_heap.proofs.Premises.{MayReserve, names_point}
 
 -- ---- the world with a point that has nothing reserved
 
@@ -196,19 +196,17 @@ front_not_null h p head a valid room = let f = front_facts head valid in elim (c
 abbrev step_at_hand : (line : ℕ) → (name : Name) → (head : ℕ) → Step
 step_at_hand line name head = step_of line (call.Reserve name head) (reply_only reply.Ok)
 
-right_at_hand : (h : HeapState) (p : Past) (line : ℕ) (name : Name) (head : ℕ) → Agrees h p → is_point h name ≡ true → h.is_open ≡ false → is_front head ≡ true → nat_le (size_field head) (h.buffer_end - h.buffer_start) ≡ true
+right_at_hand : (h : HeapState) (p : Past) (line : ℕ) (name : Name) (head : ℕ) → MayReserve h p name head → nat_le (size_field head) (h.buffer_end - h.buffer_start) ≡ true
     → IsRightStep (world_at_rest h p) (step_at_hand line name head) (reserved_in_buffer h head)
-right_at_hand h p line name head a point o valid fits =
-    let q = is_point_some h name point in
-    let named = point_named_there h p a name point in
+right_at_hand h p line name head m fits =
     let room = leb-true (size_field head) (h.buffer_end - h.buffer_start) fits in
-    let placed = placed_at_hand h p head valid fits in
-    let e = act_placed h p h p name head named named valid (ap refuse_without_place placed) ∙ ap (λ placement. placing_done (world_at_rest h p) placement head) placed in
+    let placed = placed_at_hand h p head m.valid fits in
+    let e = act_placed h p h p name head m.at.named m.at.named m.valid (ap refuse_without_place placed) ∙ ap (λ placement. placing_done (world_at_rest h p) placement head) placed in
     right_step (world_at_rest h p) (step_at_hand line name head) (reserved_in_buffer h head) p refl
-    (record { moves_are_legal = tt; moves_are_due = record { poll = no_poll h p name head; segment = segment_due h p name head (Place h.buffer_start) named valid placed }; answer_is_due = sym (ap answer_from e); marked = tt })
-    (ap (λ r. with_client_remembered (world_from (world_at_rest h p) r)) e ∙ world_reserved h p head a q o valid room)
-    (agrees_reserved h p head a q o valid room (front_not_null h p head a valid room))
-    (λ pools. ap Some (ap live_blocks (sym (is_world_at_rest h p a q o)) ∙ live_blocks-world_of h p ∙ stored_reserved h p head a o))
+    (record { moves_are_legal = tt; moves_are_due = record { poll = no_poll h p name head; segment = segment_due h p name head (Place h.buffer_start) m.at.named m.valid placed }; answer_is_due = sym (ap answer_from e); marked = tt })
+    (ap (λ r. with_client_remembered (world_from (world_at_rest h p) r)) e ∙ world_reserved h p head m.at.agrees m.at.point m.not_open m.valid room)
+    (agrees_reserved h p head m.at.agrees m.at.point m.not_open m.valid room (front_not_null h p head m.at.agrees m.valid room))
+    (λ pools. ap Some (ap live_blocks (sym (is_world_at_rest h p m.at.agrees m.at.point m.not_open)) ∙ live_blocks-world_of h p ∙ stored_reserved h p head m.at.agrees m.not_open))
 
 -- ---- a reservation after what is held
 
@@ -225,20 +223,18 @@ over_limit_reply h need = reply.Refused (refusal.CommitLimit h.held need h.limit
 abbrev step_refused : (h : HeapState) → (line : ℕ) → (name : Name) → (head need : ℕ) → Step
 step_refused h line name head need = step_of line (call.Reserve name head) (reply_only (over_limit_reply h need))
 
-right_refused : (h : HeapState) (p : Past) (line : ℕ) (name : Name) (head : ℕ) → Agrees h p → is_point h name ≡ true → h.is_open ≡ false → is_front head ≡ true → nat_le (size_field head) (h.buffer_end - h.buffer_start) ≡ false
+right_refused : (h : HeapState) (p : Past) (line : ℕ) (name : Name) (head : ℕ) → MayReserve h p name head → nat_le (size_field head) (h.buffer_end - h.buffer_start) ≡ false
     → nat_lt h.limit (h.held + grains_needed (size_field head)) ≡ true
     → IsRightStep (world_at_rest h p) (step_refused h line name head (grains_needed (size_field head))) h
-right_refused h p line name head a point o valid fits over =
-    let q = is_point_some h name point in
-    let named = point_named_there h p a name point in
+right_refused h p line name head m fits over =
     let need = grains_needed (size_field head) in
-    let placed = placed_after h p head valid fits ∙ over_limit h.grains h.limit h.held p.segments need a.held over in
-    let e = act_refused h p name head (refusal.CommitLimit h.held need h.limit) named valid (ap refuse_without_place placed) in
+    let placed = placed_after h p head m.valid fits ∙ over_limit h.grains h.limit h.held p.segments need m.at.agrees.held over in
+    let e = act_refused h p name head (refusal.CommitLimit h.held need h.limit) m.at.named m.valid (ap refuse_without_place placed) in
     right_step (world_at_rest h p) (step_refused h line name head need) h p refl
-    (record { moves_are_legal = tt; moves_are_due = record { poll = no_poll h p name head; segment = segment_due h p name head (OverLimit h.held need h.limit) named valid placed }; answer_is_due = sym (ap answer_from e); marked = tt })
-    (ap (λ r. with_client_remembered (world_from (world_at_rest h p) r)) e ∙ sym (is_world_at_rest h p a q o))
-    a
-    (λ pools. ap Some (ap live_blocks (sym (is_world_at_rest h p a q o)) ∙ live_blocks-world_of h p))
+    (record { moves_are_legal = tt; moves_are_due = record { poll = no_poll h p name head; segment = segment_due h p name head (OverLimit h.held need h.limit) m.at.named m.valid placed }; answer_is_due = sym (ap answer_from e); marked = tt })
+    (ap (λ r. with_client_remembered (world_from (world_at_rest h p) r)) e ∙ sym (is_world_at_rest h p m.at.agrees m.at.point m.not_open))
+    m.at.agrees
+    (λ pools. ap Some (ap live_blocks (sym (is_world_at_rest h p m.at.agrees m.at.point m.not_open)) ∙ live_blocks-world_of h p))
 
 -- ---- a reservation in a new segment
 
@@ -299,66 +295,64 @@ legal_segment h p name head need named valid placed =
 abbrev step_after : (h : HeapState) → (line : ℕ) → (name : Name) → (head need : ℕ) → Step
 step_after h line name head need = step_of line (call.Reserve name head) (ok_with_move (segment_move h need))
 
-right_taken : (h : HeapState) (p : Past) (line : ℕ) (name : Name) (head : ℕ) → Agrees h p → is_point h name ≡ true → h.is_open ≡ false → is_front head ≡ true → nat_le (size_field head) (h.buffer_end - h.buffer_start) ≡ false
+right_taken : (h : HeapState) (p : Past) (line : ℕ) (name : Name) (head : ℕ) → MayReserve h p name head → nat_le (size_field head) (h.buffer_end - h.buffer_start) ≡ false
     → nat_lt h.limit (h.held + grains_needed (size_field head)) ≡ false → h.held + grains_needed (size_field head) ≤ h.grains
     → IsRightStep (world_at_rest h p) (step_after h line name head (grains_needed (size_field head))) (reserved_in_buffer (outcome.segment_taken h (grains_needed (size_field head))) head)
-right_taken h p line name head a point o valid fits limit inside =
-    let q = is_point_some h name point in
-    let named = point_named_there h p a name point in
+right_taken h p line name head m fits limit inside =
     let size = size_field head in
     let need = grains_needed size in
-    let f = front_facts head valid in
+    let f = front_facts head m.valid in
     let some : 0 < need = omega arith in
-    let placed = placed_after h p head valid fits ∙ new_segment h.grains h.limit h.held p.segments need a.held limit inside some in
+    let placed = placed_after h p head m.valid fits ∙ new_segment h.grains h.limit h.held p.segments need m.at.agrees.held limit inside some in
     let taken = outcome.segment_taken h need in
     let later = past_taken p need in
-    let a' = agrees_taken h p need a q o inside in
+    let a' = agrees_taken h p need m.at.agrees m.at.point m.not_open inside in
     let room : size ≤ taken.buffer_end - taken.buffer_start = omega arith in
-    let placed' = placed_at_hand taken later head valid (le-leb size (taken.buffer_end - taken.buffer_start) room) in
-    let w = world_taken h p name head need a named in
-    let e = ap (λ (v : World). act_reserve (world_at_rest h p) v name head) w ∙ act_placed h p taken later name head named named valid (ap refuse_without_place placed) ∙ ap (λ placement. placing_done (world_at_rest taken later) placement head) placed' in
+    let placed' = placed_at_hand taken later head m.valid (le-leb size (taken.buffer_end - taken.buffer_start) room) in
+    let w = world_taken h p name head need m.at.agrees m.at.named in
+    let e = ap (λ (v : World). act_reserve (world_at_rest h p) v name head) w ∙ act_placed h p taken later name head m.at.named m.at.named m.valid (ap refuse_without_place placed) ∙ ap (λ placement. placing_done (world_at_rest taken later) placement head) placed' in
     right_step (world_at_rest h p) (step_after h line name head need) (reserved_in_buffer taken head) later refl
     (record {
-      moves_are_legal = (legal_segment h p name head need named valid placed, tt);
-      moves_are_due = record { poll = no_poll h p name head; segment = segment_due h p name head (NewSegment (h.held + 1) need) named valid placed };
+      moves_are_legal = (legal_segment h p name head need m.at.named m.valid placed, tt);
+      moves_are_due = record { poll = no_poll h p name head; segment = segment_due h p name head (NewSegment (h.held + 1) need) m.at.named m.valid placed };
       answer_is_due = sym (ap answer_from e);
       marked = tt;
     })
-    (ap (λ r. with_client_remembered (world_from (world_after_moves (call.Reserve name head) (world_at_rest h p) (segment_move h need ∷ [])) r)) e ∙ world_reserved taken later head a' q o valid room)
-    (agrees_reserved taken later head a' q o valid room (omega arith))
-    (λ pools. ap Some (ap live_blocks (sym (is_world_at_rest h p a q o)) ∙ live_blocks-world_of h p ∙ stored_reserved taken later head a' o))
+    (ap (λ r. with_client_remembered (world_from (world_after_moves (call.Reserve name head) (world_at_rest h p) (segment_move h need ∷ [])) r)) e ∙ world_reserved taken later head a' m.at.point m.not_open m.valid room)
+    (agrees_reserved taken later head a' m.at.point m.not_open m.valid room (omega arith))
+    (λ pools. ap Some (ap live_blocks (sym (is_world_at_rest h p m.at.agrees m.at.point m.not_open)) ∙ live_blocks-world_of h p ∙ stored_reserved taken later head a' m.not_open))
 
 -- ---- all cases
 
 abbrev is_right : (h : HeapState) → (p : Past) → (line : ℕ) → (name : Name) → (head : ℕ) → Outcome → Type 0
 is_right h p line name head o = IsRightStep (world_of h p) (step_of line (call.Reserve name head) o.done) o.state
 
-right_in_arena : (h : HeapState) (p : Past) (line : ℕ) (name : Name) (head : ℕ) → Agrees h p → is_point h name ≡ true → h.is_open ≡ false → is_front head ≡ true → nat_le (size_field head) (h.buffer_end - h.buffer_start) ≡ false
+right_in_arena : (h : HeapState) (p : Past) (line : ℕ) (name : Name) (head : ℕ) → MayReserve h p name head → nat_le (size_field head) (h.buffer_end - h.buffer_start) ≡ false
     → nat_lt h.limit (h.held + grains_needed (size_field head)) ≡ false → (b : Bool) → nat_lt h.grains (h.held + grains_needed (size_field head)) ≡ b
     → is_right h p line name head (if b then unsupported h else record { done = ok_with_move (segment_move h (grains_needed (size_field head))); state = reserved_in_buffer (outcome.segment_taken h (grains_needed (size_field head))) head })
-right_in_arena h p line name head a point o valid fits limit true e = unsupported_step h p line (call.Reserve name head) a
-right_in_arena h p line name head a point o valid fits limit false e =
+right_in_arena h p line name head m fits limit true e = unsupported_step h p line (call.Reserve name head) m.at.agrees
+right_in_arena h p line name head m fits limit false e =
     let need = grains_needed (size_field head) in
-    subst (λ (w : World). IsRightStep w (step_after h line name head need) (reserved_in_buffer (outcome.segment_taken h need) head)) (sym (is_world_at_rest h p a (is_point_some h name point) o))
-    (right_taken h p line name head a point o valid fits limit (ltb-false h.grains (h.held + need) e))
+    subst (λ (w : World). IsRightStep w (step_after h line name head need) (reserved_in_buffer (outcome.segment_taken h need) head)) (sym (is_world_at_rest h p m.at.agrees m.at.point m.not_open))
+    (right_taken h p line name head m fits limit (ltb-false h.grains (h.held + need) e))
 
-right_in_limit : (h : HeapState) (p : Past) (line : ℕ) (name : Name) (head : ℕ) → Agrees h p → is_point h name ≡ true → h.is_open ≡ false → is_front head ≡ true → nat_le (size_field head) (h.buffer_end - h.buffer_start) ≡ false
+right_in_limit : (h : HeapState) (p : Past) (line : ℕ) (name : Name) (head : ℕ) → MayReserve h p name head → nat_le (size_field head) (h.buffer_end - h.buffer_start) ≡ false
     → (b : Bool) → nat_lt h.limit (h.held + grains_needed (size_field head)) ≡ b
     → is_right h p line name head (if b then with_reply h (over_limit_reply h (grains_needed (size_field head))) else (if nat_lt h.grains (h.held + grains_needed (size_field head)) then unsupported h else record { done = ok_with_move (segment_move h (grains_needed (size_field head))); state = reserved_in_buffer (outcome.segment_taken h (grains_needed (size_field head))) head }))
-right_in_limit h p line name head a point o valid fits true e =
-    subst (λ (w : World). IsRightStep w (step_refused h line name head (grains_needed (size_field head))) h) (sym (is_world_at_rest h p a (is_point_some h name point) o))
-    (right_refused h p line name head a point o valid fits e)
-right_in_limit h p line name head a point o valid fits false e =
-    right_in_arena h p line name head a point o valid fits e (nat_lt h.grains (h.held + grains_needed (size_field head))) refl
+right_in_limit h p line name head m fits true e =
+    subst (λ (w : World). IsRightStep w (step_refused h line name head (grains_needed (size_field head))) h) (sym (is_world_at_rest h p m.at.agrees m.at.point m.not_open))
+    (right_refused h p line name head m fits e)
+right_in_limit h p line name head m fits false e =
+    right_in_arena h p line name head m fits e (nat_lt h.grains (h.held + grains_needed (size_field head))) refl
 
-right_placed : (h : HeapState) (p : Past) (line : ℕ) (name : Name) (head : ℕ) → Agrees h p → is_point h name ≡ true → h.is_open ≡ false → is_front head ≡ true
+right_placed : (h : HeapState) (p : Past) (line : ℕ) (name : Name) (head : ℕ) → MayReserve h p name head
     → (b : Bool) → nat_le (size_field head) (h.buffer_end - h.buffer_start) ≡ b
     → is_right h p line name head (if b then with_reply (reserved_in_buffer h head) reply.Ok else reserve_after h head (grains_needed (size_field head)))
-right_placed h p line name head a point o valid true e =
-    subst (λ (w : World). IsRightStep w (step_at_hand line name head) (reserved_in_buffer h head)) (sym (is_world_at_rest h p a (is_point_some h name point) o))
-    (right_at_hand h p line name head a point o valid e)
-right_placed h p line name head a point o valid false e =
-    right_in_limit h p line name head a point o valid e (nat_lt h.limit (h.held + grains_needed (size_field head))) refl
+right_placed h p line name head m true e =
+    subst (λ (w : World). IsRightStep w (step_at_hand line name head) (reserved_in_buffer h head)) (sym (is_world_at_rest h p m.at.agrees m.at.point m.not_open))
+    (right_at_hand h p line name head m e)
+right_placed h p line name head m false e =
+    right_in_limit h p line name head m e (nat_lt h.limit (h.held + grains_needed (size_field head))) refl
 
 reserve_where : (h : HeapState) (p : Past) (line : ℕ) (name : Name) (head : ℕ) → Agrees h p → (b : Bool) → (is_point h name && is_front head && not h.is_open) ≡ b
     → is_right h p line name head (if b then reserve_placed h head else unsupported h)
@@ -366,7 +360,7 @@ reserve_where h p line name head a false e = unsupported_step h p line (call.Res
 reserve_where h p line name head a true e =
     let both = and_parts (is_point h name && is_front head) (not h.is_open) e in
     let first = and_parts (is_point h name) (is_front head) both.0 in
-    right_placed h p line name head a first.0 (not-true h.is_open both.1) first.1 (nat_le (size_field head) (h.buffer_end - h.buffer_start)) refl
+    right_placed h p line name head (record { at = names_point h p name a first.0; not_open = not-true h.is_open both.1; valid = first.1 }) (nat_le (size_field head) (h.buffer_end - h.buffer_start)) refl
 
 pub right_reserve : (h : HeapState) (p : Past) (line : ℕ) (name : Name) (head : ℕ) → Agrees h p
     → IsRightStep (world_of h p) (step_of line (call.Reserve name head) (after_reserve h name head).done) (after_reserve h name head).state
