@@ -1,9 +1,11 @@
 pub mod Apart
 pub mod BitFacts
 pub mod Counts
-pub mod Cover
+pub mod ExtentBits
 pub mod Decode
 pub mod Held
 pub mod Lengths
 pub mod New
 pub mod Query
+pub mod PutExtent
+pub mod TakenExtent

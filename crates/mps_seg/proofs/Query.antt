@@ -11,7 +11,7 @@ use Rattle.mps_seg.specs.Segs.{at_word}
 use Rattle.mps_seg.specs.Extents.{has_word, is_covered, run_over, first_run, AreWhole}
 use Rattle.mps_seg.specs.Inside.{length_at, runs_with, extents, AreSoundTables}
 use Rattle.mps_seg.proofs.BitFacts.{bit_is}
-use Rattle.mps_seg.proofs.Cover.{extent_at, begin_of, among_all}
+use Rattle.mps_seg.proofs.ExtentBits.{extent_at, begin_of, among_all}
 use Rattle.mps_seg.proofs.Apart.{has_word-true, has_word-parts, has_word-below, has_word-above, apart_each, covered_by, covers_contained, covered_first, covered_later, uncovered_below}
 
 -- ---- the run over a word

@@ -1,86 +1,64 @@
-use Rattle.std.proofs.Common.{◌+◌, Bool, false, List, Contains, set, sym, ap, ◌∙◌, subst, arith, length-set}
+use Rattle.std.proofs.Common.{Contains, false, set, ap, ◌∙◌, subst, arith, length-set}
 use Rattle.mps_base.specs.Run.{Run, without_run}
-use Rattle.mps_bits.specs.Table.{with_range}
 use Rattle.mps_seg.specs.Extents.{ExtentLists}
-use Rattle.mps_seg.specs.Inside.{lists_of, AreSoundTables}
+use Rattle.mps_seg.proofs.TakenExtent.{block_fits, taken_is_sound, others_than_block, drop_lists}
 use Rattle.mps_seg.proofs.extents.Extents.drop_block.Goals as goal
-use Rattle.mps_seg.proofs.Cover.{last_word, block_of, taken_bounds, taken_is_sound, drop_lists, left_without_block}
 
 pub overflow_add-at : goal.overflow_add-at
 overflow_add-at c =
-    let r : Run = record { from = c.args.at; count = c.args.words } in
-    let taken = block_of c.self.inside.covered c.self.inside.begins c.self.inside.ends c.self.inside.blocks r c.args.self.now c.self.invariant c.self.view_is c.requires in
-    omega (arith, taken_bounds c.self.inside.covered c.self.inside.begins c.self.inside.ends c.self.inside.blocks r taken.0, c.self.invariant.small)
+    let fits = (block_fits c.self.inside c.args.self.now c.args.at c.args.words c.self.invariant c.self.view_is c.requires).fits in
+    omega arith
 
 pub clear_range-requires-clause-in_table : goal.clear_range-requires-clause-in_table
 clear_range-requires-clause-in_table c =
-    let r : Run = record { from = c.args.at; count = c.args.words } in
-    let taken = block_of c.self.inside.covered c.self.inside.begins c.self.inside.ends c.self.inside.blocks r c.args.self.now c.self.invariant c.self.view_is c.requires in
-    omega (arith, taken_bounds c.self.inside.covered c.self.inside.begins c.self.inside.ends c.self.inside.blocks r taken.0, c.self.invariant.same_size.0)
+    let fits = (block_fits c.self.inside c.args.self.now c.args.at c.args.words c.self.invariant c.self.view_is c.requires).fits in
+    omega arith
 
 pub clear-requires : goal.clear-requires
 clear-requires c =
-    let r : Run = record { from = c.args.at; count = c.args.words } in
-    let taken = block_of c.self.inside.covered c.self.inside.begins c.self.inside.ends c.self.inside.blocks r c.args.self.now c.self.invariant c.self.view_is c.requires in
-    omega (arith, taken_bounds c.self.inside.covered c.self.inside.begins c.self.inside.ends c.self.inside.blocks r taken.0)
+    let fits = (block_fits c.self.inside c.args.self.now c.args.at c.args.words c.self.invariant c.self.view_is c.requires).fits in
+    omega arith
 
 pub overflow_add-at-2 : goal.overflow_add-at-2
 overflow_add-at-2 c =
-    let r : Run = record { from = c.args.at; count = c.args.words } in
-    let taken = block_of c.self.inside.covered c.self.inside.begins c.self.inside.ends c.self.inside.blocks r c.args.self.now c.self.invariant c.self.view_is c.requires in
-    omega (arith, taken_bounds c.self.inside.covered c.self.inside.begins c.self.inside.ends c.self.inside.blocks r taken.0, c.self.invariant.small)
+    let fits = (block_fits c.self.inside c.args.self.now c.args.at c.args.words c.self.invariant c.self.view_is c.requires).fits in
+    omega arith
 
 pub clear-requires-2 : goal.clear-requires-2
 clear-requires-2 c =
-    let r : Run = record { from = c.args.at; count = c.args.words } in
-    let taken = block_of c.self.inside.covered c.self.inside.begins c.self.inside.ends c.self.inside.blocks r c.args.self.now c.self.invariant c.self.view_is c.requires in
-    omega (arith, taken_bounds c.self.inside.covered c.self.inside.begins c.self.inside.ends c.self.inside.blocks r taken.0, c.self.invariant.same_size.1)
+    let fits = (block_fits c.self.inside c.args.self.now c.args.at c.args.words c.self.invariant c.self.view_is c.requires).fits in
+    omega arith
 
 pub clear-requires-3 : goal.clear-requires-3
 clear-requires-3 c =
-    let r : Run = record { from = c.args.at; count = c.args.words } in
-    let taken = block_of c.self.inside.covered c.self.inside.begins c.self.inside.ends c.self.inside.blocks r c.args.self.now c.self.invariant c.self.view_is c.requires in
-    omega (arith, taken_bounds c.self.inside.covered c.self.inside.begins c.self.inside.ends c.self.inside.blocks r taken.0, c.self.invariant.same_size.2)
-
-pub invariant_of-self : goal.invariant_of-self
-invariant_of-self c =
-    let covered = c.self.inside.covered in
-    let begins = c.self.inside.begins in
-    let ends = c.self.inside.ends in
-    let blocks = c.self.inside.blocks in
-    let r : Run = record { from = c.args.at; count = c.args.words } in
-    let taken = block_of covered begins ends blocks r c.args.self.now c.self.invariant c.self.view_is c.requires in
-    let fits = taken_bounds covered begins ends blocks r taken.0 in
-    let P1 : List Bool → Type 0 = λ t. AreSoundTables t c.clear.new.self c.clear-2.new.self c.clear-3.new.self in
-    let P2 : List Bool → Type 0 = λ t. AreSoundTables (with_range covered c.args.at (c.args.at + c.args.words) false) t c.clear-2.new.self c.clear-3.new.self in
-    let P3 : List Bool → Type 0 = λ t. AreSoundTables (with_range covered c.args.at (c.args.at + c.args.words) false) (set begins c.args.at false) t c.clear-3.new.self in
-    let P4 : List Bool → Type 0 = λ t. AreSoundTables (with_range covered c.args.at (c.args.at + c.args.words) false) (set begins c.args.at false) (set ends (last_word r) false) t in
-    subst P1 (sym c.clear_range.ensures.state) (subst P2 (sym c.clear.ensures.state) (subst P3 (sym c.clear-2.ensures.state)
-    (subst P4 (sym c.clear-3.ensures.state) (taken_is_sound covered begins ends blocks (set blocks c.args.at false) r taken.0 (length-set blocks c.args.at false)
-    (left_without_block covered begins ends blocks c.args.at c.self.invariant (omega (arith, fits, c.self.invariant.same_size.2)))))))
-
-pub returns-clause-state : goal.returns-clause-state
-returns-clause-state c =
-    let covered = c.self.inside.covered in
-    let begins = c.self.inside.begins in
-    let ends = c.self.inside.ends in
-    let blocks = c.self.inside.blocks in
-    let r : Run = record { from = c.args.at; count = c.args.words } in
-    let taken = block_of covered begins ends blocks r c.args.self.now c.self.invariant c.self.view_is c.requires in
-    ap (λ (t : List Bool). lists_of t c.clear-2.new.self c.clear-3.new.self) c.clear.ensures.state
-    ∙ ap (λ (t : List Bool). lists_of (set begins c.args.at false) t c.clear-3.new.self) c.clear-2.ensures.state
-    ∙ ap (λ (t : List Bool). lists_of (set begins c.args.at false) (set ends (last_word r) false) t) c.clear-3.ensures.state
-    ∙ drop_lists covered begins ends blocks r taken.0 taken.1
-    ∙ ap (λ (e : ExtentLists). record e { covered = without_run c.args.at e.covered; blocks = without_run c.args.at e.blocks }) c.self.view_is
-
-pub returns-clause-was_covered : goal.returns-clause-was_covered
-returns-clause-was_covered c =
-    let r : Run = record { from = c.args.at; count = c.args.words } in
-    let P : ExtentLists → Type 0 = λ e. Contains e.covered r in
-    subst P c.self.view_is (block_of c.self.inside.covered c.self.inside.begins c.self.inside.ends c.self.inside.blocks r c.args.self.now c.self.invariant c.self.view_is c.requires).0.there
+    let fits = (block_fits c.self.inside c.args.self.now c.args.at c.args.words c.self.invariant c.self.view_is c.requires).fits in
+    omega arith
 
 pub overflow_sub-at : goal.overflow_sub-at
 overflow_sub-at c =
+    let fits = (block_fits c.self.inside c.args.self.now c.args.at c.args.words c.self.invariant c.self.view_is c.requires).fits in
+    omega arith
+
+pub invariant_of-self : goal.invariant_of-self
+invariant_of-self c =
+    let t = c.self.inside in
     let r : Run = record { from = c.args.at; count = c.args.words } in
-    let taken = block_of c.self.inside.covered c.self.inside.begins c.self.inside.ends c.self.inside.blocks r c.args.self.now c.self.invariant c.self.view_is c.requires in
-    omega (arith, taken_bounds c.self.inside.covered c.self.inside.begins c.self.inside.ends c.self.inside.blocks r taken.0)
+    let taken = block_fits c.self.inside c.args.self.now c.args.at c.args.words c.self.invariant c.self.view_is c.requires in
+    rw (c.clear_range.ensures.state, c.clear.ensures.state, c.clear-2.ensures.state, c.clear-3.ensures.state)
+    (taken_is_sound t.covered t.begins t.ends t.blocks r taken.fits.taken (set t.blocks c.args.at false)
+    (length-set t.blocks c.args.at false) (others_than_block t.covered t.begins t.ends t.blocks r taken.fits.taken taken.block))
+
+pub returns-clause-state : goal.returns-clause-state
+returns-clause-state c =
+    let t = c.self.inside in
+    let r : Run = record { from = c.args.at; count = c.args.words } in
+    let taken = block_fits c.self.inside c.args.self.now c.args.at c.args.words c.self.invariant c.self.view_is c.requires in
+    rw (c.clear.ensures.state, c.clear-2.ensures.state, c.clear-3.ensures.state)
+    (drop_lists t.covered t.begins t.ends t.blocks r taken.fits.taken taken.block
+    ∙ ap (λ (e : ExtentLists). record e { covered = without_run c.args.at e.covered; blocks = without_run c.args.at e.blocks }) c.self.view_is)
+
+pub returns-clause-was_covered : goal.returns-clause-was_covered
+returns-clause-was_covered c =
+    let taken = block_fits c.self.inside c.args.self.now c.args.at c.args.words c.self.invariant c.self.view_is c.requires in
+    let P : ExtentLists → Type 0 = λ e. Contains e.covered (record { from = c.args.at; count = c.args.words }) in
+    subst P c.self.view_is taken.fits.taken.there
