@@ -12,8 +12,9 @@ use Rattle.mps_arena.specs.Arena.{ArenaMemory, answer_of_placement, held_after}
 use Rattle.mps_seg.specs.declared.entry.Entry.{Entry}
 use Rattle.mps_seg.specs.declared.entry.Entry.TheVariants.{Free, First}
 use Rattle.mps_seg.specs.Extents.{ExtentLists, has_word, run_over, is_covered}
-use Rattle.mps_seg.specs.Segs.{base_of, LiesIn}
-use Rattle.mps_seg.specs.Table.{segments_of_entries, segments_in, IsCountAt, first_over, or_zero, covered_words_in, IsCounted, IsHeld}
+use Rattle.mps_seg.specs.declared.segs.Segs.TheInside.{Inside}
+use Rattle.mps_seg.specs.Segs.{SegsState, base_of, LiesIn}
+use Rattle.mps_seg.specs.Table.{segs_state, segments_of_entries, segments_in, IsCountAt, first_over, or_zero, covered_words_in, IsCounted, IsHeld}
 use Rattle.mps_seg.proofs.Apart.{has_word-true, has_word-below, has_word-above, contains_put, apart_from_put, apart_each, uncovered_taken, covers_contained}
 use Rattle.mps_seg.proofs.Query.{run_over_is, run_over_none, run_over-contains, within_ascending}
 use Rattle.mps_base.specs.Segment.{Segment, end_of_segment, grains_of_segment, segment_over, is_in_segment}
@@ -472,3 +473,11 @@ counted_at arena table ex firsts counts base s held counted there begins =
           ∙ ap (λ (b : ℕ). runs_within (512 * grain) b ex.covered) (sym high)
           ∙ none_counted (512 * grain) (512 * (grain + s.grains)) (runs_within (512 * grain) (512 * (grain + s.grains)) ex.covered) ascending (sym (counted.counts_are mine listed) ∙ none);
     }
+
+pub counted_seen : (i : Inside) (seen : SegsState) (base : ℕ) (s : Segment)
+    → IsHeld i.arena i.table.items i.extents × IsCounted i.arena.held (i.arena.grains + 1) i.firsts.items i.counts.items i.extents.covered
+    → segs_state i.arena i.table.items i.extents ≡ seen → Contains seen.segments s → s.base ≡ base
+    → Counted i.arena i.table.items i.extents i.counts.items base s
+counted_seen i seen base s sound is there begins =
+    let P : SegsState → Type 0 = λ st. Contains st.segments s in
+    counted_at i.arena i.table.items i.extents i.firsts.items i.counts.items base s sound.0 sound.1 (subst P (sym is) there) begins

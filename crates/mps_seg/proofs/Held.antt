@@ -567,30 +567,6 @@ whole_in arena table ex grains held listed (t ∷ rs) part =
       whole_in arena table ex grains held listed rs (λ x in_rest. part x (contains_later rs x t in_rest)),
     )
 
--- what giving back the segment at an address needs to know
-pub record GivesAt (arena : ArenaMemory) (table : List Entry) (ex : ExtentLists) (base : ℕ) (s : Segment) : Type 0 where
-  pub within : base / 4096 < length table
-  pub is : get_or table (base / 4096) Free ≡ First s.grains s.pool s.generation s.rank
-  pub aligned : base ≡ address_of_grain (base / 4096)
-  pub empty : runs_within (512 * (base / 4096)) (512 * (base / 4096 + s.grains)) ex.covered ≡ []
-
-pub gives_at : (arena : ArenaMemory) (table : List Entry) (ex : ExtentLists) (base : ℕ) (s : Segment) → Contains (segments_in table) s → s.base ≡ base
-    → runs_within (s.base / 8) (end_of_segment s / 8) ex.covered ≡ [] → GivesAt arena table ex base s
-gives_at arena table ex base s there begins empty =
-    let e = entry_of_segment table s there in
-    let grain : base / 4096 ≡ e.0 = omega (arith, e.1.base, begins) in
-    let low : s.base / 8 ≡ 512 * (base / 4096) = omega (arith, e.1.base, begins) in
-    let high : end_of_segment s / 8 ≡ 512 * (base / 4096 + s.grains) = omega (arith, e.1.base, begins) in
-    let P : ℕ → Type 0 = λ k. get_or table k Free ≡ First s.grains s.pool s.generation s.rank in
-    let Q : ℕ → Type 0 = λ a. runs_within a (end_of_segment s / 8) ex.covered ≡ [] in
-    let R : ℕ → Type 0 = λ b. runs_within (512 * (base / 4096)) b ex.covered ≡ [] in
-    record {
-      within = omega (arith, grain, e.1.within);
-      is = subst P (sym grain) e.1.is;
-      aligned = omega (arith, e.1.base, begins);
-      empty = subst R high (subst Q low empty);
-    }
-
 -- ---- the gaps of the segments, segment by segment
 
 pub lowest_in_first : (n place : ℕ) (xs ys : List Run) → lowest_fitting n xs ≡ Some place → lowest_fitting n (xs ++ ys) ≡ Some place
@@ -682,6 +658,12 @@ segment_at table base s there begins =
     let grain : base / 4096 ≡ e.0 = omega (arith, e.1.base, begins) in
     let P : ℕ → Type 0 = λ k. get_or table k Free ≡ First s.grains s.pool s.generation s.rank in
     record { within = omega (arith, grain, e.1.within); is = subst P (sym grain) e.1.is; aligned = omega (arith, e.1.base, begins) }
+
+pub segment_seen : (arena : ArenaMemory) (table : List Entry) (ex : ExtentLists) (seen : SegsState) (base : ℕ) (s : Segment)
+    → segs_state arena table ex ≡ seen → Contains seen.segments s → s.base ≡ base → SegmentAt table base s
+segment_seen arena table ex seen base s is there begins =
+    let P : SegsState → Type 0 = λ st. Contains st.segments s in
+    segment_at table base s (subst P (sym is) there) begins
 
 pub segment_end_fits : (arena : ArenaMemory) (table : List Entry) (ex : ExtentLists) (grain n p g : ℕ) (r : Rank) → IsHeld arena table ex → get_or table grain Free ≡ First n p g r → 512 * (grain + n) ≤ ex.size
 segment_end_fits arena table ex grain n p g r held is = omega (arith, (whole_at arena table ex grain (First n p g r) held is).1)

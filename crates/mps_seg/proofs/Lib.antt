@@ -9,3 +9,6 @@ pub mod New
 pub mod Query
 pub mod PutExtent
 pub mod TakenExtent
+pub mod Covering
+pub mod Giving
+pub mod Taking

@@ -1,88 +1,53 @@
-use Rattle.std.proofs.Common.{ℕ, ◌+◌, ◌/◌, ◌<◌, ◌≡◌, length, get_or, set, sym, ap, ◌∙◌, subst, arith}
+use Rattle.std.proofs.Common.{ℕ, ◌<◌, ◌≡◌, length, get_or, ap, ◌∙◌, arith}
 use Rattle.std.proofs.lemmas.List.{get_or_read}
-use Rattle.mps_base.specs.Run.{Run, IsAscending, with_run}
-use Rattle.mps_seg.specs.Extents.{ExtentLists}
-use Rattle.mps_seg.specs.Segs.{SegsState, CanCover}
-use Rattle.mps_seg.specs.Table.{IsHeld, IsCounted}
-use Rattle.mps_seg.proofs.Held.{held_after_cover}
-use Rattle.mps_seg.proofs.Counts.{home_of_put, counted_after_put, room_to_count}
+use Rattle.mps_base.specs.Run.{with_run}
+use Rattle.mps_base.specs.Address.{grain_of}
+use Rattle.mps_seg.proofs.Covering.{covering, words_at, first_at, count_at_first}
 use Rattle.mps_seg.proofs.segs.Segs.commit_block.Goals as goal
-
-pub index-requires : goal.index-requires
-index-requires c =
-    let arena = c.self.inside.arena in
-    let table = c.self.inside.table.items in
-    let firsts = c.self.inside.firsts.items in
-    let counts = c.self.inside.counts.items in
-    let extents = c.self.inside.extents in
-    let grain = c.args.at.0 / 4096 in
-    let r : Run = record { from = c.args.at.0 / 8; count = c.args.words } in
-    let can = subst (λ (s : SegsState). CanCover s r) (sym c.self.view_is) c.requires.free in
-    let home = home_of_put arena table extents firsts counts grain r c.self.invariant.0 c.self.invariant.1 can.inside c.requires.nonzero (omega arith) (omega arith) in
-    omega (arith, home.grain_within, c.self.invariant.1.firsts_size, c.self.inside.firsts.ok.0)
-
-pub index_mut-requires : goal.index_mut-requires
-index_mut-requires c =
-    let arena = c.self.inside.arena in
-    let table = c.self.inside.table.items in
-    let firsts = c.self.inside.firsts.items in
-    let counts = c.self.inside.counts.items in
-    let extents = c.self.inside.extents in
-    let grain = c.args.at.0 / 4096 in
-    let r : Run = record { from = c.args.at.0 / 8; count = c.args.words } in
-    let can = subst (λ (s : SegsState). CanCover s r) (sym c.self.view_is) c.requires.free in
-    let home = home_of_put arena table extents firsts counts grain r c.self.invariant.0 c.self.invariant.1 can.inside c.requires.nonzero (omega arith) (omega arith) in
-    let first : c.index.result.now ≡ get_or firsts grain 0 = get_or_read firsts grain c.index.result.now (omega (arith, home.grain_within, c.self.invariant.1.firsts_size)) c.index.ensures 0 in
-    omega (arith, first, home.first, home.first_within, c.self.invariant.1.counts_size, c.self.inside.counts.ok.0)
-
-pub overflow_add-index_mut : goal.overflow_add-index_mut
-overflow_add-index_mut c =
-    let arena = c.self.inside.arena in
-    let table = c.self.inside.table.items in
-    let firsts = c.self.inside.firsts.items in
-    let counts = c.self.inside.counts.items in
-    let extents = c.self.inside.extents in
-    let grain = c.args.at.0 / 4096 in
-    let r : Run = record { from = c.args.at.0 / 8; count = c.args.words } in
-    let can = subst (λ (s : SegsState). CanCover s r) (sym c.self.view_is) c.requires.free in
-    let home = home_of_put arena table extents firsts counts grain r c.self.invariant.0 c.self.invariant.1 can.inside c.requires.nonzero (omega arith) (omega arith) in
-    let first : c.index.result.now ≡ get_or firsts grain 0 = get_or_read firsts grain c.index.result.now (omega (arith, home.grain_within, c.self.invariant.1.firsts_size)) c.index.ensures 0 in
-    let within : c.index.result.now < length counts = omega (arith, first, home.first, home.first_within, c.self.invariant.1.counts_size) in
-    let was : c.index_mut.result.now ≡ get_or counts (get_or firsts grain 0) 0 =
-    get_or_read counts c.index.result.now c.index_mut.result.now within c.index_mut.ensures.value 0 ∙ ap (λ (k : ℕ). get_or counts k 0) first
-    in
-    let P : ℕ → Type 0 = λ size. IsAscending 0 size (with_run r extents.covered) in
-    let after = held_after_cover arena table extents r (with_run r extents.blocks) extents.reservations c.self.invariant.0 c.requires.nonzero (subst P (sym c.self.invariant.0.covered_size) can.free) can.inside in
-    omega (arith, was, room_to_count arena table extents firsts counts grain r (with_run r extents.blocks) extents.reservations c.self.invariant.1 after home)
-
-pub invariant_of-self : goal.invariant_of-self
-invariant_of-self c =
-    let arena = c.self.inside.arena in
-    let table = c.self.inside.table.items in
-    let firsts = c.self.inside.firsts.items in
-    let counts = c.self.inside.counts.items in
-    let extents = c.self.inside.extents in
-    let grain = c.args.at.0 / 4096 in
-    let r : Run = record { from = c.args.at.0 / 8; count = c.args.words } in
-    let can = subst (λ (s : SegsState). CanCover s r) (sym c.self.view_is) c.requires.free in
-    let home = home_of_put arena table extents firsts counts grain r c.self.invariant.0 c.self.invariant.1 can.inside c.requires.nonzero (omega arith) (omega arith) in
-    let first : c.index.result.now ≡ get_or firsts grain 0 = get_or_read firsts grain c.index.result.now (omega (arith, home.grain_within, c.self.invariant.1.firsts_size)) c.index.ensures 0 in
-    let within : c.index.result.now < length counts = omega (arith, first, home.first, home.first_within, c.self.invariant.1.counts_size) in
-    let was : c.index_mut.result.now ≡ get_or counts (get_or firsts grain 0) 0 =
-    get_or_read counts c.index.result.now c.index_mut.result.now within c.index_mut.ensures.value 0 ∙ ap (λ (k : ℕ). get_or counts k 0) first
-    in
-    let P : ℕ → Type 0 = λ size. IsAscending 0 size (with_run r extents.covered) in
-    let after = held_after_cover arena table extents r (with_run r extents.blocks) extents.reservations c.self.invariant.0 c.requires.nonzero (subst P (sym c.self.invariant.0.covered_size) can.free) can.inside in
-    let Q : ExtentLists → Type 0 = λ e. IsHeld arena table e in
-    let R : ExtentLists → Type 0 = λ e. IsCounted arena.held (arena.grains + 1) firsts (set counts c.index.result.now (c.index_mut.result.now + c.args.words)) e.covered in
-    let S : ℕ → Type 0 = λ k. IsCounted arena.held (arena.grains + 1) firsts (set counts k (c.index_mut.result.now + c.args.words)) (with_run r extents.covered) in
-    let T : ℕ → Type 0 = λ n. IsCounted arena.held (arena.grains + 1) firsts (set counts (get_or firsts grain 0) (n + c.args.words)) (with_run r extents.covered) in
-    let counted = counted_after_put arena.held (arena.grains + 1) firsts counts extents.covered grain r c.self.invariant.1 c.self.invariant.0.ascending home in
-    (subst Q (sym c.commit_block.ensures) after, subst R (sym c.commit_block.ensures) (subst S (sym first) (subst T (sym was) counted)))
 
 pub commit_block-requires-clause-free : goal.commit_block-requires-clause-free
 commit_block-requires-clause-free c =
-    let r : Run = record { from = c.args.at.0 / 8; count = c.args.words } in
-    let can = subst (λ (s : SegsState). CanCover s r) (sym c.self.view_is) c.requires.free in
-    let P : ℕ → Type 0 = λ size. IsAscending 0 size (with_run r c.self.inside.extents.covered) in
-    subst P (sym c.self.invariant.0.covered_size) can.free
+    (covering c.self.inside c.args.self.now c.args.at.0 c.args.words c.self.invariant c.self.view_is c.requires.nonzero c.requires.free).free
+
+pub index-requires : goal.index-requires
+index-requires c =
+    let s = c.self.inside in
+    let facts = covering s c.args.self.now c.args.at.0 c.args.words c.self.invariant c.self.view_is c.requires.nonzero c.requires.free in
+    omega (arith, facts.grain_within, s.firsts.ok.0)
+
+pub index_mut-requires : goal.index_mut-requires
+index_mut-requires c =
+    let s = c.self.inside in
+    let facts = covering s c.args.self.now c.args.at.0 c.args.words c.self.invariant c.self.view_is c.requires.nonzero c.requires.free in
+    let first : c.index.result.now ≡ first_at s c.args.at.0 =
+    get_or_read s.firsts.items (grain_of c.args.at.0) c.index.result.now facts.grain_within c.index.ensures 0
+    in
+    omega (arith, first, facts.first_within, s.counts.ok.0)
+
+pub overflow_add-index_mut : goal.overflow_add-index_mut
+overflow_add-index_mut c =
+    let s = c.self.inside in
+    let facts = covering s c.args.self.now c.args.at.0 c.args.words c.self.invariant c.self.view_is c.requires.nonzero c.requires.free in
+    let first : c.index.result.now ≡ first_at s c.args.at.0 =
+    get_or_read s.firsts.items (grain_of c.args.at.0) c.index.result.now facts.grain_within c.index.ensures 0
+    in
+    let within : c.index.result.now < length s.counts.items = omega (arith, first, facts.first_within) in
+    let count : c.index_mut.result.now ≡ count_at_first s c.args.at.0 =
+    get_or_read s.counts.items c.index.result.now c.index_mut.result.now within c.index_mut.ensures.value 0
+    ∙ ap (λ (k : ℕ). get_or s.counts.items k 0) first
+    in
+    omega (arith, count, facts.fits)
+
+pub invariant_of-self : goal.invariant_of-self
+invariant_of-self c =
+    let s = c.self.inside in
+    let facts = covering s c.args.self.now c.args.at.0 c.args.words c.self.invariant c.self.view_is c.requires.nonzero c.requires.free in
+    let first : c.index.result.now ≡ first_at s c.args.at.0 =
+    get_or_read s.firsts.items (grain_of c.args.at.0) c.index.result.now facts.grain_within c.index.ensures 0
+    in
+    let within : c.index.result.now < length s.counts.items = omega (arith, first, facts.first_within) in
+    let count : c.index_mut.result.now ≡ count_at_first s c.args.at.0 =
+    get_or_read s.counts.items c.index.result.now c.index_mut.result.now within c.index_mut.ensures.value 0
+    ∙ ap (λ (k : ℕ). get_or s.counts.items k 0) first
+    in
+    rw (c.commit_block.ensures, first, count) (facts.held (with_run (words_at c.args.at.0 c.args.words) s.extents.blocks) s.extents.reservations, facts.counted)

@@ -1,0 +1,101 @@
+-- What is known of the tables where words in a segment are covered, and where they are uncovered.
+use Rattle.std.proofs.Common.{ℕ, ◌+◌, ◌-◌, ◌*◌, ◌^◌, ◌<◌, ◌≤◌, ◌≡◌, List, length, get_or, set, Contains, sym, subst, arith}
+use Rattle.mps_base.specs.Run.{Run, IsAscending, with_run, without_run}
+use Rattle.mps_base.specs.Address.{words_of_grain, grain_of, word_of}
+use Rattle.mps_seg.specs.Segs.{SegsState, CanCover}
+use Rattle.mps_seg.specs.Table.{segs_state, IsHeld, IsCounted}
+use Rattle.mps_seg.specs.declared.segs.Segs.TheInside.{Inside}
+use Rattle.mps_seg.proofs.Held.{held_after_cover, held_after_less, free_again}
+use Rattle.mps_seg.proofs.Counts.{Home, home_of_put, home_of_covered, counted_after_put, counted_after_less, counted_before, room_to_count}
+
+-- the words from an address on
+abbrev pub words_at : (at words : ℕ) → Run
+words_at at words = record { from = word_of at; count = words }
+
+-- the first grain of the segment in which an address lies, and how many words are counted for it
+abbrev pub first_at : Inside → ℕ → ℕ
+first_at s at = get_or s.firsts.items (grain_of at) 0
+
+abbrev pub count_at_first : Inside → ℕ → ℕ
+count_at_first s at = get_or s.counts.items (first_at s at) 0
+
+-- the segments are held and counted
+abbrev pub IsSoundInside : Inside → Type 0
+IsSoundInside s =
+    IsHeld s.arena s.table.items s.extents × IsCounted s.arena.held (s.arena.grains + 1) s.firsts.items s.counts.items s.extents.covered
+
+-- words that can be covered
+pub record Covering (s : Inside) (at words : ℕ) : Type 0 where
+  pub grain_within : grain_of at < length s.firsts.items
+  pub first_within : first_at s at < length s.counts.items
+  pub fits : count_at_first s at + words < 2 ^ 32
+  pub free : IsAscending 0 s.extents.size (with_run (words_at at words) s.extents.covered)
+  pub held : (blocks reservations : List Run)
+      → IsHeld s.arena s.table.items
+      (record s.extents { covered = with_run (words_at at words) s.extents.covered; blocks = blocks; reservations = reservations })
+  pub counted :
+      IsCounted s.arena.held (s.arena.grains + 1) s.firsts.items (set s.counts.items (first_at s at) (count_at_first s at + words))
+      (with_run (words_at at words) s.extents.covered)
+
+pub covering : (s : Inside) (seen : SegsState) (at words : ℕ) → IsSoundInside s → segs_state s.arena s.table.items s.extents ≡ seen → 0 < words
+    → CanCover seen (words_at at words) → Covering s at words
+covering s seen at words sound is nonzero free =
+    let r = words_at at words in
+    let grain = grain_of at in
+    let can = subst (λ (x : SegsState). CanCover x r) (sym is) free in
+    let home : Home s.arena.held (s.arena.grains + 1) s.firsts.items grain r =
+    home_of_put s.arena s.table.items s.extents s.firsts.items s.counts.items grain r sound.0 sound.1 can.inside nonzero (omega arith) (omega arith)
+    in
+    let P : ℕ → Type 0 = λ size. IsAscending 0 size (with_run r s.extents.covered) in
+    let ascending = subst P (sym sound.0.covered_size) can.free in
+    let held = λ (blocks reservations : List Run).
+    held_after_cover s.arena s.table.items s.extents r blocks reservations sound.0 nonzero ascending can.inside
+    in
+    record {
+      grain_within = omega (arith, home.grain_within, sound.1.firsts_size);
+      first_within = omega (arith, home.first, home.first_within, sound.1.counts_size);
+      fits =
+          room_to_count s.arena s.table.items s.extents s.firsts.items s.counts.items grain r s.extents.blocks s.extents.reservations sound.1
+          (held s.extents.blocks s.extents.reservations) home;
+      free = ascending;
+      held = held;
+      counted =
+          counted_after_put s.arena.held (s.arena.grains + 1) s.firsts.items s.counts.items s.extents.covered grain r sound.1 sound.0.ascending home;
+    }
+
+-- words that are one covered run
+pub record Uncovering (s : Inside) (at words : ℕ) : Type 0 where
+  pub grain_within : grain_of at < length s.firsts.items
+  pub first_within : first_at s at < length s.counts.items
+  pub at_most : words ≤ count_at_first s at
+  pub held : (blocks reservations : List Run)
+      → IsHeld s.arena s.table.items
+      (record s.extents { covered = without_run (word_of at) s.extents.covered; blocks = blocks; reservations = reservations })
+  pub counted :
+      IsCounted s.arena.held (s.arena.grains + 1) s.firsts.items (set s.counts.items (first_at s at) (count_at_first s at - words))
+      (without_run (word_of at) s.extents.covered)
+  pub can_cover : (blocks reservations : List Run)
+      → CanCover
+      (segs_state s.arena s.table.items
+      (record s.extents { covered = without_run (word_of at) s.extents.covered; blocks = blocks; reservations = reservations })) (words_at at words)
+
+pub uncovering : (s : Inside) (at words : ℕ) → IsSoundInside s → Contains s.extents.covered (words_at at words) → Uncovering s at words
+uncovering s at words sound there =
+    let r = words_at at words in
+    let grain = grain_of at in
+    let size = s.arena.grains + 1 in
+    let home : Home s.arena.held size s.firsts.items grain r =
+    home_of_covered s.arena s.table.items s.extents s.firsts.items s.counts.items grain r sound.0 sound.1 there (omega arith) (omega arith)
+    in
+    record {
+      grain_within = omega (arith, home.grain_within, sound.1.firsts_size);
+      first_within = omega (arith, home.first, home.first_within, sound.1.counts_size);
+      at_most =
+          counted_before s.arena.held size s.firsts.items s.counts.items s.extents.covered grain 0 s.extents.size r sound.1 sound.0.ascending
+          sound.0.covered_ascending there home;
+      held = λ blocks reservations. held_after_less s.arena s.table.items s.extents (word_of at) blocks reservations sound.0;
+      counted =
+          counted_after_less s.arena.held size s.firsts.items s.counts.items s.extents.covered grain 0 s.extents.size r sound.1 sound.0.ascending
+          sound.0.covered_ascending there home;
+      can_cover = λ blocks reservations. free_again s.arena s.table.items s.extents r blocks reservations sound.0 there;
+    }

@@ -1,0 +1,84 @@
+-- What is known of the tables where a new segment is taken.
+use Rattle.std.proofs.Common.{ℕ, ◌+◌, ◌*◌, ◌^◌, ◌<◌, ◌≤◌, ◌≡◌, Some, Ok, List, length, set, sym, ap, ◌∙◌, subst, arith}
+use Rattle.mps_base.specs.Run.{Run, gaps, lowest_fitting, with_run}
+use Rattle.mps_base.specs.Address.{words_of_grain, grain_of, word_of, grains_needed}
+use Rattle.mps_base.specs.Placement.{Placement, NewSegment}
+use Rattle.mps_base.specs.declared.address.Addr.{Addr}
+use Rattle.mps_base.specs.declared.names.Rank.{Rank}
+use Rattle.mps_base.proofs.Runs.{in_lowest_gap}
+use Rattle.mps_arena.specs.Arena.{ArenaMemory, answer_of_placement, held_after, placement_in}
+use Rattle.mps_seg.specs.declared.entry.Entry.{Entry}
+use Rattle.mps_seg.specs.declared.entry.Entry.TheVariants.{First}
+use Rattle.mps_seg.specs.declared.segs.Segs.TheInside.{Inside}
+use Rattle.mps_seg.specs.Segs.{placement_for, segments_after, CanCover}
+use Rattle.mps_seg.specs.Table.{segments_in, segs_state, IsHeld, IsCounted}
+use Rattle.mps_seg.proofs.Held.{taken_at, new_is_free, segments_after_take, held_after_taking}
+use Rattle.mps_seg.proofs.Counts.{Noted, counted_after_taking}
+use Rattle.mps_seg.proofs.Covering.{IsSoundInside, words_at}
+
+-- the grains of a new segment for n words, and its entry
+abbrev pub new_run : (base words : ℕ) → Run
+new_run base words = record { from = grain_of base; count = grains_needed words }
+
+abbrev pub new_entry : (words pool generation : ℕ) → Rank → Entry
+new_entry words pool generation rank = First (grains_needed words) pool generation rank
+
+-- the arena that holds it too
+abbrev pub arena_with : ArenaMemory → (base words : ℕ) → ArenaMemory
+arena_with arena base words = record arena { held = with_run (new_run base words) arena.held }
+
+-- the arena took the grains at an address for a new segment
+pub record Taking (s : Inside) (base words pool generation : ℕ) (rank : Rank) : Type 0 where
+  pub in_table : grain_of base < length s.table.items
+  pub in_counts : grain_of base < length s.counts.items
+  pub at_most : grain_of base < 2 ^ 32
+  pub in_firsts : grain_of base + grains_needed words ≤ length s.firsts.items
+  pub held_is : held_after (placement_in s.arena (grains_needed words)) s.arena.held ≡ with_run (new_run base words) s.arena.held
+  pub held : IsHeld (arena_with s.arena base words) (set s.table.items (grain_of base) (new_entry words pool generation rank)) s.extents
+  pub counted : (firsts : List ℕ) → Noted s.firsts.items firsts (new_run base words) (grain_of base)
+      → IsCounted (with_run (new_run base words) s.arena.held) (s.arena.grains + 1) firsts (set s.counts.items (grain_of base) 0) s.extents.covered
+  pub segments :
+      segments_in (set s.table.items (grain_of base) (new_entry words pool generation rank))
+      ≡ segments_after (placement_for (segs_state s.arena s.table.items s.extents) words) pool generation rank (segments_in s.table.items)
+  pub can_cover :
+      CanCover
+      (segs_state (arena_with s.arena base words) (set s.table.items (grain_of base) (new_entry words pool generation rank)) s.extents)
+      (words_at base words)
+
+pub taking : (s : Inside) (base : Addr) (words pool generation : ℕ) (rank : Rank) → IsSoundInside s → 0 < words
+    → Ok base ≡ answer_of_placement (placement_in s.arena (grains_needed words)) → Taking s base.0 words pool generation rank
+taking s base words pool generation rank sound nonzero answer =
+    let need = grains_needed words in
+    let grain = grain_of base.0 in
+    let arena = s.arena in
+    let some : 0 < need = omega arith in
+    let taken = taken_at arena need base answer in
+    let P : ℕ → Type 0 = λ g. placement_in arena need ≡ NewSegment g need in
+    let Q : ℕ → Type 0 = λ g. lowest_fitting need (gaps 1 (arena.grains + 1) arena.held) ≡ Some g in
+    let place = subst P (sym taken.1.base_is) taken.1.place in
+    let lowest = subst Q (sym taken.1.base_is) taken.1.lowest in
+    let gap = in_lowest_gap 1 (arena.grains + 1) arena.held need grain some sound.0.ascending lowest in
+    let first : words_of_grain * grain ≡ word_of base.0 = omega (arith, taken.1.base_at) in
+    let entry = new_entry words pool generation rank in
+    let R : ℕ → Type 0 = λ w.
+    CanCover (segs_state (arena_with arena base.0 words) (set s.table.items grain entry) s.extents) (record { from = w; count = words })
+    in
+    let seen : placement_for (segs_state arena s.table.items s.extents) words ≡ placement_in arena need =
+    ap (λ (rs : List Run). placement_in (record arena { held = rs }) need) (sym sound.0.held)
+    in
+    record {
+      in_table = omega (arith, gap.below, some, sound.0.size);
+      in_counts = omega (arith, gap.below, some, sound.1.counts_size);
+      at_most = omega (arith, gap.below, some, sound.0.at_most);
+      in_firsts = omega (arith, gap.below, sound.1.firsts_size);
+      held_is = ap (λ (p : Placement). held_after p arena.held) place;
+      held = held_after_taking arena s.table.items s.extents need grain pool generation rank sound.0 some lowest;
+      counted = λ firsts noted.
+          counted_after_taking arena s.table.items s.extents s.firsts.items firsts s.counts.items need grain sound.0 sound.1 some lowest noted;
+      segments =
+          segments_after_take arena s.table.items s.extents need grain pool generation rank sound.0 some lowest
+          ∙ ap (λ (p : Placement). segments_after p pool generation rank (segments_in s.table.items)) (sym (seen ∙ place));
+      can_cover =
+          subst R first
+          (new_is_free arena s.table.items s.extents need grain pool generation words rank sound.0 some nonzero (omega arith) lowest);
+    }
