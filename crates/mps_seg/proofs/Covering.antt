@@ -5,8 +5,8 @@ use Rattle.mps_base.specs.Address.{words_of_grain, grain_of, word_of}
 use Rattle.mps_seg.specs.Segs.{SegsState, CanCover}
 use Rattle.mps_seg.specs.Table.{segs_state, IsHeld, IsCounted}
 use Rattle.mps_seg.specs.declared.segs.Segs.TheInside.{Inside}
-use Rattle.mps_seg.proofs.Held.{held_after_cover, held_after_less, free_again}
-use Rattle.mps_seg.proofs.Counts.{Home, home_of_put, home_of_covered, counted_after_put, counted_after_less, counted_before, room_to_count}
+use Rattle.mps_seg.proofs.CoveredWords.{Home, home_of_put, home_of_covered, counted_after_put, counted_after_less, counted_before, room_to_count}
+use Rattle.mps_seg.proofs.HeldSegments.{held_after_cover, held_after_less, free_again}
 
 -- the words from an address on
 abbrev pub words_at : (at words : ℕ) → Run
@@ -44,12 +44,12 @@ covering s seen at words sound is nonzero free =
     let grain = grain_of at in
     let can = subst (λ (x : SegsState). CanCover x r) (sym is) free in
     let home : Home s.arena.held (s.arena.grains + 1) s.firsts.items grain r =
-    home_of_put s.arena s.table.items s.extents s.firsts.items s.counts.items grain r sound.0 sound.1 can.inside nonzero (omega arith) (omega arith)
+    home_of_put s.arena s.table.items s.extents s.firsts.items s.counts.items sound.0 sound.1 grain r can.inside nonzero (omega arith) (omega arith)
     in
     let P : ℕ → Type 0 = λ size. IsAscending 0 size (with_run r s.extents.covered) in
     let ascending = subst P (sym sound.0.covered_size) can.free in
     let held = λ (blocks reservations : List Run).
-    held_after_cover s.arena s.table.items s.extents r blocks reservations sound.0 nonzero ascending can.inside
+    held_after_cover s.arena s.table.items s.extents sound.0 r blocks reservations nonzero ascending can.inside
     in
     record {
       grain_within = omega (arith, home.grain_within, sound.1.firsts_size);
@@ -60,7 +60,7 @@ covering s seen at words sound is nonzero free =
       free = ascending;
       held = held;
       counted =
-          counted_after_put s.arena.held (s.arena.grains + 1) s.firsts.items s.counts.items s.extents.covered grain r sound.1 sound.0.ascending home;
+          counted_after_put s.arena.held (s.arena.grains + 1) s.firsts.items s.counts.items s.extents.covered sound.1 sound.0.ascending grain r home;
     }
 
 -- words that are one covered run
@@ -85,17 +85,15 @@ uncovering s at words sound there =
     let grain = grain_of at in
     let size = s.arena.grains + 1 in
     let home : Home s.arena.held size s.firsts.items grain r =
-    home_of_covered s.arena s.table.items s.extents s.firsts.items s.counts.items grain r sound.0 sound.1 there (omega arith) (omega arith)
+    home_of_covered s.arena s.table.items s.extents s.firsts.items s.counts.items sound.0 sound.1 grain r there (omega arith) (omega arith)
     in
     record {
       grain_within = omega (arith, home.grain_within, sound.1.firsts_size);
       first_within = omega (arith, home.first, home.first_within, sound.1.counts_size);
       at_most =
-          counted_before s.arena.held size s.firsts.items s.counts.items s.extents.covered grain 0 s.extents.size r sound.1 sound.0.ascending
-          sound.0.covered_ascending there home;
-      held = λ blocks reservations. held_after_less s.arena s.table.items s.extents (word_of at) blocks reservations sound.0;
+          counted_before s.arena.held size s.firsts.items s.counts.items s.extents.covered sound.1 sound.0.ascending grain 0 s.extents.size r sound.0.covered_ascending there home;
+      held = λ blocks reservations. held_after_less s.arena s.table.items s.extents sound.0 (word_of at) blocks reservations;
       counted =
-          counted_after_less s.arena.held size s.firsts.items s.counts.items s.extents.covered grain 0 s.extents.size r sound.1 sound.0.ascending
-          sound.0.covered_ascending there home;
-      can_cover = λ blocks reservations. free_again s.arena s.table.items s.extents r blocks reservations sound.0 there;
+          counted_after_less s.arena.held size s.firsts.items s.counts.items s.extents.covered sound.1 sound.0.ascending grain 0 s.extents.size r sound.0.covered_ascending there home;
+      can_cover = λ blocks reservations. free_again s.arena s.table.items s.extents sound.0 r blocks reservations there;
     }

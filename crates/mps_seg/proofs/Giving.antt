@@ -10,8 +10,9 @@ use Rattle.mps_seg.specs.declared.entry.Entry.TheVariants.{Free, First}
 use Rattle.mps_seg.specs.declared.segs.Segs.TheInside.{Inside}
 use Rattle.mps_seg.specs.Segs.{SegsState, IsEmptyAt}
 use Rattle.mps_seg.specs.Table.{segments_in, segs_state, IsHeld, IsCounted}
-use Rattle.mps_seg.proofs.Held.{segment_at, entry_is_held, held_after_giving, segments_after_give}
-use Rattle.mps_seg.proofs.Counts.{Noted, counted_after_giving}
+use Rattle.mps_seg.proofs.CoveredWords.{Noted, counted_after_giving}
+use Rattle.mps_seg.proofs.Entries.{segment_at, entry_is_held, segments_after_give}
+use Rattle.mps_seg.proofs.HeldSegments.{held_after_giving}
 use Rattle.mps_seg.proofs.Covering.{IsSoundInside}
 
 -- an entry that is two segments' has the number of grains of both
@@ -52,8 +53,7 @@ giving s seen base t sound is listed empty =
       listed = run;
       in_arena = (contained_bounds 1 (s.arena.grains + 1) s.arena.held mine sound.0.ascending run).2;
       held =
-          held_after_giving s.arena s.table.items s.extents grain t.grains t.pool t.generation t.rank sound.0 at.is
-          (subst S high (subst R low none.empty));
+          held_after_giving s.arena s.table.items s.extents sound.0 grain t.grains t.pool t.generation t.rank at.is (subst S high (subst R low none.empty));
       counted = λ firsts noted.
           counted_after_giving s.arena.held (s.arena.grains + 1) s.firsts.items firsts s.counts.items s.extents.covered mine sound.1
           sound.0.ascending run noted;

@@ -12,8 +12,9 @@ use Rattle.mps_seg.specs.declared.entry.Entry.TheVariants.{First}
 use Rattle.mps_seg.specs.declared.segs.Segs.TheInside.{Inside}
 use Rattle.mps_seg.specs.Segs.{placement_for, segments_after, CanCover}
 use Rattle.mps_seg.specs.Table.{segments_in, segs_state, IsHeld, IsCounted}
-use Rattle.mps_seg.proofs.Held.{taken_at, new_is_free, segments_after_take, held_after_taking}
-use Rattle.mps_seg.proofs.Counts.{Noted, counted_after_taking}
+use Rattle.mps_seg.proofs.CoveredWords.{Noted, counted_after_taking}
+use Rattle.mps_seg.proofs.HeldSegments.{new_is_free, segments_after_take, held_after_taking}
+use Rattle.mps_seg.proofs.Placements.{taken_at}
 use Rattle.mps_seg.proofs.Covering.{IsSoundInside, words_at}
 
 -- the grains of a new segment for n words, and its entry
@@ -72,13 +73,13 @@ taking s base words pool generation rank sound nonzero answer =
       at_most = omega (arith, gap.below, some, sound.0.at_most);
       in_firsts = omega (arith, gap.below, sound.1.firsts_size);
       held_is = ap (λ (p : Placement). held_after p arena.held) place;
-      held = held_after_taking arena s.table.items s.extents need grain pool generation rank sound.0 some lowest;
+      held = held_after_taking arena s.table.items s.extents sound.0 need grain pool generation rank some lowest;
       counted = λ firsts noted.
           counted_after_taking arena s.table.items s.extents s.firsts.items firsts s.counts.items need grain sound.0 sound.1 some lowest noted;
       segments =
-          segments_after_take arena s.table.items s.extents need grain pool generation rank sound.0 some lowest
+          segments_after_take arena s.table.items s.extents sound.0 need grain pool generation rank some lowest
           ∙ ap (λ (p : Placement). segments_after p pool generation rank (segments_in s.table.items)) (sym (seen ∙ place));
       can_cover =
           subst R first
-          (new_is_free arena s.table.items s.extents need grain pool generation words rank sound.0 some nonzero (omega arith) lowest);
+          (new_is_free arena s.table.items s.extents sound.0 need grain pool generation words rank some nonzero (omega arith) lowest);
     }

@@ -1,6 +1,5 @@
 use Rattle.std.proofs.Common.{refl, sym, inr, arith}
-use Rattle.mps_seg.proofs.Query.{within_ascending}
-use Rattle.mps_seg.proofs.Counts.{no_room}
+use Rattle.mps_seg.proofs.LowestGap.{within_ascending, no_room}
 use Rattle.mps_base.specs.Run.{runs_within}
 use Rattle.mps_seg.proofs.segs.gap_between.Goals as goal
 

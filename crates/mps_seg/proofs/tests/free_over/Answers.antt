@@ -1,5 +1,5 @@
 use Rattle.std.proofs.Common.{◌/◌}
-use Rattle.mps_seg.proofs.Query.{block_found}
+use Rattle.mps_seg.proofs.RunOver.{block_found}
 use Rattle.mps_seg.proofs.tests.free_over.Goals as goal
 
 pub block_words-words-requires : goal.block_words-words-requires

@@ -1,4 +1,4 @@
-use Rattle.mps_seg.proofs.Counts.{segment_found}
+use Rattle.mps_seg.proofs.SegmentOver.{segment_found}
 use Rattle.mps_seg.proofs.tests.give_over.Goals as goal
 
 pub is_empty-requires : goal.is_empty-requires

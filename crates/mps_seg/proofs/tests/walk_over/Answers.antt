@@ -1,4 +1,4 @@
-use Rattle.mps_seg.proofs.Counts.{segment_found}
+use Rattle.mps_seg.proofs.SegmentOver.{segment_found}
 use Rattle.mps_seg.proofs.tests.walk_over.Goals as goal
 
 pub walk-requires : goal.walk-requires

@@ -1,7 +1,7 @@
 use Rattle.std.proofs.Common.{ap, ◌∙◌}
 use Rattle.mps_seg.specs.Extents.{ExtentLists, first_run}
 use Rattle.mps_seg.proofs.extents.Extents.first_block.Goals as goal
-use Rattle.mps_seg.proofs.Query.{first_block_is}
+use Rattle.mps_seg.proofs.FirstRun.{first_block_is}
 
 pub returns : goal.returns
 returns c =

@@ -2,7 +2,7 @@ use Rattle.std.proofs.Common.{sym, ap, ◌∙◌, subst}
 use Rattle.mps_base.specs.Run.{gaps, lowest_fitting, runs_within}
 use Rattle.mps_seg.specs.Extents.{ExtentLists, AreWhole}
 use Rattle.mps_seg.proofs.extents.Extents.lowest_gap.Goals as goal
-use Rattle.mps_seg.proofs.Query.{lowest_gap_is, lowest_gap_below}
+use Rattle.mps_seg.proofs.LowestGap.{lowest_gap_is, lowest_gap_below}
 
 pub returns-clause-value : goal.returns-clause-value
 returns-clause-value c =
@@ -23,5 +23,4 @@ returns-clause-fits c =
     let ends = c.self.inside.ends in
     let blocks = c.self.inside.blocks in
     let P : ExtentLists → Type 0 = λ e. AreWhole c.args.low c.args.high e.covered in
-    lowest_gap_below covered begins ends blocks c.args.low c.args.high c.args.words c.lowest_clear_run.result c.self.invariant c.requires.nonzero c.requires.ordered (subst P (sym c.self.view_is) c.requires.whole)
-    c.lowest_clear_run.ensures
+    lowest_gap_below covered begins ends blocks c.args.low c.args.high c.args.words c.self.invariant c.requires.nonzero c.requires.ordered (subst P (sym c.self.view_is) c.requires.whole) c.lowest_clear_run.result c.lowest_clear_run.ensures

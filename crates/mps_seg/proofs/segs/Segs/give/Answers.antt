@@ -5,7 +5,7 @@ use Rattle.mps_base.specs.Segment.{Segment, without_segment}
 use Rattle.mps_seg.specs.declared.entry.Entry.TheVariants.{Free, First}
 use Rattle.mps_seg.specs.Segs.{SegsState}
 use Rattle.mps_seg.specs.Table.{segs_state}
-use Rattle.mps_seg.proofs.Counts.{Noted}
+use Rattle.mps_seg.proofs.CoveredWords.{Noted}
 use Rattle.mps_seg.proofs.Giving.{Giving, giving, grains_read}
 use Rattle.mps_seg.proofs.segs.Segs.give.Goals as goal
 

@@ -5,7 +5,7 @@ use Rattle.mps_base.specs.Run.{Run, total, runs_within}
 use Rattle.mps_base.specs.Address.{grain_of, word_of}
 use Rattle.mps_base.specs.Segment.{end_of_segment}
 use Rattle.mps_seg.specs.Segs.{SegsState, IsEmptyAt}
-use Rattle.mps_seg.proofs.Counts.{counted_seen}
+use Rattle.mps_seg.proofs.CoveredWords.{counted_seen}
 use Rattle.mps_seg.proofs.segs.Segs.is_empty.Goals as goal
 
 pub index-requires : goal.index-requires

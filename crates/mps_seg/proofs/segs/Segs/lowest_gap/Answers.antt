@@ -5,15 +5,16 @@ use Rattle.mps_seg.specs.declared.entry.Entry.{Entry}
 use Rattle.mps_seg.specs.declared.entry.Entry.TheVariants.{Free}
 use Rattle.mps_seg.specs.Segs.{SegsState, at_word, CanCover}
 use Rattle.mps_seg.specs.Table.{segs_state, gaps_at, IsWholeAt, IsCountAt}
-use Rattle.mps_seg.proofs.Held.{later_gaps, all_gaps, no_gaps, gaps_more, whole_at, lowest_in_first, lowest_after, gap_at_is_free}
-use Rattle.mps_seg.proofs.Counts.{count_at}
+use Rattle.mps_seg.proofs.CoveredWords.{count_at}
+use Rattle.mps_seg.proofs.HeldSegments.{whole_at, gap_at_is_free}
+use Rattle.mps_seg.proofs.OpenGaps.{later_gaps, all_gaps, no_gaps, gaps_more, lowest_in_first, lowest_after}
 use Rattle.mps_base.specs.Segment.{gaps_of}
 use Rattle.mps_seg.proofs.segs.Segs.lowest_gap.Goals as goal
 
 pub gap_after-requires-clause-whole : goal.gap_after-requires-clause-whole
 gap_after-requires-clause-whole c =
     let P : List Entry → Type 0 = λ es. IsWholeAt c.loop-grain.grain (get_or es c.loop-grain.grain Free) c.self.inside.extents in
-    subst P (sym c.deref-entry-items.ensures.value) (whole_at c.self.inside.arena c.self.inside.table.items c.self.inside.extents c.loop-grain.grain (get_or c.self.inside.table.items c.loop-grain.grain Free) c.self.invariant.0 refl)
+    subst P (sym c.deref-entry-items.ensures.value) (whole_at c.self.inside.arena c.self.inside.table.items c.self.inside.extents c.self.invariant.0 c.loop-grain.grain (get_or c.self.inside.table.items c.loop-grain.grain Free) refl)
 
 pub returns-in-Some-clause-value : goal.returns-in-Some-clause-value
 returns-in-Some-clause-value c =
@@ -45,7 +46,7 @@ returns-in-Some-clause-free c =
     let P : ℕ → Type 0 = λ w. CanCover (segs_state arena table extents) (record { from = w; count = c.args.words }) in
     let R : SegsState → Type 0 = λ st. CanCover st (record { from = 8 * c.in-Some.word / 8; count = c.args.words }) in
     subst R c.self.view_is (subst P (sym place)
-    (gap_at_is_free arena table extents grain (get_or table grain Free) c.args.pool c.args.rank c.args.words c.in-Some.word c.self.invariant.0 refl c.requires (sym here)))
+    (gap_at_is_free arena table extents c.self.invariant.0 grain (get_or table grain Free) c.args.pool c.args.rank c.args.words c.in-Some.word refl c.requires (sym here)))
 
 pub loop-grain-preserved : goal.loop-grain-preserved
 loop-grain-preserved c =

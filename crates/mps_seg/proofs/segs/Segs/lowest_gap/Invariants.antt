@@ -1,6 +1,6 @@
 use Rattle.std.proofs.Common.{◌≡◌, drop}
 use Rattle.mps_base.specs.Run.{lowest_fitting}
-use Rattle.mps_seg.proofs.Held.{later_gaps}
+use Rattle.mps_seg.proofs.OpenGaps.{later_gaps}
 use Rattle.mps_seg.proofs.segs.Segs.lowest_gap.Given as goal
 
 -- the segments from the grain on decide

@@ -5,8 +5,9 @@ use Rattle.mps_seg.specs.declared.entry.Entry.TheVariants.{Free}
 use Rattle.mps_seg.specs.Extents.{ExtentLists}
 use Rattle.mps_seg.specs.Segs.{new_segments}
 use Rattle.mps_seg.specs.Table.{segs_state, IsHeld, IsCounted}
-use Rattle.mps_seg.proofs.Held.{new_is_held, new_segments_in}
-use Rattle.mps_seg.proofs.Counts.{new_is_counted}
+use Rattle.mps_seg.proofs.CoveredWords.{new_is_counted}
+use Rattle.mps_seg.proofs.Entries.{new_segments_in}
+use Rattle.mps_seg.proofs.HeldSegments.{new_is_held}
 use Rattle.mps_base.specs.Segment.{Segment}
 use Rattle.mps_seg.proofs.segs.Segs.new.Goals as goal
 

@@ -1,7 +1,7 @@
 use Rattle.std.proofs.Common.{ℕ, ◌+◌, ◌/◌, ◌<◌, ◌≡◌, Option, Some, None, option_map, length, get_or, sym, ap, ◌∙◌, arith}
 use Rattle.std.proofs.lemmas.List.{get_or_read}
 use Rattle.mps_seg.specs.Segs.{SegsState, base_of}
-use Rattle.mps_seg.proofs.Counts.{segment_over_is, no_run_past, run_from_first}
+use Rattle.mps_seg.proofs.SegmentOver.{segment_over_is, no_run_past, run_from_first}
 use Rattle.mps_base.specs.Segment.{segment_over}
 use Rattle.mps_seg.proofs.segs.Segs.segment_of.Goals as goal
 

@@ -6,7 +6,8 @@ use Rattle.mps_base.specs.Segment.{Segment}
 use Rattle.mps_arena.specs.Arena.{ArenaMemory, placement_in}
 use Rattle.mps_seg.specs.Segs.{SegsState, CanCover, placement_for, segments_after}
 use Rattle.mps_seg.specs.Table.{segs_state}
-use Rattle.mps_seg.proofs.Counts.{Noted, refused_held}
+use Rattle.mps_seg.proofs.CoveredWords.{Noted}
+use Rattle.mps_seg.proofs.Placements.{refused_held}
 use Rattle.mps_seg.proofs.Covering.{words_at}
 use Rattle.mps_seg.proofs.Taking.{taking, new_run, new_entry}
 use Rattle.mps_seg.proofs.segs.Segs.take.Goals as goal

@@ -5,9 +5,10 @@ use Rattle.mps_base.specs.Segment.{end_of_segment}
 use Rattle.mps_seg.specs.declared.entry.Entry.TheVariants.{Free, First}
 use Rattle.mps_seg.specs.Extents.{first_run}
 use Rattle.mps_seg.specs.Segs.{SegsState, at_word}
-use Rattle.mps_seg.proofs.Held.{segment_seen, segment_end_fits}
+use Rattle.mps_seg.proofs.Entries.{segment_seen}
+use Rattle.mps_seg.proofs.FirstRun.{first_run-below}
+use Rattle.mps_seg.proofs.HeldSegments.{segment_end_fits}
 use Rattle.mps_seg.proofs.Giving.{grains_read}
-use Rattle.mps_seg.proofs.Query.{first_run-below}
 use Rattle.mps_seg.proofs.segs.Segs.walk.Goals as goal
 
 pub index-requires : goal.index-requires
@@ -36,7 +37,7 @@ first_block-requires c =
     omega (
       arith,
       grains,
-      segment_end_fits s.arena s.table.items s.extents grain t.grains t.pool t.generation t.rank c.self.invariant.0 at.is,
+      segment_end_fits s.arena s.table.items s.extents c.self.invariant.0 grain t.grains t.pool t.generation t.rank at.is,
     )
 
 pub overflow_mul-result : goal.overflow_mul-result
@@ -54,7 +55,7 @@ overflow_mul-result c =
       arith,
       below,
       grains,
-      segment_end_fits s.arena s.table.items s.extents grain t.grains t.pool t.generation t.rank c.self.invariant.0 at.is,
+      segment_end_fits s.arena s.table.items s.extents c.self.invariant.0 grain t.grains t.pool t.generation t.rank at.is,
       c.self.invariant.0.at_most,
       c.self.invariant.0.covered_size,
     )

@@ -1,0 +1,353 @@
+-- How many words of each segment are covered.
+use Rattle.std.proofs.Common.{ℕ, ◌+◌, ◌<◌, ◌≡◌, false, List, [], ◌∷◌, length, get_or, set, Contains, refl, sym, ap, ◌∙◌, subst, inl, inr, arith, ◌^◌, replicate, ◌≤◌, ◌⊎◌, cond, leb, ltb, ◌*◌, ◌/◌, ◌≢◌, ◌&&◌, Some, map, length-set, ◌-◌, get_or-set_same, get_or-set_other}
+use Rattle.std.proofs.lemmas.Bool.{cases_lt, cases_Bool, cond-true, cond-false, le-leb, lt-ltb, lt-leb, le-ltb, and_from, and_left, and_right, cases_eq}
+use Rattle.std.proofs.lemmas.List.{length-replicate, get_or-replicate}
+use Rattle.mps_base.proofs.Runs.{with_run_first, with_run_later, without_run_first, without_run_later, contains_cases, contains_first, contains_later, contained_bounds, in_lowest_gap, total-cons, total-le}
+use Rattle.mps_base.specs.Run.{Run, IsAscending, with_run, without_run, end_of, runs_within, total, gaps, lowest_fitting}
+use Rattle.mps_base.specs.Segment.{Segment, end_of_segment, grains_of_segment}
+use Rattle.mps_arena.specs.Arena.{ArenaMemory}
+use Rattle.mps_seg.specs.Extents.{has_word, ExtentLists}
+use Rattle.mps_seg.specs.Segs.{SegsState, LiesIn}
+use Rattle.mps_seg.specs.Table.{segments_in, segs_state, IsHeld, IsCounted, IsCountAt, first_over, or_zero, covered_words_in}
+use Rattle.mps_seg.specs.declared.entry.Entry.{Entry}
+use Rattle.mps_seg.specs.declared.entry.Entry.TheVariants.{Free, First}
+use Rattle.mps_seg.specs.declared.segs.Segs.TheInside.{Inside}
+use Rattle.mps_seg.proofs.Apart.{contains_put, apart_from_put, apart_each, has_word-true, has_word-below, has_word-above}
+use Rattle.mps_seg.proofs.ContainedRuns.{contains_put_cases, contains_without, same_count}
+use Rattle.mps_seg.proofs.Entries.{entry_is_held, segment_at}
+use Rattle.mps_seg.proofs.HeldSegments.{whole_in}
+use Rattle.mps_seg.proofs.LowestGap.{within_ascending}
+use Rattle.mps_seg.proofs.RunOver.{run_over_in, run_over_put_other, run_over_taken_other, run_over_taken_has}
+
+-- the words of a run, where it begins between the bounds
+abbrev pub words_within : ℕ → ℕ → Run → ℕ
+words_within low high r = cond (leb low r.from && ltb r.from high) r.count 0
+
+words_in : (low high : ℕ) (r : Run) → low ≤ r.from → r.from < high → words_within low high r ≡ r.count
+words_in low high r above below =
+    cond-true (leb low r.from && ltb r.from high) r.count 0 (and_from (leb low r.from) (ltb r.from high) (le-leb low r.from above) (lt-ltb r.from high below))
+
+words_out : (low high : ℕ) (r : Run) → (r.from < low) ⊎ (high ≤ r.from) → words_within low high r ≡ 0
+words_out low high r (inl below) = cond-false (leb low r.from && ltb r.from high) r.count 0 (and_left (leb low r.from) (ltb r.from high) (lt-leb low r.from below))
+words_out low high r (inr above) = cond-false (leb low r.from && ltb r.from high) r.count 0 (and_right (leb low r.from) (ltb r.from high) (le-ltb r.from high above))
+
+total_within-cons : (low high : ℕ) (r : Run) (rs : List Run) → total (runs_within low high (r ∷ rs)) ≡ words_within low high r + total (runs_within low high rs)
+total_within-cons low high r rs =
+    let rest = runs_within low high rs in
+    let inside = leb low r.from && ltb r.from high in
+    elim (cases_Bool inside) [
+      | inl here ↦
+          ap (λ (xs : List Run). total xs) (cond-true inside (r ∷ rest) rest here) ∙ total-cons r rest
+          ∙ ap (λ (n : ℕ). n + total rest) (sym (cond-true inside r.count 0 here))
+      | inr out ↦ omega (arith, ap (λ (xs : List Run). total xs) (cond-false inside (r ∷ rest) rest out), cond-false inside r.count 0 out)
+    ]
+
+total_put : (low high : ℕ) (r : Run) (rs : List Run) → total (runs_within low high (with_run r rs)) ≡ words_within low high r + total (runs_within low high rs)
+total_put low high r [] = total_within-cons low high r []
+total_put low high r (s ∷ rs) =
+    elim (cases_lt r.from s.from) [
+      | inl before ↦ ap (λ (xs : List Run). total (runs_within low high xs)) (with_run_first r s rs before) ∙ total_within-cons low high r (s ∷ rs)
+      | inr after ↦
+          let now = ap (λ (xs : List Run). total (runs_within low high xs)) (with_run_later r s rs after) ∙ total_within-cons low high s (with_run r rs) in
+          omega (arith, now, total_within-cons low high s rs, total_put low high r rs)
+    ]
+
+total_taken : (low high a b : ℕ) (r : Run) (rs : List Run) → IsAscending a b rs → Contains rs r → total (runs_within low high (without_run r.from rs)) + words_within low high r ≡ total (runs_within low high rs)
+total_taken low high a b r [] ascending (k, within, is) = absurd (omega arith)
+total_taken low high a b r (s ∷ rs) ascending there =
+    elim (contains_cases rs r s there) [
+      | inl same ↦
+          let now = ap (λ (xs : List Run). total (runs_within low high xs)) (without_run_first r.from s rs (ap (λ (x : Run). x.from) (sym same))) in
+          omega (arith, now, total_within-cons low high s rs, ap (λ (x : Run). words_within low high x) same)
+      | inr later ↦
+          let bounds = contained_bounds (end_of s) b rs r ascending.2 later in
+          let now =
+          ap (λ (xs : List Run). total (runs_within low high xs)) (without_run_later r.from s rs (λ e. omega (arith, bounds.0, ascending.1, e)))
+          ∙ total_within-cons low high s (without_run r.from rs)
+          in
+          omega (arith, now, total_within-cons low high s rs, total_taken low high (end_of s) b r rs ascending.2 later)
+    ]
+
+none_within : (low high : ℕ) (rs : List Run) → ((t : Run) → Contains rs t → (t.from < low) ⊎ (high ≤ t.from)) → total (runs_within low high rs) ≡ 0
+none_within low high [] out = refl
+none_within low high (r ∷ rs) out =
+    omega (arith, total_within-cons low high r rs, words_out low high r (out r (contains_first rs r)), none_within low high rs (λ t there. out t (contains_later rs t r there)))
+
+-- the segment in which a run of words lies, by the grain in which it begins
+pub record Home (held : List Run) (size : ℕ) (firsts : List ℕ) (grain : ℕ) (r : Run) : Type 0 where
+  pub run : Run
+  pub there : Contains held run
+  pub first : get_or firsts grain 0 ≡ run.from
+  pub grain_within : grain < size
+  pub first_within : run.from < size
+  pub above : 512 * run.from ≤ r.from
+  pub below : r.from < 512 * end_of run
+
+module _
+  (held : List Run) (size : ℕ) (firsts counts : List ℕ) (covered : List Run)
+  (counted : IsCounted held size firsts counts covered) (ascending : IsAscending 1 size held)
+  where
+  pub home_of : (grain : ℕ) (r : Run) → LiesIn held r → 0 < r.count
+      → 512 * grain ≤ r.from → r.from < 512 * grain + 512 → Home held size firsts grain r
+  home_of grain r lies some above below =
+      let bounds = contained_bounds 1 size held lies.grains ascending lies.there in
+      let within : grain < size = omega (arith, bounds.2, lies.before) in
+      let over = run_over_in 1 size held lies.grains grain ascending lies.there (omega (arith, lies.after)) (omega (arith, lies.before)) in
+      record {
+        run = lies.grains;
+        there = lies.there;
+        first = counted.firsts_are grain within ∙ ap or_zero over;
+        grain_within = within;
+        first_within = omega (arith, bounds.1, bounds.2);
+        above = lies.after;
+        below = omega (arith, lies.before);
+      }
+
+module _
+  (arena : ArenaMemory) (table : List Entry) (ex : ExtentLists) (firsts counts : List ℕ)
+  (held : IsHeld arena table ex) (counted : IsCounted arena.held (arena.grains + 1) firsts counts ex.covered)
+  where
+  pub home_of_put : (grain : ℕ) (r : Run) → LiesIn (map grains_of_segment (segments_in table)) r → 0 < r.count → 512 * grain ≤ r.from → r.from < 512 * grain + 512 → Home arena.held (arena.grains + 1) firsts grain r
+  home_of_put grain r lies some above below =
+      let P : List Run → Type 0 = λ rs. LiesIn rs r in
+      home_of arena.held (arena.grains + 1) firsts counts ex.covered counted held.ascending grain r (subst P (sym held.held) lies) some above below
+
+  pub home_of_covered : (grain : ℕ) (r : Run) → Contains ex.covered r → 512 * grain ≤ r.from → r.from < 512 * grain + 512 → Home arena.held (arena.grains + 1) firsts grain r
+  home_of_covered grain r listed above below =
+      home_of arena.held (arena.grains + 1) firsts counts ex.covered counted held.ascending grain r (held.inside r listed) (held.nonempty r listed) above below
+
+-- a run begins in one segment alone
+in_home : (size : ℕ) (held : List Run) (h t r : Run) → IsAscending 1 size held → Contains held h → Contains held t → 512 * h.from ≤ r.from → r.from < 512 * end_of h → h.from ≡ t.from → words_within (512 * t.from) (512 * end_of t) r ≡ r.count
+in_home size held h t r ascending there there' above below same =
+    let count = same_count 1 size held h t ascending there there' same in
+    words_in (512 * t.from) (512 * end_of t) r (omega (arith, same, above)) (omega (arith, same, below, count))
+
+out_of_home : (size : ℕ) (held : List Run) (h t r : Run) → IsAscending 1 size held → Contains held h → Contains held t → 512 * h.from ≤ r.from → r.from < 512 * end_of h → h.from ≢ t.from → words_within (512 * t.from) (512 * end_of t) r ≡ 0
+out_of_home size held h t r ascending there there' above below other =
+    elim (apart_each 1 size held h t ascending there there') [
+      | inl same ↦ absurd (other same)
+      | inr apart ↦
+          words_out (512 * t.from) (512 * end_of t) r
+          (elim apart [ inl after ↦ inl (omega (arith, after, below)) | inr before ↦ inr (omega (arith, before, above)) ])
+    ]
+
+module _
+  (held : List Run) (size : ℕ) (firsts counts : List ℕ) (covered : List Run)
+  (counted : IsCounted held size firsts counts covered) (ascending : IsAscending 1 size held)
+  where
+  pub counted_after_put : (grain : ℕ) (r : Run) → Home held size firsts grain r
+      → IsCounted held size firsts (set counts (get_or firsts grain 0) (get_or counts (get_or firsts grain 0) 0 + r.count)) (with_run r covered)
+  counted_after_put grain r home =
+      let first = get_or firsts grain 0 in
+      let now = get_or counts first 0 + r.count in
+      record {
+        firsts_size = counted.firsts_size;
+        counts_size = length-set counts first now ∙ counted.counts_size;
+        firsts_are = counted.firsts_are;
+        counts_are = λ t there.
+            let was = counted.counts_are t there in
+            let put = total_put (512 * t.from) (512 * end_of t) r covered in
+            elim (cases_eq t.from first) [
+              | inl here ↦
+                  let more = in_home size held home.run t r ascending home.there there home.above home.below (sym home.first ∙ sym here) in
+                  ap (λ (k : ℕ). get_or (set counts first now) k 0) here ∙ get_or-set_same counts first now 0 (omega (arith, home.first, home.first_within, counted.counts_size))
+                  ∙ ap (λ (k : ℕ). get_or counts k 0 + r.count) (sym here) ∙ omega (arith, was, put, more)
+              | inr other ↦
+                  let none = out_of_home size held home.run t r ascending home.there there home.above home.below (λ e. other (sym e ∙ sym home.first)) in
+                  get_or-set_other counts first t.from now 0 other ∙ omega (arith, was, put, none)
+            ];
+      }
+
+  pub counted_after_less : (grain a b : ℕ) (r : Run) → IsAscending a b covered → Contains covered r → Home held size firsts grain r
+      → IsCounted held size firsts (set counts (get_or firsts grain 0) (get_or counts (get_or firsts grain 0) 0 - r.count)) (without_run r.from covered)
+  counted_after_less grain a b r ascending' listed home =
+      let first = get_or firsts grain 0 in
+      let now = get_or counts first 0 - r.count in
+      record {
+        firsts_size = counted.firsts_size;
+        counts_size = length-set counts first now ∙ counted.counts_size;
+        firsts_are = counted.firsts_are;
+        counts_are = λ t there.
+            let was = counted.counts_are t there in
+            let less = total_taken (512 * t.from) (512 * end_of t) a b r covered ascending' listed in
+            elim (cases_eq t.from first) [
+              | inl here ↦
+                  let fewer = in_home size held home.run t r ascending home.there there home.above home.below (sym home.first ∙ sym here) in
+                  ap (λ (k : ℕ). get_or (set counts first now) k 0) here ∙ get_or-set_same counts first now 0 (omega (arith, home.first, home.first_within, counted.counts_size))
+                  ∙ ap (λ (k : ℕ). get_or counts k 0 - r.count) (sym here) ∙ omega (arith, was, less, fewer)
+              | inr other ↦
+                  let none = out_of_home size held home.run t r ascending home.there there home.above home.below (λ e. other (sym e ∙ sym home.first)) in
+                  get_or-set_other counts first t.from now 0 other ∙ omega (arith, was, less, none)
+            ];
+      }
+
+  -- what is taken out was counted
+  pub counted_before : (grain a b : ℕ) (r : Run) → IsAscending a b covered → Contains covered r → Home held size firsts grain r
+      → r.count ≤ get_or counts (get_or firsts grain 0) 0
+  counted_before grain a b r ascending' listed home =
+      let was = counted.counts_are home.run home.there in
+      let less = total_taken (512 * home.run.from) (512 * end_of home.run) a b r covered ascending' listed in
+      let fewer = in_home size held home.run home.run r ascending home.there home.there home.above home.below refl in
+      let here = ap (λ (k : ℕ). get_or counts k 0) home.first in
+      omega (arith, was, less, fewer, here)
+
+-- no more words are counted than a segment has
+pub count_fits : (arena : ArenaMemory) (table : List Entry) (ex : ExtentLists) (grains : Run) → IsHeld arena table ex → Contains arena.held grains → covered_words_in grains ex.covered ≤ 512 * grains.count
+count_fits arena table ex grains held listed =
+    let low = 512 * grains.from in
+    let high = 512 * end_of grains in
+    let whole = whole_in arena table ex held grains listed ex.covered (λ t there. there) in
+    let ascending = within_ascending 0 ex.size low high low ex.covered held.covered_ascending whole (omega arith) (omega arith) (inr refl) in
+    let sum = total-le low high (runs_within low high ex.covered) ascending in
+    omega (arith, sum)
+
+-- there is room to count what is put, where the segments are held after it
+pub room_to_count : (arena : ArenaMemory) (table : List Entry) (ex : ExtentLists) (firsts counts : List ℕ) (grain : ℕ) (r : Run) (blocks reservations : List Run) → IsCounted arena.held (arena.grains + 1) firsts counts ex.covered
+    → IsHeld arena table (record ex { covered = with_run r ex.covered; blocks = blocks; reservations = reservations }) → Home arena.held (arena.grains + 1) firsts grain r
+    → get_or counts (get_or firsts grain 0) 0 + r.count < 2 ^ 32
+room_to_count arena table ex firsts counts grain r blocks reservations counted held home =
+    let ex' : ExtentLists = record ex { covered = with_run r ex.covered; blocks = blocks; reservations = reservations } in
+    let was = counted.counts_are home.run home.there in
+    let put = total_put (512 * home.run.from) (512 * end_of home.run) r ex.covered in
+    let more = in_home (arena.grains + 1) arena.held home.run home.run r held.ascending home.there home.there home.above home.below refl in
+    let here = ap (λ (k : ℕ). get_or counts k 0) home.first in
+    let fits = count_fits arena table ex' home.run held home.there in
+    let bounds = contained_bounds 1 (arena.grains + 1) arena.held home.run held.ascending home.there in
+    omega (arith, was, put, more, here, fits, bounds.2, held.at_most)
+
+-- before any segment is taken
+pub new_is_counted : (size : ℕ) → IsCounted [] size (replicate size 0) (replicate size 0) []
+new_is_counted size = record {
+  firsts_size = length-replicate size 0;
+  counts_size = length-replicate size 0;
+  firsts_are = λ grain within. get_or-replicate size grain 0 0 within;
+  counts_are = λ t (k, within, is). absurd (omega arith);
+}
+
+-- the table of first grains after n of them are written
+pub record Noted (firsts firsts' : List ℕ) (r : Run) (first : ℕ) : Type 0 where
+  pub size : length firsts' ≡ length firsts
+  pub inside : (g : ℕ) → r.from ≤ g → g < end_of r → get_or firsts' g 0 ≡ first
+  pub outside : (g : ℕ) → (g < r.from) ⊎ (end_of r ≤ g) → get_or firsts' g 0 ≡ get_or firsts g 0
+
+pub counted_after_taking : (arena : ArenaMemory) (table : List Entry) (ex : ExtentLists) (firsts firsts' counts : List ℕ) (need grain : ℕ) → IsHeld arena table ex → IsCounted arena.held (arena.grains + 1) firsts counts ex.covered → 0 < need
+    → lowest_fitting need (gaps 1 (arena.grains + 1) arena.held) ≡ Some grain → Noted firsts firsts' (record { from = grain; count = need }) grain
+    → IsCounted (with_run (record { from = grain; count = need }) arena.held) (arena.grains + 1) firsts' (set counts grain 0) ex.covered
+counted_after_taking arena table ex firsts firsts' counts need grain held counted some lowest noted =
+    let r : Run = record { from = grain; count = need } in
+    let gap = in_lowest_gap 1 (arena.grains + 1) arena.held need grain some held.ascending lowest in
+    let outside = λ (g : ℕ) (within : g < arena.grains + 1) (out : (g < grain) ⊎ (grain + need ≤ g)) (other : has_word r g ≡ false).
+    let here : get_or firsts' g 0 ≡ first_over (with_run r arena.held) g =
+    noted.outside g out ∙ counted.firsts_are g within ∙ ap or_zero (sym (run_over_put_other r arena.held g other))
+    in here
+    in
+    let none : total (runs_within (512 * grain) (512 * (grain + need)) ex.covered) ≡ 0 =
+    none_within (512 * grain) (512 * (grain + need)) ex.covered (λ t there.
+    let lies = held.inside t there in
+    elim (apart_from_put 1 (arena.grains + 1) arena.held r lies.grains gap.ascending lies.there) [
+      | inl following ↦ inr (omega (arith, following, lies.after))
+      | inr ahead ↦ inl (omega (arith, ahead, lies.before, held.nonempty t there))
+    ])
+    in
+    let P : Run → Type 0 = λ t. get_or (set counts grain 0) t.from 0 ≡ covered_words_in t ex.covered in
+    record {
+      firsts_size = noted.size ∙ counted.firsts_size;
+      counts_size = length-set counts grain 0 ∙ counted.counts_size;
+      firsts_are = λ g within. elim (cases_lt g grain) [
+        | inl before ↦ outside g within (inl before) (has_word-below r g before)
+        | inr from ↦ elim (cases_lt g (grain + need)) [
+          | inl below ↦
+              noted.inside g from below
+              ∙ sym (ap or_zero (run_over_in 1 (arena.grains + 1) (with_run r arena.held) r g gap.ascending (contains_put r arena.held) from below))
+          | inr past ↦ outside g within (inr past) (has_word-above r g past)
+        ]
+      ];
+      counts_are = λ t there. elim (contains_put_cases r t arena.held there) [
+        | inl same ↦ subst P same (get_or-set_same counts grain 0 0 (omega (arith, gap.below, some, counted.counts_size)) ∙ sym none)
+        | inr later ↦
+            let bounds = contained_bounds 1 (arena.grains + 1) arena.held t held.ascending later in
+            let other : t.from ≢ grain = λ e.
+            elim (apart_from_put 1 (arena.grains + 1) arena.held r t gap.ascending later) [
+              | inl after ↦ omega (arith, after, some, e)
+              | inr before ↦ omega (arith, before, bounds.1, e)
+            ]
+            in
+            get_or-set_other counts grain t.from 0 0 other ∙ counted.counts_are t later
+      ];
+    }
+
+pub counted_after_giving : (held : List Run) (size : ℕ) (firsts firsts' counts : List ℕ) (covered : List Run) (r : Run) → IsCounted held size firsts counts covered → IsAscending 1 size held → Contains held r → Noted firsts firsts' r 0
+    → IsCounted (without_run r.from held) size firsts' counts covered
+counted_after_giving held size firsts firsts' counts covered r counted ascending listed noted =
+    let outside = λ (g : ℕ) (within : g < size) (out : (g < r.from) ⊎ (end_of r ≤ g)) (other : has_word r g ≡ false).
+    let here : get_or firsts' g 0 ≡ first_over (without_run r.from held) g =
+    noted.outside g out ∙ counted.firsts_are g within ∙ ap or_zero (sym (run_over_taken_other 1 size held r g ascending listed other))
+    in here
+    in
+    record {
+      firsts_size = noted.size ∙ counted.firsts_size;
+      counts_size = counted.counts_size;
+      firsts_are = λ g within. elim (cases_lt g r.from) [
+        | inl before ↦ outside g within (inl before) (has_word-below r g before)
+        | inr from ↦ elim (cases_lt g (end_of r)) [
+          | inl below ↦ noted.inside g from below ∙ sym (ap or_zero (run_over_taken_has 1 size held r g ascending listed (has_word-true r g from below)))
+          | inr past ↦ outside g within (inr past) (has_word-above r g past)
+        ]
+      ];
+      counts_are = λ t there. counted.counts_are t (contains_without r.from t held there);
+    }
+
+-- the words counted for the segment that begins at a grain
+pub count_at : (arena : ArenaMemory) (table : List Entry) (ex : ExtentLists) (firsts counts : List ℕ) (grain : ℕ) (e : Entry) → IsHeld arena table ex → IsCounted arena.held (arena.grains + 1) firsts counts ex.covered → get_or table grain Free ≡ e
+    → IsCountAt grain e (get_or counts grain 0) ex
+count_at arena table ex firsts counts grain Free held counted is = tt
+count_at arena table ex firsts counts grain (First n p g k) held counted is =
+    let mine : Run = record { from = grain; count = n } in
+    let P : List Run → Type 0 = λ rs. Contains rs mine in
+    let listed = subst P (sym held.held) (entry_is_held table grain n p g k is) in
+    let end : 512 * (grain + n) ≡ 512 * grain + 512 * n = omega arith in
+    counted.counts_are mine listed ∙ ap (λ (high : ℕ). total (runs_within (512 * grain) high ex.covered)) end
+
+-- where nothing is counted, no run is
+none_counted : (low high : ℕ) (rs : List Run) → IsAscending low high rs → total rs ≡ 0 → rs ≡ []
+none_counted low high [] ascending none = refl
+none_counted low high (r ∷ rs) ascending none = absurd (omega (arith, total-cons r rs, none, ascending.1))
+
+-- the words counted for the segment at an address
+pub record Counted (arena : ArenaMemory) (table : List Entry) (ex : ExtentLists) (counts : List ℕ) (base : ℕ) (s : Segment) : Type 0 where
+  pub within : base / 4096 < length counts
+  pub count : get_or counts (base / 4096) 0 ≡ total (runs_within (s.base / 8) (end_of_segment s / 8) ex.covered)
+  pub empty : get_or counts (base / 4096) 0 ≡ 0 → runs_within (s.base / 8) (end_of_segment s / 8) ex.covered ≡ []
+
+pub counted_at : (arena : ArenaMemory) (table : List Entry) (ex : ExtentLists) (firsts counts : List ℕ) (base : ℕ) (s : Segment) → IsHeld arena table ex → IsCounted arena.held (arena.grains + 1) firsts counts ex.covered
+    → Contains (segments_in table) s → s.base ≡ base → Counted arena table ex counts base s
+counted_at arena table ex firsts counts base s held counted there begins =
+    let grain = base / 4096 in
+    let at = segment_at table base s there begins in
+    let mine : Run = record { from = grain; count = s.grains } in
+    let P : List Run → Type 0 = λ rs. Contains rs mine in
+    let listed = subst P (sym held.held) (entry_is_held table grain s.grains s.pool s.generation s.rank at.is) in
+    let low : 512 * grain ≡ s.base / 8 = omega (arith, at.aligned, begins) in
+    let high : 512 * (grain + s.grains) ≡ end_of_segment s / 8 = omega (arith, at.aligned, begins) in
+    let count =
+    counted.counts_are mine listed ∙ ap (λ (a : ℕ). total (runs_within a (512 * (grain + s.grains)) ex.covered)) low
+    ∙ ap (λ (b : ℕ). total (runs_within (s.base / 8) b ex.covered)) high
+    in
+    let whole = whole_in arena table ex held mine listed ex.covered (λ t x. x) in
+    let ascending = within_ascending 0 ex.size (512 * grain) (512 * (grain + s.grains)) (512 * grain) ex.covered held.covered_ascending whole (omega arith) (omega arith) (inr refl) in
+    record {
+      within = omega (arith, at.within, held.size, counted.counts_size);
+      count = count;
+      empty = λ none.
+          ap (λ (a : ℕ). runs_within a (end_of_segment s / 8) ex.covered) (sym low)
+          ∙ ap (λ (b : ℕ). runs_within (512 * grain) b ex.covered) (sym high)
+          ∙ none_counted (512 * grain) (512 * (grain + s.grains)) (runs_within (512 * grain) (512 * (grain + s.grains)) ex.covered) ascending (sym (counted.counts_are mine listed) ∙ none);
+    }
+
+pub counted_seen : (i : Inside) (seen : SegsState) (base : ℕ) (s : Segment)
+    → IsHeld i.arena i.table.items i.extents × IsCounted i.arena.held (i.arena.grains + 1) i.firsts.items i.counts.items i.extents.covered
+    → segs_state i.arena i.table.items i.extents ≡ seen → Contains seen.segments s → s.base ≡ base
+    → Counted i.arena i.table.items i.extents i.counts.items base s
+counted_seen i seen base s sound is there begins =
+    let P : SegsState → Type 0 = λ st. Contains st.segments s in
+    counted_at i.arena i.table.items i.extents i.firsts.items i.counts.items base s sound.0 sound.1 (subst P (sym is) there) begins
