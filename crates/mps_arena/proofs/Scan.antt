@@ -8,7 +8,7 @@ use Rattle.mps_arena.specs.Grains.{runs_in, runs_from}
 use Rattle.mps_base.specs.Placement.{Placement, NewSegment, run_placement}
 use Rattle.mps_arena.specs.Arena.{ArenaMemory, max_grains, held_after, new_arena}
 use Rattle.mps_arena.specs.Inside.{IsSoundArena, memory_of}
-use Rattle.mps_arena.proofs.Table.{runs_later, runs_at_free, runs_at_run, runs_from-nil, runs_from-zero, runs_from-set, runs_from-empty, entry_of_run, raised}
+use Rattle.mps_arena.proofs.Table.{runs_later, runs_at_free, runs_at_run, runs_from-nil, runs_from-zero, runs_from-set, runs_from-empty, entry_of_run, IsAscending-from_lower}
 use Rattle.mps_base.specs.Address.{words_of_grain}
 
 -- the runs from a grain on
@@ -52,7 +52,7 @@ free_step : (table : List ℕ) (grain : ℕ) → IsAscending grain (length table
 free_step table grain ascending within none =
     let same : rest table grain ≡ rest table (suc grain) = runs_at_free table grain within none in
     let P : List Run → Type 0 = λ rs. IsAscending grain (length table) rs in
-    (same, raised (suc grain) grain (suc grain) (length table) (drop (suc grain) table) (omega arith) (omega arith) (subst P same ascending))
+    (same, IsAscending-from_lower (suc grain) grain (suc grain) (length table) (drop (suc grain) table) (omega arith) (omega arith) (subst P same ascending))
 
 pub scan_free : (table : List ℕ) (need grain low most : ℕ) → Scan table need grain low most → grain < length table → get_or table grain 0 ≡ 0 → suc grain < low + need → Scan table need (suc grain) low most
 scan_free table need grain low most scan within none short =

@@ -55,11 +55,11 @@ runs_later (suc n) table grain low high ascending after within =
     cases_zero (suc n) = inr (omega arith)
 
 -- all runs of a table begin at or after its first grain
-pub after_all : (grain : ℕ) (counts : List ℕ) (r : Run) → r.from < grain → with_run r (runs_from grain counts) ≡ r ∷ runs_from grain counts
+pub run_before_all : (grain : ℕ) (counts : List ℕ) (r : Run) → r.from < grain → with_run r (runs_from grain counts) ≡ r ∷ runs_from grain counts
 unfolding runs_from
-after_all grain [] r before = refl
-after_all grain (zero ∷ counts) r before = after_all (suc grain) counts r (omega arith)
-after_all grain (suc n ∷ counts) r before = with_run_first r (record { from = grain; count = suc n }) (runs_from (suc grain) counts) before
+run_before_all grain [] r before = refl
+run_before_all grain (zero ∷ counts) r before = run_before_all (suc grain) counts r (omega arith)
+run_before_all grain (suc n ∷ counts) r before = with_run_first r (record { from = grain; count = suc n }) (runs_from (suc grain) counts) before
 
 -- an entry that was 0 written
 pub runs_from-set : (grain : ℕ) (counts : List ℕ) (i n : ℕ) → i < length counts → get_or counts i 0 ≡ 0 → 0 < n
@@ -68,7 +68,7 @@ runs_from-set grain [] i n within none some = absurd (omega arith)
 runs_from-set grain (c ∷ counts) zero n within none some =
     let same_grain : grain + 0 ≡ grain = omega arith in
     runs_from-some grain counts n some
-    ∙ sym (after_all (suc grain) counts (record { from = grain; count = n }) (omega arith))
+    ∙ sym (run_before_all (suc grain) counts (record { from = grain; count = n }) (omega arith))
     ∙ ap (λ (rs : List Run). with_run (record { from = grain; count = n }) rs) (sym (runs_from-zero grain counts c none))
     ∙ ap (λ (g : ℕ). with_run (record { from = g; count = n }) (runs_from grain (c ∷ counts))) (sym same_grain)
 runs_from-set grain (zero ∷ counts) (suc i) n within none some =
@@ -108,11 +108,11 @@ runs_from-empty grain (suc c ∷ counts) (suc i) within some =
     ∙ ap (λ (rs : List Run). without_run (grain + suc i) rs) (sym (runs_from-some grain counts (suc c) (omega arith)))
 
 -- runs that ascend from somewhere ascend from any grain at or below their table's first
-pub raised : (grain low low' high : ℕ) (counts : List ℕ) → low' ≤ grain → low' ≤ high → IsAscending low high (runs_from grain counts) → IsAscending low' high (runs_from grain counts)
+pub IsAscending-from_lower : (grain low low' high : ℕ) (counts : List ℕ) → low' ≤ grain → low' ≤ high → IsAscending low high (runs_from grain counts) → IsAscending low' high (runs_from grain counts)
 unfolding runs_from
-raised grain low low' high [] before within ascending = within
-raised grain low low' high (zero ∷ counts) before within ascending = raised (suc grain) low low' high counts (omega arith) within ascending
-raised grain low low' high (suc n ∷ counts) before within ascending = (before, ascending.1, ascending.2)
+IsAscending-from_lower grain low low' high [] before within ascending = within
+IsAscending-from_lower grain low low' high (zero ∷ counts) before within ascending = IsAscending-from_lower (suc grain) low low' high counts (omega arith) within ascending
+IsAscending-from_lower grain low low' high (suc n ∷ counts) before within ascending = (before, ascending.1, ascending.2)
 
 -- a run of a table is an entry
 pub entry_of_run : (grain : ℕ) (counts : List ℕ) (r : Run) → Contains (runs_from grain counts) r → (i : ℕ) × (i < length counts) × (r.from ≡ grain + i) × (get_or counts i 0 ≡ r.count) × (0 < r.count)

@@ -14,22 +14,23 @@ use Rattle.mps_seg.specs.declared.entry.Entry.TheVariants.{Free, First}
 use Rattle.mps_seg.specs.declared.segs.Segs.TheInside.{Inside}
 use Rattle.mps_seg.proofs.Apart.{contains_put, apart_from_put, apart_each, has_word-true, has_word-below, has_word-above}
 use Rattle.mps_seg.proofs.ContainedRuns.{contains_put_cases, contains_without, same_count}
-use Rattle.mps_seg.proofs.Entries.{entry_is_held, segment_at}
+use Rattle.mps_seg.proofs.Entries.{entry_is_held, entry_at_base}
 use Rattle.mps_seg.proofs.HeldSegments.{whole_in}
-use Rattle.mps_seg.proofs.LowestGap.{within_ascending}
+use Rattle.mps_seg.proofs.LowestGap.{runs_within_ascending}
 use Rattle.mps_seg.proofs.RunOver.{run_over_in, run_over_put_other, run_over_taken_other, run_over_taken_has}
+use Rattle.mps_base.specs.Address.{words_of_grain, grain_of, word_of}
 
 -- the words of a run, where it begins between the bounds
 abbrev pub words_within : ℕ → ℕ → Run → ℕ
 words_within low high r = cond (leb low r.from && ltb r.from high) r.count 0
 
-words_in : (low high : ℕ) (r : Run) → low ≤ r.from → r.from < high → words_within low high r ≡ r.count
-words_in low high r above below =
+words_within_here : (low high : ℕ) (r : Run) → low ≤ r.from → r.from < high → words_within low high r ≡ r.count
+words_within_here low high r above below =
     cond-true (leb low r.from && ltb r.from high) r.count 0 (and_from (leb low r.from) (ltb r.from high) (le-leb low r.from above) (lt-ltb r.from high below))
 
-words_out : (low high : ℕ) (r : Run) → (r.from < low) ⊎ (high ≤ r.from) → words_within low high r ≡ 0
-words_out low high r (inl below) = cond-false (leb low r.from && ltb r.from high) r.count 0 (and_left (leb low r.from) (ltb r.from high) (lt-leb low r.from below))
-words_out low high r (inr above) = cond-false (leb low r.from && ltb r.from high) r.count 0 (and_right (leb low r.from) (ltb r.from high) (le-ltb r.from high above))
+words_within_none : (low high : ℕ) (r : Run) → (r.from < low) ⊎ (high ≤ r.from) → words_within low high r ≡ 0
+words_within_none low high r (inl below) = cond-false (leb low r.from && ltb r.from high) r.count 0 (and_left (leb low r.from) (ltb r.from high) (lt-leb low r.from below))
+words_within_none low high r (inr above) = cond-false (leb low r.from && ltb r.from high) r.count 0 (and_right (leb low r.from) (ltb r.from high) (le-ltb r.from high above))
 
 total_within-cons : (low high : ℕ) (r : Run) (rs : List Run) → total (runs_within low high (r ∷ rs)) ≡ words_within low high r + total (runs_within low high rs)
 total_within-cons low high r rs =
@@ -71,25 +72,25 @@ total_taken low high a b r (s ∷ rs) ascending there =
 none_within : (low high : ℕ) (rs : List Run) → ((t : Run) → Contains rs t → (t.from < low) ⊎ (high ≤ t.from)) → total (runs_within low high rs) ≡ 0
 none_within low high [] out = refl
 none_within low high (r ∷ rs) out =
-    omega (arith, total_within-cons low high r rs, words_out low high r (out r (contains_first rs r)), none_within low high rs (λ t there. out t (contains_later rs t r there)))
+    omega (arith, total_within-cons low high r rs, words_within_none low high r (out r (contains_first rs r)), none_within low high rs (λ t there. out t (contains_later rs t r there)))
 
 -- the segment in which a run of words lies, by the grain in which it begins
-pub record Home (held : List Run) (size : ℕ) (firsts : List ℕ) (grain : ℕ) (r : Run) : Type 0 where
+pub record OwnSegment (held : List Run) (size : ℕ) (firsts : List ℕ) (grain : ℕ) (r : Run) : Type 0 where
   pub run : Run
   pub there : Contains held run
   pub first : get_or firsts grain 0 ≡ run.from
   pub grain_within : grain < size
   pub first_within : run.from < size
-  pub above : 512 * run.from ≤ r.from
-  pub below : r.from < 512 * end_of run
+  pub above : words_of_grain * run.from ≤ r.from
+  pub below : r.from < words_of_grain * end_of run
 
 module _
   (held : List Run) (size : ℕ) (firsts counts : List ℕ) (covered : List Run)
   (counted : IsCounted held size firsts counts covered) (ascending : IsAscending 1 size held)
   where
-  pub home_of : (grain : ℕ) (r : Run) → LiesIn held r → 0 < r.count
-      → 512 * grain ≤ r.from → r.from < 512 * grain + 512 → Home held size firsts grain r
-  home_of grain r lies some above below =
+  pub own_segment : (grain : ℕ) (r : Run) → LiesIn held r → 0 < r.count
+      → words_of_grain * grain ≤ r.from → r.from < words_of_grain * grain + words_of_grain → OwnSegment held size firsts grain r
+  own_segment grain r lies some above below =
       let bounds = contained_bounds 1 size held lies.grains ascending lies.there in
       let within : grain < size = omega (arith, bounds.2, lies.before) in
       let over = run_over_in 1 size held lies.grains grain ascending lies.there (omega (arith, lies.after)) (omega (arith, lies.before)) in
@@ -107,27 +108,27 @@ module _
   (arena : ArenaMemory) (table : List Entry) (ex : ExtentLists) (firsts counts : List ℕ)
   (held : IsHeld arena table ex) (counted : IsCounted arena.held (arena.grains + 1) firsts counts ex.covered)
   where
-  pub home_of_put : (grain : ℕ) (r : Run) → LiesIn (map grains_of_segment (segments_in table)) r → 0 < r.count → 512 * grain ≤ r.from → r.from < 512 * grain + 512 → Home arena.held (arena.grains + 1) firsts grain r
-  home_of_put grain r lies some above below =
+  pub own_segment_of_free : (grain : ℕ) (r : Run) → LiesIn (map grains_of_segment (segments_in table)) r → 0 < r.count → words_of_grain * grain ≤ r.from → r.from < words_of_grain * grain + words_of_grain → OwnSegment arena.held (arena.grains + 1) firsts grain r
+  own_segment_of_free grain r lies some above below =
       let P : List Run → Type 0 = λ rs. LiesIn rs r in
-      home_of arena.held (arena.grains + 1) firsts counts ex.covered counted held.ascending grain r (subst P (sym held.held) lies) some above below
+      own_segment arena.held (arena.grains + 1) firsts counts ex.covered counted held.ascending grain r (subst P (sym held.held) lies) some above below
 
-  pub home_of_covered : (grain : ℕ) (r : Run) → Contains ex.covered r → 512 * grain ≤ r.from → r.from < 512 * grain + 512 → Home arena.held (arena.grains + 1) firsts grain r
-  home_of_covered grain r listed above below =
-      home_of arena.held (arena.grains + 1) firsts counts ex.covered counted held.ascending grain r (held.inside r listed) (held.nonempty r listed) above below
+  pub own_segment_of_covered : (grain : ℕ) (r : Run) → Contains ex.covered r → words_of_grain * grain ≤ r.from → r.from < words_of_grain * grain + words_of_grain → OwnSegment arena.held (arena.grains + 1) firsts grain r
+  own_segment_of_covered grain r listed above below =
+      own_segment arena.held (arena.grains + 1) firsts counts ex.covered counted held.ascending grain r (held.inside r listed) (held.nonempty r listed) above below
 
 -- a run begins in one segment alone
-in_home : (size : ℕ) (held : List Run) (h t r : Run) → IsAscending 1 size held → Contains held h → Contains held t → 512 * h.from ≤ r.from → r.from < 512 * end_of h → h.from ≡ t.from → words_within (512 * t.from) (512 * end_of t) r ≡ r.count
-in_home size held h t r ascending there there' above below same =
+words_in_own_segment : (size : ℕ) (held : List Run) (h t r : Run) → IsAscending 1 size held → Contains held h → Contains held t → words_of_grain * h.from ≤ r.from → r.from < words_of_grain * end_of h → h.from ≡ t.from → words_within (words_of_grain * t.from) (words_of_grain * end_of t) r ≡ r.count
+words_in_own_segment size held h t r ascending there there' above below same =
     let count = same_count 1 size held h t ascending there there' same in
-    words_in (512 * t.from) (512 * end_of t) r (omega (arith, same, above)) (omega (arith, same, below, count))
+    words_within_here (words_of_grain * t.from) (words_of_grain * end_of t) r (omega (arith, same, above)) (omega (arith, same, below, count))
 
-out_of_home : (size : ℕ) (held : List Run) (h t r : Run) → IsAscending 1 size held → Contains held h → Contains held t → 512 * h.from ≤ r.from → r.from < 512 * end_of h → h.from ≢ t.from → words_within (512 * t.from) (512 * end_of t) r ≡ 0
-out_of_home size held h t r ascending there there' above below other =
+words_in_other_segment : (size : ℕ) (held : List Run) (h t r : Run) → IsAscending 1 size held → Contains held h → Contains held t → words_of_grain * h.from ≤ r.from → r.from < words_of_grain * end_of h → h.from ≢ t.from → words_within (words_of_grain * t.from) (words_of_grain * end_of t) r ≡ 0
+words_in_other_segment size held h t r ascending there there' above below other =
     elim (apart_each 1 size held h t ascending there there') [
       | inl same ↦ absurd (other same)
       | inr apart ↦
-          words_out (512 * t.from) (512 * end_of t) r
+          words_within_none (words_of_grain * t.from) (words_of_grain * end_of t) r
           (elim apart [ inl after ↦ inl (omega (arith, after, below)) | inr before ↦ inr (omega (arith, before, above)) ])
     ]
 
@@ -135,9 +136,9 @@ module _
   (held : List Run) (size : ℕ) (firsts counts : List ℕ) (covered : List Run)
   (counted : IsCounted held size firsts counts covered) (ascending : IsAscending 1 size held)
   where
-  pub counted_after_put : (grain : ℕ) (r : Run) → Home held size firsts grain r
+  pub counted_after_cover : (grain : ℕ) (r : Run) → OwnSegment held size firsts grain r
       → IsCounted held size firsts (set counts (get_or firsts grain 0) (get_or counts (get_or firsts grain 0) 0 + r.count)) (with_run r covered)
-  counted_after_put grain r home =
+  counted_after_cover grain r own =
       let first = get_or firsts grain 0 in
       let now = get_or counts first 0 + r.count in
       record {
@@ -146,21 +147,21 @@ module _
         firsts_are = counted.firsts_are;
         counts_are = λ t there.
             let was = counted.counts_are t there in
-            let put = total_put (512 * t.from) (512 * end_of t) r covered in
+            let put = total_put (words_of_grain * t.from) (words_of_grain * end_of t) r covered in
             elim (cases_eq t.from first) [
               | inl here ↦
-                  let more = in_home size held home.run t r ascending home.there there home.above home.below (sym home.first ∙ sym here) in
-                  ap (λ (k : ℕ). get_or (set counts first now) k 0) here ∙ get_or-set_same counts first now 0 (omega (arith, home.first, home.first_within, counted.counts_size))
+                  let more = words_in_own_segment size held own.run t r ascending own.there there own.above own.below (sym own.first ∙ sym here) in
+                  ap (λ (k : ℕ). get_or (set counts first now) k 0) here ∙ get_or-set_same counts first now 0 (omega (arith, own.first, own.first_within, counted.counts_size))
                   ∙ ap (λ (k : ℕ). get_or counts k 0 + r.count) (sym here) ∙ omega (arith, was, put, more)
               | inr other ↦
-                  let none = out_of_home size held home.run t r ascending home.there there home.above home.below (λ e. other (sym e ∙ sym home.first)) in
+                  let none = words_in_other_segment size held own.run t r ascending own.there there own.above own.below (λ e. other (sym e ∙ sym own.first)) in
                   get_or-set_other counts first t.from now 0 other ∙ omega (arith, was, put, none)
             ];
       }
 
-  pub counted_after_less : (grain a b : ℕ) (r : Run) → IsAscending a b covered → Contains covered r → Home held size firsts grain r
+  pub counted_after_uncover : (grain a b : ℕ) (r : Run) → IsAscending a b covered → Contains covered r → OwnSegment held size firsts grain r
       → IsCounted held size firsts (set counts (get_or firsts grain 0) (get_or counts (get_or firsts grain 0) 0 - r.count)) (without_run r.from covered)
-  counted_after_less grain a b r ascending' listed home =
+  counted_after_uncover grain a b r ascending' listed own =
       let first = get_or firsts grain 0 in
       let now = get_or counts first 0 - r.count in
       record {
@@ -169,50 +170,50 @@ module _
         firsts_are = counted.firsts_are;
         counts_are = λ t there.
             let was = counted.counts_are t there in
-            let less = total_taken (512 * t.from) (512 * end_of t) a b r covered ascending' listed in
+            let less = total_taken (words_of_grain * t.from) (words_of_grain * end_of t) a b r covered ascending' listed in
             elim (cases_eq t.from first) [
               | inl here ↦
-                  let fewer = in_home size held home.run t r ascending home.there there home.above home.below (sym home.first ∙ sym here) in
-                  ap (λ (k : ℕ). get_or (set counts first now) k 0) here ∙ get_or-set_same counts first now 0 (omega (arith, home.first, home.first_within, counted.counts_size))
+                  let fewer = words_in_own_segment size held own.run t r ascending own.there there own.above own.below (sym own.first ∙ sym here) in
+                  ap (λ (k : ℕ). get_or (set counts first now) k 0) here ∙ get_or-set_same counts first now 0 (omega (arith, own.first, own.first_within, counted.counts_size))
                   ∙ ap (λ (k : ℕ). get_or counts k 0 - r.count) (sym here) ∙ omega (arith, was, less, fewer)
               | inr other ↦
-                  let none = out_of_home size held home.run t r ascending home.there there home.above home.below (λ e. other (sym e ∙ sym home.first)) in
+                  let none = words_in_other_segment size held own.run t r ascending own.there there own.above own.below (λ e. other (sym e ∙ sym own.first)) in
                   get_or-set_other counts first t.from now 0 other ∙ omega (arith, was, less, none)
             ];
       }
 
   -- what is taken out was counted
-  pub counted_before : (grain a b : ℕ) (r : Run) → IsAscending a b covered → Contains covered r → Home held size firsts grain r
+  pub counted_before : (grain a b : ℕ) (r : Run) → IsAscending a b covered → Contains covered r → OwnSegment held size firsts grain r
       → r.count ≤ get_or counts (get_or firsts grain 0) 0
-  counted_before grain a b r ascending' listed home =
-      let was = counted.counts_are home.run home.there in
-      let less = total_taken (512 * home.run.from) (512 * end_of home.run) a b r covered ascending' listed in
-      let fewer = in_home size held home.run home.run r ascending home.there home.there home.above home.below refl in
-      let here = ap (λ (k : ℕ). get_or counts k 0) home.first in
+  counted_before grain a b r ascending' listed own =
+      let was = counted.counts_are own.run own.there in
+      let less = total_taken (words_of_grain * own.run.from) (words_of_grain * end_of own.run) a b r covered ascending' listed in
+      let fewer = words_in_own_segment size held own.run own.run r ascending own.there own.there own.above own.below refl in
+      let here = ap (λ (k : ℕ). get_or counts k 0) own.first in
       omega (arith, was, less, fewer, here)
 
 -- no more words are counted than a segment has
-pub count_fits : (arena : ArenaMemory) (table : List Entry) (ex : ExtentLists) (grains : Run) → IsHeld arena table ex → Contains arena.held grains → covered_words_in grains ex.covered ≤ 512 * grains.count
+pub count_fits : (arena : ArenaMemory) (table : List Entry) (ex : ExtentLists) (grains : Run) → IsHeld arena table ex → Contains arena.held grains → covered_words_in grains ex.covered ≤ words_of_grain * grains.count
 count_fits arena table ex grains held listed =
-    let low = 512 * grains.from in
-    let high = 512 * end_of grains in
+    let low = words_of_grain * grains.from in
+    let high = words_of_grain * end_of grains in
     let whole = whole_in arena table ex held grains listed ex.covered (λ t there. there) in
-    let ascending = within_ascending 0 ex.size low high low ex.covered held.covered_ascending whole (omega arith) (omega arith) (inr refl) in
+    let ascending = runs_within_ascending 0 ex.size low high low ex.covered held.covered_ascending whole (omega arith) (omega arith) (inr refl) in
     let sum = total-le low high (runs_within low high ex.covered) ascending in
     omega (arith, sum)
 
 -- there is room to count what is put, where the segments are held after it
 pub room_to_count : (arena : ArenaMemory) (table : List Entry) (ex : ExtentLists) (firsts counts : List ℕ) (grain : ℕ) (r : Run) (blocks reservations : List Run) → IsCounted arena.held (arena.grains + 1) firsts counts ex.covered
-    → IsHeld arena table (record ex { covered = with_run r ex.covered; blocks = blocks; reservations = reservations }) → Home arena.held (arena.grains + 1) firsts grain r
+    → IsHeld arena table (record ex { covered = with_run r ex.covered; blocks = blocks; reservations = reservations }) → OwnSegment arena.held (arena.grains + 1) firsts grain r
     → get_or counts (get_or firsts grain 0) 0 + r.count < 2 ^ 32
-room_to_count arena table ex firsts counts grain r blocks reservations counted held home =
+room_to_count arena table ex firsts counts grain r blocks reservations counted held own =
     let ex' : ExtentLists = record ex { covered = with_run r ex.covered; blocks = blocks; reservations = reservations } in
-    let was = counted.counts_are home.run home.there in
-    let put = total_put (512 * home.run.from) (512 * end_of home.run) r ex.covered in
-    let more = in_home (arena.grains + 1) arena.held home.run home.run r held.ascending home.there home.there home.above home.below refl in
-    let here = ap (λ (k : ℕ). get_or counts k 0) home.first in
-    let fits = count_fits arena table ex' home.run held home.there in
-    let bounds = contained_bounds 1 (arena.grains + 1) arena.held home.run held.ascending home.there in
+    let was = counted.counts_are own.run own.there in
+    let put = total_put (words_of_grain * own.run.from) (words_of_grain * end_of own.run) r ex.covered in
+    let more = words_in_own_segment (arena.grains + 1) arena.held own.run own.run r held.ascending own.there own.there own.above own.below refl in
+    let here = ap (λ (k : ℕ). get_or counts k 0) own.first in
+    let fits = count_fits arena table ex' own.run held own.there in
+    let bounds = contained_bounds 1 (arena.grains + 1) arena.held own.run held.ascending own.there in
     omega (arith, was, put, more, here, fits, bounds.2, held.at_most)
 
 -- before any segment is taken
@@ -230,10 +231,10 @@ pub record Noted (firsts firsts' : List ℕ) (r : Run) (first : ℕ) : Type 0 wh
   pub inside : (g : ℕ) → r.from ≤ g → g < end_of r → get_or firsts' g 0 ≡ first
   pub outside : (g : ℕ) → (g < r.from) ⊎ (end_of r ≤ g) → get_or firsts' g 0 ≡ get_or firsts g 0
 
-pub counted_after_taking : (arena : ArenaMemory) (table : List Entry) (ex : ExtentLists) (firsts firsts' counts : List ℕ) (need grain : ℕ) → IsHeld arena table ex → IsCounted arena.held (arena.grains + 1) firsts counts ex.covered → 0 < need
+pub counted_after_take : (arena : ArenaMemory) (table : List Entry) (ex : ExtentLists) (firsts firsts' counts : List ℕ) (need grain : ℕ) → IsHeld arena table ex → IsCounted arena.held (arena.grains + 1) firsts counts ex.covered → 0 < need
     → lowest_fitting need (gaps 1 (arena.grains + 1) arena.held) ≡ Some grain → Noted firsts firsts' (record { from = grain; count = need }) grain
     → IsCounted (with_run (record { from = grain; count = need }) arena.held) (arena.grains + 1) firsts' (set counts grain 0) ex.covered
-counted_after_taking arena table ex firsts firsts' counts need grain held counted some lowest noted =
+counted_after_take arena table ex firsts firsts' counts need grain held counted some lowest noted =
     let r : Run = record { from = grain; count = need } in
     let gap = in_lowest_gap 1 (arena.grains + 1) arena.held need grain some held.ascending lowest in
     let outside = λ (g : ℕ) (within : g < arena.grains + 1) (out : (g < grain) ⊎ (grain + need ≤ g)) (other : has_word r g ≡ false).
@@ -241,8 +242,8 @@ counted_after_taking arena table ex firsts firsts' counts need grain held counte
     noted.outside g out ∙ counted.firsts_are g within ∙ ap or_zero (sym (run_over_put_other r arena.held g other))
     in here
     in
-    let none : total (runs_within (512 * grain) (512 * (grain + need)) ex.covered) ≡ 0 =
-    none_within (512 * grain) (512 * (grain + need)) ex.covered (λ t there.
+    let none : total (runs_within (words_of_grain * grain) (words_of_grain * (grain + need)) ex.covered) ≡ 0 =
+    none_within (words_of_grain * grain) (words_of_grain * (grain + need)) ex.covered (λ t there.
     let lies = held.inside t there in
     elim (apart_from_put 1 (arena.grains + 1) arena.held r lies.grains gap.ascending lies.there) [
       | inl following ↦ inr (omega (arith, following, lies.after))
@@ -276,9 +277,9 @@ counted_after_taking arena table ex firsts firsts' counts need grain held counte
       ];
     }
 
-pub counted_after_giving : (held : List Run) (size : ℕ) (firsts firsts' counts : List ℕ) (covered : List Run) (r : Run) → IsCounted held size firsts counts covered → IsAscending 1 size held → Contains held r → Noted firsts firsts' r 0
+pub counted_after_give : (held : List Run) (size : ℕ) (firsts firsts' counts : List ℕ) (covered : List Run) (r : Run) → IsCounted held size firsts counts covered → IsAscending 1 size held → Contains held r → Noted firsts firsts' r 0
     → IsCounted (without_run r.from held) size firsts' counts covered
-counted_after_giving held size firsts firsts' counts covered r counted ascending listed noted =
+counted_after_give held size firsts firsts' counts covered r counted ascending listed noted =
     let outside = λ (g : ℕ) (within : g < size) (out : (g < r.from) ⊎ (end_of r ≤ g)) (other : has_word r g ≡ false).
     let here : get_or firsts' g 0 ≡ first_over (without_run r.from held) g =
     noted.outside g out ∙ counted.firsts_are g within ∙ ap or_zero (sym (run_over_taken_other 1 size held r g ascending listed other))
@@ -305,8 +306,8 @@ count_at arena table ex firsts counts grain (First n p g k) held counted is =
     let mine : Run = record { from = grain; count = n } in
     let P : List Run → Type 0 = λ rs. Contains rs mine in
     let listed = subst P (sym held.held) (entry_is_held table grain n p g k is) in
-    let end : 512 * (grain + n) ≡ 512 * grain + 512 * n = omega arith in
-    counted.counts_are mine listed ∙ ap (λ (high : ℕ). total (runs_within (512 * grain) high ex.covered)) end
+    let end : words_of_grain * (grain + n) ≡ words_of_grain * grain + words_of_grain * n = omega arith in
+    counted.counts_are mine listed ∙ ap (λ (high : ℕ). total (runs_within (words_of_grain * grain) high ex.covered)) end
 
 -- where nothing is counted, no run is
 none_counted : (low high : ℕ) (rs : List Run) → IsAscending low high rs → total rs ≡ 0 → rs ≡ []
@@ -315,33 +316,33 @@ none_counted low high (r ∷ rs) ascending none = absurd (omega (arith, total-co
 
 -- the words counted for the segment at an address
 pub record Counted (arena : ArenaMemory) (table : List Entry) (ex : ExtentLists) (counts : List ℕ) (base : ℕ) (s : Segment) : Type 0 where
-  pub within : base / 4096 < length counts
-  pub count : get_or counts (base / 4096) 0 ≡ total (runs_within (s.base / 8) (end_of_segment s / 8) ex.covered)
-  pub empty : get_or counts (base / 4096) 0 ≡ 0 → runs_within (s.base / 8) (end_of_segment s / 8) ex.covered ≡ []
+  pub within : grain_of base < length counts
+  pub count : get_or counts (grain_of base) 0 ≡ total (runs_within (word_of s.base) (word_of (end_of_segment s)) ex.covered)
+  pub empty : get_or counts (grain_of base) 0 ≡ 0 → runs_within (word_of s.base) (word_of (end_of_segment s)) ex.covered ≡ []
 
 pub counted_at : (arena : ArenaMemory) (table : List Entry) (ex : ExtentLists) (firsts counts : List ℕ) (base : ℕ) (s : Segment) → IsHeld arena table ex → IsCounted arena.held (arena.grains + 1) firsts counts ex.covered
     → Contains (segments_in table) s → s.base ≡ base → Counted arena table ex counts base s
 counted_at arena table ex firsts counts base s held counted there begins =
-    let grain = base / 4096 in
-    let at = segment_at table base s there begins in
+    let grain = grain_of base in
+    let at = entry_at_base table base s there begins in
     let mine : Run = record { from = grain; count = s.grains } in
     let P : List Run → Type 0 = λ rs. Contains rs mine in
     let listed = subst P (sym held.held) (entry_is_held table grain s.grains s.pool s.generation s.rank at.is) in
-    let low : 512 * grain ≡ s.base / 8 = omega (arith, at.aligned, begins) in
-    let high : 512 * (grain + s.grains) ≡ end_of_segment s / 8 = omega (arith, at.aligned, begins) in
+    let low : words_of_grain * grain ≡ word_of s.base = omega (arith, at.aligned, begins) in
+    let high : words_of_grain * (grain + s.grains) ≡ word_of (end_of_segment s) = omega (arith, at.aligned, begins) in
     let count =
-    counted.counts_are mine listed ∙ ap (λ (a : ℕ). total (runs_within a (512 * (grain + s.grains)) ex.covered)) low
-    ∙ ap (λ (b : ℕ). total (runs_within (s.base / 8) b ex.covered)) high
+    counted.counts_are mine listed ∙ ap (λ (a : ℕ). total (runs_within a (words_of_grain * (grain + s.grains)) ex.covered)) low
+    ∙ ap (λ (b : ℕ). total (runs_within (word_of s.base) b ex.covered)) high
     in
     let whole = whole_in arena table ex held mine listed ex.covered (λ t x. x) in
-    let ascending = within_ascending 0 ex.size (512 * grain) (512 * (grain + s.grains)) (512 * grain) ex.covered held.covered_ascending whole (omega arith) (omega arith) (inr refl) in
+    let ascending = runs_within_ascending 0 ex.size (words_of_grain * grain) (words_of_grain * (grain + s.grains)) (words_of_grain * grain) ex.covered held.covered_ascending whole (omega arith) (omega arith) (inr refl) in
     record {
       within = omega (arith, at.within, held.size, counted.counts_size);
       count = count;
       empty = λ none.
-          ap (λ (a : ℕ). runs_within a (end_of_segment s / 8) ex.covered) (sym low)
-          ∙ ap (λ (b : ℕ). runs_within (512 * grain) b ex.covered) (sym high)
-          ∙ none_counted (512 * grain) (512 * (grain + s.grains)) (runs_within (512 * grain) (512 * (grain + s.grains)) ex.covered) ascending (sym (counted.counts_are mine listed) ∙ none);
+          ap (λ (a : ℕ). runs_within a (word_of (end_of_segment s)) ex.covered) (sym low)
+          ∙ ap (λ (b : ℕ). runs_within (words_of_grain * grain) b ex.covered) (sym high)
+          ∙ none_counted (words_of_grain * grain) (words_of_grain * (grain + s.grains)) (runs_within (words_of_grain * grain) (words_of_grain * (grain + s.grains)) ex.covered) ascending (sym (counted.counts_are mine listed) ∙ none);
     }
 
 pub counted_seen : (i : Inside) (seen : SegsState) (base : ℕ) (s : Segment)

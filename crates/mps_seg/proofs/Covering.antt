@@ -5,8 +5,8 @@ use Rattle.mps_base.specs.Address.{words_of_grain, grain_of, word_of}
 use Rattle.mps_seg.specs.Segs.{SegsState, CanCover}
 use Rattle.mps_seg.specs.Table.{segs_state, IsHeld, IsCounted}
 use Rattle.mps_seg.specs.declared.segs.Segs.TheInside.{Inside}
-use Rattle.mps_seg.proofs.CoveredWords.{Home, home_of_put, home_of_covered, counted_after_put, counted_after_less, counted_before, room_to_count}
-use Rattle.mps_seg.proofs.HeldSegments.{held_after_cover, held_after_less, free_again}
+use Rattle.mps_seg.proofs.CoveredWords.{OwnSegment, own_segment_of_free, own_segment_of_covered, counted_after_cover, counted_after_uncover, counted_before, room_to_count}
+use Rattle.mps_seg.proofs.HeldSegments.{held_after_cover, held_after_uncover, free_again}
 
 -- the words from an address on
 abbrev pub words_at : (at words : ℕ) → Run
@@ -43,8 +43,8 @@ covering s seen at words sound is nonzero free =
     let r = words_at at words in
     let grain = grain_of at in
     let can = subst (λ (x : SegsState). CanCover x r) (sym is) free in
-    let home : Home s.arena.held (s.arena.grains + 1) s.firsts.items grain r =
-    home_of_put s.arena s.table.items s.extents s.firsts.items s.counts.items sound.0 sound.1 grain r can.inside nonzero (omega arith) (omega arith)
+    let own : OwnSegment s.arena.held (s.arena.grains + 1) s.firsts.items grain r =
+    own_segment_of_free s.arena s.table.items s.extents s.firsts.items s.counts.items sound.0 sound.1 grain r can.inside nonzero (omega arith) (omega arith)
     in
     let P : ℕ → Type 0 = λ size. IsAscending 0 size (with_run r s.extents.covered) in
     let ascending = subst P (sym sound.0.covered_size) can.free in
@@ -52,15 +52,15 @@ covering s seen at words sound is nonzero free =
     held_after_cover s.arena s.table.items s.extents sound.0 r blocks reservations nonzero ascending can.inside
     in
     record {
-      grain_within = omega (arith, home.grain_within, sound.1.firsts_size);
-      first_within = omega (arith, home.first, home.first_within, sound.1.counts_size);
+      grain_within = omega (arith, own.grain_within, sound.1.firsts_size);
+      first_within = omega (arith, own.first, own.first_within, sound.1.counts_size);
       fits =
           room_to_count s.arena s.table.items s.extents s.firsts.items s.counts.items grain r s.extents.blocks s.extents.reservations sound.1
-          (held s.extents.blocks s.extents.reservations) home;
+          (held s.extents.blocks s.extents.reservations) own;
       free = ascending;
       held = held;
       counted =
-          counted_after_put s.arena.held (s.arena.grains + 1) s.firsts.items s.counts.items s.extents.covered sound.1 sound.0.ascending grain r home;
+          counted_after_cover s.arena.held (s.arena.grains + 1) s.firsts.items s.counts.items s.extents.covered sound.1 sound.0.ascending grain r own;
     }
 
 -- words that are one covered run
@@ -84,16 +84,16 @@ uncovering s at words sound there =
     let r = words_at at words in
     let grain = grain_of at in
     let size = s.arena.grains + 1 in
-    let home : Home s.arena.held size s.firsts.items grain r =
-    home_of_covered s.arena s.table.items s.extents s.firsts.items s.counts.items sound.0 sound.1 grain r there (omega arith) (omega arith)
+    let own : OwnSegment s.arena.held size s.firsts.items grain r =
+    own_segment_of_covered s.arena s.table.items s.extents s.firsts.items s.counts.items sound.0 sound.1 grain r there (omega arith) (omega arith)
     in
     record {
-      grain_within = omega (arith, home.grain_within, sound.1.firsts_size);
-      first_within = omega (arith, home.first, home.first_within, sound.1.counts_size);
+      grain_within = omega (arith, own.grain_within, sound.1.firsts_size);
+      first_within = omega (arith, own.first, own.first_within, sound.1.counts_size);
       at_most =
-          counted_before s.arena.held size s.firsts.items s.counts.items s.extents.covered sound.1 sound.0.ascending grain 0 s.extents.size r sound.0.covered_ascending there home;
-      held = λ blocks reservations. held_after_less s.arena s.table.items s.extents sound.0 (word_of at) blocks reservations;
+          counted_before s.arena.held size s.firsts.items s.counts.items s.extents.covered sound.1 sound.0.ascending grain 0 s.extents.size r sound.0.covered_ascending there own;
+      held = λ blocks reservations. held_after_uncover s.arena s.table.items s.extents sound.0 (word_of at) blocks reservations;
       counted =
-          counted_after_less s.arena.held size s.firsts.items s.counts.items s.extents.covered sound.1 sound.0.ascending grain 0 s.extents.size r sound.0.covered_ascending there home;
+          counted_after_uncover s.arena.held size s.firsts.items s.counts.items s.extents.covered sound.1 sound.0.ascending grain 0 s.extents.size r sound.0.covered_ascending there own;
       can_cover = λ blocks reservations. free_again s.arena s.table.items s.extents sound.0 r blocks reservations there;
     }

@@ -36,17 +36,17 @@ unfolding runs_with
 first_bit f at [] low high i above below set lower = absurd (false≢true set)
 first_bit f at (false ∷ bits) low high zero above below set lower = absurd (false≢true set)
 first_bit f at (true ∷ bits) low high zero above below set lower =
-    let place : at ≡ at + 0 = omega arith in
-    first_run_here low high (record { from = at; count = f at }) (runs_with f (suc at) bits) (omega arith) (omega arith) ∙ ap (λ (n : ℕ). Some n) place
+    let shifted : at ≡ at + 0 = omega arith in
+    first_run_here low high (record { from = at; count = f at }) (runs_with f (suc at) bits) (omega arith) (omega arith) ∙ ap (λ (n : ℕ). Some n) shifted
 first_bit f at (false ∷ bits) low high (suc i) above below set lower =
-    let place : suc at + i ≡ at + suc i = omega arith in
-    first_bit f (suc at) bits low high i (omega arith) (omega arith) set (λ j from under. lower (suc j) (omega arith) (omega arith)) ∙ ap (λ (n : ℕ). Some n) place
+    let shifted : suc at + i ≡ at + suc i = omega arith in
+    first_bit f (suc at) bits low high i (omega arith) (omega arith) set (λ j from under. lower (suc j) (omega arith) (omega arith)) ∙ ap (λ (n : ℕ). Some n) shifted
 first_bit f at (true ∷ bits) low high (suc i) above below set lower =
-    let place : suc at + i ≡ at + suc i = omega arith in
+    let shifted : suc at + i ≡ at + suc i = omega arith in
     elim (cases_lt at low) [
       | inl before ↦
           first_run_later low high (record { from = at; count = f at }) (runs_with f (suc at) bits) (inl before)
-          ∙ first_bit f (suc at) bits low high i (omega arith) (omega arith) set (λ j from under. lower (suc j) (omega arith) (omega arith)) ∙ ap (λ (n : ℕ). Some n) place
+          ∙ first_bit f (suc at) bits low high i (omega arith) (omega arith) set (λ j from under. lower (suc j) (omega arith) (omega arith)) ∙ ap (λ (n : ℕ). Some n) shifted
       | inr from ↦ absurd (true≢false (lower 0 (omega arith) (omega arith)))
     ]
 
@@ -68,9 +68,9 @@ pub first_block_is : (ends blocks : List Bool) (low high : ℕ) → next_set_bel
 unfolding next_set_below
 first_block_is ends blocks low high =
     elim (lowest_cases (bit blocks) low (high - low)) [
-      | found place is_some is ↦
-          let here : 0 + place ≡ place = omega arith in
-          is_some ∙ sym (first_bit (length_at ends) 0 blocks low high place (omega (arith, is.above)) (omega (arith, is.below, is.above)) (sym (bit_is blocks place) ∙ is.passes)
+      | found shifted is_some is ↦
+          let here : 0 + shifted ≡ shifted = omega arith in
+          is_some ∙ sym (first_bit (length_at ends) 0 blocks low high shifted (omega (arith, is.above)) (omega (arith, is.below, is.above)) (sym (bit_is blocks shifted) ∙ is.passes)
           (λ j from under. sym (bit_is blocks j) ∙ is.lower j (omega arith) under) ∙ ap (λ (n : ℕ). Some n) here)
       | missing is_none none ↦
           is_none ∙ sym (no_first_bit (length_at ends) 0 blocks low high (λ j from under. sym (bit_is blocks j) ∙ none j (omega arith) (omega arith)))

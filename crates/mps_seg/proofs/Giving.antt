@@ -10,9 +10,9 @@ use Rattle.mps_seg.specs.declared.entry.Entry.TheVariants.{Free, First}
 use Rattle.mps_seg.specs.declared.segs.Segs.TheInside.{Inside}
 use Rattle.mps_seg.specs.Segs.{SegsState, IsEmptyAt}
 use Rattle.mps_seg.specs.Table.{segments_in, segs_state, IsHeld, IsCounted}
-use Rattle.mps_seg.proofs.CoveredWords.{Noted, counted_after_giving}
-use Rattle.mps_seg.proofs.Entries.{segment_at, entry_is_held, segments_after_give}
-use Rattle.mps_seg.proofs.HeldSegments.{held_after_giving}
+use Rattle.mps_seg.proofs.CoveredWords.{Noted, counted_after_give}
+use Rattle.mps_seg.proofs.Entries.{entry_at_base, entry_is_held, segments_after_give}
+use Rattle.mps_seg.proofs.HeldSegments.{held_after_give}
 use Rattle.mps_seg.proofs.Covering.{IsSoundInside}
 
 -- an entry that is two segments' has the number of grains of both
@@ -38,7 +38,7 @@ giving s seen base t sound is listed empty =
     let P : SegsState → Type 0 = λ st. Contains st.segments t in
     let Q : SegsState → Type 0 = λ st. IsEmptyAt st base t in
     let none = subst Q (sym is) empty in
-    let at = segment_at s.table.items base t (subst P (sym is) listed) none.begins in
+    let at = entry_at_base s.table.items base t (subst P (sym is) listed) none.begins in
     let low : word_of t.base ≡ words_of_grain * grain = omega (arith, at.aligned, none.begins) in
     let high : word_of (end_of_segment t) ≡ words_of_grain * (grain + t.grains) = omega (arith, at.aligned, none.begins) in
     let R : ℕ → Type 0 = λ a. runs_within a (word_of (end_of_segment t)) s.extents.covered ≡ [] in
@@ -53,9 +53,9 @@ giving s seen base t sound is listed empty =
       listed = run;
       in_arena = (contained_bounds 1 (s.arena.grains + 1) s.arena.held mine sound.0.ascending run).2;
       held =
-          held_after_giving s.arena s.table.items s.extents sound.0 grain t.grains t.pool t.generation t.rank at.is (subst S high (subst R low none.empty));
+          held_after_give s.arena s.table.items s.extents sound.0 grain t.grains t.pool t.generation t.rank at.is (subst S high (subst R low none.empty));
       counted = λ firsts noted.
-          counted_after_giving s.arena.held (s.arena.grains + 1) s.firsts.items firsts s.counts.items s.extents.covered mine sound.1
+          counted_after_give s.arena.held (s.arena.grains + 1) s.firsts.items firsts s.counts.items s.extents.covered mine sound.1
           sound.0.ascending run noted;
       segments =
           segments_after_give s.table.items grain t.grains t.pool t.generation t.rank at.is

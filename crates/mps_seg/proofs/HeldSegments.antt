@@ -3,7 +3,7 @@ use Rattle.std.proofs.Common.{ℕ, ◌+◌, ◌<◌, ◌≡◌, List, [], ◌∷
 use Rattle.std.proofs.lemmas.Bool.{cases_Bool, cond-true, cond-false}
 use Rattle.std.proofs.lemmas.List.{length-replicate}
 use Rattle.mps_base.proofs.Runs.{contains_first, contains_later, contained_bounds, in_lowest_gap, IsAscending-without_run}
-use Rattle.mps_base.specs.Address.{address_of_grain}
+use Rattle.mps_base.specs.Address.{address_of_grain, words_of_grain}
 use Rattle.mps_base.specs.Run.{Run, IsAscending, with_run, without_run, end_of, runs_within, gaps, lowest_fitting}
 use Rattle.mps_base.specs.Segment.{Segment, same_rank, grains_of_segment, with_segment}
 use Rattle.mps_base.specs.declared.names.Rank.{Rank}
@@ -16,7 +16,7 @@ use Rattle.mps_seg.specs.declared.entry.Entry.TheVariants.{Free, First}
 use Rattle.mps_seg.proofs.Apart.{contains_put, apart_from_put, apart_each}
 use Rattle.mps_seg.proofs.ContainedRuns.{contains_put_cases, contains_put_other, contains_without, contains_still, taken_and_put, begins_within, same_count, put_apart, side_of}
 use Rattle.mps_seg.proofs.Entries.{held_from, segments_put, held_put, entry_is_held, new_segments_in, held_taken, entry_cases}
-use Rattle.mps_seg.proofs.LowestGap.{within_ascending}
+use Rattle.mps_seg.proofs.LowestGap.{runs_within_ascending}
 
 module _
   (arena : ArenaMemory) (table : List Entry) (ex : ExtentLists) (held : IsHeld arena table ex)
@@ -42,8 +42,8 @@ module _
         ];
       }
 
-  pub held_after_less : (from : ℕ) (blocks reservations : List Run) → IsHeld arena table (record ex { covered = without_run from ex.covered; blocks = blocks; reservations = reservations })
-  held_after_less from blocks reservations = record {
+  pub held_after_uncover : (from : ℕ) (blocks reservations : List Run) → IsHeld arena table (record ex { covered = without_run from ex.covered; blocks = blocks; reservations = reservations })
+  held_after_uncover from blocks reservations = record {
     held = held.held;
     ascending = held.ascending;
     at_most = held.at_most;
@@ -58,7 +58,7 @@ module _
   pub free_again : (r : Run) (blocks reservations : List Run) → Contains ex.covered r
       → CanCover (segs_state arena table (record ex { covered = without_run r.from ex.covered; blocks = blocks; reservations = reservations })) r
   free_again r blocks reservations there =
-      let P : List Run → Type 0 = λ rs. IsAscending 0 (512 * (arena.grains + 1)) rs in
+      let P : List Run → Type 0 = λ rs. IsAscending 0 (words_of_grain * (arena.grains + 1)) rs in
       let Q : ℕ → Type 0 = λ size. IsAscending 0 size ex.covered in
       let R : List Run → Type 0 = λ rs. LiesIn rs r in
       record {
@@ -68,7 +68,7 @@ module _
 
   -- each extent lies on one side of a held run of grains, or in it
   pub whole_in : (grains : Run) → Contains arena.held grains → (rs : List Run) → ((t : Run) → Contains rs t → Contains ex.covered t)
-      → AreWhole (512 * grains.from) (512 * end_of grains) rs
+      → AreWhole (words_of_grain * grains.from) (words_of_grain * end_of grains) rs
   whole_in grains listed [] part = tt
   whole_in grains listed (t ∷ rs) part =
       let there = part t (contains_first rs t) in
@@ -97,11 +97,11 @@ module _
       let P : List Run → Type 0 = λ rs. Contains rs mine in
       let listed = subst P (sym held.held) (entry_is_held table grain n p g r is) in
       let bounds = contained_bounds 1 (arena.grains + 1) arena.held mine held.ascending listed in
-      let end : 512 * (grain + n) ≡ 512 * grain + 512 * n = omega arith in
-      let Q : ℕ → Type 0 = λ high. AreWhole (512 * grain) high ex.covered in
+      let end : words_of_grain * (grain + n) ≡ words_of_grain * grain + words_of_grain * n = omega arith in
+      let Q : ℕ → Type 0 = λ high. AreWhole (words_of_grain * grain) high ex.covered in
       (subst Q end (whole_in mine listed ex.covered (λ t there. there)), omega (arith, bounds.2, held.covered_size))
 
-  pub segment_end_fits : (grain n p g : ℕ) (r : Rank) → get_or table grain Free ≡ First n p g r → 512 * (grain + n) ≤ ex.size
+  pub segment_end_fits : (grain n p g : ℕ) (r : Rank) → get_or table grain Free ≡ First n p g r → words_of_grain * (grain + n) ≤ ex.size
   segment_end_fits grain n p g r is = omega (arith, (whole_at grain (First n p g r) is).1)
 
   free_entry : (need grain : ℕ) → 0 < need → lowest_fitting need (gaps 1 (arena.grains + 1) arena.held) ≡ Some grain → get_or table grain Free ≡ Free
@@ -126,23 +126,23 @@ module _
   unfolding segments_in
   segments_after_take need grain pool generation rank some lowest =
       let gap = in_lowest_gap 1 (arena.grains + 1) arena.held need grain some held.ascending lowest in
-      let place : 0 + grain ≡ grain = omega arith in
+      let shifted : 0 + grain ≡ grain = omega arith in
       segments_put 0 table grain need pool generation rank (omega (arith, gap.below, held.size)) (free_entry need grain some lowest)
-      ∙ ap (λ (k : ℕ). with_segment (record { base = address_of_grain k; grains = need; pool = pool; generation = generation; rank = rank }) (segments_of_entries 0 table)) place
+      ∙ ap (λ (k : ℕ). with_segment (record { base = address_of_grain k; grains = need; pool = pool; generation = generation; rank = rank }) (segments_of_entries 0 table)) shifted
 
-  pub held_after_taking : (need grain pool generation : ℕ) (rank : Rank) → 0 < need
+  pub held_after_take : (need grain pool generation : ℕ) (rank : Rank) → 0 < need
       → lowest_fitting need (gaps 1 (arena.grains + 1) arena.held) ≡ Some grain
       → IsHeld (record arena { held = with_run (record { from = grain; count = need }) arena.held }) (set table grain (First need pool generation rank)) ex
   unfolding segments_in
-  held_after_taking need grain pool generation rank some lowest =
+  held_after_take need grain pool generation rank some lowest =
       let r : Run = record { from = grain; count = need } in
       let gap = in_lowest_gap 1 (arena.grains + 1) arena.held need grain some held.ascending lowest in
-      let place : 0 + grain ≡ grain = omega arith in
+      let shifted : 0 + grain ≡ grain = omega arith in
       let size = length-set table grain (First need pool generation rank) in
       record {
         held =
             ap (λ (rs : List Run). with_run r rs) held.held
-            ∙ ap (λ (k : ℕ). with_run (record { from = k; count = need }) (held_from 0 table)) (sym place)
+            ∙ ap (λ (k : ℕ). with_run (record { from = k; count = need }) (held_from 0 table)) (sym shifted)
             ∙ sym (held_put 0 table grain need pool generation rank (omega (arith, gap.below, held.size)) (free_entry need grain some lowest));
         ascending = gap.ascending;
         at_most = held.at_most;
@@ -155,19 +155,19 @@ module _
             record { grains = lies.grains; there = contains_put_other r lies.grains arena.held lies.there; after = lies.after; before = lies.before };
       }
 
-  pub held_after_giving : (grain n p g : ℕ) (r : Rank) → get_or table grain Free ≡ First n p g r
-      → runs_within (512 * grain) (512 * (grain + n)) ex.covered ≡ []
+  pub held_after_give : (grain n p g : ℕ) (r : Rank) → get_or table grain Free ≡ First n p g r
+      → runs_within (words_of_grain * grain) (words_of_grain * (grain + n)) ex.covered ≡ []
       → IsHeld (record arena { held = without_run grain arena.held }) (set table grain Free) ex
   unfolding segments_in
-  held_after_giving grain n p g r is empty =
-      let place : 0 + grain ≡ grain = omega arith in
+  held_after_give grain n p g r is empty =
+      let shifted : 0 + grain ≡ grain = omega arith in
       let mine : Run = record { from = grain; count = n } in
       let P : List Run → Type 0 = λ rs. Contains rs mine in
       let listed = subst P (sym held.held) (entry_is_held table grain n p g r is) in
       record {
         held =
             ap (λ (rs : List Run). without_run grain rs) held.held
-            ∙ ap (λ (k : ℕ). without_run k (held_from 0 table)) (sym place)
+            ∙ ap (λ (k : ℕ). without_run k (held_from 0 table)) (sym shifted)
             ∙ sym (held_taken 0 table grain n p g r is);
         ascending = IsAscending-without_run 1 (arena.grains + 1) grain arena.held held.ascending;
         at_most = held.at_most;
@@ -196,20 +196,20 @@ module _
           let listed = subst P (sym held.held) (entry_is_held table grain n p g r is) in
           let count = same_count 1 (arena.grains + 1) arena.held lies.grains mine held.ascending lies.there listed e in
           let Q : List Run → Type 0 = λ rs. Contains rs t in
-          let none = subst Q empty (begins_within (512 * grain) (512 * (grain + n)) ex.covered t there (omega (arith, lies.after, e)) (omega (arith, lies.before, e, count, held.nonempty t there))) in
+          let none = subst Q empty (begins_within (words_of_grain * grain) (words_of_grain * (grain + n)) ex.covered t there (omega (arith, lies.after, e)) (omega (arith, lies.before, e, count, held.nonempty t there))) in
           absurd (omega (arith, none.1))
 
   -- a run in a gap of a held run of grains can be covered
-  pub gap_is_free : (grain n p g : ℕ) (k : Rank) (words place : ℕ) → get_or table grain Free ≡ First n p g k → 0 < words
-      → lowest_fitting words (gaps (512 * grain) (512 * grain + 512 * n) (runs_within (512 * grain) (512 * grain + 512 * n) ex.covered)) ≡ Some place
-      → CanCover (segs_state arena table ex) (record { from = place; count = words })
-  gap_is_free grain n p g k words place is some lowest =
-      let low = 512 * grain in
-      let high = 512 * grain + 512 * n in
-      let r : Run = record { from = place; count = words } in
+  pub gap_is_free : (grain n p g : ℕ) (k : Rank) (words shifted : ℕ) → get_or table grain Free ≡ First n p g k → 0 < words
+      → lowest_fitting words (gaps (words_of_grain * grain) (words_of_grain * grain + words_of_grain * n) (runs_within (words_of_grain * grain) (words_of_grain * grain + words_of_grain * n) ex.covered)) ≡ Some shifted
+      → CanCover (segs_state arena table ex) (record { from = shifted; count = words })
+  gap_is_free grain n p g k words shifted is some lowest =
+      let low = words_of_grain * grain in
+      let high = words_of_grain * grain + words_of_grain * n in
+      let r : Run = record { from = shifted; count = words } in
       let whole = whole_at grain (First n p g k) is in
-      let within = within_ascending 0 ex.size low high low ex.covered held.covered_ascending whole.0 (omega arith) (omega arith) (inr refl) in
-      let gap = in_lowest_gap low high (runs_within low high ex.covered) words place some within lowest in
+      let within = runs_within_ascending 0 ex.size low high low ex.covered held.covered_ascending whole.0 (omega arith) (omega arith) (inr refl) in
+      let gap = in_lowest_gap low high (runs_within low high ex.covered) words shifted some within lowest in
       let apart = λ (t : Run) (there : Contains ex.covered t).
       let here : (end_of r ≤ t.from) ⊎ (end_of t ≤ r.from) =
       elim (side_of low high ex.covered t whole.0 there) [
@@ -233,14 +233,14 @@ module _
       }
 
   -- a new segment can be covered from its base on
-  pub new_is_free : (need grain pool generation words : ℕ) (rank : Rank) → 0 < need → 0 < words → words ≤ 512 * need
+  pub new_is_free : (need grain pool generation words : ℕ) (rank : Rank) → 0 < need → 0 < words → words ≤ words_of_grain * need
       → lowest_fitting need (gaps 1 (arena.grains + 1) arena.held) ≡ Some grain
-      → CanCover (segs_state (record arena { held = with_run (record { from = grain; count = need }) arena.held }) (set table grain (First need pool generation rank)) ex) (record { from = 512 * grain; count = words })
+      → CanCover (segs_state (record arena { held = with_run (record { from = grain; count = need }) arena.held }) (set table grain (First need pool generation rank)) ex) (record { from = words_of_grain * grain; count = words })
   new_is_free need grain pool generation words rank some covered fits lowest =
       let segment : Run = record { from = grain; count = need } in
-      let r : Run = record { from = 512 * grain; count = words } in
+      let r : Run = record { from = words_of_grain * grain; count = words } in
       let gap = in_lowest_gap 1 (arena.grains + 1) arena.held need grain some held.ascending lowest in
-      let after = held_after_taking need grain pool generation rank some lowest in
+      let after = held_after_take need grain pool generation rank some lowest in
       let apart = λ (t : Run) (there : Contains ex.covered t).
       let lies = held.inside t there in
       let here : (end_of r ≤ t.from) ⊎ (end_of t ≤ r.from) =
@@ -262,21 +262,21 @@ module _
         };
       }
 
-  pub gap_at_is_free : (grain : ℕ) (e : Entry) (pool : ℕ) (rank : Rank) (words place : ℕ) → get_or table grain Free ≡ e → 0 < words
-      → lowest_fitting words (gaps_at grain e pool rank ex) ≡ Some place → CanCover (segs_state arena table ex) (record { from = place; count = words })
-  gap_at_is_free grain Free pool rank words place is some lowest = let never : None ≡ Some place = lowest in cc
-  gap_at_is_free grain (First n p g k) pool rank words place is some lowest =
-      let mine = gaps (512 * grain) (512 * grain + 512 * n) (runs_within (512 * grain) (512 * grain + 512 * n) ex.covered) in
+  pub gap_at_is_free : (grain : ℕ) (e : Entry) (pool : ℕ) (rank : Rank) (words shifted : ℕ) → get_or table grain Free ≡ e → 0 < words
+      → lowest_fitting words (gaps_at grain e pool rank ex) ≡ Some shifted → CanCover (segs_state arena table ex) (record { from = shifted; count = words })
+  gap_at_is_free grain Free pool rank words shifted is some lowest = let never : None ≡ Some shifted = lowest in cc
+  gap_at_is_free grain (First n p g k) pool rank words shifted is some lowest =
+      let mine = gaps (words_of_grain * grain) (words_of_grain * grain + words_of_grain * n) (runs_within (words_of_grain * grain) (words_of_grain * grain + words_of_grain * n) ex.covered) in
       elim (cases_Bool (eqb p pool && same_rank k rank)) [
         | inl opened ↦
-            gap_is_free grain n p g k words place is some (ap (λ (rs : List Run). lowest_fitting words rs) (sym (cond-true (eqb p pool && same_rank k rank) mine [] opened)) ∙ lowest)
+            gap_is_free grain n p g k words shifted is some (ap (λ (rs : List Run). lowest_fitting words rs) (sym (cond-true (eqb p pool && same_rank k rank) mine [] opened)) ∙ lowest)
         | inr closed ↦
             let none = ap (λ (rs : List Run). lowest_fitting words rs) (sym (cond-false (eqb p pool && same_rank k rank) mine [] closed)) ∙ lowest in
-            let never : None ≡ Some place = none in
+            let never : None ≡ Some shifted = none in
             cc
       ]
 
-pub new_is_held : (grains limit : ℕ) → grains ≤ max_grains → IsHeld (new_arena grains limit) (replicate (grains + 1) Free) (nothing_covered (512 * (grains + 1)))
+pub new_is_held : (grains limit : ℕ) → grains ≤ max_grains → IsHeld (new_arena grains limit) (replicate (grains + 1) Free) (nothing_covered (words_of_grain * (grains + 1)))
 new_is_held grains limit few = record {
   held = ap (λ (ss : List Segment). map grains_of_segment ss) (sym (new_segments_in (grains + 1)));
   ascending = omega arith;

@@ -10,26 +10,26 @@ use Rattle.mps_seg.specs.Extents.{is_covered, has_word, AreWhole}
 use Rattle.mps_seg.specs.Inside.{extents, AreSoundTables}
 use Rattle.mps_seg.proofs.Apart.{has_word-true, has_word-below, has_word-above, covered_first, covered_later, uncovered_below}
 
-within_here : (low high : ℕ) (r : Run) (rs : List Run) → low ≤ r.from → r.from < high → runs_within low high (r ∷ rs) ≡ r ∷ runs_within low high rs
-within_here low high r rs above below =
+runs_within_here : (low high : ℕ) (r : Run) (rs : List Run) → low ≤ r.from → r.from < high → runs_within low high (r ∷ rs) ≡ r ∷ runs_within low high rs
+runs_within_here low high r rs above below =
     cond-true (leb low r.from && ltb r.from high) (r ∷ runs_within low high rs) (runs_within low high rs) (and_from (leb low r.from) (ltb r.from high) (le-leb low r.from above) (lt-ltb r.from high below))
 
-within_not : (low high : ℕ) (r : Run) (rs : List Run) → (r.from < low) ⊎ (high ≤ r.from) → runs_within low high (r ∷ rs) ≡ runs_within low high rs
-within_not low high r rs (inl below) =
+runs_within_later : (low high : ℕ) (r : Run) (rs : List Run) → (r.from < low) ⊎ (high ≤ r.from) → runs_within low high (r ∷ rs) ≡ runs_within low high rs
+runs_within_later low high r rs (inl below) =
     cond-false (leb low r.from && ltb r.from high) (r ∷ runs_within low high rs) (runs_within low high rs) (and_left (leb low r.from) (ltb r.from high) (lt-leb low r.from below))
-within_not low high r rs (inr above) =
+runs_within_later low high r rs (inr above) =
     cond-false (leb low r.from && ltb r.from high) (r ∷ runs_within low high rs) (runs_within low high rs) (and_right (leb low r.from) (ltb r.from high) (le-ltb r.from high above))
 
-pub within_ascending : (a end low high b : ℕ) (rs : List Run) → IsAscending a end rs → AreWhole low high rs → low ≤ b → b ≤ high → (b ≤ a) ⊎ (b ≡ low) → IsAscending b high (runs_within low high rs)
-within_ascending a end low high b [] ascending whole above below from = below
-within_ascending a end low high b (r ∷ rs) ascending whole above below from =
+pub runs_within_ascending : (a end low high b : ℕ) (rs : List Run) → IsAscending a end rs → AreWhole low high rs → low ≤ b → b ≤ high → (b ≤ a) ⊎ (b ≡ low) → IsAscending b high (runs_within low high rs)
+runs_within_ascending a end low high b [] ascending whole above below from = below
+runs_within_ascending a end low high b (r ∷ rs) ascending whole above below from =
     let P : List Run → Type 0 = λ xs. IsAscending b high xs in
     let skip = λ (out : (r.from < low) ⊎ (high ≤ r.from)).
     let rest : IsAscending b high (runs_within low high rs) =
-    within_ascending (end_of r) end low high b rs ascending.2 whole.1 above below
+    runs_within_ascending (end_of r) end low high b rs ascending.2 whole.1 above below
     (elim from [ inl under ↦ inl (omega (arith, ascending.0)) | inr same ↦ inr same ])
     in
-    let all : IsAscending b high (runs_within low high (r ∷ rs)) = subst P (sym (within_not low high r rs out)) rest in all
+    let all : IsAscending b high (runs_within low high (r ∷ rs)) = subst P (sym (runs_within_later low high r rs out)) rest in all
     in
     elim (cases_lt r.from low) [
       | inl before ↦ skip (inl before)
@@ -37,8 +37,8 @@ within_ascending a end low high b (r ∷ rs) ascending whole above below from =
         | inl under ↦
             let first : b ≤ r.from = elim from [ inl lower ↦ omega (arith, ascending.0) | inr same ↦ omega arith ] in
             let fits : end_of r ≤ high = whole.0.0 begun under in
-            subst P (sym (within_here low high r rs begun under))
-            (first, ascending.1, within_ascending (end_of r) end low high (end_of r) rs ascending.2 whole.1 (omega arith) fits (inl (omega arith)))
+            subst P (sym (runs_within_here low high r rs begun under))
+            (first, ascending.1, runs_within_ascending (end_of r) end low high (end_of r) rs ascending.2 whole.1 (omega arith) fits (inl (omega arith)))
         | inr past ↦ skip (inr past)
       ]
     ]
@@ -50,26 +50,26 @@ covered_within low high word (r ∷ rs) whole above below =
     elim (cases_lt r.from low) [
       | inl before ↦
           covered_later r rs word (has_word-above r word (omega (arith, whole.0.1 before))) ∙ rest
-          ∙ ap (λ (xs : List Run). is_covered xs word) (sym (within_not low high r rs (inl before)))
+          ∙ ap (λ (xs : List Run). is_covered xs word) (sym (runs_within_later low high r rs (inl before)))
       | inr begun ↦ elim (cases_lt r.from high) [
         | inl under ↦
-            ap (λ (b : Bool). cond (has_word r word) true b) rest ∙ ap (λ (xs : List Run). is_covered xs word) (sym (within_here low high r rs begun under))
+            ap (λ (b : Bool). cond (has_word r word) true b) rest ∙ ap (λ (xs : List Run). is_covered xs word) (sym (runs_within_here low high r rs begun under))
         | inr past ↦
             covered_later r rs word (has_word-below r word (omega arith)) ∙ rest
-            ∙ ap (λ (xs : List Run). is_covered xs word) (sym (within_not low high r rs (inr past)))
+            ∙ ap (λ (xs : List Run). is_covered xs word) (sym (runs_within_later low high r rs (inr past)))
       ]
     ]
 
 -- the lowest gap that fits, and the lowest run of clear bits, are both there or both missing
-data Fits (bits : List Bool) (low high n : ℕ) (o : Option ℕ) : Type 0 where
-  fits_at : (place : ℕ) → o ≡ Some place → low ≤ place → place + n ≤ high → is_clear_run bits place n ≡ true → ((p : ℕ) → low ≤ p → p < place → is_clear_run bits p n ≡ false) → Fits bits low high n o
-  fits_not : o ≡ None → ((p : ℕ) → low ≤ p → p + n ≤ high → is_clear_run bits p n ≡ false) → Fits bits low high n o
+data GapFits (bits : List Bool) (low high n : ℕ) (o : Option ℕ) : Type 0 where
+  fits_at : (shifted : ℕ) → o ≡ Some shifted → low ≤ shifted → shifted + n ≤ high → is_clear_run bits shifted n ≡ true → ((p : ℕ) → low ≤ p → p < shifted → is_clear_run bits p n ≡ false) → GapFits bits low high n o
+  fits_not : o ≡ None → ((p : ℕ) → low ≤ p → p + n ≤ high → is_clear_run bits p n ≡ false) → GapFits bits low high n o
 
-not_clear : (bits : List Bool) (p n word : ℕ) → bit bits word ≡ true → p ≤ word → word < p + n → is_clear_run bits p n ≡ false
-not_clear bits p n word set above below =
+set_bit_in_run : (bits : List Bool) (p n word : ℕ) → bit bits word ≡ true → p ≤ word → word < p + n → is_clear_run bits p n ≡ false
+set_bit_in_run bits p n word set above below =
     false_from_ne_true (is_clear_run bits p n) (λ clear. both_ways (bit bits word) (clear_run_at bits p n clear word above below) set)
 
-gap_fits : (bits : List Bool) (low high n : ℕ) (rs : List Run) → 0 < n → IsAscending low high rs → ((word : ℕ) → low ≤ word → word < high → bit bits word ≡ is_covered rs word) → Fits bits low high n (lowest_fitting n (gaps low high rs))
+gap_fits : (bits : List Bool) (low high n : ℕ) (rs : List Run) → 0 < n → IsAscending low high rs → ((word : ℕ) → low ≤ word → word < high → bit bits word ≡ is_covered rs word) → GapFits bits low high n (lowest_fitting n (gaps low high rs))
 gap_fits bits low high n [] some ascending same =
     elim (cases_lt high (low + n)) [
       | inl short ↦ fits_not (last_gap_short n low high some (omega (arith, ascending))) (λ p above below. absurd (omega arith))
@@ -88,8 +88,8 @@ gap_fits bits low high n (r ∷ rs) some ascending same =
           let lower = λ (p : ℕ) (above : low ≤ p) (below : p < end_of r).
           let here : is_clear_run bits p n ≡ false =
           elim (cases_lt p r.from) [
-            | inl before ↦ not_clear bits p n r.from (set r.from (omega arith) (omega (arith, ascending.1))) (omega arith) (omega arith)
-            | inr inside ↦ not_clear bits p n p (set p inside below) (omega arith) (omega arith)
+            | inl before ↦ set_bit_in_run bits p n r.from (set r.from (omega arith) (omega (arith, ascending.1))) (omega arith) (omega arith)
+            | inr inside ↦ set_bit_in_run bits p n p (set p inside below) (omega arith) (omega arith)
           ]
           in here
           in
@@ -97,8 +97,8 @@ gap_fits bits low high n (r ∷ rs) some ascending same =
           (λ word above below. same word (omega (arith, ascending.0)) below ∙ covered_later r rs word (has_word-above r word above))
           in
           elim rest [
-            | fits_at place is above below clear none ↦
-                fits_at place (later ∙ is) (omega (arith, ascending.0)) below clear
+            | fits_at shifted is above below clear none ↦
+                fits_at shifted (later ∙ is) (omega (arith, ascending.0)) below clear
                 (λ p from under. elim (cases_lt p (end_of r)) [ inl early ↦ lower p from early | inr late ↦ none p late under ])
             | fits_not is none ↦
                 fits_not (later ∙ is) (λ p from under. elim (cases_lt p (end_of r)) [ inl early ↦ lower p from early | inr late ↦ none p late under ])
@@ -112,13 +112,13 @@ gap_fits bits low high n (r ∷ rs) some ascending same =
     ]
 
 -- no gap fits where fewer words are free than are asked for
-pub no_room : (low high words : ℕ) (rs : List Run) → 0 < words → IsAscending low high rs → high < low + total rs + words → lowest_fitting words (gaps low high rs) ≡ None
-no_room low high words [] some ascending short = last_gap_short words low high some (omega arith)
-no_room low high words (r ∷ rs) some ascending short =
+pub no_gap_fits : (low high words : ℕ) (rs : List Run) → 0 < words → IsAscending low high rs → high < low + total rs + words → lowest_fitting words (gaps low high rs) ≡ None
+no_gap_fits low high words [] some ascending short = last_gap_short words low high some (omega arith)
+no_gap_fits low high words (r ∷ rs) some ascending short =
     let rest = total-le (end_of r) high rs ascending.2 in
     let sum = total-cons r rs in
     lowest_fitting_later words low r.from (gaps (end_of r) high rs) some (omega (arith, rest, sum, short, ascending.0))
-    ∙ no_room (end_of r) high words rs some ascending.2 (omega (arith, sum, short, ascending.0))
+    ∙ no_gap_fits (end_of r) high words rs some ascending.2 (omega (arith, sum, short, ascending.0))
 
 module _
   (covered begins ends blocks : List Bool) (low high n : ℕ) (sound : AreSoundTables covered begins ends blocks)
@@ -128,10 +128,10 @@ module _
   unfolding lowest_clear_run
   lowest_gap_is =
       let rs = runs_within low high (extents begins ends) in
-      let ascending = within_ascending 0 (length begins) low high low (extents begins ends) sound.ascending whole (omega arith) ordered (inr refl) in
+      let ascending = runs_within_ascending 0 (length begins) low high low (extents begins ends) sound.ascending whole (omega arith) ordered (inr refl) in
       elim (gap_fits covered low high n rs some ascending (λ word above below. sound.covered_is word ∙ covered_within low high word (extents begins ends) whole above below)) [
-        | fits_at place is above below clear none ↦
-            lowest_from_is (λ p. is_clear_run covered p n) low (high + 1 - (low + n)) place (record { above = above; below = omega arith; passes = clear; lower = none }) ∙ sym is
+        | fits_at shifted is above below clear none ↦
+            lowest_from_is (λ p. is_clear_run covered p n) low (high + 1 - (low + n)) shifted (record { above = above; below = omega arith; passes = clear; lower = none }) ∙ sym is
         | fits_not is none ↦
             lowest_from_none (λ p. is_clear_run covered p n) low (high + 1 - (low + n)) (λ p above below. none p above (omega arith)) ∙ sym is
       ]
@@ -139,10 +139,10 @@ module _
   pub lowest_gap_below : (o : Option ℕ) → o ≡ lowest_clear_run covered low high n → IfSome o (λ at. at + n ≤ high)
   lowest_gap_below o is =
       let rs = runs_within low high (extents begins ends) in
-      let ascending = within_ascending 0 (length begins) low high low (extents begins ends) sound.ascending whole (omega arith) ordered (inr refl) in
+      let ascending = runs_within_ascending 0 (length begins) low high low (extents begins ends) sound.ascending whole (omega arith) ordered (inr refl) in
       let all = is ∙ lowest_gap_is in
       let P : Option ℕ → Type 0 = λ x. IfSome x (λ at. at + n ≤ high) in
       elim (gap_fits covered low high n rs some ascending (λ word above below. sound.covered_is word ∙ covered_within low high word (extents begins ends) whole above below)) [
-        | fits_at place found_at above below clear none ↦ subst P (sym (all ∙ found_at)) below
+        | fits_at shifted found_at above below clear none ↦ subst P (sym (all ∙ found_at)) below
         | fits_not missing_at none ↦ subst P (sym (all ∙ missing_at)) tt
       ]

@@ -3,7 +3,7 @@ use Rattle.std.proofs.Common.{ℕ, suc, ◌+◌, ◌<◌, ◌≡◌, List, [], �
 use Rattle.std.proofs.Math.Seq.{drop-cons}
 use Rattle.std.proofs.lemmas.Bool.{cases_Bool, cond-true, cond-false}
 use Rattle.std.specs.List.{flat_map}
-use Rattle.mps_base.specs.Address.{address_of_grain}
+use Rattle.mps_base.specs.Address.{address_of_grain, words_of_grain, word_of}
 use Rattle.mps_base.specs.Run.{Run, runs_within, gaps, lowest_fitting}
 use Rattle.mps_base.specs.Segment.{Segment, end_of_segment, is_open_to, gaps_in, gaps_of}
 use Rattle.mps_base.specs.declared.names.Rank.{Rank}
@@ -12,25 +12,25 @@ use Rattle.mps_seg.specs.Table.{segments_in, segments_of_entries, gaps_at}
 use Rattle.mps_seg.specs.declared.entry.Entry.{Entry}
 use Rattle.mps_seg.specs.declared.entry.Entry.TheVariants.{Free, First}
 
-pub lowest_in_first : (n place : ℕ) (xs ys : List Run) → lowest_fitting n xs ≡ Some place → lowest_fitting n (xs ++ ys) ≡ Some place
-lowest_in_first n place [] ys is = let never : None ≡ Some place = is in cc
-lowest_in_first n place (r ∷ xs) ys is =
+pub lowest_in_prefix : (n shifted : ℕ) (xs ys : List Run) → lowest_fitting n xs ≡ Some shifted → lowest_fitting n (xs ++ ys) ≡ Some shifted
+lowest_in_prefix n shifted [] ys is = let never : None ≡ Some shifted = is in cc
+lowest_in_prefix n shifted (r ∷ xs) ys is =
     elim (cases_Bool (leb n r.count)) [
       | inl fits ↦
           cond-true (leb n r.count) (Some r.from) (lowest_fitting n (xs ++ ys)) fits ∙ sym (cond-true (leb n r.count) (Some r.from) (lowest_fitting n xs) fits) ∙ is
       | inr short ↦
           cond-false (leb n r.count) (Some r.from) (lowest_fitting n (xs ++ ys)) short
-          ∙ lowest_in_first n place xs ys (sym (cond-false (leb n r.count) (Some r.from) (lowest_fitting n xs) short) ∙ is)
+          ∙ lowest_in_prefix n shifted xs ys (sym (cond-false (leb n r.count) (Some r.from) (lowest_fitting n xs) short) ∙ is)
     ]
 
-pub lowest_after : (n : ℕ) (xs ys : List Run) → lowest_fitting n xs ≡ None → lowest_fitting n (xs ++ ys) ≡ lowest_fitting n ys
-lowest_after n [] ys is = refl
-lowest_after n (r ∷ xs) ys is =
+pub lowest_in_rest : (n : ℕ) (xs ys : List Run) → lowest_fitting n xs ≡ None → lowest_fitting n (xs ++ ys) ≡ lowest_fitting n ys
+lowest_in_rest n [] ys is = refl
+lowest_in_rest n (r ∷ xs) ys is =
     elim (cases_Bool (leb n r.count)) [
       | inl fits ↦ let never : Some r.from ≡ None = sym (cond-true (leb n r.count) (Some r.from) (lowest_fitting n xs) fits) ∙ is in cc
       | inr short ↦
           cond-false (leb n r.count) (Some r.from) (lowest_fitting n (xs ++ ys)) short
-          ∙ lowest_after n xs ys (sym (cond-false (leb n r.count) (Some r.from) (lowest_fitting n xs) short) ∙ is)
+          ∙ lowest_in_rest n xs ys (sym (cond-false (leb n r.count) (Some r.from) (lowest_fitting n xs) short) ∙ is)
     ]
 
 -- the gaps of the segments that begin at a grain or after it
@@ -53,12 +53,12 @@ gaps_step ex pool rank grain Free entries = refl
 gaps_step ex pool rank grain (First n p g r) entries =
     let s : Segment = record { base = address_of_grain grain; grains = n; pool = p; generation = g; rank = r } in
     let following = filter (is_open_to pool rank) (segments_of_entries (suc grain) entries) in
-    let low : address_of_grain grain / 8 ≡ 512 * grain = omega arith in
-    let high : end_of_segment s / 8 ≡ 512 * grain + 512 * n = omega arith in
-    let mine = gaps (512 * grain) (512 * grain + 512 * n) (runs_within (512 * grain) (512 * grain + 512 * n) ex.covered) in
+    let low : word_of (address_of_grain grain) ≡ words_of_grain * grain = omega arith in
+    let high : word_of (end_of_segment s) ≡ words_of_grain * grain + words_of_grain * n = omega arith in
+    let mine = gaps (words_of_grain * grain) (words_of_grain * grain + words_of_grain * n) (runs_within (words_of_grain * grain) (words_of_grain * grain + words_of_grain * n) ex.covered) in
     let same : gaps_in ex.covered s ≡ mine =
-    ap (λ (a : ℕ). gaps a (end_of_segment s / 8) (runs_within a (end_of_segment s / 8) ex.covered)) low
-    ∙ ap (λ (b : ℕ). gaps (512 * grain) b (runs_within (512 * grain) b ex.covered)) high
+    ap (λ (a : ℕ). gaps a (word_of (end_of_segment s)) (runs_within a (word_of (end_of_segment s)) ex.covered)) low
+    ∙ ap (λ (b : ℕ). gaps (words_of_grain * grain) b (runs_within (words_of_grain * grain) b ex.covered)) high
     in
     let gaps_after = λ (rs : List Run). rs ++ flat_map (gaps_in ex.covered) following in
     elim (cases_Bool (is_open_to pool rank s)) [

@@ -11,6 +11,7 @@ use Rattle.mps_seg.specs.Inside.{length_at, extents, AreSoundTables}
 use Rattle.mps_seg.specs.Segs.{at_word}
 use Rattle.mps_seg.proofs.Apart.{apart_each, has_word-true, has_word-parts, has_word-below, has_word-above, covered_by, covers_contained, uncovered_taken}
 use Rattle.mps_seg.proofs.ExtentBits.{extent_at, begin_of, among_all}
+use Rattle.mps_base.specs.Address.{word_of}
 
 pub run_over_none : (rs : List Run) (word : ℕ) → ((r : Run) → Contains rs r → has_word r word ≡ false) → run_over rs word ≡ None
 run_over_none [] word none = refl
@@ -105,17 +106,17 @@ run_over_taken_has low high rs r n ascending there has =
     both_ways (is_covered (without_run r.from rs) n) (uncovered_taken low high rs r n ascending there has) (covers_contained (without_run r.from rs) s n there' has')))
 
 -- the block that a search by an address found
-pub block_found : (rs : List Run) (word : ℕ) (at : Addr) → Some at ≡ option_map at_word (run_over rs word) → (n : ℕ) × Contains rs (record { from = at.0 / 8; count = n })
+pub block_found : (rs : List Run) (word : ℕ) (at : Addr) → Some at ≡ option_map at_word (run_over rs word) → (n : ℕ) × Contains rs (record { from = word_of at.0; count = n })
 block_found rs word at is = go (run_over rs word) refl is
   where
-    go : (o : Option ℕ) → run_over rs word ≡ o → Some at ≡ option_map at_word o → (n : ℕ) × Contains rs (record { from = at.0 / 8; count = n })
+    go : (o : Option ℕ) → run_over rs word ≡ o → Some at ≡ option_map at_word o → (n : ℕ) × Contains rs (record { from = word_of at.0; count = n })
     go None found_none given = let never : Some at ≡ None = given in cc
-    go (Some place) found_at given =
-        let both : Some at ≡ Some (at_word place) = given in
-        let same : at ≡ at_word place = cc in
-        let word_is : place ≡ at.0 / 8 = omega (arith, ap (λ (a : Addr). a.0) same) in
+    go (Some shifted) found_at given =
+        let both : Some at ≡ Some (at_word shifted) = given in
+        let same : at ≡ at_word shifted = cc in
+        let word_is : shifted ≡ word_of at.0 = omega (arith, ap (λ (a : Addr). a.0) same) in
         let P : ℕ → Type 0 = λ p. (n : ℕ) × Contains rs (record { from = p; count = n }) in
-        subst P word_is (run_over-contains rs word place found_at)
+        subst P word_is (run_over-contains rs word shifted found_at)
 
 -- the extent over a covered word begins at the highest set bit at or below it
 pub record ExtentOver (begins ends : List Bool) (word at : ℕ) : Type 0 where

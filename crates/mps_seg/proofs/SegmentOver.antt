@@ -2,7 +2,7 @@
 use Rattle.std.proofs.Common.{ℕ, suc, ◌≡◌, Bool, List, [], ◌∷◌, Contains, refl, sym, ap, ◌∙◌, inl, inr, arith, ◌≤◌, leb, ltb, ◌/◌, ◌≢◌, Option, Some, None, map, option_map}
 use Rattle.std.proofs.lemmas.Bool.{cases_lt, cases_Bool, cond-true, cond-false, le-leb, lt-ltb, lt-leb, le-ltb, and_from, and_left, and_right}
 use Rattle.mps_base.proofs.Runs.{contained_bounds}
-use Rattle.mps_base.specs.Address.{address_of_grain}
+use Rattle.mps_base.specs.Address.{address_of_grain, grain_of}
 use Rattle.mps_base.specs.Run.{Run, IsAscending}
 use Rattle.mps_base.specs.Segment.{Segment, end_of_segment, grains_of_segment, segment_over, is_in_segment}
 use Rattle.mps_base.specs.declared.address.Addr.{Addr}
@@ -21,7 +21,7 @@ base_of_grain grain = record { 0 = address_of_grain grain }
 
 over_from : (at grain : ℕ) (entries : List Entry)
     → option_map base_of (segment_over (segments_of_entries grain entries) at)
-    ≡ option_map base_of_grain (run_over (map grains_of_segment (segments_of_entries grain entries)) (at / 4096))
+    ≡ option_map base_of_grain (run_over (map grains_of_segment (segments_of_entries grain entries)) (grain_of at))
 unfolding segments_of_entries
 over_from at grain [] = refl
 over_from at grain (Free ∷ entries) = over_from at (suc grain) entries
@@ -29,34 +29,34 @@ over_from at grain (First n p g k ∷ entries) =
     let s : Segment = record { base = address_of_grain grain; grains = n; pool = p; generation = g; rank = k } in
     let r : Run = grains_of_segment s in
     let here : Bool = is_in_segment s at in
-    let same : here ≡ has_word r (at / 4096) =
+    let same : here ≡ has_word r (grain_of at) =
     elim (cases_lt at s.base) [
-      | inl below ↦ and_left (leb s.base at) (ltb at (end_of_segment s)) (lt-leb s.base at below) ∙ sym (has_word-below r (at / 4096) (omega arith))
+      | inl below ↦ and_left (leb s.base at) (ltb at (end_of_segment s)) (lt-leb s.base at below) ∙ sym (has_word-below r (grain_of at) (omega arith))
       | inr from ↦ elim (cases_lt at (end_of_segment s)) [
         | inl under ↦
             and_from (leb s.base at) (ltb at (end_of_segment s)) (le-leb s.base at from) (lt-ltb at (end_of_segment s) under)
-            ∙ sym (has_word-true r (at / 4096) (omega arith) (omega arith))
-        | inr past ↦ and_right (leb s.base at) (ltb at (end_of_segment s)) (le-ltb at (end_of_segment s) past) ∙ sym (has_word-above r (at / 4096) (omega arith))
+            ∙ sym (has_word-true r (grain_of at) (omega arith) (omega arith))
+        | inr past ↦ and_right (leb s.base at) (ltb at (end_of_segment s)) (le-ltb at (end_of_segment s) past) ∙ sym (has_word-above r (grain_of at) (omega arith))
       ]
     ]
     in
     let rest = segment_over (segments_of_entries (suc grain) entries) at in
-    let rest' = run_over (map grains_of_segment (segments_of_entries (suc grain) entries)) (at / 4096) in
+    let rest' = run_over (map grains_of_segment (segments_of_entries (suc grain) entries)) (grain_of at) in
     let base : address_of_grain r.from ≡ s.base = omega arith in
-    elim (cases_Bool (has_word r (at / 4096))) [
+    elim (cases_Bool (has_word r (grain_of at))) [
       | inl has ↦
           ap (λ (o : Option Segment). option_map base_of o) (cond-true here (Some s) rest (same ∙ has)) ∙ ap (λ (b : ℕ). Some (record { 0 = b })) (sym base)
-          ∙ sym (ap (λ (o : Option ℕ). option_map base_of_grain o) (cond-true (has_word r (at / 4096)) (Some r.from) rest' has))
+          ∙ sym (ap (λ (o : Option ℕ). option_map base_of_grain o) (cond-true (has_word r (grain_of at)) (Some r.from) rest' has))
       | inr other ↦
           ap (λ (o : Option Segment). option_map base_of o) (cond-false here (Some s) rest (same ∙ other)) ∙ over_from at (suc grain) entries
-          ∙ sym (ap (λ (o : Option ℕ). option_map base_of_grain o) (cond-false (has_word r (at / 4096)) (Some r.from) rest' other))
+          ∙ sym (ap (λ (o : Option ℕ). option_map base_of_grain o) (cond-false (has_word r (grain_of at)) (Some r.from) rest' other))
     ]
 
-pub segment_over_is : (arena : ArenaMemory) (table : List Entry) (ex : ExtentLists) (at : ℕ) (o : Option ℕ) → IsHeld arena table ex → run_over arena.held (at / 4096) ≡ o
+pub segment_over_is : (arena : ArenaMemory) (table : List Entry) (ex : ExtentLists) (at : ℕ) (o : Option ℕ) → IsHeld arena table ex → run_over arena.held (grain_of at) ≡ o
     → option_map base_of (segment_over (segments_in table) at) ≡ option_map base_of_grain o
 unfolding segments_in
 segment_over_is arena table ex at o held is =
-    over_from at 0 table ∙ ap (λ (rs : List Run). option_map base_of_grain (run_over rs (at / 4096))) (sym held.held) ∙ ap (λ (x : Option ℕ). option_map base_of_grain x) is
+    over_from at 0 table ∙ ap (λ (rs : List Run). option_map base_of_grain (run_over rs (grain_of at))) (sym held.held) ∙ ap (λ (x : Option ℕ). option_map base_of_grain x) is
 
 pub no_run_past : (size : ℕ) (held : List Run) (grain : ℕ) → IsAscending 1 size held → size ≤ grain → run_over held grain ≡ None
 no_run_past size held grain ascending past = run_over_none held grain (λ r there. has_word-above r grain (omega (arith, (contained_bounds 1 size held r ascending there).2, past)))

@@ -12,8 +12,8 @@ use Rattle.mps_seg.specs.declared.entry.Entry.TheVariants.{First}
 use Rattle.mps_seg.specs.declared.segs.Segs.TheInside.{Inside}
 use Rattle.mps_seg.specs.Segs.{placement_for, segments_after, CanCover}
 use Rattle.mps_seg.specs.Table.{segments_in, segs_state, IsHeld, IsCounted}
-use Rattle.mps_seg.proofs.CoveredWords.{Noted, counted_after_taking}
-use Rattle.mps_seg.proofs.HeldSegments.{new_is_free, segments_after_take, held_after_taking}
+use Rattle.mps_seg.proofs.CoveredWords.{Noted, counted_after_take}
+use Rattle.mps_seg.proofs.HeldSegments.{new_is_free, segments_after_take, held_after_take}
 use Rattle.mps_seg.proofs.Placements.{taken_at}
 use Rattle.mps_seg.proofs.Covering.{IsSoundInside, words_at}
 
@@ -56,7 +56,7 @@ taking s base words pool generation rank sound nonzero answer =
     let taken = taken_at arena need base answer in
     let P : ℕ → Type 0 = λ g. placement_in arena need ≡ NewSegment g need in
     let Q : ℕ → Type 0 = λ g. lowest_fitting need (gaps 1 (arena.grains + 1) arena.held) ≡ Some g in
-    let place = subst P (sym taken.1.base_is) taken.1.place in
+    let shifted = subst P (sym taken.1.base_is) taken.1.shifted in
     let lowest = subst Q (sym taken.1.base_is) taken.1.lowest in
     let gap = in_lowest_gap 1 (arena.grains + 1) arena.held need grain some sound.0.ascending lowest in
     let first : words_of_grain * grain ≡ word_of base.0 = omega (arith, taken.1.base_at) in
@@ -72,13 +72,13 @@ taking s base words pool generation rank sound nonzero answer =
       in_counts = omega (arith, gap.below, some, sound.1.counts_size);
       at_most = omega (arith, gap.below, some, sound.0.at_most);
       in_firsts = omega (arith, gap.below, sound.1.firsts_size);
-      held_is = ap (λ (p : Placement). held_after p arena.held) place;
-      held = held_after_taking arena s.table.items s.extents sound.0 need grain pool generation rank some lowest;
+      held_is = ap (λ (p : Placement). held_after p arena.held) shifted;
+      held = held_after_take arena s.table.items s.extents sound.0 need grain pool generation rank some lowest;
       counted = λ firsts noted.
-          counted_after_taking arena s.table.items s.extents s.firsts.items firsts s.counts.items need grain sound.0 sound.1 some lowest noted;
+          counted_after_take arena s.table.items s.extents s.firsts.items firsts s.counts.items need grain sound.0 sound.1 some lowest noted;
       segments =
           segments_after_take arena s.table.items s.extents sound.0 need grain pool generation rank some lowest
-          ∙ ap (λ (p : Placement). segments_after p pool generation rank (segments_in s.table.items)) (sym (seen ∙ place));
+          ∙ ap (λ (p : Placement). segments_after p pool generation rank (segments_in s.table.items)) (sym (seen ∙ shifted));
       can_cover =
           subst R first
           (new_is_free arena s.table.items s.extents sound.0 need grain pool generation words rank some nonzero (omega arith) lowest);

@@ -3,9 +3,10 @@ use Rattle.mps_base.specs.Run.{Run}
 use Rattle.mps_seg.specs.Segs.{SegsState}
 use Rattle.mps_seg.proofs.Apart.{contains_put}
 use Rattle.mps_seg.proofs.tests.reserve_and_commit.Goals as goal
+use Rattle.mps_base.specs.Address.{word_of}
 
 pub uncover-requires : goal.uncover-requires
 uncover-requires c =
-    let r : Run = record { from = c.in_ok-at.at.0 / 8; count = c.args.words } in
+    let r : Run = record { from = word_of c.in_ok-at.at.0; count = c.args.words } in
     let P : SegsState → Type 0 = λ s. Contains s.reservations r in
     subst P (sym c.cover.ensures) (contains_put r _)

@@ -7,9 +7,10 @@ use Rattle.mps_seg.specs.Segs.{SegsState, at_word, CanCover}
 use Rattle.mps_seg.specs.Table.{segs_state, gaps_at, IsWholeAt, IsCountAt}
 use Rattle.mps_seg.proofs.CoveredWords.{count_at}
 use Rattle.mps_seg.proofs.HeldSegments.{whole_at, gap_at_is_free}
-use Rattle.mps_seg.proofs.OpenGaps.{later_gaps, all_gaps, no_gaps, gaps_more, lowest_in_first, lowest_after}
+use Rattle.mps_seg.proofs.OpenGaps.{later_gaps, all_gaps, no_gaps, gaps_more, lowest_in_prefix, lowest_in_rest}
 use Rattle.mps_base.specs.Segment.{gaps_of}
 use Rattle.mps_seg.proofs.segs.Segs.lowest_gap.Goals as goal
+use Rattle.mps_base.specs.Address.{word_of, bytes_of_word}
 
 pub gap_after-requires-clause-whole : goal.gap_after-requires-clause-whole
 gap_after-requires-clause-whole c =
@@ -27,7 +28,7 @@ returns-in-Some-clause-value c =
     let Q : List Entry → Type 0 = λ es. Some c.in-Some.word ≡ lowest_fitting c.args.words (gaps_at grain (get_or es grain Free) c.args.pool c.args.rank extents) in
     let here = subst Q c.deref-entry-items.ensures.value c.in-Some.ensures.value in
     let found =
-    lowest_in_first c.args.words c.in-Some.word (gaps_at grain (get_or table grain Free) c.args.pool c.args.rank extents) (later_gaps extents.covered c.args.pool c.args.rank (suc grain) (drop (suc grain) table)) (sym here)
+    lowest_in_prefix c.args.words c.in-Some.word (gaps_at grain (get_or table grain Free) c.args.pool c.args.rank extents) (later_gaps extents.covered c.args.pool c.args.rank (suc grain) (drop (suc grain) table)) (sym here)
     in
     ap (λ (o : Option ℕ). option_map at_word o)
     (sym found ∙ ap (λ (rs : List Run). lowest_fitting c.args.words rs) (sym (gaps_more extents table c.args.pool c.args.rank grain within))
@@ -42,10 +43,10 @@ returns-in-Some-clause-free c =
     let grain = c.loop-grain.grain in
     let Q : List Entry → Type 0 = λ es. Some c.in-Some.word ≡ lowest_fitting c.args.words (gaps_at grain (get_or es grain Free) c.args.pool c.args.rank extents) in
     let here = subst Q c.deref-entry-items.ensures.value c.in-Some.ensures.value in
-    let place : 8 * c.in-Some.word / 8 ≡ c.in-Some.word = omega arith in
+    let shifted : word_of (bytes_of_word * c.in-Some.word) ≡ c.in-Some.word = omega arith in
     let P : ℕ → Type 0 = λ w. CanCover (segs_state arena table extents) (record { from = w; count = c.args.words }) in
-    let R : SegsState → Type 0 = λ st. CanCover st (record { from = 8 * c.in-Some.word / 8; count = c.args.words }) in
-    subst R c.self.view_is (subst P (sym place)
+    let R : SegsState → Type 0 = λ st. CanCover st (record { from = word_of (bytes_of_word * c.in-Some.word); count = c.args.words }) in
+    subst R c.self.view_is (subst P (sym shifted)
     (gap_at_is_free arena table extents c.self.invariant.0 grain (get_or table grain Free) c.args.pool c.args.rank c.args.words c.in-Some.word refl c.requires (sym here)))
 
 pub loop-grain-preserved : goal.loop-grain-preserved
@@ -60,7 +61,7 @@ loop-grain-preserved c =
     let here = subst Q c.deref-entry-items.ensures.value c.in_default.ensures.value in
     let R : ℕ → Type 0 = λ k. lowest_fitting c.args.words (later_gaps extents.covered c.args.pool c.args.rank k (drop k table)) ≡ lowest_fitting c.args.words (later_gaps extents.covered c.args.pool c.args.rank 0 table) in
     subst R (sym (add-one grain))
-    (sym (lowest_after c.args.words (gaps_at grain (get_or table grain Free) c.args.pool c.args.rank extents) (later_gaps extents.covered c.args.pool c.args.rank (suc grain) (drop (suc grain) table)) (sym here))
+    (sym (lowest_in_rest c.args.words (gaps_at grain (get_or table grain Free) c.args.pool c.args.rank extents) (later_gaps extents.covered c.args.pool c.args.rank (suc grain) (drop (suc grain) table)) (sym here))
     ∙ ap (λ (rs : List Run). lowest_fitting c.args.words rs) (sym (gaps_more extents table c.args.pool c.args.rank grain within)) ∙ c.loop-grain.invariant)
 
 pub returns-clause-value : goal.returns-clause-value

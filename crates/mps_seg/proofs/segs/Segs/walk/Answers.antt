@@ -5,7 +5,7 @@ use Rattle.mps_base.specs.Segment.{end_of_segment}
 use Rattle.mps_seg.specs.declared.entry.Entry.TheVariants.{Free, First}
 use Rattle.mps_seg.specs.Extents.{first_run}
 use Rattle.mps_seg.specs.Segs.{SegsState, at_word}
-use Rattle.mps_seg.proofs.Entries.{segment_seen}
+use Rattle.mps_seg.proofs.Entries.{entry_at_seen_base}
 use Rattle.mps_seg.proofs.FirstRun.{first_run-below}
 use Rattle.mps_seg.proofs.HeldSegments.{segment_end_fits}
 use Rattle.mps_seg.proofs.Giving.{grains_read}
@@ -14,14 +14,14 @@ use Rattle.mps_seg.proofs.segs.Segs.walk.Goals as goal
 pub index-requires : goal.index-requires
 index-requires c =
     let s = c.self.inside in
-    let at = segment_seen s.arena s.table.items s.extents c.args.self.now c.args.base.0 c.requires.0 c.self.view_is c.requires.1 c.requires.2 in
+    let at = entry_at_seen_base s.arena s.table.items s.extents c.args.self.now c.args.base.0 c.requires.0 c.self.view_is c.requires.1 c.requires.2 in
     omega (arith, at.within, s.table.ok.0)
 
 pub unreachable-requires : goal.unreachable-requires
 unreachable-requires c =
     let s = c.self.inside in
     let t = c.requires.0 in
-    let at = segment_seen s.arena s.table.items s.extents c.args.self.now c.args.base.0 t c.self.view_is c.requires.1 c.requires.2 in
+    let at = entry_at_seen_base s.arena s.table.items s.extents c.args.self.now c.args.base.0 t c.self.view_is c.requires.1 c.requires.2 in
     let read = get_or_read s.table.items (grain_of c.args.base.0) c.index.result.now at.within c.index.ensures Free ∙ at.is in
     let never : Free ≡ First t.grains t.pool t.generation t.rank = sym c.in_default.is ∙ read in
     cc
@@ -31,7 +31,7 @@ first_block-requires c =
     let s = c.self.inside in
     let t = c.requires.0 in
     let grain = grain_of c.args.base.0 in
-    let at = segment_seen s.arena s.table.items s.extents c.args.self.now c.args.base.0 t c.self.view_is c.requires.1 c.requires.2 in
+    let at = entry_at_seen_base s.arena s.table.items s.extents c.args.self.now c.args.base.0 t c.self.view_is c.requires.1 c.requires.2 in
     let read = get_or_read s.table.items grain c.index.result.now at.within c.index.ensures Free ∙ at.is in
     let grains = grains_read c.in-First.is read in
     omega (
@@ -45,7 +45,7 @@ overflow_mul-result c =
     let s = c.self.inside in
     let t = c.requires.0 in
     let grain = grain_of c.args.base.0 in
-    let at = segment_seen s.arena s.table.items s.extents c.args.self.now c.args.base.0 t c.self.view_is c.requires.1 c.requires.2 in
+    let at = entry_at_seen_base s.arena s.table.items s.extents c.args.self.now c.args.base.0 t c.self.view_is c.requires.1 c.requires.2 in
     let read = get_or_read s.table.items grain c.index.result.now at.within c.index.ensures Free ∙ at.is in
     let grains = grains_read c.in-First.is read in
     let low = word_of c.args.from.0 in
@@ -66,7 +66,7 @@ returns-in_err-word c =
     let s = c.self.inside in
     let grain = grain_of c.args.base.0 in
     let low = word_of c.args.from.0 in
-    let at = segment_seen s.arena s.table.items s.extents c.args.self.now c.args.base.0 t c.self.view_is listed begins in
+    let at = entry_at_seen_base s.arena s.table.items s.extents c.args.self.now c.args.base.0 t c.self.view_is listed begins in
     let read = get_or_read s.table.items grain c.index.result.now at.within c.index.ensures Free ∙ at.is in
     let grains = grains_read c.in-First.is read in
     let high : words_of_grain * (grain + c.in-First.grains) ≡ word_of (end_of_segment t) = omega (arith, grains, at.aligned, begins) in
@@ -80,7 +80,7 @@ returns c =
     let s = c.self.inside in
     let grain = grain_of c.args.base.0 in
     let low = word_of c.args.from.0 in
-    let at = segment_seen s.arena s.table.items s.extents c.args.self.now c.args.base.0 t c.self.view_is listed begins in
+    let at = entry_at_seen_base s.arena s.table.items s.extents c.args.self.now c.args.base.0 t c.self.view_is listed begins in
     let read = get_or_read s.table.items grain c.index.result.now at.within c.index.ensures Free ∙ at.is in
     let grains = grains_read c.in-First.is read in
     let high : words_of_grain * (grain + c.in-First.grains) ≡ word_of (end_of_segment t) = omega (arith, grains, at.aligned, begins) in
