@@ -11,7 +11,7 @@ use Rattle.mps_model.specs.World.{World, empty_world}
 use Rattle.mps_model.specs.History.{IsLegalFrom, IsLegalHistory}
 use Rattle.mps_first_heap.specs.HeapState.{HeapState}
 use Rattle.mps_first_heap.specs.StandsFor.{StandsFor}
-use Rattle.mps_first_heap.specs.Unsupported.{takes_memory}
+use Rattle.mps_first_heap.specs.Unsupported.{call_takes_memory}
 use Rattle.mps_script.specs.Line.{lines_of}
 use Rattle.mps_cli.specs.Write.{appended}
 use Rattle.mps_cli.specs.Ending.{status_of}
@@ -38,7 +38,7 @@ pub record LeavesWhole (header script : List ℕ) (old new : Outside) : Type 0 w
 pub record NeedsMemory (commands : List Command) : Type 0 where
   pub command : Command
   pub is : commands ≡ command ∷ []
-  pub takes : IsTrue (takes_memory command.call)
+  pub takes : IsTrue (call_takes_memory command.call)
 
 -- the same where memory was wanting, which the command of the next line takes
 pub record FindsNoMemory (header script : List ℕ) (old new : Outside) : Type 0 where

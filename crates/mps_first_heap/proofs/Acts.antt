@@ -33,7 +33,8 @@ object_with head cells = record { pool = 0; body = Automatic head cells false }
 module _ (w : Parts) (name : Name) (free : thing_in w.names name ≡ None) where
   pub act_of_table : (slots : ℕ) → nat_lt most_slots (0 + slots) ≡ false
       → act_table (world_with (record w { tables = [] })) name slots
-      ≡ done (world_with (record w { names = with_last w.names (record { name = name; thing = TableThing 0 }); tables = Some (replicate slots None) ∷ [] }))
+      ≡ done (world_with (record w { names = with_last w.names (record { name = name; thing = TableThing 0 });
+          tables = Some (replicate slots None) ∷ [] }))
   act_of_table slots fits = rw (free, fits) refl
 
   pub act_of_pool : act_pool (world_with (record w { pools = [] })) name kind.Amc 1
@@ -58,7 +59,8 @@ module _ (w : Parts) (name : Name) (named : thing_in w.names name ≡ Some (Poin
       ≡ done (world_with (record w { points = reserving_points head (slice_set cells cell (NumberCell value)) }))
   act_of_init head cells cell value was at = rw (named, at) refl
 
-  pub init_not_open : (cell value : ℕ) → act_init_number (world_with (record w { points = free_points })) name cell value ≡ Err refusal.NotOpen
+  pub init_not_open : (cell value : ℕ)
+      → act_init_number (world_with (record w { points = free_points })) name cell value ≡ Err refusal.NotOpen
   init_not_open cell value = rw named refl
 
   pub init_no_number : (head : ℕ) (cells : List Cell) (cell value : ℕ) (why : Refusal) → number_at cells cell ≡ Err why
@@ -70,11 +72,13 @@ module _ (w : Parts) (name : Name) (named : thing_in w.names name ≡ Some (Poin
   reserve_bad_head r head bad = rw (named, bad) refl
 
   pub reserve_open : (r : Reservation) (head : ℕ) → is_front head ≡ true
-      → check_reserve (world_with (record w { points = Some (point_with (Some r)) ∷ []; pools = front_pool ∷ [] })) name head ≡ Err refusal.Open
+      → check_reserve (world_with (record w { points = Some (point_with (Some r)) ∷ []; pools = front_pool ∷ [] })) name head
+          ≡ Err refusal.Open
   reserve_open r head valid = rw (named, valid) refl
 
   -- a commit into a slot of the table
-  module _ (ids : List (Option ℕ)) (slot : Slot) (held : Option ℕ) (table : thing_in w.names slot.name ≡ Some (TableThing 0)) (there : slice_get ids slot.index ≡ Some held) where
+  module _ (ids : List (Option ℕ)) (slot : Slot) (held : Option ℕ) (table : thing_in w.names slot.name ≡ Some (TableThing 0))
+      (there : slice_get ids slot.index ≡ Some held) where
     pub act_of_commit : (head : ℕ) (cells : List Cell)
         → act_commit (world_with (record w { tables = Some ids ∷ []; points = reserving_points head cells })) name slot
         ≡ done (world_with (record w {
@@ -84,7 +88,8 @@ module _ (w : Parts) (name : Name) (named : thing_in w.names name ≡ Some (Poin
         }))
     act_of_commit head cells = rw (named, table, there) refl
 
-    pub commit_not_open : act_commit (world_with (record w { tables = Some ids ∷ []; points = free_points })) name slot ≡ Err refusal.NotOpen
+    pub commit_not_open : act_commit (world_with (record w { tables = Some ids ∷ []; points = free_points })) name slot
+        ≡ Err refusal.NotOpen
     commit_not_open = rw (named, table, there) refl
 
 -- ---- reading a number of the object in a slot
@@ -94,7 +99,8 @@ module _ (w : Parts) (ids : List (Option ℕ)) (slot : Slot) (table : thing_in w
       → act_number (world_with (record w { tables = Some ids ∷ [] })) slot cell ≡ Err refusal.NullRef
   act_of_null cell there = rw (table, there) refl
 
-  module _ (id : ℕ) (there : slice_get ids slot.index ≡ Some (Some id)) (head : ℕ) (cells : List Cell) (object : slice_get w.objects id ≡ Some (object_with head cells)) where
+  module _ (id : ℕ) (there : slice_get ids slot.index ≡ Some (Some id)) (head : ℕ) (cells : List Cell)
+      (object : slice_get w.objects id ≡ Some (object_with head cells)) where
     pub act_of_number : (cell number : ℕ) → slice_get cells cell ≡ Some (NumberCell number)
         → act_number (world_with (record w { tables = Some ids ∷ [] })) slot cell
         ≡ says (reply.Number number) (world_with (record w { tables = Some ids ∷ [] }))

@@ -28,7 +28,8 @@ use Rattle.mps_first_heap.proofs.ExactReserves.{exact_reserve}
 use Rattle.mps_first_heap.proofs.ExactMakings.{exact_arena, exact_table, exact_pool, exact_point}
 
 -- each call's step is right
-right_call : (h : HeapState) (p : Past) (line : ℕ) (c : Call) → IsInRange c → Agrees h p → IsRightStep (world_of h p) (step_of line c (outcome h c).done) (outcome h c).state
+right_call : (h : HeapState) (p : Past) (line : ℕ) (c : Call) → IsInRange c → Agrees h p
+    → IsRightStep (world_of h p) (step_of line c (outcome h c).done) (outcome h c).state
 right_call h p line (call.Arena grains limit) range a = right_arena h p line grains limit a
 right_call h p line (call.Table table slots) range a = right_table h p line table slots range.1 a
 right_call h p line (call.Pool pool kind format) range a = right_pool h p line pool kind format a
@@ -53,36 +54,46 @@ exact_call h p other range a = exact_unsupported (world_of h p) other (by_form (
 
 -- ---- for what a call came to
 
-came_right : (h new : HeapState) (c : Call) (done : Done) → IsInRange c → HasOutcome (outcome h c) done new → (w : World) (line : ℕ) → StandsFor h w → IsRightStep w (step_of line c done) new
+came_right : (h new : HeapState) (c : Call) (done : Done) → IsInRange c → HasOutcome (outcome h c) done new → (w : World) (line : ℕ)
+    → StandsFor h w → IsRightStep w (step_of line c done) new
 came_right h new c done range came w line s =
     subst (λ (k : HeapState). IsRightStep w (step_of line c done) k) (sym came.is_state)
     (subst (λ (d : Done). IsRightStep w (step_of line c d) (outcome h c).state) (sym came.is_done)
-    (subst (λ (v : World). IsRightStep v (step_of line c (outcome h c).done) (outcome h c).state) (sym s.world) (right_call h s.past line c range s.agrees)))
+    (subst (λ (v : World). IsRightStep v (step_of line c (outcome h c).done) (outcome h c).state) (sym s.world)
+        (right_call h s.past line c range s.agrees)))
 
 -- what follows for the value of an `Ok`
 ok_then : {T E : Type 0} (r : Result T E) {P Q : T → Type 0} → IfOk r P → ((x : T) → P x → Q x) → IfOk r Q
 ok_then (Ok x) h f = f x h
 ok_then (Err e) h f = h
 
-pub legal_call : {E : Type 0} (h new : HeapState) (c : Call) (r : Result Done E) → IsInRange c → IfOk r (λ done. HasOutcome (outcome h c) done new) → IfOk r (λ done. IsLegalCall h c done)
+pub legal_call : {E : Type 0} (h new : HeapState) (c : Call) (r : Result Done E) → IsInRange c
+    → IfOk r (λ done. HasOutcome (outcome h c) done new) → IfOk r (λ done. IsLegalCall h c done)
 legal_call h new c r range came = ok_then r came (λ done e w line s. (came_right h new c done range e w line s).is_legal)
 
-pub stands_after : {E : Type 0} (h new : HeapState) (c : Call) (r : Result Done E) → IsInRange c → IfOk r (λ done. HasOutcome (outcome h c) done new) → IfOk r (λ done. StandsAfter h c done new)
+pub stands_after : {E : Type 0} (h new : HeapState) (c : Call) (r : Result Done E) → IsInRange c
+    → IfOk r (λ done. HasOutcome (outcome h c) done new) → IfOk r (λ done. StandsAfter h c done new)
 stands_after h new c r range came = ok_then r came (λ done e w line s. (came_right h new c done range e w line s).stands)
 
-pub replayed_call : {E : Type 0} (h new : HeapState) (c : Call) (r : Result Done E) → IsInRange c → IfOk r (λ done. HasOutcome (outcome h c) done new) → IfOk r (λ done. IsReplayedCall h c done)
+pub replayed_call : {E : Type 0} (h new : HeapState) (c : Call) (r : Result Done E) → IsInRange c
+    → IfOk r (λ done. HasOutcome (outcome h c) done new) → IfOk r (λ done. IsReplayedCall h c done)
 replayed_call h new c r range came = ok_then r came (λ done e w line s. (came_right h new c done range e w line s).is_replayed)
 
-pub unsupported_exactly : {E : Type 0} (h new : HeapState) (c : Call) (r : Result Done E) → IsInRange c → IfOk r (λ done. HasOutcome (outcome h c) done new) → IfOk r (λ done. IsUnsupportedExactly h c done)
+pub unsupported_exactly : {E : Type 0} (h new : HeapState) (c : Call) (r : Result Done E) → IsInRange c
+    → IfOk r (λ done. HasOutcome (outcome h c) done new) → IfOk r (λ done. IsUnsupportedExactly h c done)
 unsupported_exactly h new c r range came = ok_then r came (λ done e w s.
-    subst (λ (d : Done). IsExact w c d.reply) (sym e.is_done) (subst (λ (v : World). IsExact v c (outcome h c).done.reply) (sym s.world) (exact_call h s.past c range s.agrees)))
+    subst (λ (d : Done). IsExact w c d.reply) (sym e.is_done)
+        (subst (λ (v : World). IsExact v c (outcome h c).done.reply) (sym s.world) (exact_call h s.past c range s.agrees)))
 
-pub new_pool_number : {E : Type 0} (h new : HeapState) (c : Call) (r : Result Done E) → IfOk r (λ done. HasOutcome (outcome h c) done new) → IfOk r (λ done. IsNewPoolNumber h c done)
+pub new_pool_number : {E : Type 0} (h new : HeapState) (c : Call) (r : Result Done E)
+    → IfOk r (λ done. HasOutcome (outcome h c) done new) → IfOk r (λ done. IsNewPoolNumber h c done)
 new_pool_number h new c r came = ok_then r came (λ done e w s.
     subst (λ (d : Done). d.pool ≡ number_of_new_pool w c (Replied d.reply)) (sym e.is_done)
-    (subst (λ (v : World). (outcome h c).done.pool ≡ number_of_new_pool v c (Replied (outcome h c).done.reply)) (sym s.world) (counts_pools h s.past c s.agrees).number))
+    (subst (λ (v : World). (outcome h c).done.pool ≡ number_of_new_pool v c (Replied (outcome h c).done.reply)) (sym s.world)
+        (counts_pools h s.past c s.agrees).number))
 
-pub pools_counted : {E : Type 0} (h new : HeapState) (c : Call) (r : Result Done E) → IsInRange c → IfOk r (λ done. HasOutcome (outcome h c) done new) → IfOk r (λ done. ArePoolsCounted h c done)
+pub pools_counted : {E : Type 0} (h new : HeapState) (c : Call) (r : Result Done E) → IsInRange c
+    → IfOk r (λ done. HasOutcome (outcome h c) done new) → IfOk r (λ done. ArePoolsCounted h c done)
 pools_counted h new c r range came = ok_then r came (λ done e w line s.
     let stands = (came_right h new c done range e w line s).stands in
     let counts = counts_pools h s.past c s.agrees in
@@ -107,9 +118,10 @@ empty_heap_agrees = record {
   fresh = λ k _. refl;
   before_arena = λ _. (refl, refl);
   before_pool = λ _. refl;
-  before_point = λ _. record { buffer_start = refl; buffer_end = refl; reserved = refl; not_open = refl };
+  before_point = λ _. record { no_start = refl; no_end = refl; no_reserved = refl; not_open = refl };
 }
 
 -- nothing kept stands for the empty world
 pub empty_heap_stands : StandsFor empty_heap empty_world
-empty_heap_stands = record { past = record { ids = []; addresses = []; segments = []; names = [] }; world = refl; agrees = empty_heap_agrees }
+empty_heap_stands = record { past = record { ids = []; addresses = []; segments = []; names = [] }; world = refl;
+    agrees = empty_heap_agrees }

@@ -21,7 +21,7 @@ use Rattle.mps_model.specs.Reply.{answer_from, world_from}
 use Rattle.mps_model.specs.Effect.{with_next_address}
 use Rattle.mps_first_heap.specs.HeapState.{HeapState, is_point, has_slot, head_at, words_of_head}
 use Rattle.mps_first_heap.specs.Outcome.{Outcome, ok_with_move, unsupported, commit_move, after_commit}
-use Rattle.mps_first_heap.specs.StandsFor.{Past, Agrees, world_of, world_with, step_of, object_in, cells_at, some_address, point_with, reservation_in, address_in_slot, is_null_or_below, end_of_objects}
+use Rattle.mps_first_heap.specs.StandsFor.{Past, Agrees, world_of, world_with, step_of, object_of_words, cells_at, some_address, point_with, reservation_of_words, address_in_slot, is_null_or_below, end_of_objects}
 use Rattle.mps_first_heap.specs.RightStep.{IsRightStep}
 use Rattle.mps_first_heap.proofs.Lists.{length-cells_in, length-block_words, blocks_later, blocks_push}
 use Rattle.mps_first_heap.proofs.Worlds.{parts_by, world_by, world_of-parts, live_blocks-world_of, stored}
@@ -35,12 +35,14 @@ abbrev with_object : HeapState → Slot → HeapState
 with_object h slot = record h { slots = slice_set h.slots slot.index h.reserved; is_open = false }
 
 abbrev past_with_object : HeapState → Past → Slot → Past
-past_with_object h p slot = record p { ids = slice_set p.ids slot.index (Some (length p.addresses)); addresses = p.addresses ++ h.reserved ∷ [] }
+past_with_object h p slot =
+    record p { ids = slice_set p.ids slot.index (Some (length p.addresses)); addresses = p.addresses ++ h.reserved ∷ [] }
 
 abbrev pub world_committing : HeapState → Past → World
 world_committing h p = world_by h p true true (is_some h.pool) true
 
-pub is_world_committing : (h : HeapState) (p : Past) → is_some h.table ≡ true → is_some h.point ≡ true → h.is_open ≡ true → world_of h p ≡ world_committing h p
+pub is_world_committing : (h : HeapState) (p : Past) → is_some h.table ≡ true → is_some h.point ≡ true → h.is_open ≡ true
+    → world_of h p ≡ world_committing h p
 is_world_committing h p t q o = world_of-parts h p true true (is_some h.pool) true t q refl o
 
 abbrev step_committed : HeapState → (line : ℕ) → (name : Name) → Slot → Rattle.mps_model.specs.Step.Step
@@ -53,17 +55,23 @@ committed_with h p objects ids addresses =
     world_with (record (parts_by h p true true (is_some h.pool) false) { objects = objects; tables = Some ids ∷ []; addresses = addresses })
 
 world_committed : (h : HeapState) (p : Past) (slot : Slot) → is_some h.table ≡ true → is_some h.point ≡ true
-    → committed_with h p (map (object_in h.words) p.addresses ++ object_in h.words h.reserved ∷ []) (slice_set p.ids slot.index (Some (length (map (object_in h.words) p.addresses)))) (map some_address p.addresses ++ some_address h.reserved ∷ [])
+    → committed_with h p (map (object_of_words h.words) p.addresses ++ object_of_words h.words h.reserved ∷ [])
+        (slice_set p.ids slot.index (Some (length (map (object_of_words h.words) p.addresses))))
+        (map some_address p.addresses ++ some_address h.reserved ∷ [])
     ≡ world_of (with_object h slot) (past_with_object h p slot)
 world_committed h p slot t q =
-    ap (λ objects. committed_with h p objects (slice_set p.ids slot.index (Some (length (map (object_in h.words) p.addresses)))) (map some_address p.addresses ++ some_address h.reserved ∷ [])) (sym (map_push (object_in h.words) p.addresses h.reserved))
-    ∙ ap (λ n. committed_with h p (map (object_in h.words) (p.addresses ++ h.reserved ∷ [])) (slice_set p.ids slot.index (Some n)) (map some_address p.addresses ++ some_address h.reserved ∷ [])) (length-map p.addresses (object_in h.words))
-    ∙ ap (λ addresses. committed_with h p (map (object_in h.words) (p.addresses ++ h.reserved ∷ [])) (slice_set p.ids slot.index (Some (length p.addresses))) addresses) (sym (map_push some_address p.addresses h.reserved))
+    ap (λ objects. committed_with h p objects (slice_set p.ids slot.index (Some (length (map (object_of_words h.words) p.addresses))))
+        (map some_address p.addresses ++ some_address h.reserved ∷ [])) (sym (map_push (object_of_words h.words) p.addresses h.reserved))
+    ∙ ap (λ n. committed_with h p (map (object_of_words h.words) (p.addresses ++ h.reserved ∷ [])) (slice_set p.ids slot.index (Some n))
+        (map some_address p.addresses ++ some_address h.reserved ∷ [])) (length-map p.addresses (object_of_words h.words))
+    ∙ ap (λ addresses. committed_with h p (map (object_of_words h.words) (p.addresses ++ h.reserved ∷ []))
+        (slice_set p.ids slot.index (Some (length p.addresses))) addresses) (sym (map_push some_address p.addresses h.reserved))
     ∙ sym (world_of-parts (with_object h slot) (past_with_object h p slot) true true (is_some h.pool) false t q refl refl)
 
 -- ---- the state agrees with its past
 
-slot_pushed : (addresses : List ℕ) (address : ℕ) (id : ℕ) → id < length addresses → slice_index (addresses ++ address ∷ []) id ≡ slice_index addresses id
+slot_pushed : (addresses : List ℕ) (address : ℕ) (id : ℕ) → id < length addresses
+    → slice_index (addresses ++ address ∷ []) id ≡ slice_index addresses id
 slot_pushed [] address id h = absurd (omega (arith, h))
 slot_pushed (p ∷ ps) address zero h = refl
 slot_pushed (p ∷ ps) address (suc id) h = slot_pushed ps address id (omega (arith, h))
@@ -72,7 +80,8 @@ last_pushed : (addresses : List ℕ) (address : ℕ) → slice_index (addresses 
 last_pushed [] address = refl
 last_pushed (p ∷ ps) address = last_pushed ps address
 
-held_pushed : (addresses : List ℕ) (address : ℕ) (held : Option ℕ) → is_null_or_below (length addresses) held ≡ true → address_in_slot addresses held ≡ address_in_slot (addresses ++ address ∷ []) held
+held_pushed : (addresses : List ℕ) (address : ℕ) (held : Option ℕ) → is_null_or_below (length addresses) held ≡ true
+    → address_in_slot addresses held ≡ address_in_slot (addresses ++ address ∷ []) held
 held_pushed addresses address None h = refl
 held_pushed addresses address (Some id) h = sym (slot_pushed addresses address id (ltb-true id (length addresses) h))
 
@@ -85,32 +94,40 @@ slots_kept addresses address (held ∷ ids) h =
     ∙ ap (λ rest. address_in_slot (addresses ++ address ∷ []) held ∷ rest) (slots_kept addresses address ids both.1)
 
 -- the slots with one written, over addresses with one more
-slots_pushed : (addresses : List ℕ) (address : ℕ) (ids : List (Option ℕ)) (i : ℕ) → list_all (is_null_or_below (length addresses)) ids ≡ true
-    → slice_set (map (address_in_slot addresses) ids) i address ≡ map (address_in_slot (addresses ++ address ∷ [])) (slice_set ids i (Some (length addresses)))
+slots_pushed : (addresses : List ℕ) (address : ℕ) (ids : List (Option ℕ)) (i : ℕ)
+    → list_all (is_null_or_below (length addresses)) ids ≡ true
+    → slice_set (map (address_in_slot addresses) ids) i address ≡ map (address_in_slot (addresses ++ address ∷ []))
+        (slice_set ids i (Some (length addresses)))
 slots_pushed addresses address ids i h =
     ap (λ slots. slice_set slots i address) (slots_kept addresses address ids h)
     ∙ ap (λ x. slice_set (map (address_in_slot (addresses ++ address ∷ [])) ids) i x) (sym (last_pushed addresses address))
     ∙ sym (map-set (address_in_slot (addresses ++ address ∷ [])) ids i (Some (length addresses)))
 
-ids_more : (count : ℕ) (ids : List (Option ℕ)) → list_all (is_null_or_below count) ids ≡ true → list_all (is_null_or_below (suc count)) ids ≡ true
+ids_more : (count : ℕ) (ids : List (Option ℕ)) → list_all (is_null_or_below count) ids ≡ true
+    → list_all (is_null_or_below (suc count)) ids ≡ true
 ids_more count [] h = refl
 ids_more count (None ∷ ids) h = ids_more count ids h
 ids_more count (Some id ∷ ids) h =
     let both = and_parts (nat_lt id count) (list_all (is_null_or_below count) ids) h in
-    and_from (nat_lt id (suc count)) (list_all (is_null_or_below (suc count)) ids) (lt-ltb id (suc count) (let lt = ltb-true id count both.0 in omega arith)) (ids_more count ids both.1)
+    and_from (nat_lt id (suc count)) (list_all (is_null_or_below (suc count)) ids)
+        (lt-ltb id (suc count) (let lt = ltb-true id count both.0 in omega arith)) (ids_more count ids both.1)
 
-ids_set : (count : ℕ) (ids : List (Option ℕ)) (i id : ℕ) → id < count → list_all (is_null_or_below count) ids ≡ true → list_all (is_null_or_below count) (slice_set ids i (Some id)) ≡ true
+ids_set : (count : ℕ) (ids : List (Option ℕ)) (i id : ℕ) → id < count → list_all (is_null_or_below count) ids ≡ true
+    → list_all (is_null_or_below count) (slice_set ids i (Some id)) ≡ true
 ids_set count [] i id lt h = refl
 ids_set count (held ∷ ids) zero id lt h =
-    and_from (nat_lt id count) (list_all (is_null_or_below count) ids) (lt-ltb id count lt) (and_parts (is_null_or_below count held) (list_all (is_null_or_below count) ids) h).1
+    and_from (nat_lt id count) (list_all (is_null_or_below count) ids) (lt-ltb id count lt)
+        (and_parts (is_null_or_below count held) (list_all (is_null_or_below count) ids) h).1
 ids_set count (held ∷ ids) (suc i) id lt h =
     let both = and_parts (is_null_or_below count held) (list_all (is_null_or_below count) ids) h in
-    and_from (is_null_or_below count held) (list_all (is_null_or_below count) (slice_set ids i (Some id))) both.0 (ids_set count ids i id lt both.1)
+    and_from (is_null_or_below count held) (list_all (is_null_or_below count) (slice_set ids i (Some id))) both.0
+        (ids_set count ids i id lt both.1)
 
 ids_pushed : (addresses : List ℕ) (address : ℕ) (ids : List (Option ℕ)) (i : ℕ) → list_all (is_null_or_below (length addresses)) ids ≡ true
     → list_all (is_null_or_below (length (addresses ++ address ∷ []))) (slice_set ids i (Some (length addresses))) ≡ true
 ids_pushed addresses address ids i h =
-    subst (λ (n : ℕ). list_all (is_null_or_below n) (slice_set ids i (Some (length addresses))) ≡ true) (let e : suc (length addresses) ≡ length (addresses ++ address ∷ []) = omega (arith, length_push addresses address) in e)
+    subst (λ (n : ℕ). list_all (is_null_or_below n) (slice_set ids i (Some (length addresses))) ≡ true)
+        (let e : suc (length addresses) ≡ length (addresses ++ address ∷ []) = omega (arith, length_push addresses address) in e)
     (ids_set (suc (length addresses)) ids i (length addresses) (omega arith) (ids_more (length addresses) ids h))
 
 module _ (h : HeapState) (p : Past) (name : Name) (slot : Slot) (n : NamesPoint h p name) (o : h.is_open ≡ true) where
@@ -130,7 +147,8 @@ module _ (h : HeapState) (p : Past) (name : Name) (slot : Slot) (n : NamesPoint 
         held = a.held;
         in_arena = a.in_arena;
         arena = a.arena;
-        blocks = blocks_push h.words h.buffer_start h.reserved p.addresses (blocks_later h.words (end_of_objects h) h.buffer_start p.addresses le a.blocks) block;
+        blocks = blocks_push h.words h.buffer_start h.reserved p.addresses
+            (blocks_later h.words (end_of_objects h) h.buffer_start p.addresses le a.blocks) block;
         reservation = λ e. absurd (false≢true e);
         buffer = a.buffer;
         not_null = a.not_null;
@@ -153,10 +171,12 @@ module _ (h : HeapState) (p : Past) (name : Name) (slot : Slot) (n : NamesPoint 
       ∙ length-block_words h.words h.reserved (size_field head) (omega arith)
       ∙ sym (cond-true (is_front head) (size_field head) 0 block.head)
 
-  point_there : point_named (world_committing h p) name ≡ Ok (record { number = 0; value = point_with (Some (reservation_in h.words h.reserved)) })
+  point_there : point_named (world_committing h p) name
+      ≡ Ok (record { number = 0; value = point_with (Some (reservation_of_words h.words h.reserved)) })
   point_there = let e = n.named in rw e refl
 
-  legal_commit : IsLegalCommit (call.Commit name slot) (world_committing h p) (bytes_of_word * h.reserved) (words_of_head (head_at h h.reserved)) 0
+  legal_commit : IsLegalCommit (call.Commit name slot) (world_committing h p) (bytes_of_word * h.reserved)
+      (words_of_head (head_at h h.reserved)) 0
   legal_commit =
       subst (λ (c : Checked (Numbered Point)). ForChecked c (λ at. ForOne at.value.reservation
       (IsReserved (world_committing h p) (bytes_of_word * h.reserved) (words_of_head (head_at h h.reserved)) 0 at)))
@@ -177,8 +197,10 @@ module _ (h : HeapState) (p : Past) (name : Name) (slot : Slot) (n : NamesPoint 
 
     right_with_object : IsRightStep (world_committing h p) (step_committed h line name slot) (with_object h slot)
     right_with_object =
-        let moved = record (parts_by h p true true (is_some h.pool) true) { addresses = map some_address p.addresses ++ some_address h.reserved ∷ [] } in
-        let e = act_of_commit moved name n.named p.ids slot s.held s.named s.there (slice_index h.words h.reserved) (cells_at h.words h.reserved) in
+        let moved = record (parts_by h p true true (is_some h.pool) true) { addresses = map some_address p.addresses
+            ++ some_address h.reserved ∷ [] } in
+        let e = act_of_commit moved name n.named p.ids slot s.held s.named s.there (slice_index h.words h.reserved)
+            (cells_at h.words h.reserved) in
         right_step (world_committing h p) (step_committed h line name slot) (with_object h slot) (past_with_object h p slot) refl
         (record { moves_are_legal = (legal_commit, tt); moves_are_due = refl; answer_is_due = sym (ap answer_from e); marked = tt })
         (ap (λ r. with_client_remembered (world_from (with_next_address (world_committing h p) (bytes_of_word * h.reserved)) r)) e

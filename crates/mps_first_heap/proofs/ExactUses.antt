@@ -15,8 +15,8 @@ use Rattle.mps_model.specs.Accessing.{act_number}
 use Rattle.mps_model.specs.Allocating.{act_init_number, act_commit, graph_committed, with_reserved_cells, with_reservation}
 use Rattle.mps_model.specs.World.{World}
 use Rattle.mps_first_heap.specs.HeapState.{HeapState, is_point, has_slot, is_number_cell, head_at}
-use Rattle.mps_first_heap.specs.Outcome.{accepted_if, may_init, after_init, after_commit, number_at as number_reply_at, number_reply}
-use Rattle.mps_first_heap.specs.StandsFor.{Past, Agrees, world_of, cells_at, point_with, some_if, reservation_in, address_in_slot, end_of_objects}
+use Rattle.mps_first_heap.specs.Outcome.{accepted_if, may_init, after_init, after_commit, number_reply_at, number_reply}
+use Rattle.mps_first_heap.specs.StandsFor.{Past, Agrees, world_of, cells_at, point_with, some_if, reservation_of_words, address_in_slot, end_of_objects}
 use Rattle.mps_first_heap.specs.Unsupported.{is_reported, is_unreported, is_unsupported_call}
 use Rattle.mps_first_heap.proofs.Worlds.{parts_by, world_of-parts, number_cell_at, object_there}
 use Rattle.mps_first_heap.proofs.Premises.{NamesPoint, HasSlot, HoldsObject, names_point, slot_facts, object_facts}
@@ -58,21 +58,25 @@ module _ (h : HeapState) (p : Past) (slot : Slot) (cell : ℕ) where
   exact_number_held None s there =
       exact_answered (world_of h p) (call.Number slot cell) (reply.Refused refusal.NullRef) refl
       (supported (world_of h p) (call.Number slot cell) refl (in_turn h s.made) refl
-      (ap (λ w. is_unreported (act_number w slot cell)) (is_world_with_table h p s.table) ∙ ap is_unreported (act_number_null h p slot cell s there)))
+      (ap (λ w. is_unreported (act_number w slot cell)) (is_world_with_table h p s.table)
+          ∙ ap is_unreported (act_number_null h p slot cell s there)))
   exact_number_held (Some id) s there =
       let o = object_facts h p slot id s there in
       let at = slice_index p.addresses id in
       let not_null = o.object.block.not_null in
       let ne : (at == 0) ≡ false = ne_eqb at 0 (λ e. omega arith) in
       let number = is_number_cell (head_at h at) cell in
-      subst (λ (b : Bool). IsExact (world_of h p) (call.Number slot cell) (if b then reply.Refused refusal.NullRef else cell_reply h at cell number))
+      subst (λ (b : Bool). IsExact (world_of h p) (call.Number slot cell) (if b then reply.Refused refusal.NullRef
+          else cell_reply h at cell number))
       (sym ne)
       (exact_number_where id o number refl)
 
   exact_number_in : Agrees h p → (b : Bool) → has_slot h slot ≡ b
-      → IsExact (world_of h p) (call.Number slot cell) (if b then number_reply_at h (slice_index h.slots slot.index) cell else reply.Unsupported)
+      → IsExact (world_of h p) (call.Number slot cell) (if b then number_reply_at h (slice_index h.slots slot.index) cell
+          else reply.Unsupported)
   exact_number_in a false e =
-      let refused = λ (why : Refusal) (f : slot_in (world_of h p) slot ≡ Err why). ap (λ (c : Checked (Found (Option ℕ))). c >>= number_from (world_of h p) cell) f in
+      let refused = λ (why : Refusal) (f : slot_in (world_of h p) slot ≡ Err why). ap
+          (λ (c : Checked (Found (Option ℕ))). c >>= number_from (world_of h p) cell) f in
       exact_unsupported (world_of h p) (call.Number slot cell)
       (elim (no_slot h p slot a e) [
         | inl f ↦ by_unreported (world_of h p) (call.Number slot cell) refusal.BadName (refused refusal.BadName f) refl
@@ -148,7 +152,8 @@ module _ (h : HeapState) (p : Past) (name : Name) (cell value : ℕ) where
 pub exact_init : (h : HeapState) (p : Past) (name : Name) (cell value : ℕ) → Agrees h p
     → IsExact (world_of h p) (call.InitNumber name cell value) (after_init h name cell value).done.reply
 exact_init h p name cell value a =
-    subst (λ (r : Reply). IsExact (world_of h p) (call.InitNumber name cell value) r) (sym (init_reply h p name cell value (may_init h name cell)))
+    subst (λ (r : Reply). IsExact (world_of h p) (call.InitNumber name cell value) r)
+        (sym (init_reply h p name cell value (may_init h name cell)))
     (exact_init_at h p name cell value a (is_point h name) refl)
 
 -- ---- commit
@@ -173,12 +178,15 @@ and_false false = refl
 module _ (h : HeapState) (p : Past) (name : Name) (slot : Slot) where
   -- the point that the model finds by its name
   found_point : NamesPoint h p name
-      → point_named (world_of h p) name ≡ Ok (record { number = 0; value = point_with (some_if h.is_open (reservation_in h.words h.reserved)) })
+      → point_named (world_of h p) name
+          ≡ Ok (record { number = 0; value = point_with (some_if h.is_open (reservation_of_words h.words h.reserved)) })
   found_point n =
       let named = n.named in
-      ap (λ w. point_named w name) (world_of-parts h p (is_some h.table) true (is_some h.pool) h.is_open refl n.point refl refl) ∙ rw named refl
+      ap (λ w. point_named w name) (world_of-parts h p (is_some h.table) true (is_some h.pool) h.is_open refl n.point refl refl)
+          ∙ rw named refl
 
-  exact_commit_open : NamesPoint h p name → HasSlot h p slot → (b : Bool) → h.is_open ≡ b → IsExact (world_of h p) (call.Commit name slot) (ok_if b)
+  exact_commit_open : NamesPoint h p name → HasSlot h p slot → (b : Bool) → h.is_open ≡ b
+      → IsExact (world_of h p) (call.Commit name slot) (ok_if b)
   exact_commit_open n s true o =
       exact_answered (world_of h p) (call.Commit name slot) reply.Ok refl
       (supported (world_of h p) (call.Commit name slot) refl (in_turn h n.made) refl
@@ -195,13 +203,15 @@ module _ (h : HeapState) (p : Past) (name : Name) (slot : Slot) where
   no_slot_refuses : NamesPoint h p name → (why : Refusal) → slot_in (world_of h p) slot ≡ Err why → is_reported why ≡ false
       → is_unsupported_call (world_of h p) (call.Commit name slot) ≡ true
   no_slot_refuses n why f unreported =
-      let point : Numbered Point = record { number = 0; value = point_with (some_if h.is_open (reservation_in h.words h.reserved)) } in
+      let point : Numbered Point =
+          record { number = 0; value = point_with (some_if h.is_open (reservation_of_words h.words h.reserved)) } in
       by_unreported (world_of h p) (call.Commit name slot) why
       (ap (λ (c : Checked (Numbered Point)). c >>= commit_from (world_of h p) slot) (found_point n)
       ∙ ap (λ (c : Checked (Found (Option ℕ))). c >>= commit_with (world_of h p) point) f)
       unreported
 
-  exact_commit_slot : NamesPoint h p name → (b : Bool) → has_slot h slot ≡ b → IsExact (world_of h p) (call.Commit name slot) (ok_if (h.is_open && b))
+  exact_commit_slot : NamesPoint h p name → (b : Bool) → has_slot h slot ≡ b
+      → IsExact (world_of h p) (call.Commit name slot) (ok_if (h.is_open && b))
   exact_commit_slot n true e =
       subst (λ (b : Bool). IsExact (world_of h p) (call.Commit name slot) (ok_if b)) (sym (and_true h.is_open))
       (exact_commit_open n (slot_facts h p slot n.agrees e) h.is_open refl)

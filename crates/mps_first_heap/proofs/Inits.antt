@@ -14,7 +14,7 @@ use Rattle.mps_model.specs.History.{live_blocks, with_client_remembered}
 use Rattle.mps_model.specs.Reply.{answer_from, world_from}
 use Rattle.mps_first_heap.specs.HeapState.{HeapState, is_point, is_number_cell, head_at}
 use Rattle.mps_first_heap.specs.Outcome.{reply_only, may_init, after_init, accepted_if}
-use Rattle.mps_first_heap.specs.StandsFor.{Past, Agrees, world_of, world_with, step_of, object_in, cells_at, cells_in, cell_in, point_with, reservation_in, end_of_objects, IsBlockAt}
+use Rattle.mps_first_heap.specs.StandsFor.{Past, Agrees, world_of, world_with, step_of, object_of_words, cells_at, cells_in, cell_in, point_with, reservation_of_words, end_of_objects, IsBlockAt}
 use Rattle.mps_first_heap.specs.RightStep.{IsRightStep}
 use Rattle.mps_first_heap.proofs.Lists.{objects-set_after, blocks-set_after, slice_index-set_other, block_words-set, cells_in-set}
 use Rattle.mps_first_heap.proofs.Worlds.{parts_by, world_by, world_of-parts, number_cell, number_cell_at, number_cell_below, live_blocks-world_of, stored}
@@ -29,17 +29,23 @@ with_number h cell value = record h { words = slice_set h.words (h.reserved + ce
 
 -- the reservation after the write
 reservation_written : (words : List ℕ) (address cell value : ℕ) → 0 < cell → is_number_cell (slice_index words address) cell ≡ true
-    → reservation_in (slice_set words (address + cell) value) address ≡ record { head = slice_index words address; cells = slice_set (cells_at words address) cell (NumberCell value); is_doomed = false }
+    → reservation_of_words (slice_set words (address + cell) value) address
+        ≡ record { head = slice_index words address; cells = slice_set (cells_at words address) cell (NumberCell value); is_doomed = false }
 reservation_written words address cell value pos number =
     let head = slice_index words address in
     let lt : address < address + cell = omega arith in
-    ap (λ (h : ℕ). record { head = h; cells = cells_in h 0 (take (size_field h) (drop address (slice_set words (address + cell) value))); is_doomed = false }) (slice_index-set_other words (address + cell) address value lt)
-    ∙ ap (λ (ws : List ℕ). record { head = head; cells = cells_in head 0 ws; is_doomed = false }) (block_words-set words address (size_field head) cell value)
-    ∙ ap (λ (cells : List Cell). record { head = head; cells = cells; is_doomed = false }) (cells_in-set head 0 (take (size_field head) (drop address words)) cell value
-    ∙ ap (λ (c : Cell). slice_set (cells_at words address) cell c) (ap (λ n. cell_in head n value) (let e : 0 + cell ≡ cell = omega arith in e) ∙ number_cell head cell value number))
+    ap (λ (h : ℕ). record { head = h; cells = cells_in h 0 (take (size_field h) (drop address (slice_set words (address + cell) value)));
+        is_doomed = false }) (slice_index-set_other words (address + cell) address value lt)
+    ∙ ap (λ (ws : List ℕ). record { head = head; cells = cells_in head 0 ws; is_doomed = false })
+        (block_words-set words address (size_field head) cell value)
+    ∙ ap (λ (cells : List Cell). record { head = head; cells = cells; is_doomed = false })
+        (cells_in-set head 0 (take (size_field head) (drop address words)) cell value
+    ∙ ap (λ (c : Cell). slice_set (cells_at words address) cell c)
+        (ap (λ n. cell_in head n value) (let e : 0 + cell ≡ cell = omega arith in e) ∙ number_cell head cell value number))
 
 -- a block stays a block after a write in it, after its head
-block_written : (words : List ℕ) (bound address i value : ℕ) → address < i → IsBlockAt words bound address → IsBlockAt (slice_set words i value) bound address
+block_written : (words : List ℕ) (bound address i value : ℕ) → address < i → IsBlockAt words bound address
+    → IsBlockAt (slice_set words i value) bound address
 block_written words bound address i value lt b =
     let e = slice_index-set_other words i address value lt in
     record {
@@ -56,7 +62,8 @@ is_world_reserving h p q o = world_of-parts h p (is_some h.table) true (is_some 
 
 abbrev reserving_with : HeapState → Past → List Object → Reservation → World
 reserving_with h p objects r =
-    world_with (record (parts_by h p (is_some h.table) true (is_some h.pool) true) { objects = objects; points = Some (point_with (Some r)) ∷ [] })
+    world_with (record (parts_by h p (is_some h.table) true (is_some h.pool) true) { objects = objects;
+        points = Some (point_with (Some r)) ∷ [] })
 
 module _ (h : HeapState) (p : Past) (name : Name) (cell value : ℕ) (m : MayInit h p name cell) where
   bound : end_of_objects h ≡ h.reserved
@@ -70,13 +77,16 @@ module _ (h : HeapState) (p : Past) (name : Name) (cell value : ℕ) (m : MayIni
   cells_after = slice_set (cells_at h.words h.reserved) cell (NumberCell value)
 
   -- the world after the write
-  world_written : reserving_with h p (map (object_in h.words) p.addresses) (record { head = slice_index h.words h.reserved; cells = cells_after; is_doomed = false })
+  world_written : reserving_with h p (map (object_of_words h.words) p.addresses)
+      (record { head = slice_index h.words h.reserved; cells = cells_after; is_doomed = false })
       ≡ world_of (with_number h cell value) p
   world_written =
       let r : Reservation = record { head = slice_index h.words h.reserved; cells = cells_after; is_doomed = false } in
       let words = slice_set h.words (h.reserved + cell) value in
-      ap (λ objects. reserving_with h p objects r) (sym (objects-set_after h.words (end_of_objects h) (h.reserved + cell) value p.addresses le m.at.agrees.blocks))
-      ∙ ap (λ r. reserving_with h p (map (object_in words) p.addresses) r) (sym (reservation_written h.words h.reserved cell value m.positive m.number))
+      ap (λ objects. reserving_with h p objects r)
+          (sym (objects-set_after h.words (end_of_objects h) (h.reserved + cell) value p.addresses le m.at.agrees.blocks))
+      ∙ ap (λ r. reserving_with h p (map (object_of_words words) p.addresses) r)
+          (sym (reservation_written h.words h.reserved cell value m.positive m.number))
       ∙ sym (is_world_reserving (with_number h cell value) p m.at.point m.is_open)
 
   agrees_with_number : Agrees (with_number h cell value) p
@@ -93,7 +103,8 @@ module _ (h : HeapState) (p : Past) (name : Name) (cell value : ℕ) (m : MayIni
         held = a.held;
         in_arena = a.in_arena;
         arena = λ made. length-set h.words (h.reserved + cell) value ∙ a.arena made;
-        blocks = blocks-set_after h.words (end_of_objects h) (end_of_objects h) (h.reserved + cell) value p.addresses le (omega arith) a.blocks;
+        blocks = blocks-set_after h.words (end_of_objects h) (end_of_objects h)
+            (h.reserved + cell) value p.addresses le (omega arith) a.blocks;
         reservation = λ _. block_written h.words h.buffer_start h.reserved (h.reserved + cell) value (omega arith) block;
         buffer = a.buffer;
         not_null = a.not_null;
@@ -108,14 +119,16 @@ module _ (h : HeapState) (p : Past) (name : Name) (cell value : ℕ) (m : MayIni
       ap live_blocks (sym (is_world_reserving h p m.at.point m.is_open)) ∙ live_blocks-world_of h p
       ∙ sym (stored-set_after h.words (end_of_objects h) (h.reserved + cell) value p.addresses le m.at.agrees.blocks)
 
-  right_with_number : (line : ℕ) → IsRightStep (world_reserving h p) (step_of line (call.InitNumber name cell value) (reply_only reply.Ok)) (with_number h cell value)
+  right_with_number : (line : ℕ)
+      → IsRightStep (world_reserving h p) (step_of line (call.InitNumber name cell value) (reply_only reply.Ok)) (with_number h cell value)
   right_with_number line =
       let in_order = m.at.in_order in
       let inside = m.at.inside in
       let e = act_of_init (parts_by h p (is_some h.table) true (is_some h.pool) true) name m.at.named
       (slice_index h.words h.reserved) (cells_at h.words h.reserved) cell value (slice_index h.words (h.reserved + cell))
       (number_cell_at h.words h.buffer_start h.reserved cell (m.at.agrees.reservation m.is_open) (omega arith) m.number) in
-      right_step (world_reserving h p) (step_of line (call.InitNumber name cell value) (reply_only reply.Ok)) (with_number h cell value) p refl
+      right_step (world_reserving h p) (step_of line (call.InitNumber name cell value) (reply_only reply.Ok))
+          (with_number h cell value) p refl
       (record { moves_are_legal = tt; moves_are_due = refl; answer_is_due = sym (ap answer_from e); marked = tt })
       (ap (λ r. with_client_remembered (world_from (world_reserving h p) r)) e ∙ world_written)
       agrees_with_number
@@ -135,5 +148,6 @@ module _ (h : HeapState) (p : Past) (line : ℕ) (name : Name) (cell value : ℕ
       (right_with_number h p name cell value m line)
 
 pub right_init : (h : HeapState) (p : Past) (line : ℕ) (name : Name) (cell value : ℕ) → Agrees h p
-    → IsRightStep (world_of h p) (step_of line (call.InitNumber name cell value) (after_init h name cell value).done) (after_init h name cell value).state
+    → IsRightStep (world_of h p) (step_of line (call.InitNumber name cell value) (after_init h name cell value).done)
+        (after_init h name cell value).state
 right_init h p line name cell value a = init_where h p line name cell value a (may_init h name cell) refl

@@ -13,7 +13,7 @@ use Rattle.mps_model.specs.World.{World}
 use Rattle.mps_model.specs.History.{live_blocks, with_client_remembered}
 use Rattle.mps_model.specs.Reply.{answer_from, world_from}
 use Rattle.mps_first_heap.specs.HeapState.{HeapState, has_slot, is_number_cell, head_at}
-use Rattle.mps_first_heap.specs.Outcome.{reply_only, number_at, number_reply}
+use Rattle.mps_first_heap.specs.Outcome.{reply_only, number_reply_at, number_reply}
 use Rattle.mps_first_heap.specs.StandsFor.{Past, Agrees, world_of, step_of, cells_at, address_in_slot, end_of_objects}
 use Rattle.mps_first_heap.specs.RightStep.{IsRightStep}
 use Rattle.mps_first_heap.proofs.Worlds.{parts_by, world_by, world_of-parts, number_cell_at, object_there, live_blocks-world_of, stored}
@@ -44,7 +44,8 @@ module _ (h : HeapState) (p : Past) (slot : Slot) (cell : ℕ) where
       cell (slice_index h.words (at + cell)) (number_cell_at h.words (end_of_objects h) at cell o.object.block o.object.inside number)
 
   -- the model refuses where the slot is null
-  pub act_number_null : HasSlot h p slot → slice_get p.ids slot.index ≡ Some None → act_number (world_with_table h p) slot cell ≡ Err refusal.NullRef
+  pub act_number_null : HasSlot h p slot → slice_get p.ids slot.index ≡ Some None
+      → act_number (world_with_table h p) slot cell ≡ Err refusal.NullRef
   act_number_null s there = act_of_null (parts_by h p true (is_some h.point) (is_some h.pool) h.is_open) p.ids slot s.named cell there
 
   -- the world does not change
@@ -80,7 +81,8 @@ module _ (h : HeapState) (p : Past) (slot : Slot) (cell : ℕ) where
       (right_known_number line n o.in_table (act_number_there id o number))
 
   number_held : (line : ℕ) (held : Option ℕ) → HasSlot h p slot → slice_get p.ids slot.index ≡ Some held
-      → IsRightStep (world_of h p) (step_of line (call.Number slot cell) (reply_only (number_at h (address_in_slot p.addresses held) cell))) h
+      → IsRightStep (world_of h p)
+          (step_of line (call.Number slot cell) (reply_only (number_reply_at h (address_in_slot p.addresses held) cell))) h
   number_held line None s there =
       subst (λ (w : World). IsRightStep w (step_of line (call.Number slot cell) (reply_only (reply.Refused refusal.NullRef))) h)
       (sym (is_world_with_table h p s.table))
@@ -98,11 +100,13 @@ module _ (h : HeapState) (p : Past) (slot : Slot) (cell : ℕ) where
 
   number_in_table : (line : ℕ) → Agrees h p → (b : Bool) → has_slot h slot ≡ b
       → IsRightStep (world_of h p)
-      (step_of line (call.Number slot cell) (reply_only (if b then number_at h (slice_index h.slots slot.index) cell else reply.Unsupported))) h
+      (step_of line (call.Number slot cell)
+          (reply_only (if b then number_reply_at h (slice_index h.slots slot.index) cell else reply.Unsupported))) h
   number_in_table line a false e = unsupported_step h p line (call.Number slot cell) a
   number_in_table line a true e =
       let s = slot_facts h p slot a e in
-      subst (λ (address : ℕ). IsRightStep (world_of h p) (step_of line (call.Number slot cell) (reply_only (number_at h address cell))) h)
+      subst (λ (address : ℕ). IsRightStep (world_of h p)
+          (step_of line (call.Number slot cell) (reply_only (number_reply_at h address cell))) h)
       (sym s.address)
       (number_held line s.held s s.there)
 

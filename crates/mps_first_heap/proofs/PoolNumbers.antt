@@ -15,7 +15,7 @@ use Rattle.mps_model.specs.declared.reply.Reply.TheVariants as reply
 use Rattle.mps_model.specs.Answer.{Answer, Replied, is_accepted}
 use Rattle.mps_model.specs.Log.{pools_made_by, pools_of_accepted}
 use Rattle.mps_first_heap.specs.HeapState.{HeapState, is_point, is_pool, has_slot}
-use Rattle.mps_first_heap.specs.Outcome.{Outcome, outcome, ok_with_move, with_reply, unsupported, accepted_if, pool_made_if, is_arena_made, may_make_first, is_implemented_pool, is_exact, arena_made, reserved_in_buffer, segment_taken, segment_move, reserve_after, reserve_placed, after_reserve, may_init, commit_move, after_commit, number_reply}
+use Rattle.mps_first_heap.specs.Outcome.{Outcome, outcome, ok_with_move, with_reply, unsupported, accepted_if, pool_made_if, is_arena_made, may_make_first, is_implemented_pool, is_exact, arena_made, reserved_in_buffer, with_segment_taken, segment_move, reserve_after, reserve_placed, after_reserve, may_init, commit_move, after_commit, number_reply}
 use Rattle.mps_first_heap.specs.StandsFor.{Past, Agrees, one_if, some_if, front_pool}
 use Rattle.mps_first_heap.proofs.Makings.{may_make_facts, not_some}
 
@@ -32,7 +32,8 @@ none_made : (c : Call) (a : Answer) → pools_of_accepted c ≡ 0 → pools_made
 none_made c a none = elim (is_accepted a) as (λ b. (if b then pools_of_accepted c else 0) ≡ 0) [ true ↦ none | false ↦ refl ]
 
 -- a call that makes no pool
-counts_none : (h : HeapState) (c : Call) (o : Outcome) → pools_of_accepted c ≡ 0 → o.done.pool ≡ None → is_some o.state.pool ≡ is_some h.pool → CountsPools h c o
+counts_none : (h : HeapState) (c : Call) (o : Outcome) → pools_of_accepted c ≡ 0 → o.done.pool ≡ None
+    → is_some o.state.pool ≡ is_some h.pool → CountsPools h c o
 counts_none h c o none no_number same =
     let made = none_made c (Replied o.done.reply) none in
     record {
@@ -43,23 +44,27 @@ counts_none h c o none no_number same =
 counts_unsupported : (h : HeapState) (c : Call) → CountsPools h c (unsupported h)
 counts_unsupported h c = record { number = refl; count = omega arith }
 
-counts_accepted : (h after : HeapState) (c : Call) (b : Bool) → pools_of_accepted c ≡ 0 → (b ≡ true → is_some after.pool ≡ is_some h.pool) → CountsPools h c (accepted_if b h after)
+counts_accepted : (h after : HeapState) (c : Call) (b : Bool) → pools_of_accepted c ≡ 0
+    → (b ≡ true → is_some after.pool ≡ is_some h.pool) → CountsPools h c (accepted_if b h after)
 counts_accepted h after c true none same = counts_none h c (accepted_if true h after) none refl (same refl)
 counts_accepted h after c false none same = counts_unsupported h c
 
-counts_if : (h : HeapState) (c : Call) (b : Bool) (x y : Outcome) → CountsPools h c x → CountsPools h c y → CountsPools h c (if b then x else y)
+counts_if : (h : HeapState) (c : Call) (b : Bool) (x y : Outcome) → CountsPools h c x → CountsPools h c y
+    → CountsPools h c (if b then x else y)
 counts_if h c true x y of_x of_y = of_x
 counts_if h c false x y of_x of_y = of_y
 
 -- ---- call by call
 
-counts_arena : (h : HeapState) (p : Past) (grains limit : ℕ) → Agrees h p → CountsPools h (call.Arena grains limit) (outcome h (call.Arena grains limit))
+counts_arena : (h : HeapState) (p : Past) (grains limit : ℕ) → Agrees h p
+    → CountsPools h (call.Arena grains limit) (outcome h (call.Arena grains limit))
 counts_arena h p grains limit a =
     counts_accepted h (arena_made grains limit) (call.Arena grains limit) (not (is_arena_made h)) refl
     (λ e. sym (not_some h.pool (a.before_arena (let le = ltb-false 0 h.grains (not-true (is_arena_made h) e) in omega arith)).1))
 
 -- the first pool
-counts_pool_where : (h : HeapState) (name : Name) (kind : Kind) (format : ℕ) (b : Bool) → (is_implemented_pool kind format && may_make_first h h.pool name) ≡ b
+counts_pool_where : (h : HeapState) (name : Name) (kind : Kind) (format : ℕ) (b : Bool)
+    → (is_implemented_pool kind format && may_make_first h h.pool name) ≡ b
     → CountsPools h (call.Pool name kind format) (pool_made_if b h (record h { pool = Some name }))
 counts_pool_where h name kind format false e = counts_unsupported h (call.Pool name kind format)
 counts_pool_where h name kind format true e =
@@ -77,7 +82,7 @@ counts_reserve_after h name head need =
     c = call.Reserve name head
 
     taken : Outcome
-    taken = record { done = ok_with_move (segment_move h need); state = reserved_in_buffer (segment_taken h need) head }
+    taken = record { done = ok_with_move (segment_move h need); state = reserved_in_buffer (with_segment_taken h need) head }
 
     rest : Outcome
     rest = if nat_lt h.grains (h.held + need) then unsupported h else taken
@@ -85,7 +90,8 @@ counts_reserve_after h name head need =
 counts_reserve : (h : HeapState) (name : Name) (head : ℕ) → CountsPools h (call.Reserve name head) (after_reserve h name head)
 counts_reserve h name head =
     counts_if h c (is_point h name && is_front head && not h.is_open) (reserve_placed h head) (unsupported h)
-    (counts_if h c (nat_le (size_field head) (h.buffer_end - h.buffer_start)) (with_reply (reserved_in_buffer h head) reply.Ok) (reserve_after h head (grains_needed (size_field head)))
+    (counts_if h c (nat_le (size_field head) (h.buffer_end - h.buffer_start)) (with_reply (reserved_in_buffer h head) reply.Ok)
+        (reserve_after h head (grains_needed (size_field head)))
     (counts_none h c (with_reply (reserved_in_buffer h head) reply.Ok) refl refl refl)
     (counts_reserve_after h name head (grains_needed (size_field head))))
     (counts_unsupported h c)
@@ -95,25 +101,31 @@ counts_reserve h name head =
 
 counts_commit : (h : HeapState) (name : Name) (slot : Slot) → CountsPools h (call.Commit name slot) (after_commit h name slot)
 counts_commit h name slot =
-    counts_if h c (is_point h name && h.is_open && has_slot h slot) with_object (unsupported h) (counts_none h c with_object refl refl refl) (counts_unsupported h c)
+    counts_if h c (is_point h name && h.is_open && has_slot h slot) with_object (unsupported h)
+        (counts_none h c with_object refl refl refl) (counts_unsupported h c)
   where
     c : Call
     c = call.Commit name slot
 
     with_object : Outcome
-    with_object = record { done = ok_with_move (commit_move h); state = record h { slots = slice_set h.slots slot.index h.reserved; is_open = false } }
+    with_object = record { done = ok_with_move (commit_move h);
+        state = record h { slots = slice_set h.slots slot.index h.reserved; is_open = false } }
 
 -- each call
 pub counts_pools : (h : HeapState) (p : Past) (c : Call) → Agrees h p → CountsPools h c (outcome h c)
 counts_pools h p (call.Arena grains limit) a = counts_arena h p grains limit a
 counts_pools h p (call.Table table slots) a =
-    counts_accepted h (record h { table = Some table; slots = replicate slots 0 }) (call.Table table slots) (may_make_first h h.table table) refl (λ e. refl)
-counts_pools h p (call.Pool pool kind format) a = counts_pool_where h pool kind format (is_implemented_pool kind format && may_make_first h h.pool pool) refl
+    counts_accepted h (record h { table = Some table; slots = replicate slots 0 }) (call.Table table slots)
+        (may_make_first h h.table table) refl (λ e. refl)
+counts_pools h p (call.Pool pool kind format) a =
+    counts_pool_where h pool kind format (is_implemented_pool kind format && may_make_first h h.pool pool) refl
 counts_pools h p (call.Point point pool at_rank) a =
-    counts_accepted h (record h { point = Some point }) (call.Point point pool at_rank) (is_exact at_rank && may_make_first h h.point point && is_pool h pool) refl (λ e. refl)
+    counts_accepted h (record h { point = Some point }) (call.Point point pool at_rank)
+        (is_exact at_rank && may_make_first h h.point point && is_pool h pool) refl (λ e. refl)
 counts_pools h p (call.Reserve point head) a = counts_reserve h point head
 counts_pools h p (call.InitNumber point cell value) a =
-    counts_accepted h (record h { words = slice_set h.words (h.reserved + cell) value }) (call.InitNumber point cell value) (may_init h point cell) refl (λ e. refl)
+    counts_accepted h (record h { words = slice_set h.words (h.reserved + cell) value }) (call.InitNumber point cell value)
+        (may_init h point cell) refl (λ e. refl)
 counts_pools h p (call.Commit point target) a = counts_commit h point target
 counts_pools h p (call.Number slot cell) a = counts_none h (call.Number slot cell) (with_reply h (number_reply h slot cell)) refl refl refl
 counts_pools h p other a = counts_unsupported h other

@@ -53,17 +53,20 @@ names_point h p name a e =
       made = made;
       named = a.names name
           ∙ ap (λ b. if b then Some (TableThing 0) else if_pool h name) (not-true (is_named h.table name) no.0)
-          ∙ ap (λ b. if b then Some (PoolThing 0) else (if is_named h.point name then Some (PointThing 0) else None)) (not-true (is_named h.pool name) no.1)
+          ∙ ap (λ b. if b then Some (PoolThing 0) else (if is_named h.point name then Some (PointThing 0) else None))
+              (not-true (is_named h.pool name) no.1)
           ∙ ap (λ b. if b then Some (PointThing 0) else None) both.1;
       in_order = a.buffer.0;
       inside = at_hand_within h p a made;
     }
 
-pub may_init_facts : (h : HeapState) (p : Past) (name : Name) (cell : ℕ) → NamesPoint h p name → h.is_open ≡ true → is_number_cell (head_at h h.reserved) cell ≡ true → MayInit h p name cell
+pub may_init_facts : (h : HeapState) (p : Past) (name : Name) (cell : ℕ) → NamesPoint h p name → h.is_open ≡ true
+    → is_number_cell (head_at h h.reserved) cell ≡ true → MayInit h p name cell
 may_init_facts h p name cell at o number =
     let head = head_at h h.reserved in
     let both = and_parts (nat_lt 0 cell && nat_lt cell (words_of_head head)) (not (front_layout.is_reference head cell)) number in
-    record { at = at; is_open = o; number = number; positive = ltb-true 0 cell (and_parts (nat_lt 0 cell) (nat_lt cell (words_of_head head)) both.0).0 }
+    record { at = at; is_open = o; number = number;
+        positive = ltb-true 0 cell (and_parts (nat_lt 0 cell) (nat_lt cell (words_of_head head)) both.0).0 }
 
 -- ---- the table
 

@@ -24,7 +24,8 @@ pub record IsDue (w : World) (s : Step) : Type 0 where
   pub answer_is_due : s.answer ≡ reply_to (is_block s.answer) (judged_world w s.call s.moves) (moved_world w s.call s.moves) s.call
   pub marked : IsPossiblyMarked w s.call s.answer
 
-legal_if_answered : (w : World) (s : Step) (state : HeapState) (p : Past) → IsDue w s → world_after w s ≡ world_of state p → Agrees state p → IsAnsweredStep w s
+legal_if_answered : (w : World) (s : Step) (state : HeapState) (p : Past) → IsDue w s → world_after w s ≡ world_of state p
+    → Agrees state p → IsAnsweredStep w s
 legal_if_answered w s state p due after a = record {
   moves_are_legal = due.moves_are_legal;
   moves_are_due = due.moves_are_due;
@@ -36,15 +37,19 @@ legal_if_answered w s state p due after a = record {
 }
 
 -- a step that was answered is right where its moves and its answer are due, and what is kept agrees with the world after it
-pub right_step : (w : World) (s : Step) (state : HeapState) (p : Past) → is_unsupported s.answer ≡ false → IsDue w s → world_after w s ≡ world_of state p → Agrees state p → ((pools : ℕ) → replay_from (live_blocks w) (records_of_step pools s) ≡ Some (stored state.words p.addresses)) → IsRightStep w s state
+pub right_step : (w : World) (s : Step) (state : HeapState) (p : Past) → is_unsupported s.answer ≡ false → IsDue w s
+    → world_after w s ≡ world_of state p → Agrees state p
+    → ((pools : ℕ) → replay_from (live_blocks w) (records_of_step pools s) ≡ Some (stored state.words p.addresses)) → IsRightStep w s state
 right_step w s state p answered due after a replays = record {
-  is_legal = subst (λ (b : Bool). MatchBool b (s.moves ≡ []) (IsAnsweredStep w s)) (sym answered) (legal_if_answered w s state p due after a);
+  is_legal = subst (λ (b : Bool). MatchBool b (s.moves ≡ []) (IsAnsweredStep w s)) (sym answered)
+      (legal_if_answered w s state p due after a);
   stands = record { past = p; world = after; agrees = a };
   is_replayed = λ pools. replays pools ∙ ap Some (sym (ap live_blocks after ∙ live_blocks-world_of state p));
 }
 
 -- a step that isn't supported changes nothing
-pub unsupported_step : (h : HeapState) (p : Past) (line : ℕ) (call : Call) → Agrees h p → IsRightStep (world_of h p) (step_of line call (reply_only reply.Unsupported)) h
+pub unsupported_step : (h : HeapState) (p : Past) (line : ℕ) (call : Call) → Agrees h p
+    → IsRightStep (world_of h p) (step_of line call (reply_only reply.Unsupported)) h
 unsupported_step h p line call a = record {
   is_legal = refl;
   stands = record { past = p; world = refl; agrees = a };

@@ -21,7 +21,8 @@ pub exact_unsupported : (w : World) (c : Call) → is_unsupported_call w c ≡ t
 exact_unsupported w c e = ((λ _. e), (λ _. refl))
 
 -- where it isn't
-pub exact_answered : (w : World) (c : Call) (r : Reply) → is_unsupported (Replied r) ≡ false → is_unsupported_call w c ≡ false → IsExact w c r
+pub exact_answered : (w : World) (c : Call) (r : Reply) → is_unsupported (Replied r) ≡ false
+    → is_unsupported_call w c ≡ false → IsExact w c r
 exact_answered w c r said_so e =
     ((λ is. absurd (false≢true (sym said_so ∙ ap (λ (s : Reply). is_unsupported (Replied s)) is))), (λ t. absurd (false≢true (sym e ∙ t))))
 
@@ -34,17 +35,22 @@ by_turn w c e =
     ap (λ b. b || makes_second w c || is_unreported (act false w w c)) (or_right (not (is_implemented c)) (is_out_of_turn w c) e)
 
 pub by_second : (w : World) (c : Call) → makes_second w c ≡ true → is_unsupported_call w c ≡ true
-by_second w c e = ap (λ b. b || is_unreported (act false w w c)) (or_right (not (is_implemented c) || is_out_of_turn w c) (makes_second w c) e)
+by_second w c e = ap (λ b. b || is_unreported (act false w w c))
+    (or_right (not (is_implemented c) || is_out_of_turn w c) (makes_second w c) e)
 
-pub by_unreported : (w : World) (c : Call) (why : Refusal) → act false w w c ≡ Err why → is_reported why ≡ false → is_unsupported_call w c ≡ true
+pub by_unreported : (w : World) (c : Call) (why : Refusal) → act false w w c ≡ Err why → is_reported why ≡ false
+    → is_unsupported_call w c ≡ true
 by_unreported w c why e t =
-    or_right (not (is_implemented c) || is_out_of_turn w c || makes_second w c) (is_unreported (act false w w c)) (ap is_unreported e ∙ ap not t)
+    or_right (not (is_implemented c) || is_out_of_turn w c || makes_second w c) (is_unreported (act false w w c)) (ap is_unreported e
+        ∙ ap not t)
 
 -- none of them
-pub supported : (w : World) (c : Call) → not (is_implemented c) ≡ false → is_out_of_turn w c ≡ false → makes_second w c ≡ false → is_unreported (act false w w c) ≡ false → is_unsupported_call w c ≡ false
+pub supported : (w : World) (c : Call) → not (is_implemented c) ≡ false → is_out_of_turn w c ≡ false → makes_second w c ≡ false
+    → is_unreported (act false w w c) ≡ false → is_unsupported_call w c ≡ false
 supported w c form turn second known =
     or_from (not (is_implemented c) || is_out_of_turn w c || makes_second w c) (is_unreported (act false w w c))
-    (or_from (not (is_implemented c) || is_out_of_turn w c) (makes_second w c) (or_from (not (is_implemented c)) (is_out_of_turn w c) form turn) second) known
+    (or_from (not (is_implemented c) || is_out_of_turn w c) (makes_second w c)
+        (or_from (not (is_implemented c)) (is_out_of_turn w c) form turn) second) known
 
 -- the arena was made
 pub in_turn : (h : HeapState) → 0 < h.grains → not (nat_lt 0 h.grains) ≡ false

@@ -15,7 +15,7 @@ use Rattle.mps_model.specs.World.{World, live_ids, numbers_of}
 use Rattle.mps_model.specs.Replay.{Block, Store, with_block}
 use Rattle.mps_model.specs.History.{HeldAreLive, block_of, blocks_of_ids, live_blocks}
 use Rattle.mps_first_heap.specs.HeapState.{HeapState, is_named, words_of_head, is_number_cell}
-use Rattle.mps_first_heap.specs.StandsFor.{Past, Agrees, Parts, parts_of, world_of, world_with, front_pool, point_memory_of, address_in_slot, cell_in, cells_at, object_in, reservation_in, point_with, one_if, some_if, some_address, is_null_or_below, IsBlockAt, end_of_objects}
+use Rattle.mps_first_heap.specs.StandsFor.{Past, Agrees, Parts, parts_of, world_of, world_with, front_pool, point_memory_of, address_in_slot, cell_in, cells_at, object_of_words, reservation_of_words, point_with, one_if, some_if, some_address, is_null_or_below, IsBlockAt, end_of_objects}
 use Rattle.mps_first_heap.proofs.Lists.{no_targets, length-block_words, slice_get-cells_in}
 
 -- ---- live objects
@@ -25,7 +25,8 @@ live_at [] id h = absurd (omega (arith, h))
 live_at (p ∷ ps) zero h = refl
 live_at (p ∷ ps) (suc id) h = live_at ps id (omega (arith, h))
 
-all_live : (live : ℕ → Bool) (count : ℕ) (ids : List (Option ℕ)) → ((id : ℕ) → id < count → live id ≡ true) → list_all (is_null_or_below count) ids ≡ true → list_all live (entries ids) ≡ true
+all_live : (live : ℕ → Bool) (count : ℕ) (ids : List (Option ℕ)) → ((id : ℕ) → id < count → live id ≡ true)
+    → list_all (is_null_or_below count) ids ≡ true → list_all live (entries ids) ≡ true
 all_live live count [] each h = refl
 all_live live count (None ∷ ids) each h = all_live live count ids each h
 all_live live count (Some id ∷ ids) each h =
@@ -37,16 +38,20 @@ list_all-append p [] ys h k = k
 list_all-append p (x ∷ xs) ys h k =
     let both = and_parts (p x) (list_all p xs) h in and_from (p x) (list_all p (xs ++ ys)) both.0 (list_all-append p xs ys both.1 k)
 
-slots_live : (live : ℕ → Bool) (count : ℕ) (ids : List (Option ℕ)) (there : Bool) → ((id : ℕ) → id < count → live id ≡ true) → list_all (is_null_or_below count) ids ≡ true → list_all live (flat_map slots_of (one_if there (Some ids))) ≡ true
+slots_live : (live : ℕ → Bool) (count : ℕ) (ids : List (Option ℕ)) (there : Bool) → ((id : ℕ) → id < count → live id ≡ true)
+    → list_all (is_null_or_below count) ids ≡ true → list_all live (flat_map slots_of (one_if there (Some ids))) ≡ true
 slots_live live count ids false each h = refl
 slots_live live count ids true each h = list_all-append live (entries ids) [] (all_live live count ids each h) refl
 
-reservation_has_none : (words : List ℕ) (address : ℕ) (there is_open : Bool) → flat_map targets_of_point (one_if there (Some (point_with (some_if is_open (reservation_in words address))))) ≡ []
+reservation_has_none : (words : List ℕ) (address : ℕ) (there is_open : Bool)
+    → flat_map targets_of_point (one_if there (Some (point_with (some_if is_open (reservation_of_words words address))))) ≡ []
 reservation_has_none words address false is_open = refl
 reservation_has_none words address true false = refl
-reservation_has_none words address true true = ap (λ ids. ids ++ []) (no_targets (slice_index words address) 0 (take (size_field (slice_index words address)) (drop address words)))
+reservation_has_none words address true true =
+    ap (λ ids. ids ++ []) (no_targets (slice_index words address) 0 (take (size_field (slice_index words address)) (drop address words)))
 
-object_has_none : (words addresses : List ℕ) (id : ℕ) → option_map_or targets_of (slice_get (map (object_in words) addresses) id) [] ≡ []
+object_has_none : (words addresses : List ℕ) (id : ℕ)
+    → option_map_or targets_of (slice_get (map (object_of_words words) addresses) id) [] ≡ []
 object_has_none words [] id = refl
 object_has_none words (p ∷ ps) zero = no_targets (slice_index words p) 0 (take (size_field (slice_index words p)) (drop p words))
 object_has_none words (p ∷ ps) (suc id) = object_has_none words ps id
@@ -59,11 +64,17 @@ pub held_are_live : (h : HeapState) (p : Past) → Agrees h p → HeldAreLive (w
 held_are_live h p a =
     let live = λ (id : ℕ). is_some (entry_at (map some_address p.addresses) id) in
     record {
-      client = list_all-append live (((flat_map slots_of (one_if (is_some h.table) (Some p.ids)) ++ []) ++ [])) (flat_map targets_of_point (one_if (is_some h.point) (Some (point_with (some_if h.is_open (reservation_in h.words h.reserved))))))
-          (list_all-append live (flat_map slots_of (one_if (is_some h.table) (Some p.ids)) ++ []) [] (list_all-append live (flat_map slots_of (one_if (is_some h.table) (Some p.ids))) [] (slots_live live (length p.addresses) p.ids (is_some h.table) (live_at p.addresses) a.ids) refl) refl)
-          (subst (λ (ids : List ℕ). list_all live ids ≡ true) (sym (reservation_has_none h.words h.reserved (is_some h.point) h.is_open)) refl);
+      client = list_all-append live (((flat_map slots_of (one_if (is_some h.table) (Some p.ids)) ++ []) ++ []))
+          (flat_map targets_of_point
+          (one_if (is_some h.point) (Some (point_with (some_if h.is_open (reservation_of_words h.words h.reserved))))))
+          (list_all-append live (flat_map slots_of (one_if (is_some h.table) (Some p.ids)) ++ []) []
+              (list_all-append live (flat_map slots_of (one_if (is_some h.table) (Some p.ids))) []
+              (slots_live live (length p.addresses) p.ids (is_some h.table) (live_at p.addresses) a.ids) refl) refl)
+          (subst (λ (ids : List ℕ). list_all live ids ≡ true)
+              (sym (reservation_has_none h.words h.reserved (is_some h.point) h.is_open)) refl);
       blocks = refl;
-      referred = subst (λ (ids : List ℕ). list_all live ids ≡ true) (sym (flat_map_nil (targets (world_of h p).graph) (live_ids (world_of h p)) (object_has_none h.words p.addresses))) refl;
+      referred = subst (λ (ids : List ℕ). list_all live ids ≡ true)
+          (sym (flat_map_nil (targets (world_of h p).graph) (live_ids (world_of h p)) (object_has_none h.words p.addresses))) refl;
     }
 
 -- ---- live blocks
@@ -77,12 +88,14 @@ abbrev pub stored : List ℕ → (addresses : List ℕ) → Store
 stored words [] = []
 stored words (p ∷ ps) = with_block (block_in words p) (stored words ps)
 
-entry_there : (addresses : List ℕ) (id : ℕ) → id < length addresses → entry_at (map some_address addresses) id ≡ Some (bytes_of_word * slice_index addresses id)
+entry_there : (addresses : List ℕ) (id : ℕ) → id < length addresses → entry_at (map some_address addresses) id
+    ≡ Some (bytes_of_word * slice_index addresses id)
 entry_there [] id h = absurd (omega (arith, h))
 entry_there (p ∷ ps) zero h = refl
 entry_there (p ∷ ps) (suc id) h = entry_there ps id (omega (arith, h))
 
-pub object_there : (words addresses : List ℕ) (id : ℕ) → id < length addresses → slice_get (map (object_in words) addresses) id ≡ Some (object_in words (slice_index addresses id))
+pub object_there : (words addresses : List ℕ) (id : ℕ) → id < length addresses
+    → slice_get (map (object_of_words words) addresses) id ≡ Some (object_of_words words (slice_index addresses id))
 object_there words [] id h = absurd (omega (arith, h))
 object_there words (p ∷ ps) zero h = refl
 object_there words (p ∷ ps) (suc id) h = object_there words ps id (omega (arith, h))
@@ -95,19 +108,27 @@ block_by address object = record {
   pool = option_map_or (λ o. o.pool) object 0;
 }
 
-block_there : (h : HeapState) (p : Past) (id : ℕ) → id < length p.addresses → block_of (world_of h p) id ≡ block_in h.words (slice_index p.addresses id)
+block_there : (h : HeapState) (p : Past) (id : ℕ) → id < length p.addresses
+    → block_of (world_of h p) id ≡ block_in h.words (slice_index p.addresses id)
 block_there h p id lt =
-    ap (λ address. block_by address (slice_get (map (object_in h.words) p.addresses) id)) (entry_there p.addresses id lt)
+    ap (λ address. block_by address (slice_get (map (object_of_words h.words) p.addresses) id)) (entry_there p.addresses id lt)
     ∙ ap (λ object. block_by (Some (bytes_of_word * slice_index p.addresses id)) object) (object_there h.words p.addresses id lt)
 
-blocks_there : (w : World) (words : List ℕ) (first : ℕ) (addresses : List ℕ) → ((i : ℕ) → i < length addresses → block_of w (first + i) ≡ block_in words (slice_index addresses i)) → blocks_of_ids w (numbers_of is_some first (map some_address addresses)) ≡ stored words addresses
+blocks_there : (w : World) (words : List ℕ) (first : ℕ) (addresses : List ℕ)
+    → ((i : ℕ) → i < length addresses → block_of w (first + i) ≡ block_in words (slice_index addresses i))
+    → blocks_of_ids w (numbers_of is_some first (map some_address addresses)) ≡ stored words addresses
 blocks_there w words first [] each = refl
 blocks_there w words first (p ∷ ps) each =
-    ap (λ b. with_block b (blocks_of_ids w (numbers_of is_some (first + 1) (map some_address ps)))) (ap (block_of w) (sym (add-zero first)) ∙ each 0 (omega arith))
-    ∙ ap (with_block (block_in words p)) (blocks_there w words (first + 1) ps (λ i lt. ap (block_of w) (let e : first + 1 + i ≡ first + suc i = omega arith in e) ∙ each (suc i) (omega (arith, lt))))
+    ap (λ b. with_block b (blocks_of_ids w (numbers_of is_some (first + 1) (map some_address ps))))
+        (ap (block_of w) (sym (add-zero first)) ∙ each 0 (omega arith))
+    ∙ ap (with_block (block_in words p))
+        (blocks_there w words (first + 1) ps (λ i lt. ap (block_of w) (let e : first + 1 + i ≡ first + suc i = omega arith in e)
+        ∙ each (suc i) (omega (arith, lt))))
 
 pub live_blocks-world_of : (h : HeapState) (p : Past) → live_blocks (world_of h p) ≡ stored h.words p.addresses
-live_blocks-world_of h p = blocks_there (world_of h p) h.words 0 p.addresses (λ i lt. ap (block_of (world_of h p)) (let e : 0 + i ≡ i = omega arith in e) ∙ block_there h p i lt)
+live_blocks-world_of h p =
+    blocks_there (world_of h p) h.words 0 p.addresses (λ i lt. ap (block_of (world_of h p)) (let e : 0 + i ≡ i = omega arith in e)
+    ∙ block_there h p i lt)
 
 -- ---- which parts there are
 
@@ -115,7 +136,7 @@ live_blocks-world_of h p = blocks_there (world_of h p) h.words 0 p.addresses (λ
 abbrev pub parts_by : HeapState → Past → (table point pool is_open : Bool) → Parts
 parts_by h p table point pool is_open = record (parts_of h p) {
   tables = one_if table (Some p.ids);
-  points = one_if point (Some (point_with (some_if is_open (reservation_in h.words h.reserved))));
+  points = one_if point (Some (point_with (some_if is_open (reservation_of_words h.words h.reserved))));
   pools = one_if pool front_pool;
   point_memories = one_if point (point_memory_of h);
 }
@@ -123,7 +144,8 @@ parts_by h p table point pool is_open = record (parts_of h p) {
 abbrev pub world_by : HeapState → Past → (table point pool is_open : Bool) → World
 world_by h p table point pool is_open = world_with (parts_by h p table point pool is_open)
 
-pub world_of-parts : (h : HeapState) (p : Past) (table point pool is_open : Bool) → is_some h.table ≡ table → is_some h.point ≡ point → is_some h.pool ≡ pool → h.is_open ≡ is_open → world_of h p ≡ world_by h p table point pool is_open
+pub world_of-parts : (h : HeapState) (p : Past) (table point pool is_open : Bool) → is_some h.table ≡ table → is_some h.point ≡ point
+    → is_some h.pool ≡ pool → h.is_open ≡ is_open → world_of h p ≡ world_by h p table point pool is_open
 world_of-parts h p table point pool is_open t q l o =
     ap (λ b. world_by h p b (is_some h.point) (is_some h.pool) h.is_open) t
     ∙ ap (λ b. world_by h p table b (is_some h.pool) h.is_open) q
@@ -138,7 +160,9 @@ some_of_table : (o : Option Name) → is_some o ≡ true → o ≡ None → ⊥
 some_of_table o s n = false≢true (sym (ap is_some n) ∙ s)
 
 pub made_with_table : (h : HeapState) (p : Past) → Agrees h p → is_some h.table ≡ true → 0 < h.grains
-made_with_table h p a t = elim (cases_lt 0 h.grains) [ inl lt ↦ lt | inr le ↦ absurd (some_of_table h.table t (a.before_arena (let e : h.grains ≡ 0 = omega arith in e)).0) ]
+made_with_table h p a t =
+    elim (cases_lt 0 h.grains)
+    [ inl lt ↦ lt | inr le ↦ absurd (some_of_table h.table t (a.before_arena (let e : h.grains ≡ 0 = omega arith in e)).0) ]
 
 pub pool_with_point : (h : HeapState) (p : Past) → Agrees h p → is_some h.point ≡ true → is_some h.pool ≡ true
 pool_with_point h p a q = by_pool h.pool refl
@@ -148,7 +172,8 @@ pool_with_point h p a q = by_pool h.pool refl
     by_pool (Some name) e = refl
 
 pub made_with_pool : (h : HeapState) (p : Past) → Agrees h p → is_some h.pool ≡ true → 0 < h.grains
-made_with_pool h p a t = elim (cases_lt 0 h.grains) [ inl lt ↦ lt | inr le ↦ absurd (some_of_table h.pool t (a.before_arena (let e : h.grains ≡ 0 = omega arith in e)).1) ]
+made_with_pool h p a t = elim (cases_lt 0 h.grains)
+    [ inl lt ↦ lt | inr le ↦ absurd (some_of_table h.pool t (a.before_arena (let e : h.grains ≡ 0 = omega arith in e)).1) ]
 
 -- ---- where blocks lie
 
@@ -162,27 +187,36 @@ end_of_objects-le h p a = by_open h.is_open refl
     by_open true e = let below = (a.reservation e).below in omega arith
     by_open false e = omega arith
 
-pub block_there_at : (words : List ℕ) (bound : ℕ) (addresses : List ℕ) (id : ℕ) → AllByRecursion (IsBlockAt words bound) addresses → id < length addresses → IsBlockAt words bound (slice_index addresses id)
+pub block_there_at : (words : List ℕ) (bound : ℕ) (addresses : List ℕ) (id : ℕ) → AllByRecursion (IsBlockAt words bound) addresses
+    → id < length addresses → IsBlockAt words bound (slice_index addresses id)
 block_there_at words bound [] id bs h = absurd (omega (arith, h))
 block_there_at words bound (p ∷ ps) zero bs h = bs.0
 block_there_at words bound (p ∷ ps) (suc id) bs h = block_there_at words bound ps id bs.1 (omega (arith, h))
 
 -- what stands in a slot
-pub slot_there : (addresses : List ℕ) (ids : List (Option ℕ)) (i : ℕ) → i < length (map (address_in_slot addresses) ids) → (held : Option ℕ) × (slice_get ids i ≡ Some held) × (slice_index (map (address_in_slot addresses) ids) i ≡ address_in_slot addresses held)
+pub slot_there : (addresses : List ℕ) (ids : List (Option ℕ)) (i : ℕ) → i < length (map (address_in_slot addresses) ids)
+    → (held : Option ℕ) × (slice_get ids i ≡ Some held)
+    × (slice_index (map (address_in_slot addresses) ids) i ≡ address_in_slot addresses held)
 slot_there addresses [] i h = absurd (omega (arith, h))
 slot_there addresses (held ∷ ids) zero h = (held, refl, refl)
 slot_there addresses (held ∷ ids) (suc i) h = slot_there addresses ids i (omega (arith, h))
 
-pub id_there : (count : ℕ) (ids : List (Option ℕ)) (i id : ℕ) → list_all (is_null_or_below count) ids ≡ true → slice_get ids i ≡ Some (Some id) → id < count
+pub id_there : (count : ℕ) (ids : List (Option ℕ)) (i id : ℕ) → list_all (is_null_or_below count) ids ≡ true
+    → slice_get ids i ≡ Some (Some id) → id < count
 id_there count [] i id h e = absurd (none-some (Some id) e)
 id_there count (held ∷ ids) zero id h e =
-    ltb-true id count (ap (is_null_or_below count) (sym (same_Some held (Some id) e)) ∙ (and_parts (is_null_or_below count held) (list_all (is_null_or_below count) ids) h).0)
-id_there count (held ∷ ids) (suc i) id h e = id_there count ids i id (and_parts (is_null_or_below count held) (list_all (is_null_or_below count) ids) h).1 e
+    ltb-true id count (ap (is_null_or_below count) (sym (same_Some held (Some id) e))
+        ∙ (and_parts (is_null_or_below count held) (list_all (is_null_or_below count) ids) h).0)
+id_there count (held ∷ ids) (suc i) id h e =
+    id_there count ids i id (and_parts (is_null_or_below count held) (list_all (is_null_or_below count) ids) h).1 e
 
 -- the number in a number cell
 pub number_cell : (head k word : ℕ) → is_number_cell head k ≡ true → cell_in head k word ≡ NumberCell word
 number_cell head zero word h = absurd (false≢true h)
-number_cell head (suc k) word h = ap (λ b. if b then ReferenceCell None 0 else NumberCell word) (not-true (front_layout.is_reference head (suc k)) (and_parts (nat_lt 0 (suc k) && nat_lt (suc k) (words_of_head head)) (not (front_layout.is_reference head (suc k))) h).1)
+number_cell head (suc k) word h =
+    ap (λ b. if b then ReferenceCell None 0 else NumberCell word)
+    (not-true (front_layout.is_reference head (suc k))
+    (and_parts (nat_lt 0 (suc k) && nat_lt (suc k) (words_of_head head)) (not (front_layout.is_reference head (suc k))) h).1)
 
 pub number_cell_below : (head k : ℕ) → is_front head ≡ true → is_number_cell head k ≡ true → k < size_field head
 number_cell_below head k v h =
@@ -191,7 +225,9 @@ number_cell_below head k v h =
     subst (λ (n : ℕ). k < n) (cond-true (is_front head) (size_field head) 0 v) (ltb-true k (words_of_head head) below)
 
 -- a number cell of a block at an address has the word n after it
-pub number_cell_at : (words : List ℕ) (bound address k : ℕ) → IsBlockAt words bound address → bound ≤ length words → is_number_cell (slice_index words address) k ≡ true → slice_get (cells_at words address) k ≡ Some (NumberCell (slice_index words (address + k)))
+pub number_cell_at : (words : List ℕ) (bound address k : ℕ) → IsBlockAt words bound address → bound ≤ length words
+    → is_number_cell (slice_index words address) k ≡ true
+    → slice_get (cells_at words address) k ≡ Some (NumberCell (slice_index words (address + k)))
 number_cell_at words bound address k b inside number =
     let head = slice_index words address in
     let size = size_field head in

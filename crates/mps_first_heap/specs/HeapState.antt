@@ -70,8 +70,8 @@ is_named None name = false
 is_named (Some other) name = same_name other name
 
 -- whether something has this name
-abbrev pub is_taken : HeapState → Name → Bool
-is_taken h name = is_named h.table name || is_named h.pool name || is_named h.point name
+abbrev pub is_name_taken : HeapState → Name → Bool
+is_name_taken h name = is_named h.table name || is_named h.pool name || is_named h.point name
 
 -- whether the pool has this name
 abbrev pub is_pool : HeapState → Name → Bool

@@ -16,7 +16,7 @@ use Rattle.mps_model.specs.declared.call.Call.{Call}
 use Rattle.mps_model.specs.declared.call.Call.TheVariants as call
 use Rattle.mps_model.specs.declared.reply.Reply.{Reply}
 use Rattle.mps_model.specs.declared.reply.Reply.TheVariants as reply
-use Rattle.mps_first_heap.specs.HeapState.{HeapState, empty_heap, the_pool, front_format, is_taken, has_slot, is_point, is_pool, words_of_head, is_number_cell, head_at}
+use Rattle.mps_first_heap.specs.HeapState.{HeapState, empty_heap, the_pool, front_format, is_name_taken, has_slot, is_point, is_pool, words_of_head, is_number_cell, head_at}
 use Rattle.mps_first_heap.specs.declared.done.Done.{Done}
 
 -- what a call did, and the heap's state after it
@@ -64,7 +64,7 @@ after_arena h grains limit = accepted_if (not (is_arena_made h)) h (arena_made g
 
 -- whether the first thing of its kind may be made under this name, where this one is there already
 abbrev pub may_make_first : HeapState → Option Name → Name → Bool
-may_make_first h there name = is_arena_made h && not (is_some there) && not (is_taken h name)
+may_make_first h there name = is_arena_made h && not (is_some there) && not (is_name_taken h name)
 
 abbrev pub after_table : HeapState → Name → (slots : ℕ) → Outcome
 after_table h name slots =
@@ -108,8 +108,8 @@ reserved_in_buffer h head = record h {
 }
 
 -- the next grains are held, and their words are the buffer
-abbrev pub segment_taken : HeapState → (need : ℕ) → HeapState
-segment_taken h need = record h {
+abbrev pub with_segment_taken : HeapState → (need : ℕ) → HeapState
+with_segment_taken h need = record h {
   held = h.held + need;
   buffer_start = words_of_grain * (h.held + 1);
   buffer_end = words_of_grain * (h.held + 1 + need);
@@ -126,7 +126,7 @@ reserve_after h head need =
     else (if nat_lt h.grains (h.held + need) then unsupported h
     else record {
       done = ok_with_move (segment_move h need);
-      state = reserved_in_buffer (segment_taken h need) head;
+      state = reserved_in_buffer (with_segment_taken h need) head;
     })
 
 abbrev pub reserve_placed : HeapState → (head : ℕ) → Outcome
@@ -160,15 +160,15 @@ after_commit h name slot =
     } else unsupported h
 
 -- the number in a cell of the block at an address
-abbrev pub number_at : HeapState → (address cell : ℕ) → Reply
-number_at h address cell =
+abbrev pub number_reply_at : HeapState → (address cell : ℕ) → Reply
+number_reply_at h address cell =
     if address == 0 then reply.Refused refusal.NullRef
     else (if is_number_cell (head_at h address) cell then reply.Number (slice_index h.words (address + cell))
     else reply.Unsupported)
 
 abbrev pub number_reply : HeapState → Slot → (cell : ℕ) → Reply
 number_reply h slot cell =
-    if has_slot h slot then number_at h (slice_index h.slots slot.index) cell else reply.Unsupported
+    if has_slot h slot then number_reply_at h (slice_index h.slots slot.index) cell else reply.Unsupported
 
 -- ---- all calls
 
@@ -202,5 +202,5 @@ one_grain_over_the_arena = refl
 room_for_a_block_of_512_words : (reserve_placed example 0x20001).done.moved ≡ None
 room_for_a_block_of_512_words = refl
 
-no_number_in_null : number_at example 0 1 ≡ reply.Refused refusal.NullRef
+no_number_in_null : number_reply_at example 0 1 ≡ reply.Refused refusal.NullRef
 no_number_in_null = refl

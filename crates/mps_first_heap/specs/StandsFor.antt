@@ -38,11 +38,11 @@ abbrev pub cells_at : List ℕ → (address : ℕ) → List Cell
 cells_at words address = cells_in (slice_index words address) 0 (block_words words address)
 
 -- the object whose words lie at an address
-abbrev pub object_in : List ℕ → (address : ℕ) → Object
-object_in words address = record { pool = the_pool; body = Automatic (slice_index words address) (cells_at words address) false }
+abbrev pub object_of_words : List ℕ → (address : ℕ) → Object
+object_of_words words address = record { pool = the_pool; body = Automatic (slice_index words address) (cells_at words address) false }
 
-abbrev pub reservation_in : List ℕ → (address : ℕ) → Reservation
-reservation_in words address = record { head = slice_index words address; cells = cells_at words address; is_doomed = false }
+abbrev pub reservation_of_words : List ℕ → (address : ℕ) → Reservation
+reservation_of_words words address = record { head = slice_index words address; cells = cells_at words address; is_doomed = false }
 
 -- ---- the world
 
@@ -133,9 +133,9 @@ parts_of h p = record {
   grains = h.grains;
   limit = h.limit;
   names = p.names;
-  objects = map (object_in h.words) p.addresses;
+  objects = map (object_of_words h.words) p.addresses;
   tables = one_if (is_some h.table) (Some p.ids);
-  points = one_if (is_some h.point) (Some (point_with (some_if h.is_open (reservation_in h.words h.reserved))));
+  points = one_if (is_some h.point) (Some (point_with (some_if h.is_open (reservation_of_words h.words h.reserved))));
   pools = one_if (is_some h.pool) front_pool;
   segments = segments_from 1 p.segments;
   addresses = map some_address p.addresses;
@@ -176,11 +176,11 @@ abbrev pub end_of_objects : HeapState → ℕ
 end_of_objects h = if h.is_open then h.reserved else h.buffer_start
 
 -- the point was never used
-pub record IsUnused (h : HeapState) : Type 0 where
-  pub buffer_start : h.buffer_start ≡ 0
-  pub buffer_end : h.buffer_end ≡ 0
-  pub reserved : h.reserved ≡ 0
-  pub not_open : h.is_open ≡ false
+pub record IsUnused (start end reserved : ℕ) (is_open : Bool) : Type 0 where
+  pub no_start : start ≡ 0
+  pub no_end : end ≡ 0
+  pub no_reserved : reserved ≡ 0
+  pub not_open : is_open ≡ false
 
 -- the state agrees with its past
 pub record Agrees (h : HeapState) (p : Past) : Type 0 where
@@ -204,7 +204,7 @@ pub record Agrees (h : HeapState) (p : Past) : Type 0 where
   -- first the arena, then the pool, then the point
   pub before_arena : h.grains ≡ 0 → (h.table ≡ None) × (h.pool ≡ None)
   pub before_pool : h.pool ≡ None → h.point ≡ None
-  pub before_point : h.point ≡ None → IsUnused h
+  pub before_point : h.point ≡ None → IsUnused h.buffer_start h.buffer_end h.reserved h.is_open
 
 -- the state stands for a world
 pub record StandsFor (h : HeapState) (w : World) : Type 0 where

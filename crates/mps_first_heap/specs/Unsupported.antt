@@ -67,10 +67,10 @@ is_unsupported_call w call =
     not (is_implemented call) || is_out_of_turn w call || makes_second w call || is_unreported (act false w w call)
 
 -- whether a call takes memory: it makes the arena or a table
-abbrev pub takes_memory : Call → Bool
-takes_memory (call.Arena grains limit) = true
-takes_memory (call.Table table length) = true
-takes_memory _ = false
+abbrev pub call_takes_memory : Call → Bool
+call_takes_memory (call.Arena grains limit) = true
+call_takes_memory (call.Table table length) = true
+call_takes_memory _ = false
 
 -- the name `p`
 abbrev example : Name

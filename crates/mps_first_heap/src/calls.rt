@@ -2,7 +2,7 @@
 ghost use Rattle.std.specs.Prelude.{◌≡◌, IfOk, OnErr, IsTrue};
 ghost use Rattle.mps_first_heap.specs.Outcome.{HasOutcome, outcome};
 ghost use Rattle.mps_first_heap.specs.View.{state_of};
-ghost use Rattle.mps_first_heap.specs.Unsupported.{IsInRange, takes_memory};
+ghost use Rattle.mps_first_heap.specs.Unsupported.{IsInRange, call_takes_memory};
 
 use crate::arena::Arena;
 use crate::done::{Done, reply_only};
@@ -17,7 +17,7 @@ pub fn answer(heap: &mut Arena, alloc: Global, call: &Call) -> Result<Done, Allo
     requires { IsInRange call.now }
     ensures ok { IfOk result (λ done. HasOutcome (outcome (state_of heap.old) call.now) done (state_of heap.new)) }
     ensures err { OnErr result (heap.new ≡ heap.old) }
-    ensures memory { OnErr result (IsTrue (takes_memory call.now)) }
+    ensures memory { OnErr result (IsTrue (call_takes_memory call.now)) }
 {
     match *call {
         Call::Arena { grains, limit } => make_arena(heap, alloc, grains, limit),

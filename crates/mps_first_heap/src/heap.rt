@@ -26,8 +26,9 @@ impl FirstHeap {
     ghost use Rattle.std.specs.Prelude.{◌≡◌, IfOk, OnErr, IsTrue};
     ghost use Rattle.mps_model.specs.World.{empty_world};
     ghost use Rattle.mps_first_heap.specs.StandsFor.{StandsFor};
-    ghost use Rattle.mps_first_heap.specs.RightStep.{IsLegalCall, StandsAfter, IsReplayedCall, IsUnsupportedExactly, IsNewPoolNumber, ArePoolsCounted};
-    ghost use Rattle.mps_first_heap.specs.Unsupported.{IsInRange, takes_memory};
+    ghost use Rattle.mps_first_heap.specs.RightStep.{IsLegalCall, StandsAfter, IsReplayedCall, IsUnsupportedExactly};
+    ghost use Rattle.mps_first_heap.specs.RightStep.{IsNewPoolNumber, ArePoolsCounted};
+    ghost use Rattle.mps_first_heap.specs.Unsupported.{IsInRange, call_takes_memory};
 
     /// The heap before its arena is made. It takes no memory.
     pub fn new(alloc: Global) -> FirstHeap
@@ -61,7 +62,7 @@ impl FirstHeap {
         ensures pool { IfOk result (λ done. IsNewPoolNumber self.old call.now done) }
         ensures counted { IfOk result (λ done. ArePoolsCounted self.old call.now done) }
         ensures err { OnErr result (self.new ≡ self.old) }
-        ensures memory { OnErr result (IsTrue (takes_memory call.now)) }
+        ensures memory { OnErr result (IsTrue (call_takes_memory call.now)) }
     {
         answer(&mut self.arena, alloc, call)
     }

@@ -6,7 +6,7 @@ ghost use Rattle.mps_first_heap.specs.View.{state_of};
 
 use crate::arena::Arena;
 use crate::done::{Done, THE_POOL, reply_only};
-use crate::names::{is_pool, is_taken};
+use crate::names::{is_pool, is_name_taken};
 use mps_base::{Kind, Name, Rank, WORDS_OF_GRAIN};
 use mps_model::Reply;
 use std::alloc::{AllocError, Global};
@@ -64,7 +64,7 @@ pub fn make_table(
     ensures ok { IfOk result (λ done. HasOutcome (after_table (state_of heap.old) name length) done (state_of heap.new)) }
     ensures err { OnErr result (heap.new ≡ heap.old) }
 {
-    if !is_arena_made(heap) || heap.table.is_some() || is_taken(heap, name) {
+    if !is_arena_made(heap) || heap.table.is_some() || is_name_taken(heap, name) {
         return Ok(reply_only(Reply::Unsupported));
     }
     heap.slots = Vec::from_elem(alloc, 0, length as usize)?;
@@ -77,7 +77,7 @@ pub fn make_pool(heap: &mut Arena, name: Name, kind: Kind, format: u64) -> Done
     ensures { HasOutcome (after_pool (state_of heap.old) name kind format) result (state_of heap.new) }
 {
     let is_copying_front = kind == Kind::Amc && format == FRONT_FORMAT;
-    if !is_copying_front || !is_arena_made(heap) || heap.pool.is_some() || is_taken(heap, name) {
+    if !is_copying_front || !is_arena_made(heap) || heap.pool.is_some() || is_name_taken(heap, name) {
         return reply_only(Reply::Unsupported);
     }
     heap.pool = Some(name);
@@ -95,7 +95,7 @@ pub fn make_point(heap: &mut Arena, name: Name, pool: Name, rank: Rank) -> Done
     if rank != Rank::Exact
         || !is_arena_made(heap)
         || heap.point.is_some()
-        || is_taken(heap, name)
+        || is_name_taken(heap, name)
         || !is_pool(heap, pool)
     {
         return reply_only(Reply::Unsupported);

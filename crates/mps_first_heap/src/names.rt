@@ -1,7 +1,7 @@
 // What the names stand for.
 ghost use Rattle.std.specs.Prelude.{◌≡◌, ◌&&◌, not};
 ghost use Rattle.mps_model.specs.Graph.{same_name};
-ghost use Rattle.mps_first_heap.specs.HeapState.{is_named, is_taken, has_slot, is_point, is_pool};
+ghost use Rattle.mps_first_heap.specs.HeapState.{is_named, is_name_taken, has_slot, is_point, is_pool};
 ghost use Rattle.mps_first_heap.specs.View.{state_of};
 
 use crate::arena::Arena;
@@ -25,8 +25,8 @@ pub fn is_named(other: Option<Name>, name: Name) -> bool
 }
 
 /// Whether something has this name.
-pub fn is_taken(heap: &Arena, name: Name) -> bool
-    ensures { result ≡ is_taken (state_of heap.now) name }
+pub fn is_name_taken(heap: &Arena, name: Name) -> bool
+    ensures { result ≡ is_name_taken (state_of heap.now) name }
 {
     is_named(heap.table, name) || is_named(heap.pool, name) || is_named(heap.point, name)
 }

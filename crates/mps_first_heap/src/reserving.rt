@@ -4,7 +4,7 @@ ghost use Rattle.mps_base.specs.Address.{grains_needed};
 ghost use Rattle.mps_format.specs.Fields.{size_field};
 ghost use Rattle.mps_format.specs.Front.{is_front};
 ghost use Rattle.mps_first_heap.specs.HeapState.{max_block_words};
-ghost use Rattle.mps_first_heap.specs.Outcome.{HasOutcome, reserved_in_buffer, segment_taken, segment_move, reserve_after, reserve_placed, after_reserve};
+ghost use Rattle.mps_first_heap.specs.Outcome.{HasOutcome, reserved_in_buffer, with_segment_taken, segment_move, reserve_after, reserve_placed, after_reserve};
 ghost use Rattle.mps_first_heap.specs.View.{state_of};
 
 use crate::arena::Arena;
@@ -36,7 +36,7 @@ fn reserve_in_buffer(heap: &mut Arena, head: u64)
 /// Takes the next grains as a segment, whose words are then the buffer, and returns the move.
 fn take_segment(heap: &mut Arena, need: u16) -> Move
     requires { heap.old.held + need < 2 ^ 16 }
-    ensures after { state_of heap.new ≡ segment_taken (state_of heap.old) need }
+    ensures after { state_of heap.new ≡ with_segment_taken (state_of heap.old) need }
     ensures moved { result ≡ segment_move (state_of heap.old) need }
 {
     let first = u32::from(heap.held) + 1;

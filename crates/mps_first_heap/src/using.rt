@@ -1,6 +1,6 @@
 // The calls that use the point and the table.
 ghost use Rattle.std.specs.Prelude.{◌≡◌};
-ghost use Rattle.mps_first_heap.specs.Outcome.{HasOutcome, may_init, after_init, after_commit, commit_move, number_at, number_reply};
+ghost use Rattle.mps_first_heap.specs.Outcome.{HasOutcome, may_init, after_init, after_commit, commit_move, number_reply_at, number_reply};
 ghost use Rattle.mps_first_heap.specs.View.{state_of};
 
 use crate::arena::Arena;
@@ -58,8 +58,8 @@ pub fn commit(heap: &mut Arena, name: Name, slot: Slot) -> Done
 }
 
 /// The number in a cell of the block at an address; 0 is null.
-fn number_at(heap: &Arena, address: u32, cell: u64) -> Reply
-    ensures { result ≡ number_at (state_of heap.now) address cell }
+fn number_reply_at(heap: &Arena, address: u32, cell: u64) -> Reply
+    ensures { result ≡ number_reply_at (state_of heap.now) address cell }
 {
     if address == 0 {
         return Reply::Refused(Refusal::NullRef);
@@ -76,7 +76,7 @@ pub fn number(heap: &Arena, slot: Slot, cell: u64) -> Reply
     ensures { result ≡ number_reply (state_of heap.now) slot cell }
 {
     if has_slot(heap, slot) {
-        number_at(heap, heap.slots[slot.index as usize], cell)
+        number_reply_at(heap, heap.slots[slot.index as usize], cell)
     } else {
         Reply::Unsupported
     }
