@@ -1,7 +1,7 @@
-pub mod Kept
-pub mod Stepping
-pub mod Gathered
-pub mod Wholly
-pub mod OneReplay
+pub mod Entries
+pub mod Replaying
+pub mod Gathering
+pub mod WholeReplay
+pub mod Uniqueness
 pub mod VersionOne
 pub mod Ascending

@@ -1,6 +1,7 @@
+pub mod BadReplay
 pub mod Replayed
 pub mod Listing
-pub mod Kept
+pub mod Entries
 pub mod Ending
 pub mod Listed
 pub mod Replaying

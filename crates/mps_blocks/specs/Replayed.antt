@@ -38,125 +38,125 @@ replayed records = replayed_from at_the_start records
 
 -- Two blocks are committed, the second below the first.
 
-abbrev one : Record
-one = record { line = 7; code = commit_code; fields = 0x2000 ∷ 3 ∷ 0 ∷ [] }
+abbrev first_commit : Record
+first_commit = record { line = 7; code = commit_code; fields = 0x2000 ∷ 3 ∷ 0 ∷ [] }
 
 abbrev first_block : Block
 first_block = record { at = 0x2000; words = 3; pool = 0 }
 
-abbrev two : Record
-two = record { line = 8; code = commit_code; fields = 0x1000 ∷ 4 ∷ 1 ∷ [] }
+abbrev second_commit : Record
+second_commit = record { line = 8; code = commit_code; fields = 0x1000 ∷ 4 ∷ 1 ∷ [] }
 
 abbrev second_block : Block
 second_block = record { at = 0x1000; words = 4; pool = 1 }
 
 -- a record with these fields
-abbrev known : (code : ℕ) → List ℕ → Record
-known code fields = record { line = 9; code = code; fields = fields }
+abbrev record_with : (code : ℕ) → List ℕ → Record
+record_with code fields = record { line = 9; code = code; fields = fields }
 
 -- these blocks live, and no name was interned
 abbrev live : List Block → State
 live blocks = record { blocks = blocks; interned = 0 }
 
-pub blocks_stand_in_the_order_of_their_addresses : replayed (one ∷ two ∷ []) ≡ Some (live (second_block ∷ first_block ∷ []))
+pub blocks_stand_in_the_order_of_their_addresses : replayed (first_commit ∷ second_commit ∷ []) ≡ Some (live (second_block ∷ first_block ∷ []))
 blocks_stand_in_the_order_of_their_addresses = refl
 
-pub an_allocated_block_lives : replayed (known alloc_code (0x2000 ∷ 3 ∷ 0 ∷ []) ∷ []) ≡ Some (live (first_block ∷ []))
+pub an_allocated_block_lives : replayed (record_with alloc_code (0x2000 ∷ 3 ∷ 0 ∷ []) ∷ []) ≡ Some (live (first_block ∷ []))
 an_allocated_block_lives = refl
 
 pub a_block_moves :
-    replayed (one ∷ known move_code (0x2000 ∷ 0x800 ∷ []) ∷ []) ≡ Some (live (record { at = 0x800; words = 3; pool = 0 } ∷ []))
+    replayed (first_commit ∷ record_with move_code (0x2000 ∷ 0x800 ∷ []) ∷ []) ≡ Some (live (record { at = 0x800; words = 3; pool = 0 } ∷ []))
 a_block_moves = refl
 
 pub a_block_moves_after_another :
-    replayed (one ∷ two ∷ known move_code (0x1000 ∷ 0x3000 ∷ []) ∷ []) ≡ Some (live (first_block ∷ record { at = 0x3000; words = 4; pool = 1 } ∷ []))
+    replayed (first_commit ∷ second_commit ∷ record_with move_code (0x1000 ∷ 0x3000 ∷ []) ∷ []) ≡ Some (live (first_block ∷ record { at = 0x3000; words = 4; pool = 1 } ∷ []))
 a_block_moves_after_another = refl
 
-pub a_block_that_stays_is_as_it_was : replayed (one ∷ two ∷ known stay_code (0x2000 ∷ []) ∷ []) ≡ Some (live (second_block ∷ first_block ∷ []))
+pub a_block_that_stays_is_as_it_was : replayed (first_commit ∷ second_commit ∷ record_with stay_code (0x2000 ∷ []) ∷ []) ≡ Some (live (second_block ∷ first_block ∷ []))
 a_block_that_stays_is_as_it_was = refl
 
-pub a_block_that_is_posted_is_as_it_was : replayed (one ∷ two ∷ known post_code (0x1000 ∷ []) ∷ []) ≡ Some (live (second_block ∷ first_block ∷ []))
+pub a_block_that_is_posted_is_as_it_was : replayed (first_commit ∷ second_commit ∷ record_with post_code (0x1000 ∷ []) ∷ []) ≡ Some (live (second_block ∷ first_block ∷ []))
 a_block_that_is_posted_is_as_it_was = refl
 
-pub a_flip_changes_no_block : replayed (one ∷ known flip_code (2 ∷ 0x2000 ∷ 0 ∷ []) ∷ []) ≡ Some (live (first_block ∷ []))
+pub a_flip_changes_no_block : replayed (first_commit ∷ record_with flip_code (2 ∷ 0x2000 ∷ 0 ∷ []) ∷ []) ≡ Some (live (first_block ∷ []))
 a_flip_changes_no_block = refl
 
-pub a_live_block_is_freed : replayed (one ∷ known free_code (0x2000 ∷ []) ∷ []) ≡ Some at_the_start
+pub a_live_block_is_freed : replayed (first_commit ∷ record_with free_code (0x2000 ∷ []) ∷ []) ≡ Some at_the_start
 a_live_block_is_freed = refl
 
-pub the_others_live_on : replayed (one ∷ two ∷ known free_code (0x1000 ∷ []) ∷ []) ≡ Some (live (first_block ∷ []))
+pub the_others_live_on : replayed (first_commit ∷ second_commit ∷ record_with free_code (0x1000 ∷ []) ∷ []) ≡ Some (live (first_block ∷ []))
 the_others_live_on = refl
 
-pub a_freed_place_is_committed_again :
-    replayed (one ∷ known free_code (0x2000 ∷ []) ∷ known commit_code (0x2000 ∷ 5 ∷ 1 ∷ []) ∷ []) ≡ Some (live (record { at = 0x2000; words = 5; pool = 1 } ∷ []))
-a_freed_place_is_committed_again = refl
+pub a_freed_address_is_committed_again :
+    replayed (first_commit ∷ record_with free_code (0x2000 ∷ []) ∷ record_with commit_code (0x2000 ∷ 5 ∷ 1 ∷ []) ∷ []) ≡ Some (live (record { at = 0x2000; words = 5; pool = 1 } ∷ []))
+a_freed_address_is_committed_again = refl
 
-pub a_place_that_was_left_is_committed_again :
-    replayed (two ∷ known move_code (0x1000 ∷ 0x800 ∷ []) ∷ known commit_code (0x1000 ∷ 5 ∷ 0 ∷ []) ∷ [])
+pub an_address_that_was_left_is_committed_again :
+    replayed (second_commit ∷ record_with move_code (0x1000 ∷ 0x800 ∷ []) ∷ record_with commit_code (0x1000 ∷ 5 ∷ 0 ∷ []) ∷ [])
     ≡ Some (live (record { at = 0x800; words = 4; pool = 1 } ∷ record { at = 0x1000; words = 5; pool = 0 } ∷ []))
-a_place_that_was_left_is_committed_again = refl
+an_address_that_was_left_is_committed_again = refl
 
 pub names_are_interned_in_order :
-    replayed (known intern_code (0 ∷ 97 ∷ 0 ∷ []) ∷ known intern_code (1 ∷ 98 ∷ 0 ∷ []) ∷ []) ≡ Some (record { blocks = []; interned = 2 })
+    replayed (record_with intern_code (0 ∷ 97 ∷ 0 ∷ []) ∷ record_with intern_code (1 ∷ 98 ∷ 0 ∷ []) ∷ []) ≡ Some (record { blocks = []; interned = 2 })
 names_are_interned_in_order = refl
 
 pub a_live_block_is_labelled :
-    replayed (one ∷ known intern_code (0 ∷ 97 ∷ 0 ∷ []) ∷ known label_code (0x2000 ∷ 0 ∷ []) ∷ [])
+    replayed (first_commit ∷ record_with intern_code (0 ∷ 97 ∷ 0 ∷ []) ∷ record_with label_code (0x2000 ∷ 0 ∷ []) ∷ [])
     ≡ Some (record { blocks = first_block ∷ []; interned = 1 })
 a_live_block_is_labelled = refl
 
 -- Bad replays.
 
-pub a_live_place_cannot_be_committed : replayed (one ∷ known commit_code (0x2000 ∷ 1 ∷ 0 ∷ []) ∷ []) ≡ None
-a_live_place_cannot_be_committed = refl
+pub a_live_address_cannot_be_committed : replayed (first_commit ∷ record_with commit_code (0x2000 ∷ 1 ∷ 0 ∷ []) ∷ []) ≡ None
+a_live_address_cannot_be_committed = refl
 
-pub a_live_place_cannot_be_allocated : replayed (one ∷ known alloc_code (0x2000 ∷ 1 ∷ 0 ∷ []) ∷ []) ≡ None
-a_live_place_cannot_be_allocated = refl
+pub a_live_address_cannot_be_allocated : replayed (first_commit ∷ record_with alloc_code (0x2000 ∷ 1 ∷ 0 ∷ []) ∷ []) ≡ None
+a_live_address_cannot_be_allocated = refl
 
-pub a_block_cannot_move_onto_another : replayed (one ∷ two ∷ known move_code (0x2000 ∷ 0x1000 ∷ []) ∷ []) ≡ None
+pub a_block_cannot_move_onto_another : replayed (first_commit ∷ second_commit ∷ record_with move_code (0x2000 ∷ 0x1000 ∷ []) ∷ []) ≡ None
 a_block_cannot_move_onto_another = refl
 
-pub a_block_cannot_move_to_itself : replayed (one ∷ known move_code (0x2000 ∷ 0x2000 ∷ []) ∷ []) ≡ None
+pub a_block_cannot_move_to_itself : replayed (first_commit ∷ record_with move_code (0x2000 ∷ 0x2000 ∷ []) ∷ []) ≡ None
 a_block_cannot_move_to_itself = refl
 
-pub no_block_moves_from_there : replayed (one ∷ known move_code (0x2008 ∷ 0x3000 ∷ []) ∷ []) ≡ None
+pub no_block_moves_from_there : replayed (first_commit ∷ record_with move_code (0x2008 ∷ 0x3000 ∷ []) ∷ []) ≡ None
 no_block_moves_from_there = refl
 
-pub no_block_stays_there : replayed (one ∷ known stay_code (0x1000 ∷ []) ∷ []) ≡ None
+pub no_block_stays_there : replayed (first_commit ∷ record_with stay_code (0x1000 ∷ []) ∷ []) ≡ None
 no_block_stays_there = refl
 
-pub no_block_is_posted_there : replayed (one ∷ known post_code (0x1000 ∷ []) ∷ []) ≡ None
+pub no_block_is_posted_there : replayed (first_commit ∷ record_with post_code (0x1000 ∷ []) ∷ []) ≡ None
 no_block_is_posted_there = refl
 
-pub no_block_is_freed_there : replayed (one ∷ known free_code (0x1000 ∷ []) ∷ []) ≡ None
+pub no_block_is_freed_there : replayed (first_commit ∷ record_with free_code (0x1000 ∷ []) ∷ []) ≡ None
 no_block_is_freed_there = refl
 
-pub a_block_is_freed_once : replayed (one ∷ known free_code (0x2000 ∷ []) ∷ known free_code (0x2000 ∷ []) ∷ []) ≡ None
+pub a_block_is_freed_once : replayed (first_commit ∷ record_with free_code (0x2000 ∷ []) ∷ record_with free_code (0x2000 ∷ []) ∷ []) ≡ None
 a_block_is_freed_once = refl
 
-pub no_block_is_left_where_it_was : replayed (one ∷ known move_code (0x2000 ∷ 0x800 ∷ []) ∷ known stay_code (0x2000 ∷ []) ∷ []) ≡ None
+pub no_block_is_left_where_it_was : replayed (first_commit ∷ record_with move_code (0x2000 ∷ 0x800 ∷ []) ∷ record_with stay_code (0x2000 ∷ []) ∷ []) ≡ None
 no_block_is_left_where_it_was = refl
 
-pub no_block_begins_inside_another : replayed (one ∷ known free_code (0x2008 ∷ []) ∷ []) ≡ None
+pub no_block_begins_inside_another : replayed (first_commit ∷ record_with free_code (0x2008 ∷ []) ∷ []) ≡ None
 no_block_begins_inside_another = refl
 
-pub a_name_is_interned_out_of_order : replayed (known intern_code (1 ∷ 97 ∷ 0 ∷ []) ∷ []) ≡ None
+pub a_name_is_interned_out_of_order : replayed (record_with intern_code (1 ∷ 97 ∷ 0 ∷ []) ∷ []) ≡ None
 a_name_is_interned_out_of_order = refl
 
 pub a_number_is_interned_once :
-    replayed (known intern_code (0 ∷ 97 ∷ 0 ∷ []) ∷ known intern_code (0 ∷ 98 ∷ 0 ∷ []) ∷ []) ≡ None
+    replayed (record_with intern_code (0 ∷ 97 ∷ 0 ∷ []) ∷ record_with intern_code (0 ∷ 98 ∷ 0 ∷ []) ∷ []) ≡ None
 a_number_is_interned_once = refl
 
-pub a_label_of_no_name : replayed (one ∷ known label_code (0x2000 ∷ 0 ∷ []) ∷ []) ≡ None
+pub a_label_of_no_name : replayed (first_commit ∷ record_with label_code (0x2000 ∷ 0 ∷ []) ∷ []) ≡ None
 a_label_of_no_name = refl
 
 pub no_block_is_labelled_there :
-    replayed (one ∷ known intern_code (0 ∷ 97 ∷ 0 ∷ []) ∷ known label_code (0x1000 ∷ 0 ∷ []) ∷ []) ≡ None
+    replayed (first_commit ∷ record_with intern_code (0 ∷ 97 ∷ 0 ∷ []) ∷ record_with label_code (0x1000 ∷ 0 ∷ []) ∷ []) ≡ None
 no_block_is_labelled_there = refl
 
 pub a_label_of_a_later_name :
-    replayed (one ∷ known intern_code (0 ∷ 97 ∷ 0 ∷ []) ∷ known label_code (0x2000 ∷ 1 ∷ []) ∷ known intern_code (1 ∷ 98 ∷ 0 ∷ []) ∷ []) ≡ None
+    replayed (first_commit ∷ record_with intern_code (0 ∷ 97 ∷ 0 ∷ []) ∷ record_with label_code (0x2000 ∷ 1 ∷ []) ∷ record_with intern_code (1 ∷ 98 ∷ 0 ∷ []) ∷ []) ≡ None
 a_label_of_a_later_name = refl
 
-pub nothing_follows_a_bad_replay : replayed (known free_code (0x2000 ∷ []) ∷ one ∷ []) ≡ None
+pub nothing_follows_a_bad_replay : replayed (record_with free_code (0x2000 ∷ []) ∷ first_commit ∷ []) ≡ None
 nothing_follows_a_bad_replay = refl

@@ -10,9 +10,9 @@ ghost use Rattle.mps_model.specs.Replay.{replay};
 ghost use Rattle.mps_blocks.specs.Listing.{addresses};
 ghost use Rattle.mps_blocks.specs.Replayed.{State, replayed};
 
-/// A log of version 1 tells of blocks alone: its records replay here to the blocks to which the model replays them, and
+/// A log of version 1 records what happens to blocks alone: its records replay here to the blocks to which the model replays them, and
 /// are bad replays here exactly where they are there.
-pub fn version_one_tells_of_blocks_alone()
+pub fn version_one_records_blocks_alone()
     ensures { (records : List Record) → All (IsRecord One) records
         → option_map (λ (s : State). s.blocks) (replayed records) ≡ replay records }
 {}

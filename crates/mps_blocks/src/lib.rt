@@ -1,12 +1,14 @@
 //! The blocks that are live at the end of a log: its records are replayed, and what is left is listed.
 #![tactic(auto)]
 
+mod bad_replay;
+mod command;
 mod laws;
 mod listing;
-mod live_blocks;
-mod replaying;
+mod replay;
 #[cfg(test)]
 mod tests;
 
-pub use laws::{live_blocks_ascend, version_one_tells_of_blocks_alone};
-pub use live_blocks::blocks;
+pub use bad_replay::BadReplay;
+pub use command::blocks;
+pub use laws::{live_blocks_ascend, version_one_records_blocks_alone};

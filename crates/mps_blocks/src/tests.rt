@@ -1,7 +1,7 @@
 // Whole and damaged logs over a desk in memory.
 ghost use Rattle.std.specs.Prelude.{◌<◌};
 
-use crate::live_blocks::blocks;
+use crate::command::blocks;
 use mps_base::{DeskCall, MemDesk};
 use std::alloc::{AllocError, Global};
 use std::process::Abort;

@@ -1,11 +1,11 @@
 use Rattle.std.proofs.Common.{◌≡◌, ℕ, ◌∷◌, ap}
 use Rattle.std.specs.Map.Iter.{deref_pair}
 use Rattle.std.proofs.lemmas.Map.Iter.{rest_more}
-use Rattle.mps_blocks.specs.declared.replaying.Extent.{Extent}
-use Rattle.mps_blocks.specs.Kept.{block_of, store_of}
+use Rattle.mps_blocks.specs.declared.replay.Extent.{Extent}
+use Rattle.mps_blocks.specs.Entries.{block_of, store_of}
 use Rattle.mps_blocks.specs.Listing.{block_line, listing}
-use Rattle.mps_blocks.proofs.Gathered.{gathered_more, part_printed, on_err_of}
-use Rattle.mps_blocks.proofs.Kept.{Entries}
+use Rattle.mps_blocks.proofs.Gathering.{gathered_more, part_printed, on_err_of}
+use Rattle.mps_blocks.proofs.Entries.{Entries}
 use Rattle.mps_blocks.proofs.listing.gather_blocks.Goals as goal
 
 pub loop-at-preserved : goal.loop-at-preserved
@@ -17,8 +17,8 @@ loop-at-preserved g c =
     (listing (store_of c.args.live.now.entries)) (listing (store_of c.loop-at.at-iterator)) (block_line (block_of entry)) (listing (store_of c.next.new.self))
     c.loop-at.invariant (ap (λ (es : Entries). listing (store_of es)) rest) c.in_ok-gather_block.ensures.gathered
 
-pub returns-in_err-gather_block-clause-failed : goal.returns-in_err-gather_block-clause-failed
-returns-in_err-gather_block-clause-failed g c =
+pub returns-in_err-gather_block-clause-part : goal.returns-in_err-gather_block-clause-part
+returns-in_err-gather_block-clause-part g c =
     on_err_of c.from_residual.result
     (part_printed (g.D.Desk.outside c.args.desk.now) (g.D.Desk.outside c.loop-at.desk) (g.D.Desk.outside c.gather_block.new.desk) c.args.output.now c.loop-at.output
-    (listing (store_of c.args.live.now.entries)) (listing (store_of c.loop-at.at-iterator)) c.requires c.loop-at.invariant c.in_err-gather_block.ensures.failed)
+    (listing (store_of c.args.live.now.entries)) (listing (store_of c.loop-at.at-iterator)) c.requires c.loop-at.invariant c.in_err-gather_block.ensures.part)

@@ -1,6 +1,6 @@
-use Rattle.mps_blocks.specs.Kept.{store_of}
+use Rattle.mps_blocks.specs.Entries.{store_of}
 use Rattle.mps_blocks.specs.Listing.{listing}
-use Rattle.mps_blocks.proofs.Gathered.{IsGatheredUpTo}
+use Rattle.mps_blocks.proofs.Gathering.{IsGatheredUpTo}
 use Rattle.mps_blocks.proofs.listing.gather_blocks.Given as goal
 
 abbrev pub invariant-loop-at : goal.invariant-loop-at

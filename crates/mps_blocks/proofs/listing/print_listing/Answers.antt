@@ -2,13 +2,13 @@ use Rattle.std.proofs.Common.{[], subst}
 use Rattle.std.proofs.lemmas.Result.{on_err_weaker}
 use Rattle.mps_model.specs.Replay.{Store}
 use Rattle.mps_report.specs.Streams.{PrintsPart}
-use Rattle.mps_blocks.specs.Kept.{store_of}
+use Rattle.mps_blocks.specs.Entries.{store_of}
 use Rattle.mps_blocks.specs.Listing.{listing}
-use Rattle.mps_blocks.proofs.Gathered.{all_gathered, part_printed}
+use Rattle.mps_blocks.proofs.Gathering.{all_gathered, part_printed}
 use Rattle.mps_blocks.proofs.listing.print_listing.Goals as goal
 
-pub returns-clause-failed : goal.returns-clause-failed
-returns-clause-failed g c =
+pub returns-clause-part : goal.returns-clause-part
+returns-clause-part g c =
     let a = g.D.Desk.outside c.args.desk.now in
     let b = g.D.Desk.outside c.gather_blocks.new.desk in
     let d = g.D.Desk.outside c.flush.new.desk in

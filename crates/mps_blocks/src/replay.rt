@@ -1,0 +1,170 @@
+// The blocks that are live at a place of a log.
+
+ghost use Rattle.std.specs.Prelude.{◌≡◌, ◌<◌, slice_index, option_map};
+ghost use Rattle.mps_model.specs.Replay.{store_after, after_making, after_moving, after_touching, after_freeing};
+ghost use Rattle.mps_blocks.specs.Entries.{store_of};
+ghost use Rattle.mps_blocks.specs.Replaying.{Gives};
+
+use mps_event::RecordRef;
+use std::alloc::Global;
+use std::collections::BTreeMap;
+use std::marker::Model;
+
+/// A live block: its size in words, and the number of its pool.
+#[derive(Clone, Copy, Debug, PartialEq, Eq)]
+pub(crate) struct Extent {
+    pub(crate) words: u64,
+    pub(crate) pool: u64,
+}
+
+/// Why a record could not be replayed.
+#[derive(Clone, Copy, Debug, PartialEq, Eq)]
+pub(crate) enum ReplayFault {
+    BadReplay,
+    OutOfMemory,
+}
+
+/// The live blocks by their addresses, and how many names were interned.
+#[derive(Drop)]
+pub(crate) struct Replay {
+    live: BTreeMap<u64, Extent>,
+    interned: u64,
+}
+
+impl Model for Replay {
+    ghost use Rattle.std.specs.Prelude.{⊤};
+    ghost use Rattle.mps_blocks.specs.Replayed.{State};
+    ghost use Rattle.mps_blocks.specs.Entries.{store_of};
+
+    ghost Value = { State };
+
+    ghost view = { λ r. record { blocks = store_of r.live.entries; interned = r.interned } };
+}
+
+impl Replay {
+    ghost use Rattle.mps_blocks.specs.Replayed.{at_the_start, replayed_after, after_interning, after_labelling};
+
+    /// Before the first record.
+    pub(crate) fn new(alloc: Global) -> Replay
+        ensures { result ≡ at_the_start }
+    {
+        Replay {
+            live: BTreeMap::new(alloc),
+            interned: 0,
+        }
+    }
+
+    /// The live blocks by their addresses.
+    pub(crate) fn live(&self) -> &BTreeMap<u64, Extent>
+        ensures { store_of result.now.entries ≡ self.now.blocks }
+    {
+        &self.live
+    }
+
+    /// What a record does to the blocks and the names.
+    pub(crate) fn apply(&mut self, entry: &RecordRef<'_>) -> Result<(), ReplayFault>
+        requires { self.old.interned < 18446744073709551615 }
+        ensures { Gives (replayed_after self.old entry.now) self.new result }
+    {
+        match entry.code() {
+            96 => self.intern(field_at(entry, 0)),
+            97 => self.label(field_at(entry, 0), field_at(entry, 1)),
+            _ => apply_to_blocks(&mut self.live, entry),
+        }
+    }
+
+    fn intern(&mut self, id: u64) -> Result<(), ReplayFault>
+        requires { self.old.interned < 18446744073709551615 }
+        ensures { Gives (after_interning self.old id) self.new result }
+    {
+        if id != self.interned {
+            return Err(ReplayFault::BadReplay);
+        }
+        self.interned += 1;
+        Ok(())
+    }
+
+    fn label(&self, at: u64, id: u64) -> Result<(), ReplayFault>
+        ensures { Gives (after_labelling self.now at id) self.now result }
+    {
+        if id >= self.interned {
+            return Err(ReplayFault::BadReplay);
+        }
+        touch(&self.live, at)
+    }
+}
+
+/// What a record does to the live blocks.
+fn apply_to_blocks(
+    live: &mut BTreeMap<u64, Extent>,
+    entry: &RecordRef<'_>,
+) -> Result<(), ReplayFault>
+    ensures { Gives (store_after (store_of live.old.entries) entry.now) (store_of live.new.entries) result }
+{
+    let first = field_at(entry, 0);
+    let second = field_at(entry, 1);
+    match entry.code() {
+        80 | 81 => make(live, first, second, field_at(entry, 2)),
+        82 => relocate(live, first, second),
+        83 | 84 => touch(live, first),
+        85 => free(live, first),
+        _ => Ok(()),
+    }
+}
+
+/// Makes a block.
+fn make(live: &mut BTreeMap<u64, Extent>, at: u64, words: u64, pool: u64) -> Result<(), ReplayFault>
+    ensures { Gives (after_making (store_of live.old.entries) at words pool) (store_of live.new.entries) result }
+{
+    if live.contains_key(&at) {
+        return Err(ReplayFault::BadReplay);
+    }
+    match live.insert(at, Extent { words, pool }) {
+        Ok(_) => Ok(()),
+        Err(_) => Err(ReplayFault::OutOfMemory),
+    }
+}
+
+/// Moves a block.
+fn relocate(live: &mut BTreeMap<u64, Extent>, from: u64, to: u64) -> Result<(), ReplayFault>
+    ensures { Gives (after_moving (store_of live.old.entries) from to) (store_of live.new.entries) result }
+{
+    if live.contains_key(&to) {
+        return Err(ReplayFault::BadReplay);
+    }
+    match live.remove(&from) {
+        None => Err(ReplayFault::BadReplay),
+        Some(extent) => match live.insert(to, extent) {
+            Ok(_) => Ok(()),
+            Err(_) => Err(ReplayFault::OutOfMemory),
+        },
+    }
+}
+
+/// Leaves a block as it is.
+fn touch(live: &BTreeMap<u64, Extent>, at: u64) -> Result<(), ReplayFault>
+    ensures { Gives (after_touching (store_of live.now.entries) at) (store_of live.now.entries) result }
+{
+    if live.contains_key(&at) {
+        Ok(())
+    } else {
+        Err(ReplayFault::BadReplay)
+    }
+}
+
+/// Frees a block.
+fn free(live: &mut BTreeMap<u64, Extent>, at: u64) -> Result<(), ReplayFault>
+    ensures { Gives (after_freeing (store_of live.old.entries) at) (store_of live.new.entries) result }
+{
+    match live.remove(&at) {
+        Some(_) => Ok(()),
+        None => Err(ReplayFault::BadReplay),
+    }
+}
+
+/// A field of a record, 0 where it has none there.
+fn field_at(entry: &RecordRef<'_>, i: u16) -> u64
+    ensures { result ≡ slice_index entry.now.fields i }
+{
+    if i < entry.count() { entry.field(i) } else { 0 }
+}
