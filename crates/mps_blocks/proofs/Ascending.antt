@@ -29,7 +29,8 @@ lower_above m n (b ∷ bs) lt h = (omega (arith, lt, h.0), lower_above m n bs lt
 
 -- ---- one block more
 
-above_case : (c : Bool) (n : ℕ) (new b : Block) (bs added : Store) → n < new.at → Above n (b ∷ bs) → Above n added → Above n (cond c (new ∷ b ∷ bs) (b ∷ added))
+above_case : (c : Bool) (n : ℕ) (new b : Block) (bs added : Store) → n < new.at → Above n (b ∷ bs) → Above n added
+    → Above n (cond c (new ∷ b ∷ bs) (b ∷ added))
 above_case true n new b bs added lt h k = (lt, h)
 above_case false n new b bs added lt h k = (h.0, k)
 
@@ -44,7 +45,8 @@ not_there b at o false e h = (refl, h)
 not_same : (a b : ℕ) → eqb a b ≡ false → (a ≡ b → ⊥)
 not_same a b e same = absurd (let f : true ≡ false = sym (eq-eqb a b same) ∙ e in cc)
 
-ascends_case : (c : Bool) (new b : Block) (bs added : Store) → ltb new.at b.at ≡ c → (b.at ≡ new.at → ⊥) → Ascends (b ∷ bs) → Above b.at bs → Ascends added
+ascends_case : (c : Bool) (new b : Block) (bs added : Store) → ltb new.at b.at ≡ c → (b.at ≡ new.at → ⊥) → Ascends (b ∷ bs)
+    → Above b.at bs → Ascends added
     → (b.at < new.at → Above b.at added) → Ascends (cond c (new ∷ b ∷ bs) (b ∷ added))
 ascends_case true new b bs added e apart h above k more = let lt = ltb-true new.at b.at e in ((lt, lower_above new.at b.at bs lt above), h)
 ascends_case false new b bs added e apart h above k more = let le = ltb-false new.at b.at e in (more (omega (arith, le, apart)), k)
@@ -53,7 +55,8 @@ ascends_with : (new : Block) (bs : Store) → block_at bs new.at ≡ None → As
 ascends_with new [] none h = (tt, tt)
 ascends_with new (b ∷ bs) none h =
     let absent = not_there b new.at (block_at bs new.at) (eqb b.at new.at) refl none in
-    ascends_case (ltb new.at b.at) new b bs (with_block new bs) refl (not_same b.at new.at absent.0) h h.0 (ascends_with new bs absent.1 h.1)
+    ascends_case (ltb new.at b.at) new b bs (with_block new bs) refl (not_same b.at new.at absent.0) h h.0
+    (ascends_with new bs absent.1 h.1)
     (λ lt. above_with b.at new bs lt h.0)
 
 -- ---- one block less
@@ -72,9 +75,11 @@ ascends_less false b bs rest h above k = (above, k)
 
 ascends_without : (bs : Store) (at : ℕ) → Ascends bs → Ascends (without_block bs at)
 ascends_without [] at h = tt
-ascends_without (b ∷ bs) at h = ascends_less (eqb b.at at) b bs (without_block bs at) h (above_without b.at bs at h.0) (ascends_without bs at h.1)
+ascends_without (b ∷ bs) at h = ascends_less (eqb b.at at) b bs (without_block bs at) h (above_without b.at bs at h.0)
+    (ascends_without bs at h.1)
 
-absent_case : (c d : Bool) (b : Block) (bs rest : Store) (at : ℕ) → eqb b.at at ≡ d → cond d (Some b) (block_at bs at) ≡ None → (block_at bs at ≡ None → block_at rest at ≡ None)
+absent_case : (c d : Bool) (b : Block) (bs rest : Store) (at : ℕ) → eqb b.at at ≡ d → cond d (Some b) (block_at bs at) ≡ None
+    → (block_at bs at ≡ None → block_at rest at ≡ None)
     → block_at (cond c bs (b ∷ rest)) at ≡ None
 absent_case true true b bs rest at e h k = absurd cc
 absent_case true false b bs rest at e h k = h
@@ -105,7 +110,8 @@ making_case false s new e h = ascends_with new s (dead (block_at s new.at) e) h
 making : (s : Store) (at words pool : ℕ) → Ascends s → KeepsOrder (after_making s at words pool)
 making s at words pool h = making_case (is_live s at) s (record { at = at; words = words; pool = pool }) refl h
 
-moving_case : (c : Bool) (o : Option Block) (s : Store) (from to : ℕ) → is_live s to ≡ c → block_at s from ≡ o → Ascends s → KeepsOrder (after_moving s from to)
+moving_case : (c : Bool) (o : Option Block) (s : Store) (from to : ℕ) → is_live s to ≡ c → block_at s from ≡ o → Ascends s
+    → KeepsOrder (after_moving s from to)
 moving_case true o s from to live block h =
     let e : after_moving s from to ≡ None = rw live refl in
     subst KeepsOrder (sym e) tt
@@ -114,7 +120,8 @@ moving_case false None s from to live block h =
     subst KeepsOrder (sym e) tt
 moving_case false (Some b) s from to live block h =
     let e : after_moving s from to ≡ Some (with_block (record b { at = to }) (without_block s from)) = rw (live, block) refl in
-    subst KeepsOrder (sym e) (ascends_with (record b { at = to }) (without_block s from) (still_absent s from to (dead (block_at s to) live)) (ascends_without s from h))
+    subst KeepsOrder (sym e) (ascends_with (record b { at = to }) (without_block s from)
+    (still_absent s from to (dead (block_at s to) live)) (ascends_without s from h))
 
 moving : (s : Store) (from to : ℕ) → Ascends s → KeepsOrder (after_moving s from to)
 moving s from to h = moving_case (is_live s to) (block_at s from) s from to refl refl h
@@ -169,7 +176,8 @@ in_order_after s r h =
     (either_state (ltb name s.interned && is_live s.blocks id) (Some s) None h tt)
     (with_blocks s (store_after s.blocks r) (ascends_after s.blocks r h)))
 
-then_in_order : (o : Option State) (rs : List Record) → IsInOrder o → ((t : State) → Ascends t.blocks → IsInOrder (replayed_from t rs)) → IsInOrder (option_and_then (λ after. replayed_from after rs) o)
+then_in_order : (o : Option State) (rs : List Record) → IsInOrder o → ((t : State) → Ascends t.blocks → IsInOrder (replayed_from t rs))
+    → IsInOrder (option_and_then (λ after. replayed_from after rs) o)
 then_in_order None rs h k = tt
 then_in_order (Some t) rs h k = k t h
 

@@ -31,7 +31,8 @@ at_address at key = unsigned_tied at key ∙ eqb-sym at key
 
 -- ---- looking up
 
-block_case : (c : Bool) (key at : ℕ) (x : Extent) (p : Option Block) (q : Option Extent) → (c ≡ true → key ≡ at) → p ≡ option_map (λ (y : Extent). block_of (at, y)) q
+block_case : (c : Bool) (key at : ℕ) (x : Extent) (p : Option Block) (q : Option Extent) → (c ≡ true → key ≡ at)
+    → p ≡ option_map (λ (y : Extent). block_of (at, y)) q
     → cond c (Some (block_of (key, x))) p ≡ option_map (λ (y : Extent). block_of (at, y)) (cond c (Some x) q)
 block_case true key at x p q same e = ap (λ (k : ℕ). Some (block_of (k, x))) (same refl)
 block_case false key at x p q same e = e
@@ -51,7 +52,8 @@ is_live-store es at = ap is_some (block_at-store es at) ∙ is_some-mapped at (f
 
 -- ---- taking out
 
-without_case : (c : Bool) (e : ℕ × Extent) (es rest : Entries) (bs : Store) → store_of rest ≡ bs → store_of (cond c es (e ∷ rest)) ≡ cond c (store_of es) (block_of e ∷ bs)
+without_case : (c : Bool) (e : ℕ × Extent) (es rest : Entries) (bs : Store) → store_of rest ≡ bs
+    → store_of (cond c es (e ∷ rest)) ≡ cond c (store_of es) (block_of e ∷ bs)
 without_case true e es rest bs h = refl
 without_case false e es rest bs h = ap (λ (x : Store). block_of e ∷ x) h
 
@@ -61,7 +63,8 @@ store_of-remove (e ∷ es) at =
     ap (λ (c : Bool). store_of (cond c es (e ∷ remove_entry (is_at (nat_cmp at)) es))) (at_address at e.0)
     ∙ without_case (eqb e.0 at) e es (remove_entry (is_at (nat_cmp at)) es) (without_block (store_of es) at) (store_of-remove es at)
 
-absent_case : (c d : Bool) (e : ℕ × Extent) (es rest : Entries) (at : ℕ) → cond d (Some e.1) (found_at es at) ≡ None → (found_at es at ≡ None → found_at rest at ≡ None)
+absent_case : (c d : Bool) (e : ℕ × Extent) (es rest : Entries) (at : ℕ) → cond d (Some e.1) (found_at es at) ≡ None
+    → (found_at es at ≡ None → found_at rest at ≡ None)
     → is_at (nat_cmp at) e.0 ≡ d → found_at (cond c es (e ∷ rest)) at ≡ None
 absent_case true true e es rest at h k is = absurd cc
 absent_case true false e es rest at h k is = h
@@ -72,11 +75,13 @@ absent_case false false e es rest at h k is = ap (λ (d : Bool). cond d (Some e.
 pub still_absent : (es : Entries) (from to : ℕ) → found_at es to ≡ None → found_at (remove_entry (is_at (nat_cmp from)) es) to ≡ None
 still_absent [] from to h = refl
 still_absent (e ∷ es) from to h =
-    absent_case (is_at (nat_cmp from) e.0) (is_at (nat_cmp to) e.0) e es (remove_entry (is_at (nat_cmp from)) es) to h (still_absent es from to) refl
+    absent_case (is_at (nat_cmp from) e.0) (is_at (nat_cmp to) e.0) e es (remove_entry (is_at (nat_cmp from)) es) to h
+    (still_absent es from to) refl
 
 -- ---- putting in
 
-insert_case : (lt eq : Bool) (e : ℕ × Extent) (es added : Entries) (key : ℕ) (x : Extent) → cond (is_eq (cond lt Less (cond eq Equal Greater))) (Some e.1) (found_at es key) ≡ None
+insert_case : (lt eq : Bool) (e : ℕ × Extent) (es added : Entries) (key : ℕ) (x : Extent)
+    → cond (is_eq (cond lt Less (cond eq Equal Greater))) (Some e.1) (found_at es key) ≡ None
     → (found_at es key ≡ None → store_of added ≡ with_block (block_of (key, x)) (store_of es))
     → store_of (match_ordering (cond lt Less (cond eq Equal Greater)) ((key, x) ∷ e ∷ es) ((e.0, x) ∷ es) (e ∷ added))
     ≡ cond lt (block_of (key, x) ∷ block_of e ∷ store_of es) (block_of e ∷ with_block (block_of (key, x)) (store_of es))
@@ -84,7 +89,8 @@ insert_case true eq e es added key x none h = refl
 insert_case false true e es added key x none h = absurd cc
 insert_case false false e es added key x none h = ap (λ (bs : Store). block_of e ∷ bs) (h none)
 
-pub store_of-insert : (es : Entries) (key : ℕ) (x : Extent) → found_at es key ≡ None → store_of (insert_entry nat_cmp es key x) ≡ with_block (block_of (key, x)) (store_of es)
+pub store_of-insert : (es : Entries) (key : ℕ) (x : Extent) → found_at es key ≡ None
+    → store_of (insert_entry nat_cmp es key x) ≡ with_block (block_of (key, x)) (store_of es)
 store_of-insert [] key x none = refl
 store_of-insert (e ∷ es) key x none =
     insert_case (ltb key e.0) (eqb key e.0) e es (insert_entry nat_cmp es key x) key x none (store_of-insert es key x)
@@ -97,9 +103,11 @@ none_there (Some x) h = absurd cc
 
 pub made_twice : (es : Entries) (at words pool : ℕ) → is_some (found_at es at) ≡ true → after_making (store_of es) at words pool ≡ None
 made_twice es at words pool h =
-    ap (λ (c : Bool). cond c None (Some (with_block (record { at = at; words = words; pool = pool }) (store_of es)))) (is_live-store es at ∙ h)
+    ap (λ (c : Bool). cond c None (Some (with_block (record { at = at; words = words; pool = pool }) (store_of es)))) (is_live-store es at
+    ∙ h)
 
-pub made : (es new : Entries) (at : ℕ) (x : Extent) → is_some (found_at es at) ≡ false → new ≡ insert_entry nat_cmp es at x → after_making (store_of es) at x.words x.pool ≡ Some (store_of new)
+pub made : (es new : Entries) (at : ℕ) (x : Extent) → is_some (found_at es at) ≡ false → new ≡ insert_entry nat_cmp es at x
+    → after_making (store_of es) at x.words x.pool ≡ Some (store_of new)
 made es new at x h e =
     ap (λ (c : Bool). cond c None (Some (with_block (block_of (at, x)) (store_of es)))) (is_live-store es at ∙ h)
     ∙ ap Some (sym (ap store_of e ∙ store_of-insert es at x (none_there (found_at es at) h)))
@@ -109,18 +117,23 @@ moved_onto es from to h =
     let live : is_live (store_of es) to ≡ true = is_live-store es to ∙ h in
     rw live refl
 
-pub moved_none : (es : Entries) (from to : ℕ) → is_some (found_at es to) ≡ false → found_at es from ≡ None → after_moving (store_of es) from to ≡ None
+pub moved_none : (es : Entries) (from to : ℕ) → is_some (found_at es to) ≡ false → found_at es from ≡ None
+    → after_moving (store_of es) from to ≡ None
 moved_none es from to h none =
     let live : is_live (store_of es) to ≡ false = is_live-store es to ∙ h in
-    let block : block_at (store_of es) from ≡ None = block_at-store es from ∙ ap (λ (o : Option Extent). option_map (λ (y : Extent). block_of (from, y)) o) none in
+    let block : block_at (store_of es) from ≡ None = block_at-store es from
+    ∙ ap (λ (o : Option Extent). option_map (λ (y : Extent). block_of (from, y)) o) none in
     rw (live, block) refl
 
 pub moved : (es removed new : Entries) (from to : ℕ) (x : Extent) → is_some (found_at es to) ≡ false → found_at es from ≡ Some x
-    → removed ≡ remove_entry (is_at (nat_cmp from)) es → new ≡ insert_entry nat_cmp removed to x → after_moving (store_of es) from to ≡ Some (store_of new)
+    → removed ≡ remove_entry (is_at (nat_cmp from)) es → new ≡ insert_entry nat_cmp removed to x
+    → after_moving (store_of es) from to ≡ Some (store_of new)
 moved es removed new from to x h there r e =
     let live : is_live (store_of es) to ≡ false = is_live-store es to ∙ h in
-    let block : block_at (store_of es) from ≡ Some (block_of (from, x)) = block_at-store es from ∙ ap (λ (o : Option Extent). option_map (λ (y : Extent). block_of (from, y)) o) there in
-    let absent : found_at removed to ≡ None = ap (λ (s : Entries). found_at s to) r ∙ still_absent es from to (none_there (found_at es to) h) in
+    let block : block_at (store_of es) from ≡ Some (block_of (from, x)) = block_at-store es from
+    ∙ ap (λ (o : Option Extent). option_map (λ (y : Extent). block_of (from, y)) o) there in
+    let absent : found_at removed to ≡ None = ap (λ (s : Entries). found_at s to) r
+    ∙ still_absent es from to (none_there (found_at es to) h) in
     let store : store_of new ≡ with_block (block_of (to, x)) (without_block (store_of es) from) =
     ap store_of e ∙ store_of-insert removed to x absent ∙ ap (with_block (block_of (to, x))) (ap store_of r ∙ store_of-remove es from) in
     rw (live, block, store) refl
@@ -131,7 +144,8 @@ touched es at h = ap (λ (c : Bool). cond c (Some (store_of es)) None) (is_live-
 pub touched_none : (es : Entries) (at : ℕ) → is_some (found_at es at) ≡ false → after_touching (store_of es) at ≡ None
 touched_none es at h = ap (λ (c : Bool). cond c (Some (store_of es)) None) (is_live-store es at ∙ h)
 
-pub freed : (es new : Entries) (at : ℕ) (x : Extent) → found_at es at ≡ Some x → new ≡ remove_entry (is_at (nat_cmp at)) es → after_freeing (store_of es) at ≡ Some (store_of new)
+pub freed : (es new : Entries) (at : ℕ) (x : Extent) → found_at es at ≡ Some x → new ≡ remove_entry (is_at (nat_cmp at)) es
+    → after_freeing (store_of es) at ≡ Some (store_of new)
 freed es new at x there e =
     ap (λ (c : Bool). cond c (Some (without_block (store_of es) at)) None) (is_live-store es at ∙ ap is_some there)
     ∙ ap Some (sym (ap store_of e ∙ store_of-remove es at))
@@ -158,7 +172,8 @@ no_name es interned at id h =
     rw lt refl
 
 -- a name that is known labels what can be touched
-pub labelled : (es : Entries) (interned at id : ℕ) (result : Result (Unit {0}) ReplayFault) → id < interned → Gives (after_touching (store_of es) at) (store_of es) result
+pub labelled : (es : Entries) (interned at id : ℕ) (result : Result (Unit {0}) ReplayFault) → id < interned
+    → Gives (after_touching (store_of es) at) (store_of es) result
     → Gives (after_labelling (state_of es interned) at id) (state_of es interned) result
 labelled es interned at id (Ok value) h gives =
     let lt : ltb id interned ≡ true = lt-ltb id interned h in

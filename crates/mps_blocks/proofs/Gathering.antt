@@ -17,7 +17,8 @@ pub record IsGatheredUpTo (old new : Outside) (before after all left : List ℕ)
 pub gathered-none : (o : Outside) (x all : List ℕ) → IsGatheredUpTo o o x x all all
 gathered-none o x all = record { text = []; gathers = gathers-none o x; split = refl }
 
-pub gathered_more : (a b c : Outside) (x y z all left line rest : List ℕ) → IsGatheredUpTo a b x y all left → left ≡ line ++ rest → Gathers b c y z line → IsGatheredUpTo a c x z all rest
+pub gathered_more : (a b c : Outside) (x y z all left line rest : List ℕ) → IsGatheredUpTo a b x y all left → left ≡ line ++ rest
+    → Gathers b c y z line → IsGatheredUpTo a c x z all rest
 gathered_more a b c x y z all left line rest e is f = record {
   text = e.text ++ line;
   gathers = gathers-then a b c x y z e.text line e.gathers f;
@@ -32,7 +33,8 @@ pub all_gathered : (a b : Outside) (x y all : List ℕ) → Gathers a b x y all 
 all_gathered a b x y all e = record { text = all; gathers = e; split = sym (append-nil all) }
 
 -- a fault after that: a prefix of the whole text was printed
-pub part_printed : (a b c : Outside) (x y all left : List ℕ) → x ≡ [] → IsGatheredUpTo a b x y all left → PrintsPart b c y → PrintsPart a c all
+pub part_printed : (a b c : Outside) (x y all left : List ℕ) → x ≡ [] → IsGatheredUpTo a b x y all left → PrintsPart b c y
+    → PrintsPart a c all
 part_printed a b c x y all left empty e p =
     let front = e.gathers.front in
     let some = take p.count y in

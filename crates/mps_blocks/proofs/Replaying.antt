@@ -45,7 +45,8 @@ pub next_replays : (version : Version) (offset : ℕ) (a b : Outside) (x y : Buf
     → NextReplays version offset (left_of a x) (left_of b (record y { pending = drop (unwrap_or size 0) y.pending })) old new (Ok size)
 next_replays version offset a b x y old new None at_end reads enough gives =
     let left : left_of b y ≡ left_of a x = left_same a b x y reads in (
-      subst (λ (o : Option (List ℕ)). IfSome o (λ bytes. bytes ≡ [])) left (nothing_left version y.ended y.pending b.input gives.0 (λ h. enough h gives.1) (reads.end at_end)),
+      subst (λ (o : Option (List ℕ)). IfSome o (λ bytes. bytes ≡ [])) left
+          (nothing_left version y.ended y.pending b.input gives.0 (λ h. enough h gives.1) (reads.end at_end)),
       gives.2,
     )
 next_replays version offset a b x y old new (Some size) at_end reads enough gives =
@@ -58,7 +59,8 @@ next_replays version offset a b x y old new (Some size) at_end reads enough give
       replay = gives.4;
     }
 
-pub next_stops : (version : Version) (offset : ℕ) (a b : Outside) (x y : Buffered) (left_after : Option (List ℕ)) (old new : State) (why : Stop BadReplay)
+pub next_stops : (version : Version) (offset : ℕ) (a b : Outside) (x y : Buffered) (left_after : Option (List ℕ)) (old new : State)
+    (why : Stop BadReplay)
     → IsAtEnd a x → ReadsMore a b x y
     → PendingReplays version offset y old new (Err why)
     → NextReplays version offset (left_of a x) left_after old new (Err why)
@@ -99,7 +101,8 @@ at_start version left state = record {
 }
 
 -- the records before, and one more
-pub replayed-one : (s : State) (rs : List Record) (r : Record) → replayed_from s (rs ++ r ∷ []) ≡ option_and_then (λ after. replayed_after after r) (replayed_from s rs)
+pub replayed-one : (s : State) (rs : List Record) (r : Record)
+    → replayed_from s (rs ++ r ∷ []) ≡ option_and_then (λ after. replayed_after after r) (replayed_from s rs)
 replayed-one s [] r = and_some (replayed_after s r)
   where
     and_some : (o : Option State) → option_and_then (λ (after : State). Some after) o ≡ o
@@ -107,24 +110,30 @@ replayed-one s [] r = and_some (replayed_after s r)
     and_some (Some t) = refl
 replayed-one s (q ∷ rs) r = step (replayed_after s q) rs r (λ t. replayed-one t rs r)
   where
-    step : (o : Option State) (rs : List Record) (r : Record) → ((t : State) → replayed_from t (rs ++ r ∷ []) ≡ option_and_then (λ after. replayed_after after r) (replayed_from t rs))
-        → option_and_then (λ after. replayed_from after (rs ++ r ∷ [])) o ≡ option_and_then (λ after. replayed_after after r) (option_and_then (λ after. replayed_from after rs) o)
+    step : (o : Option State) (rs : List Record) (r : Record)
+        → ((t : State) → replayed_from t (rs ++ r ∷ []) ≡ option_and_then (λ after. replayed_after after r) (replayed_from t rs))
+        → option_and_then (λ after. replayed_from after (rs ++ r ∷ [])) o
+        ≡ option_and_then (λ after. replayed_after after r) (option_and_then (λ after. replayed_from after rs) o)
     step None rs r h = refl
     step (Some t) rs r h = h t
 
-replayed_one_more : (s t u : State) (rs : List Record) (r : Record) → replayed_from s rs ≡ Some t → replayed_after t r ≡ Some u → replayed_from s (rs ++ r ∷ []) ≡ Some u
-replayed_one_more s t u rs r h k = replayed-one s rs r ∙ ap (λ (o : Option State). option_and_then (λ after. replayed_after after r) o) h ∙ k
+replayed_one_more : (s t u : State) (rs : List Record) (r : Record) → replayed_from s rs ≡ Some t → replayed_after t r ≡ Some u
+    → replayed_from s (rs ++ r ∷ []) ≡ Some u
+replayed_one_more s t u rs r h k = replayed-one s rs r ∙ ap (λ (o : Option State). option_and_then (λ after. replayed_after after r) o) h
+    ∙ k
 
 pub one_more : (version : Version) (count offset size : ℕ) (left left_after left_then : Option (List ℕ)) (old new next : State)
     → SoFar version count offset left left_after old new → NextReplays version offset left_after left_then new next (Ok (Some size))
     → SoFar version (count + 1) (offset + size) left left_then old next
 one_more version count offset size left left_after left_then old new next s n =
-    let bytes : records_bytes (s.records ++ n.read ∷ []) ≡ records_bytes s.records ++ record_bytes n.read = flat_one record_bytes s.records n.read in
+    let bytes : records_bytes (s.records ++ n.read ∷ []) ≡ records_bytes s.records ++ record_bytes n.read =
+    flat_one record_bytes s.records n.read in
     record {
       records = s.records ++ n.read ∷ [];
       each = all_and_one version s.records n.read s.each n.grammar;
       counted = length-append s.records (n.read ∷ []) ∙ ap (λ (k : ℕ). k + 1) s.counted;
-      offset_is = let a = length-append (records_bytes s.records) (record_bytes n.read) in let b = ap (λ (x : List ℕ). length x) bytes in omega (arith, s.offset_is, n.sized, a, b);
+      offset_is = let a = length-append (records_bytes s.records) (record_bytes n.read) in let b = ap (λ (x : List ℕ). length x) bytes in
+          omega (arith, s.offset_is, n.sized, a, b);
       front = subst (λ (x : List ℕ). left ≡ option_map (λ rest. x ++ rest) left_then) (sym bytes)
           (one_in_front (records_bytes s.records) (record_bytes n.read) left left_after left_then s.front n.front);
       replay = replayed_one_more old new next s.records n.read s.replay n.replay;
@@ -230,9 +239,12 @@ at_most_one : (s : State) (r : Record) → AtMostOneMore s (replayed_after s r)
 at_most_one s r =
     let id = slice_index r.fields 0 in
     let at = slice_index r.fields 1 in
-    either_way (eqb r.code intern_code) s (after_interning s id) (cond (eqb r.code label_code) (after_labelling s id at) (option_map (λ blocks. record s { blocks = blocks }) (store_after s.blocks r)))
+    either_way (eqb r.code intern_code) s (after_interning s id)
+    (cond (eqb r.code label_code) (after_labelling s id at)
+    (option_map (λ blocks. record s { blocks = blocks }) (store_after s.blocks r)))
     (either_way (eqb id s.interned) s (Some (record s { interned = s.interned + 1 })) None (omega arith) tt)
-    (either_way (eqb r.code label_code) s (after_labelling s id at) (option_map (λ blocks. record s { blocks = blocks }) (store_after s.blocks r))
+    (either_way (eqb r.code label_code) s (after_labelling s id at)
+    (option_map (λ blocks. record s { blocks = blocks }) (store_after s.blocks r))
     (either_way (ltb at s.interned && is_live s.blocks id) s (Some s) None (omega arith) tt)
     (same_names s (store_after s.blocks r)))
 

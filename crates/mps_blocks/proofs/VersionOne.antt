@@ -32,11 +32,13 @@ blocks_alone s r h =
     let label : eqb r.code label_code ≡ false = no_label r.code r.fields (eqb r.code label_code) refl h.fields in
     let mapped = option_map (λ blocks. record s { blocks = blocks }) (store_after s.blocks r) in
     let id = slice_index r.fields 0 in
-    ap (λ (b : Bool). blocks_of (cond b (after_interning s id) (cond (eqb r.code label_code) (after_labelling s id (slice_index r.fields 1)) mapped))) intern
+    ap (λ (b : Bool). blocks_of (cond b (after_interning s id)
+    (cond (eqb r.code label_code) (after_labelling s id (slice_index r.fields 1)) mapped))) intern
     ∙ ap (λ (b : Bool). blocks_of (cond b (after_labelling s id (slice_index r.fields 1)) mapped)) label
     ∙ blocks_kept s (store_after s.blocks r)
 
-then_blocks : (o : Option State) (p : Option Store) (rs : List Record) → blocks_of o ≡ p → ((s : State) → blocks_of (replayed_from s rs) ≡ replay_from s.blocks rs)
+then_blocks : (o : Option State) (p : Option Store) (rs : List Record) → blocks_of o ≡ p
+    → ((s : State) → blocks_of (replayed_from s rs) ≡ replay_from s.blocks rs)
     → blocks_of (option_and_then (λ after. replayed_from after rs) o) ≡ option_and_then (λ after. replay_from after rs) p
 then_blocks None p rs e h = ap (λ (q : Option Store). option_and_then (λ after. replay_from after rs) q) e
 then_blocks (Some s) p rs e h = h s ∙ ap (λ (q : Option Store). option_and_then (λ after. replay_from after rs) q) e

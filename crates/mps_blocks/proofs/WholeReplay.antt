@@ -61,7 +61,8 @@ replayed_whole version bytes left old new start opened all =
     let g = header_known (header_bytes (number_of_version version)) bytes left opened in
     whole_ending version bytes g.0 new g.2 (subst (λ (s : State). AllReplay version g.0 s new (Ok tt)) start (all g.0 g.1))
 
-pub replayed_stop : (version : Version) (bytes : List ℕ) (left : Option (List ℕ)) (old new : State) (why : Stop BadReplay) → old ≡ at_the_start
+pub replayed_stop : (version : Version) (bytes : List ℕ) (left : Option (List ℕ)) (old new : State) (why : Stop BadReplay)
+    → old ≡ at_the_start
     → Some bytes ≡ option_map (λ rest. header_bytes (number_of_version version) ++ rest) left
     → ((rest : List ℕ) → left ≡ Some rest → AllReplay version rest old new (Err why)) → HasReplayed bytes (Err why)
 replayed_stop version bytes left old new why start opened all =

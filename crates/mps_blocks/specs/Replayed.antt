@@ -58,24 +58,29 @@ record_with code fields = record { line = 9; code = code; fields = fields }
 abbrev live : List Block → State
 live blocks = record { blocks = blocks; interned = 0 }
 
-pub blocks_stand_in_the_order_of_their_addresses : replayed (first_commit ∷ second_commit ∷ []) ≡ Some (live (second_block ∷ first_block ∷ []))
+pub blocks_stand_in_the_order_of_their_addresses : replayed (first_commit ∷ second_commit ∷ [])
+    ≡ Some (live (second_block ∷ first_block ∷ []))
 blocks_stand_in_the_order_of_their_addresses = refl
 
 pub an_allocated_block_lives : replayed (record_with alloc_code (0x2000 ∷ 3 ∷ 0 ∷ []) ∷ []) ≡ Some (live (first_block ∷ []))
 an_allocated_block_lives = refl
 
 pub a_block_moves :
-    replayed (first_commit ∷ record_with move_code (0x2000 ∷ 0x800 ∷ []) ∷ []) ≡ Some (live (record { at = 0x800; words = 3; pool = 0 } ∷ []))
+    replayed (first_commit ∷ record_with move_code (0x2000 ∷ 0x800 ∷ []) ∷ [])
+    ≡ Some (live (record { at = 0x800; words = 3; pool = 0 } ∷ []))
 a_block_moves = refl
 
 pub a_block_moves_after_another :
-    replayed (first_commit ∷ second_commit ∷ record_with move_code (0x1000 ∷ 0x3000 ∷ []) ∷ []) ≡ Some (live (first_block ∷ record { at = 0x3000; words = 4; pool = 1 } ∷ []))
+    replayed (first_commit ∷ second_commit ∷ record_with move_code (0x1000 ∷ 0x3000 ∷ []) ∷ [])
+    ≡ Some (live (first_block ∷ record { at = 0x3000; words = 4; pool = 1 } ∷ []))
 a_block_moves_after_another = refl
 
-pub a_block_that_stays_is_as_it_was : replayed (first_commit ∷ second_commit ∷ record_with stay_code (0x2000 ∷ []) ∷ []) ≡ Some (live (second_block ∷ first_block ∷ []))
+pub a_block_that_stays_is_as_it_was : replayed (first_commit ∷ second_commit ∷ record_with stay_code (0x2000 ∷ []) ∷ [])
+    ≡ Some (live (second_block ∷ first_block ∷ []))
 a_block_that_stays_is_as_it_was = refl
 
-pub a_block_that_is_posted_is_as_it_was : replayed (first_commit ∷ second_commit ∷ record_with post_code (0x1000 ∷ []) ∷ []) ≡ Some (live (second_block ∷ first_block ∷ []))
+pub a_block_that_is_posted_is_as_it_was : replayed (first_commit ∷ second_commit ∷ record_with post_code (0x1000 ∷ []) ∷ [])
+    ≡ Some (live (second_block ∷ first_block ∷ []))
 a_block_that_is_posted_is_as_it_was = refl
 
 pub a_flip_changes_no_block : replayed (first_commit ∷ record_with flip_code (2 ∷ 0x2000 ∷ 0 ∷ []) ∷ []) ≡ Some (live (first_block ∷ []))
@@ -88,7 +93,8 @@ pub the_others_live_on : replayed (first_commit ∷ second_commit ∷ record_wit
 the_others_live_on = refl
 
 pub a_freed_address_is_committed_again :
-    replayed (first_commit ∷ record_with free_code (0x2000 ∷ []) ∷ record_with commit_code (0x2000 ∷ 5 ∷ 1 ∷ []) ∷ []) ≡ Some (live (record { at = 0x2000; words = 5; pool = 1 } ∷ []))
+    replayed (first_commit ∷ record_with free_code (0x2000 ∷ []) ∷ record_with commit_code (0x2000 ∷ 5 ∷ 1 ∷ []) ∷ [])
+    ≡ Some (live (record { at = 0x2000; words = 5; pool = 1 } ∷ []))
 a_freed_address_is_committed_again = refl
 
 pub an_address_that_was_left_is_committed_again :
@@ -97,7 +103,8 @@ pub an_address_that_was_left_is_committed_again :
 an_address_that_was_left_is_committed_again = refl
 
 pub names_are_interned_in_order :
-    replayed (record_with intern_code (0 ∷ 97 ∷ 0 ∷ []) ∷ record_with intern_code (1 ∷ 98 ∷ 0 ∷ []) ∷ []) ≡ Some (record { blocks = []; interned = 2 })
+    replayed (record_with intern_code (0 ∷ 97 ∷ 0 ∷ []) ∷ record_with intern_code (1 ∷ 98 ∷ 0 ∷ []) ∷ [])
+    ≡ Some (record { blocks = []; interned = 2 })
 names_are_interned_in_order = refl
 
 pub a_live_block_is_labelled :
@@ -134,7 +141,8 @@ no_block_is_freed_there = refl
 pub a_block_is_freed_once : replayed (first_commit ∷ record_with free_code (0x2000 ∷ []) ∷ record_with free_code (0x2000 ∷ []) ∷ []) ≡ None
 a_block_is_freed_once = refl
 
-pub no_block_is_left_where_it_was : replayed (first_commit ∷ record_with move_code (0x2000 ∷ 0x800 ∷ []) ∷ record_with stay_code (0x2000 ∷ []) ∷ []) ≡ None
+pub no_block_is_left_where_it_was : replayed (first_commit ∷ record_with move_code (0x2000 ∷ 0x800 ∷ [])
+    ∷ record_with stay_code (0x2000 ∷ []) ∷ []) ≡ None
 no_block_is_left_where_it_was = refl
 
 pub no_block_begins_inside_another : replayed (first_commit ∷ record_with free_code (0x2008 ∷ []) ∷ []) ≡ None
@@ -155,7 +163,8 @@ pub no_block_is_labelled_there :
 no_block_is_labelled_there = refl
 
 pub a_label_of_a_later_name :
-    replayed (first_commit ∷ record_with intern_code (0 ∷ 97 ∷ 0 ∷ []) ∷ record_with label_code (0x2000 ∷ 1 ∷ []) ∷ record_with intern_code (1 ∷ 98 ∷ 0 ∷ []) ∷ []) ≡ None
+    replayed (first_commit ∷ record_with intern_code (0 ∷ 97 ∷ 0 ∷ []) ∷ record_with label_code (0x2000 ∷ 1 ∷ [])
+    ∷ record_with intern_code (1 ∷ 98 ∷ 0 ∷ []) ∷ []) ≡ None
 a_label_of_a_later_name = refl
 
 pub nothing_follows_a_bad_replay : replayed (record_with free_code (0x2000 ∷ []) ∷ first_commit ∷ []) ≡ None

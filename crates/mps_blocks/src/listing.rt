@@ -30,7 +30,8 @@ fn gather_blocks<D: Desk>(
     desk: &mut D,
 ) -> Result<(), Failed>
     requires { output.old ≡ [] }
-    ensures gathered { OnOk result (Gathers (D.outside desk.old) (D.outside desk.new) output.old output.new (listing (store_of live.now.entries))) }
+    ensures gathered { OnOk result (Gathers (D.outside desk.old) (D.outside desk.new) output.old output.new
+        (listing (store_of live.now.entries))) }
     ensures part { OnErr result (PrintsPart (D.outside desk.old) (D.outside desk.new) (listing (store_of live.now.entries))) }
 {
     for (at, extent) in live {
@@ -45,7 +46,8 @@ fn gather_block<D: Desk>(
     output: &mut Output,
     desk: &mut D,
 ) -> Result<(), Failed>
-    ensures gathered { OnOk result (Gathers (D.outside desk.old) (D.outside desk.new) output.old output.new (block_line (block_of (at, extent.now)))) }
+    ensures gathered { OnOk result (Gathers (D.outside desk.old) (D.outside desk.new) output.old output.new
+        (block_line (block_of (at, extent.now)))) }
     ensures part { OnErr result (PrintsPart (D.outside desk.old) (D.outside desk.new) output.old) }
 {
     output.make_room(desk)?;

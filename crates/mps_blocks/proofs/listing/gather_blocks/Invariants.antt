@@ -5,4 +5,5 @@ use Rattle.mps_blocks.proofs.listing.gather_blocks.Given as goal
 
 abbrev pub invariant-loop-at : goal.invariant-loop-at
 invariant-loop-at g l =
-    IsGatheredUpTo (g.D.Desk.outside l.initial.desk) (g.D.Desk.outside l.desk) l.initial.output l.output (listing (store_of l.live.entries)) (listing (store_of l.at-iterator))
+    IsGatheredUpTo (g.D.Desk.outside l.initial.desk) (g.D.Desk.outside l.desk) l.initial.output l.output
+    (listing (store_of l.live.entries)) (listing (store_of l.at-iterator))

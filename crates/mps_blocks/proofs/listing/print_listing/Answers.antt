@@ -15,5 +15,6 @@ returns-clause-part g c =
     let text = listing (store_of c.live.result.now.entries) in
     on_err_weaker c.flush.result
     (λ p. subst (λ (s : Store). PrintsPart a d (listing s)) c.live.ensures
-    (part_printed a b d c.args.output.now c.gather_blocks.new.output text [] c.requires (all_gathered a b c.args.output.now c.gather_blocks.new.output text c.in_ok-gather_blocks.ensures.gathered) p))
+    (part_printed a b d c.args.output.now c.gather_blocks.new.output text [] c.requires
+    (all_gathered a b c.args.output.now c.gather_blocks.new.output text c.in_ok-gather_blocks.ensures.gathered) p))
     c.flush.ensures.failed

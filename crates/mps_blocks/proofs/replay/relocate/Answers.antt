@@ -8,7 +8,8 @@ returns-then-contains_key c =
 
 pub returns-in-None : goal.returns-in-None
 returns-in-None c =
-    moved_none c.args.live.now.entries c.args.from c.args.to (sym c.contains_key.ensures ∙ c.if-contains_key.false) (sym c.in-None.ensures.value)
+    moved_none c.args.live.now.entries c.args.from c.args.to (sym c.contains_key.ensures ∙ c.if-contains_key.false)
+    (sym c.in-None.ensures.value)
 
 pub returns-in-Ok : goal.returns-in-Ok
 returns-in-Ok c =

@@ -7,4 +7,5 @@ returns-then-id-self c =
 
 pub returns : goal.returns
 returns c =
-    rw (← c.self.view_is) (labelled c.self.inside.live.entries c.self.inside.interned c.args.at c.args.id c.touch.result c.if-id-self.false c.touch.ensures)
+    rw (← c.self.view_is) (labelled c.self.inside.live.entries c.self.inside.interned c.args.at c.args.id c.touch.result
+    c.if-id-self.false c.touch.ensures)
