@@ -33,7 +33,7 @@ use std::alloc::Global;
 /// program: 0, or with a report 3 where a read failed, 4 where a write failed, 6 at the first record that is wrong, 7
 /// where record 2^32 begins, 8 for out of memory.
 pub fn cnv<D: Desk>(alloc: Global, log: &str, kinds: Kinds, desk: &mut D) -> u8
-    ensures answers { StatusIsJustified (D.outside desk.old) (D.outside desk.new) result }
+    ensures status { StatusIsJustified (D.outside desk.old) (D.outside desk.new) result }
     // With any status its ending was reported, and nothing with 0.
     ensures reported { ReportsStatus text_of_bad_log result (D.outside desk.old) (D.outside desk.new) }
     // Where it is known what the opened file holds, and the status is none of a fault or for out of memory: exactly this was printed.
@@ -58,6 +58,7 @@ pub fn cnv<D: Desk>(alloc: Global, log: &str, kinds: Kinds, desk: &mut D) -> u8
     report_ending(ending, desk)
 }
 
+/// Converts the log of this name.
 fn convert<D: Desk>(
     alloc: Global,
     log: &str,
@@ -92,6 +93,7 @@ fn convert<D: Desk>(
     flush_after(ending, &mut output, desk)
 }
 
+/// Converts the records that follow the header.
 fn convert_records<D: Desk>(
     version: Version,
     kinds: Kinds,
@@ -122,7 +124,7 @@ fn convert_records<D: Desk>(
     after_the_last(input, desk)
 }
 
-// The next record, and its size; None at the end.
+/// Converts the next record, and returns its size; None at the end.
 fn convert_next<D: Desk>(
     version: Version,
     kinds: Kinds,
@@ -151,7 +153,7 @@ fn convert_next<D: Desk>(
     Ok(size)
 }
 
-// The record at the front, and its size; None at the end.
+/// Converts the record at the front, and returns its size; None at the end.
 fn convert_record(
     version: Version,
     kinds: Kinds,
@@ -160,7 +162,7 @@ fn convert_record(
     output: &mut Output,
 ) -> Result<Option<usize>, Stop<BadLog>>
     requires { length output.old + 512 ≤ 65536 }
-    ensures known { StopIsJustified input.now result }
+    ensures justified { StopIsJustified input.now result }
     ensures size { IfOk result (λ o. IfSome o (λ size. (size ≤ 40) × (size ≤ length input.now.pending))) }
     ensures broken { result ≡ Err Stop.ReadFailed → (first_of version input.now.ended input.now.pending ≡ Ok None) × (output.new ≡ output.old) }
     ensures gives { PendingGives version (bits_of kinds) offset input.now output.old output.new result }
@@ -176,7 +178,7 @@ fn convert_record(
     }
 }
 
-// The line of a record of one of these kinds.
+/// Gathers the line of a record of one of these kinds.
 fn put_wanted(entry: &RecordRef<'_>, version: Version, kinds: Kinds, output: &mut Output)
     requires room { length output.old + 512 ≤ 65536 }
     requires count { length entry.now.fields ≤ 4 }
@@ -187,6 +189,7 @@ fn put_wanted(entry: &RecordRef<'_>, version: Version, kinds: Kinds, output: &mu
     }
 }
 
+/// Whether a record is of one of these kinds.
 fn is_wanted(entry: &RecordRef<'_>, version: Version, kinds: Kinds) -> bool
     ensures { result ≡ is_wanted (bits_of kinds) (event_of version entry.now.code) }
 {
@@ -196,7 +199,7 @@ fn is_wanted(entry: &RecordRef<'_>, version: Version, kinds: Kinds) -> bool
     }
 }
 
-// The line of a record.
+/// Gathers the line of a record.
 fn put_record(entry: &RecordRef<'_>, output: &mut Output)
     requires room { length output.old + 512 ≤ 65536 }
     requires count { length entry.now.fields ≤ 4 }
@@ -209,6 +212,7 @@ fn put_record(entry: &RecordRef<'_>, output: &mut Output)
     output.text(b"\n");
 }
 
+/// The fields of a record, each after a space.
 fn put_fields(entry: &RecordRef<'_>, output: &mut Output)
     requires room { length output.old + 17 * length entry.now.fields ≤ 65536 }
     ensures text { output.new ≡ output.old ++ flat_map field_text entry.now.fields }

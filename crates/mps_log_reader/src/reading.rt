@@ -53,7 +53,7 @@ pub fn open_log<E: Copy, D: Desk>(
 fn take_header<E: Copy>(no_header: E, input: &mut Input) -> Result<Version, Stop<E>>
     // There are no other stops.
     ensures stops { IfErr result (λ why. (why ≡ Stop.ReadFailed) ⊎ (why ≡ Stop.Bad no_header)) }
-    ensures known { StopIsJustified input.old result }
+    ensures justified { StopIsJustified input.old result }
     ensures taken { TakesHeader input.old input.new result }
     ensures failed { input.new.failed ≡ input.old.failed }
 {
@@ -115,7 +115,7 @@ pub fn after_the_last<E: Copy, D: Desk>(input: &mut Input, desk: &mut D) -> Resu
 
 /// The end, where no more can be counted.
 fn end_of<E: Copy>(input: &Input) -> Result<(), Stop<E>>
-    ensures known { StopIsJustified input.now result }
+    ensures justified { StopIsJustified input.now result }
     ensures gives { EndGives input.now result }
     ensures unread { result ≡ Err Stop.ReadFailed → input.now.pending ≡ [] }
 {

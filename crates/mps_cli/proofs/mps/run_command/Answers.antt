@@ -2,7 +2,7 @@ use Rattle.mps_cli.proofs.mps.run_command.Goals as goal
 
 pub returns-in-Convert-clause-asked : goal.returns-in-Convert-clause-asked
 returns-in-Convert-clause-asked g c = rw c.in-Convert.is (record {
-  answers = c.cnv.ensures.answers;
+  answers = c.cnv.ensures.status;
   converted = c.cnv.ensures.converted;
   only = c.cnv.ensures.unique;
   broken = c.cnv.ensures.broken;
