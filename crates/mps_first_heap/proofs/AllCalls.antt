@@ -1,4 +1,4 @@
--- All calls together, and what the public contract says of them.
+-- All calls together, as the public contract has them.
 use Rattle.std.proofs.Common.{◌≡◌, ℕ, ◌+◌, refl, sym, ◌∙◌, ap, subst, [], Ok, Err, Result, length}
 use Rattle.std.proofs.Common.{arith, lit≤}
 use Rattle.std.proofs.lemmas.Bool.{false≢true}
@@ -22,7 +22,7 @@ use Rattle.mps_first_heap.proofs.Commits.{right_commit}
 use Rattle.mps_first_heap.proofs.Reserves.{right_reserve}
 use Rattle.mps_first_heap.proofs.Makings.{right_arena, right_table, right_pool, right_point}
 use Rattle.mps_first_heap.proofs.PoolNumbers.{pools_in, counts_pools}
-use Rattle.mps_first_heap.proofs.Unsupporting.{IsExact, exact_unsupported, by_form}
+use Rattle.mps_first_heap.proofs.Exact.{IsExact, exact_unsupported, by_form}
 use Rattle.mps_first_heap.proofs.ExactUses.{exact_number, exact_init, exact_commit}
 use Rattle.mps_first_heap.proofs.ExactReserves.{exact_reserve}
 use Rattle.mps_first_heap.proofs.ExactMakings.{exact_arena, exact_table, exact_pool, exact_point}
@@ -40,7 +40,7 @@ right_call h p line (call.Commit point target) range a = right_commit h p line p
 right_call h p line (call.Number slot cell) range a = right_number h p line slot cell a
 right_call h p line other range a = unsupported_step h p line other a
 
--- each call is unsupported exactly where that is said
+-- each call gets the reply `unsupported` exactly where it is unsupported
 exact_call : (h : HeapState) (p : Past) (c : Call) → IsInRange c → Agrees h p → IsExact (world_of h p) c (outcome h c).done.reply
 exact_call h p (call.Arena grains limit) range a = exact_arena h p grains limit
 exact_call h p (call.Table table slots) range a = exact_table h p table slots range.1 a
@@ -52,7 +52,7 @@ exact_call h p (call.Commit point target) range a = exact_commit h p point targe
 exact_call h p (call.Number slot cell) range a = exact_number h p slot cell a
 exact_call h p other range a = exact_unsupported (world_of h p) other (by_form (world_of h p) other refl)
 
--- ---- for what a call came to
+-- ---- for the outcome of a call
 
 came_right : (h new : HeapState) (c : Call) (done : Done) → IsInRange c → HasOutcome (outcome h c) done new → (w : World) (line : ℕ)
     → StandsFor h w → IsRightStep w (step_of line c done) new
@@ -62,7 +62,7 @@ came_right h new c done range came w line s =
     (subst (λ (v : World). IsRightStep v (step_of line c (outcome h c).done) (outcome h c).state) (sym s.world)
         (right_call h s.past line c range s.agrees)))
 
--- what follows for the value of an `Ok`
+-- a property of the value of an `Ok` gives another
 ok_then : {T E : Type 0} (r : Result T E) {P Q : T → Type 0} → IfOk r P → ((x : T) → P x → Q x) → IfOk r Q
 ok_then (Ok x) h f = f x h
 ok_then (Err e) h f = h
@@ -121,7 +121,7 @@ empty_heap_agrees = record {
   before_point = λ _. record { no_start = refl; no_end = refl; no_reserved = refl; not_open = refl };
 }
 
--- nothing kept stands for the empty world
+-- the empty heap stands for the empty world
 pub empty_heap_stands : StandsFor empty_heap empty_world
 empty_heap_stands = record { past = record { ids = []; addresses = []; segments = []; names = [] }; world = refl;
     agrees = empty_heap_agrees }

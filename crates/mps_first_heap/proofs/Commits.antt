@@ -23,10 +23,10 @@ use Rattle.mps_first_heap.specs.HeapState.{HeapState, is_point, has_slot, head_a
 use Rattle.mps_first_heap.specs.Outcome.{Outcome, ok_with_move, unsupported, commit_move, after_commit}
 use Rattle.mps_first_heap.specs.StandsFor.{Past, Agrees, world_of, world_with, step_of, object_of_words, cells_at, some_address, point_with, reservation_of_words, address_in_slot, is_null_or_below, end_of_objects}
 use Rattle.mps_first_heap.specs.RightStep.{IsRightStep}
-use Rattle.mps_first_heap.proofs.Lists.{length-cells_in, length-block_words, blocks_later, blocks_push}
+use Rattle.mps_first_heap.proofs.Cells.{length-cells_in, length-block_words, blocks_later, blocks_push}
 use Rattle.mps_first_heap.proofs.Worlds.{parts_by, world_by, world_of-parts, live_blocks-world_of, stored}
 use Rattle.mps_first_heap.proofs.Premises.{NamesPoint, HasSlot, names_point, slot_facts}
-use Rattle.mps_first_heap.proofs.Stores.{making_pushed}
+use Rattle.mps_first_heap.proofs.Stores.{making_a_block_last}
 use Rattle.mps_first_heap.proofs.Steps.{right_step, unsupported_step}
 use Rattle.mps_first_heap.proofs.Acts.{act_of_commit}
 
@@ -93,7 +93,7 @@ slots_kept addresses address (held ∷ ids) h =
     ap (λ x. x ∷ map (address_in_slot addresses) ids) (held_pushed addresses address held both.0)
     ∙ ap (λ rest. address_in_slot (addresses ++ address ∷ []) held ∷ rest) (slots_kept addresses address ids both.1)
 
--- the slots with one written, over addresses with one more
+-- the slots after one is written, with one address more
 slots_pushed : (addresses : List ℕ) (address : ℕ) (ids : List (Option ℕ)) (i : ℕ)
     → list_all (is_null_or_below (length addresses)) ids ≡ true
     → slice_set (map (address_in_slot addresses) ids) i address ≡ map (address_in_slot (addresses ++ address ∷ []))
@@ -193,7 +193,7 @@ module _ (h : HeapState) (p : Past) (name : Name) (slot : Slot) (n : NamesPoint 
         let blocks = blocks_later h.words (end_of_objects h) h.reserved p.addresses (omega (arith, bound)) n.agrees.blocks in
         ap (λ store. option_and_then (λ after. Some after) (after_making store (bytes_of_word * h.reserved) size 0))
         (ap live_blocks (sym (is_world_committing h p s.table n.point o)) ∙ live_blocks-world_of h p)
-        ∙ ap (option_and_then (λ after. Some after)) (making_pushed h.words h.reserved size p.addresses blocks reserved_block)
+        ∙ ap (option_and_then (λ after. Some after)) (making_a_block_last h.words h.reserved size p.addresses blocks reserved_block)
 
     right_with_object : IsRightStep (world_committing h p) (step_committed h line name slot) (with_object h slot)
     right_with_object =

@@ -1,4 +1,4 @@
--- The calls that make things are unsupported exactly where that is said.
+-- The calls that make things get the reply `unsupported` exactly where they are unsupported.
 use Rattle.std.proofs.Common.{◌≡◌, ℕ, ◌+◌, ◌≤◌, Bool, true, false, refl, sym, ◌∙◌, ap, subst, length, Some, Err, Option, arith}
 use Rattle.std.specs.Prelude.{nat_lt, is_some, not, ◌&&◌, ◌||◌, ◌==◌, if◌then◌else◌}
 use Rattle.std.proofs.lemmas.Bool.{false≢true, and_parts, le-ltb, eqb-true}
@@ -20,10 +20,10 @@ use Rattle.mps_first_heap.specs.StandsFor.{Past, Agrees, world_of, one_if, point
 use Rattle.mps_first_heap.specs.Unsupported.{is_implemented, is_unreported}
 use Rattle.mps_first_heap.proofs.Worlds.{parts_by, world_of-parts}
 use Rattle.mps_first_heap.proofs.Acts.{act_of_table, act_of_pool, act_of_point}
-use Rattle.mps_first_heap.proofs.NameLemmas.{not_taken}
-use Rattle.mps_first_heap.proofs.Refused.{taken_thing, no_pool}
+use Rattle.mps_first_heap.proofs.NamedThings.{not_taken}
+use Rattle.mps_first_heap.proofs.Refusals.{taken_thing, no_pool}
 use Rattle.mps_first_heap.proofs.Makings.{MayMake, may_make_facts, not_some, is_world_without_point, pool_there}
-use Rattle.mps_first_heap.proofs.Unsupporting.{IsExact, exact_unsupported, exact_answered, by_form, by_turn, by_second, by_unreported, supported, in_turn}
+use Rattle.mps_first_heap.proofs.Exact.{IsExact, exact_unsupported, exact_answered, by_form, by_turn, by_second, by_unreported, supported, in_turn}
 
 abbrev made_reply : Bool → Reply
 made_reply b = if b then reply.Ok else reply.Unsupported

@@ -1,4 +1,4 @@
--- `reserve` is unsupported exactly where that is said.
+-- `reserve` gets the reply `unsupported` exactly where it is unsupported.
 use Rattle.std.proofs.Common.{◌≡◌, ℕ, ◌+◌, ◌-◌, ◌<◌, Bool, true, false, refl, sym, ◌∙◌, ap, subst, Err, Ok, arith}
 use Rattle.std.specs.Prelude.{nat_lt, nat_le, is_some, not, ◌&&◌, if◌then◌else◌}
 use Rattle.std.proofs.lemmas.Bool.{ltb-true, ltb-false}
@@ -25,9 +25,9 @@ use Rattle.mps_first_heap.proofs.Worlds.{parts_by, world_of-parts}
 use Rattle.mps_first_heap.proofs.Acts.{reserve_bad_head, reserve_open}
 use Rattle.mps_first_heap.proofs.Premises.{NamesPoint, MayReserve, names_point}
 use Rattle.mps_first_heap.proofs.Segments.{over_limit, no_run, new_segment}
-use Rattle.mps_first_heap.proofs.Refused.{no_point}
-use Rattle.mps_first_heap.proofs.Reserves.{world_at_rest, is_world_at_rest, act_placed, act_refused, placed_after, placed_at_hand, reserve_from}
-use Rattle.mps_first_heap.proofs.Unsupporting.{IsExact, exact_unsupported, exact_answered, by_unreported, supported, in_turn}
+use Rattle.mps_first_heap.proofs.Refusals.{no_point}
+use Rattle.mps_first_heap.proofs.Reserves.{world_at_rest, is_world_at_rest, act_placed, act_refused, placed_after, placed_in_buffer, reserve_from}
+use Rattle.mps_first_heap.proofs.Exact.{IsExact, exact_unsupported, exact_answered, by_unreported, supported, in_turn}
 
 -- what a reserve checks of the point that it found
 abbrev check_from : World → (head : ℕ) → Numbered Point → Checked Reserving
@@ -48,7 +48,7 @@ unsupported_check h p name head why unreported e =
     exact_unsupported (world_of h p) (call.Reserve name head)
     (by_unreported (world_of h p) (call.Reserve name head) why (check_fails h p name head why e) unreported)
 
--- a reserve that isn't refused, or is told a refusal
+-- a reserve that is accepted, or refused with a refusal that the heap reports
 supported_reserve : (h : HeapState) (p : Past) (name : Name) (head : ℕ) (r : Reply) → MayReserve h p name head
     → Rattle.mps_model.specs.Answer.is_unsupported (Rattle.mps_model.specs.Answer.Replied r) ≡ false
     → is_unreported (act_reserve (world_at_rest h p) (world_at_rest h p) name head) ≡ false
@@ -113,7 +113,7 @@ exact_placed : (h : HeapState) (p : Past) (name : Name) (head : ℕ) → MayRese
 exact_placed h p name head m true e =
     supported_reserve h p name head reply.Ok m refl
     (ap is_unreported (act_placed h p h p name head m.at.named m.at.named m.valid
-        (ap refuse_without_place (placed_at_hand h p head m.valid e))))
+        (ap refuse_without_place (placed_in_buffer h p head m.valid e))))
 exact_placed h p name head m false e =
     exact_in_limit h p name head m e (nat_lt h.limit (h.held + grains_needed (size_field head))) refl
 
@@ -146,7 +146,7 @@ exact_at h p name head a false point =
     unsupported_check h p name head refusal.BadName refl
         (ap (λ (c : Checked (Numbered Point)). c >>= check_from (world_of h p) head) (no_point h p name a point))
 
--- ---- the reply of what comes
+-- ---- the reply in the outcome
 
 after_reply : (h : HeapState) (head need : ℕ) (over past : Bool)
     → (if over then Rattle.mps_first_heap.specs.Outcome.with_reply h (reply.Refused (refusal.CommitLimit h.held need h.limit))
@@ -157,17 +157,17 @@ after_reply h head need true past = refl
 after_reply h head need false true = refl
 after_reply h head need false false = refl
 
-at_hand_reply : (h : HeapState) (head : ℕ) (b : Bool)
+buffer_reply : (h : HeapState) (head : ℕ) (b : Bool)
     → (if b then Rattle.mps_first_heap.specs.Outcome.with_reply (Rattle.mps_first_heap.specs.Outcome.reserved_in_buffer h head) reply.Ok
     else reserve_after h head (grains_needed (size_field head))).done.reply ≡ placed_reply h head b
-at_hand_reply h head true = refl
-at_hand_reply h head false =
+buffer_reply h head true = refl
+buffer_reply h head false =
     after_reply h head (grains_needed (size_field head)) (nat_lt h.limit (h.held + grains_needed (size_field head)))
     (nat_lt h.grains (h.held + grains_needed (size_field head)))
 
 reserved_reply : (h : HeapState) (head : ℕ) (b : Bool) → (if b then reserve_placed h head else unsupported h).done.reply
     ≡ reserve_reply h head b
-reserved_reply h head true = at_hand_reply h head (nat_le (size_field head) (h.buffer_end - h.buffer_start))
+reserved_reply h head true = buffer_reply h head (nat_le (size_field head) (h.buffer_end - h.buffer_start))
 reserved_reply h head false = refl
 
 pub exact_reserve : (h : HeapState) (p : Past) (name : Name) (head : ℕ) → Agrees h p

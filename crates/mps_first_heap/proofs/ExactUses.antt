@@ -1,4 +1,4 @@
--- `num`, `init`, `commit` and `reserve` are unsupported exactly where that is said.
+-- `num`, `init` and `commit` get the reply `unsupported` exactly where they are unsupported.
 use Rattle.std.proofs.Common.{◌≡◌, ℕ, ◌+◌, Bool, true, false, refl, sym, ◌∙◌, ap, subst, None, Some, Err, Ok, Option, arith, slice_index, inl, inr}
 use Rattle.std.specs.Prelude.{slice_get, slice_set, is_some, ◌&&◌, ◌==◌, if◌then◌else◌}
 use Rattle.std.proofs.lemmas.Bool.{ne_eqb}
@@ -24,8 +24,8 @@ use Rattle.mps_first_heap.proofs.Acts.{act_of_init, act_of_commit, init_not_open
 use Rattle.mps_first_heap.proofs.Numbers.{is_world_with_table, cell_reply, act_number_there, act_number_null}
 use Rattle.mps_first_heap.proofs.Inits.{is_world_reserving}
 use Rattle.mps_first_heap.proofs.Commits.{is_world_committing, commit_outcome}
-use Rattle.mps_first_heap.proofs.Refused.{no_slot, no_point, no_number}
-use Rattle.mps_first_heap.proofs.Unsupporting.{IsExact, exact_unsupported, exact_answered, by_unreported, supported, in_turn}
+use Rattle.mps_first_heap.proofs.Refusals.{no_slot, no_point, no_number}
+use Rattle.mps_first_heap.proofs.Exact.{IsExact, exact_unsupported, exact_answered, by_unreported, supported, in_turn}
 
 -- ---- num
 

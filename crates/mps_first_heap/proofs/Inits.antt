@@ -16,7 +16,7 @@ use Rattle.mps_first_heap.specs.HeapState.{HeapState, is_point, is_number_cell, 
 use Rattle.mps_first_heap.specs.Outcome.{reply_only, may_init, after_init, accepted_if}
 use Rattle.mps_first_heap.specs.StandsFor.{Past, Agrees, world_of, world_with, step_of, object_of_words, cells_at, cells_in, cell_in, point_with, reservation_of_words, end_of_objects, IsBlockAt}
 use Rattle.mps_first_heap.specs.RightStep.{IsRightStep}
-use Rattle.mps_first_heap.proofs.Lists.{objects-set_after, blocks-set_after, slice_index-set_other, block_words-set, cells_in-set}
+use Rattle.mps_first_heap.proofs.Cells.{objects-set_after, blocks-set_after, slice_index-set_other, block_words-set, cells_in-set}
 use Rattle.mps_first_heap.proofs.Worlds.{parts_by, world_by, world_of-parts, number_cell, number_cell_at, number_cell_below, live_blocks-world_of, stored}
 use Rattle.mps_first_heap.proofs.Premises.{MayInit, names_point, may_init_facts}
 use Rattle.mps_first_heap.proofs.Stores.{stored-set_after}
@@ -43,7 +43,7 @@ reservation_written words address cell value pos number =
     ∙ ap (λ (c : Cell). slice_set (cells_at words address) cell c)
         (ap (λ n. cell_in head n value) (let e : 0 + cell ≡ cell = omega arith in e) ∙ number_cell head cell value number))
 
--- a block stays a block after a write in it, after its head
+-- a block stays a block where a word after its head is written
 block_written : (words : List ℕ) (bound address i value : ℕ) → address < i → IsBlockAt words bound address
     → IsBlockAt (slice_set words i value) bound address
 block_written words bound address i value lt b =

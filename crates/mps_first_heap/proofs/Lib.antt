@@ -1,4 +1,4 @@
-pub mod Lists
+pub mod Cells
 pub mod Worlds
 pub mod Steps
 pub mod Acts
@@ -9,11 +9,11 @@ pub mod Commits
 pub mod Premises
 pub mod Segments
 pub mod Reserves
-pub mod NameLemmas
+pub mod NamedThings
 pub mod Makings
 pub mod PoolNumbers
-pub mod Refused
-pub mod Unsupporting
+pub mod Refusals
+pub mod Exact
 pub mod ExactUses
 pub mod ExactReserves
 pub mod ExactMakings

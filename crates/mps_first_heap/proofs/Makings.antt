@@ -23,10 +23,10 @@ use Rattle.mps_first_heap.specs.StandsFor.{Past, Agrees, world_of, world_with, s
 use Rattle.mps_first_heap.specs.RightStep.{IsRightStep}
 use Rattle.mps_first_heap.proofs.Worlds.{parts_by, world_by, world_of-parts, is_named-some, live_blocks-world_of}
 use Rattle.mps_first_heap.proofs.Steps.{right_step, unsupported_step}
-use Rattle.mps_first_heap.proofs.NameLemmas.{names_made, not_taken, same_name_itself}
+use Rattle.mps_first_heap.proofs.NamedThings.{names_made, not_taken, same_name_itself}
 use Rattle.mps_first_heap.proofs.Acts.{act_of_table, act_of_pool, act_of_point}
 
--- ---- what isn't there
+-- ---- things that are not made yet
 
 pub none_of : {A : Type 0} (o : Option A) → is_some o ≡ false → o ≡ None
 none_of None e = refl

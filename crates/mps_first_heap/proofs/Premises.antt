@@ -8,7 +8,7 @@ use Rattle.mps_format.specs.Front.{is_front, front_layout}
 use Rattle.mps_model.specs.Graph.{Thing, TableThing, PoolThing, PointThing, thing_in}
 use Rattle.mps_first_heap.specs.HeapState.{HeapState, is_named, is_point, has_slot, is_number_cell, head_at, words_of_head}
 use Rattle.mps_first_heap.specs.StandsFor.{Past, Agrees, address_in_slot, end_of_objects, IsBlockAt}
-use Rattle.mps_first_heap.proofs.Worlds.{is_named-some, pool_with_point, made_with_pool, made_with_table, at_hand_within, end_of_objects-le, block_there_at, slot_there, id_there}
+use Rattle.mps_first_heap.proofs.Worlds.{is_named-some, pool_with_point, made_with_pool, made_with_table, buffer_is_inside, end_of_objects-le, block_there_at, slot_there, id_there}
 
 -- ---- the point
 
@@ -57,7 +57,7 @@ names_point h p name a e =
               (not-true (is_named h.pool name) no.1)
           ∙ ap (λ b. if b then Some (PointThing 0) else None) both.1;
       in_order = a.buffer.0;
-      inside = at_hand_within h p a made;
+      inside = buffer_is_inside h p a made;
     }
 
 pub may_init_facts : (h : HeapState) (p : Past) (name : Name) (cell : ℕ) → NamesPoint h p name → h.is_open ≡ true
@@ -114,7 +114,7 @@ pub object_facts : (h : HeapState) (p : Past) (slot : Slot) (id : ℕ) → HasSl
 object_facts h p slot id s there =
     let below = id_there (length p.addresses) p.ids slot.index id s.agrees.ids there in
     let le = end_of_objects-le h p s.agrees in
-    let inside = at_hand_within h p s.agrees s.made in
+    let inside = buffer_is_inside h p s.agrees s.made in
     let buffer = s.agrees.buffer in
     record {
       in_table = s;

@@ -30,8 +30,8 @@ use Rattle.mps_first_heap.specs.HeapState.{HeapState, is_point}
 use Rattle.mps_first_heap.specs.Outcome.{Outcome, with_segment_taken, with_reply, ok_with_move, reply_only, unsupported, reserved_in_buffer, segment_move, reserve_after, reserve_placed, after_reserve}
 use Rattle.mps_first_heap.specs.StandsFor.{Past, Agrees, world_of, world_with, step_of, object_of_words, cells_in, segment_from, segments_from, point_with, reservation_of_words, end_of_objects}
 use Rattle.mps_first_heap.specs.RightStep.{IsRightStep}
-use Rattle.mps_first_heap.proofs.Lists.{objects-set_after, blocks-set_after, slice_index-set_same, new_cells_at, blocks_later, length_new_cells}
-use Rattle.mps_first_heap.proofs.Worlds.{parts_by, world_by, world_of-parts, pool_with_point, made_with_pool, at_hand_within, live_blocks-world_of, stored}
+use Rattle.mps_first_heap.proofs.Cells.{objects-set_after, blocks-set_after, slice_index-set_same, new_cells_at, blocks_later, length_new_cells}
+use Rattle.mps_first_heap.proofs.Worlds.{parts_by, world_by, world_of-parts, pool_with_point, made_with_pool, buffer_is_inside, live_blocks-world_of, stored}
 use Rattle.mps_first_heap.proofs.Stores.{stored-set_after}
 use Rattle.mps_first_heap.proofs.Segments.{runs, over_limit, new_segment, segments_push, sum_push}
 use Rattle.mps_first_heap.proofs.Steps.{right_step, unsupported_step}
@@ -58,7 +58,7 @@ check_there h p name head named valid = rw (named, valid) refl
 
 -- ---- where a reservation is placed
 
--- what a placement at hand is, by whether there are enough words
+-- where a block of n words is placed, by whether it fits the buffer
 abbrev placed_where : HeapState → Past → (size : ℕ) → Bool → Placement
 placed_where h p size b = if b then Place h.buffer_start else run_placement h.grains h.limit (runs 1 p.segments) (grains_needed size)
 
@@ -66,7 +66,7 @@ placement_there : (h : HeapState) (p : Past) (size : ℕ) → placement_of (worl
     ≡ placed_where h p size (nat_le size (h.buffer_end - h.buffer_start))
 placement_there h p size = refl
 
--- ---- a block is reserved at the front
+-- ---- a block is reserved in the buffer
 
 abbrev taken_from : HeapState → (head : ℕ) → Reservation
 taken_from h head = record { head = head; cells = new_cells front_layout head; is_doomed = false }
@@ -75,7 +75,7 @@ agrees_reserved : (h : HeapState) (p : Past) (head : ℕ) → Agrees h p → is_
     → size_field head ≤ h.buffer_end - h.buffer_start → 0 < h.buffer_start → Agrees (reserved_in_buffer h head) p
 agrees_reserved h p head a q o valid room pos =
     let made = made_with_pool h p a (pool_with_point h p a q) in
-    let within = at_hand_within h p a made in
+    let inside = buffer_is_inside h p a made in
     let hand = a.buffer in
     let f = front_facts head valid in
     let bound : end_of_objects h ≡ h.buffer_start = ap (λ b. if b then h.reserved else h.buffer_start) o in
@@ -127,7 +127,7 @@ world_reserved : (h : HeapState) (p : Past) (head : ℕ) → Agrees h p → is_s
         ≡ world_of (reserved_in_buffer h head) p
 world_reserved h p head a q o valid room =
     let made = made_with_pool h p a (pool_with_point h p a q) in
-    let within = at_hand_within h p a made in
+    let inside = buffer_is_inside h p a made in
     let hand = a.buffer in
     let f = front_facts head valid in
     let bound : end_of_objects h ≡ h.buffer_start = ap (λ b. if b then h.reserved else h.buffer_start) o in
@@ -150,7 +150,7 @@ stored_reserved h p head a o =
     let bound : end_of_objects h ≡ h.buffer_start = ap (λ b. if b then h.reserved else h.buffer_start) o in
     sym (stored-set_after h.words (end_of_objects h) h.buffer_start head p.addresses (omega (arith, bound)) a.blocks)
 
--- ---- the poll has no moves
+-- ---- the poll makes no moves
 
 either : (b : Bool) (P Q : Type 0) → P → Q → MatchBool b P Q
 either true P Q p q = p
@@ -162,7 +162,7 @@ no_poll : (h : HeapState) (p : Past) (name : Name) (head : ℕ)
 no_poll h p name head = either (polls (world_at_rest h p) (call.Reserve name head))
     (IsPoll (call.Reserve name head) (world_at_rest h p) []) (◌≡◌ {A = List Move} [] []) refl refl
 
--- ---- what the model does, where it is known where the block is placed
+-- ---- what the model does, by where the block is placed
 
 abbrev pub placing_done : (after : World) → Placement → (head : ℕ) → Checked Act
 placing_done after placement head =
@@ -216,12 +216,12 @@ segment_due : (h : HeapState) (p : Past) (name : Name) (head : ℕ) (placement :
 segment_due h p name head placement named valid placed =
     ap (segment_taken 0) (sym placed) ∙ ap (segment_of_reserve (world_at_rest h p)) (sym (check_there h p name head named valid))
 
--- ---- a reservation at hand
+-- ---- a reservation in the buffer
 
-pub placed_at_hand : (h : HeapState) (p : Past) (head : ℕ) → is_front head ≡ true
+pub placed_in_buffer : (h : HeapState) (p : Past) (head : ℕ) → is_front head ≡ true
     → nat_le (size_field head) (h.buffer_end - h.buffer_start) ≡ true
     → placement_of (world_at_rest h p) (ForReserve 0 (length (new_cells front_layout head))) ≡ Place h.buffer_start
-placed_at_hand h p head valid fits =
+placed_in_buffer h p head valid fits =
     placement_there h p (length (new_cells front_layout head))
     ∙ ap (λ n. placed_where h p n (nat_le n (h.buffer_end - h.buffer_start))) (length_new_cells head valid)
     ∙ ap (placed_where h p (size_field head)) fits
@@ -232,18 +232,18 @@ front_not_null h p head a valid room = let f = front_facts head valid in
     elim (cases_lt 0 h.buffer_start)
     [ inl lt ↦ lt | inr le ↦ absurd (omega (arith, a.not_null (let e : h.buffer_start ≡ 0 = omega arith in e))) ]
 
-abbrev step_at_hand : (line : ℕ) → (name : Name) → (head : ℕ) → Step
-step_at_hand line name head = step_of line (call.Reserve name head) (reply_only reply.Ok)
+abbrev step_in_buffer : (line : ℕ) → (name : Name) → (head : ℕ) → Step
+step_in_buffer line name head = step_of line (call.Reserve name head) (reply_only reply.Ok)
 
-right_at_hand : (h : HeapState) (p : Past) (line : ℕ) (name : Name) (head : ℕ) → MayReserve h p name head
+right_in_buffer : (h : HeapState) (p : Past) (line : ℕ) (name : Name) (head : ℕ) → MayReserve h p name head
     → nat_le (size_field head) (h.buffer_end - h.buffer_start) ≡ true
-    → IsRightStep (world_at_rest h p) (step_at_hand line name head) (reserved_in_buffer h head)
-right_at_hand h p line name head m fits =
+    → IsRightStep (world_at_rest h p) (step_in_buffer line name head) (reserved_in_buffer h head)
+right_in_buffer h p line name head m fits =
     let room = leb-true (size_field head) (h.buffer_end - h.buffer_start) fits in
-    let placed = placed_at_hand h p head m.valid fits in
+    let placed = placed_in_buffer h p head m.valid fits in
     let e = act_placed h p h p name head m.at.named m.at.named m.valid (ap refuse_without_place placed)
         ∙ ap (λ placement. placing_done (world_at_rest h p) placement head) placed in
-    right_step (world_at_rest h p) (step_at_hand line name head) (reserved_in_buffer h head) p refl
+    right_step (world_at_rest h p) (step_in_buffer line name head) (reserved_in_buffer h head) p refl
     (record { moves_are_legal = tt;
         moves_are_due = record { poll = no_poll h p name head;
         segment = segment_due h p name head (Place h.buffer_start) m.at.named m.valid placed };
@@ -254,7 +254,7 @@ right_at_hand h p line name head m fits =
     (λ pools. ap Some (ap live_blocks (sym (is_world_at_rest h p m.at.agrees m.at.point m.not_open)) ∙ live_blocks-world_of h p
         ∙ stored_reserved h p head m.at.agrees m.not_open))
 
--- ---- a reservation after what is held
+-- ---- a reservation that does not fit the buffer
 
 pub placed_after : (h : HeapState) (p : Past) (head : ℕ) → is_front head ≡ true
     → nat_le (size_field head) (h.buffer_end - h.buffer_start) ≡ false
@@ -373,7 +373,7 @@ right_taken h p line name head m fits limit inside =
     let later = past_taken p need in
     let a' = agrees_taken h p need m.at.agrees m.at.point m.not_open inside in
     let room : size ≤ taken.buffer_end - taken.buffer_start = omega arith in
-    let placed' = placed_at_hand taken later head m.valid (le-leb size (taken.buffer_end - taken.buffer_start) room) in
+    let placed' = placed_in_buffer taken later head m.valid (le-leb size (taken.buffer_end - taken.buffer_start) room) in
     let w = world_taken h p name head need m.at.agrees m.at.named in
     let e = ap (λ (v : World). act_reserve (world_at_rest h p) v name head) w
         ∙ act_placed h p taken later name head m.at.named m.at.named m.valid (ap refuse_without_place placed)
@@ -431,9 +431,9 @@ right_placed : (h : HeapState) (p : Past) (line : ℕ) (name : Name) (head : ℕ
     → is_right h p line name head (if b then with_reply (reserved_in_buffer h head) reply.Ok
         else reserve_after h head (grains_needed (size_field head)))
 right_placed h p line name head m true e =
-    subst (λ (w : World). IsRightStep w (step_at_hand line name head) (reserved_in_buffer h head))
+    subst (λ (w : World). IsRightStep w (step_in_buffer line name head) (reserved_in_buffer h head))
         (sym (is_world_at_rest h p m.at.agrees m.at.point m.not_open))
-    (right_at_hand h p line name head m e)
+    (right_in_buffer h p line name head m e)
 right_placed h p line name head m false e =
     right_in_limit h p line name head m e (nat_lt h.limit (h.held + grains_needed (size_field head))) refl
 

@@ -36,7 +36,7 @@ legal_if_answered w s state p due after a = record {
   units_are_left = subst (λ (v : World). has_units_left v ≡ true) (sym after) refl;
 }
 
--- a step that was answered is right where its moves and its answer are due, and what is kept agrees with the world after it
+-- a step that was answered is right where its moves and its answer are due, and the new state agrees with the world after it
 pub right_step : (w : World) (s : Step) (state : HeapState) (p : Past) → is_unsupported s.answer ≡ false → IsDue w s
     → world_after w s ≡ world_of state p → Agrees state p
     → ((pools : ℕ) → replay_from (live_blocks w) (records_of_step pools s) ≡ Some (stored state.words p.addresses)) → IsRightStep w s state

@@ -1,4 +1,4 @@
--- A block put after all others in a store.
+-- A store of blocks, and a new block after all others.
 use Rattle.std.proofs.Common.{◌≡◌, ℕ, ◌*◌, ◌<◌, ◌≤◌, true, false, refl, sym, ◌∙◌, ap, List, [], ◌∷◌, ◌++◌, None, Some, arith}
 use Rattle.std.specs.Prelude.{nat_lt, is_some, if◌then◌else◌}
 use Rattle.std.specs.List.{AllByRecursion}
@@ -7,7 +7,7 @@ use Rattle.mps_base.specs.Address.{bytes_of_word}
 use Rattle.mps_format.specs.Laws.{front_facts}
 use Rattle.std.specs.Prelude.{slice_index, slice_set}
 use Rattle.mps_model.specs.Graph.{Object, size_of}
-use Rattle.mps_first_heap.proofs.Lists.{object_in-set_after}
+use Rattle.mps_first_heap.proofs.Cells.{object_in-set_after}
 use Rattle.mps_model.specs.Replay.{Block, Store, with_block, block_at, is_live, after_making}
 use Rattle.mps_first_heap.specs.StandsFor.{IsBlockAt}
 use Rattle.mps_first_heap.proofs.Worlds.{block_in, stored}
@@ -69,10 +69,10 @@ stored_push words bound (p ∷ ps) all =
         (let lt = address_below words bound p all.0 in omega arith)
 
 -- a block is made after all others
-pub making_pushed : (words : List ℕ) (bound size : ℕ) (addresses : List ℕ) → AllByRecursion (IsBlockAt words bound) addresses
+pub making_a_block_last : (words : List ℕ) (bound size : ℕ) (addresses : List ℕ) → AllByRecursion (IsBlockAt words bound) addresses
     → (block_in words bound).words ≡ size → after_making (stored words addresses) (bytes_of_word * bound) size 0
     ≡ Some (stored words (addresses ++ bound ∷ []))
-making_pushed words bound size addresses all e =
+making_a_block_last words bound size addresses all e =
     making_last (bytes_of_word * bound) size (stored words addresses) (stored_below words bound addresses all)
     ∙ ap (λ n. Some (stored words addresses ++ record { at = bytes_of_word * bound; words = n; pool = 0 } ∷ [])) (sym e)
     ∙ ap Some (sym (stored_push words bound addresses all))

@@ -1,4 +1,4 @@
--- What holds of the worlds for which the heap stands: what the client holds is live, and which blocks are live.
+-- The worlds for which the heap stands: what the client holds is live, and which blocks are live.
 use Rattle.std.proofs.Common.{◌≡◌, ℕ, zero, suc, ◌+◌, ◌*◌, ◌<◌, ◌≤◌, Bool, true, false, refl, sym, ◌∙◌, ap, subst, List, [], ◌∷◌, ◌++◌, length, take, drop, map, Option, Some, None, arith, add-zero, slice_index, inl, inr}
 use Rattle.std.specs.Prelude.{slice_get, if◌then◌else◌, nat_lt, is_some, not, ◌&&◌}
 use Rattle.std.specs.List.{list_all, AllByRecursion, flat_map}
@@ -16,7 +16,7 @@ use Rattle.mps_model.specs.Replay.{Block, Store, with_block}
 use Rattle.mps_model.specs.History.{HeldAreLive, block_of, blocks_of_ids, live_blocks}
 use Rattle.mps_first_heap.specs.HeapState.{HeapState, is_named, words_of_head, is_number_cell}
 use Rattle.mps_first_heap.specs.StandsFor.{Past, Agrees, Parts, parts_of, world_of, world_with, front_pool, point_memory_of, address_in_slot, cell_in, cells_at, object_of_words, reservation_of_words, point_with, one_if, some_if, some_address, is_null_or_below, IsBlockAt, end_of_objects}
-use Rattle.mps_first_heap.proofs.Lists.{no_targets, length-block_words, slice_get-cells_in}
+use Rattle.mps_first_heap.proofs.Cells.{no_targets, length-block_words, slice_get-cells_in}
 
 -- ---- live objects
 
@@ -177,8 +177,8 @@ made_with_pool h p a t = elim (cases_lt 0 h.grains)
 
 -- ---- where blocks lie
 
-pub at_hand_within : (h : HeapState) (p : Past) → Agrees h p → 0 < h.grains → h.buffer_end ≤ length h.words
-at_hand_within h p a made = let l = a.arena made in let i = a.in_arena in let q = a.buffer in omega arith
+pub buffer_is_inside : (h : HeapState) (p : Past) → Agrees h p → 0 < h.grains → h.buffer_end ≤ length h.words
+buffer_is_inside h p a made = let l = a.arena made in let i = a.in_arena in let q = a.buffer in omega arith
 
 pub end_of_objects-le : (h : HeapState) (p : Past) → Agrees h p → end_of_objects h ≤ h.buffer_start
 end_of_objects-le h p a = by_open h.is_open refl
@@ -193,7 +193,7 @@ block_there_at words bound [] id bs h = absurd (omega (arith, h))
 block_there_at words bound (p ∷ ps) zero bs h = bs.0
 block_there_at words bound (p ∷ ps) (suc id) bs h = block_there_at words bound ps id bs.1 (omega (arith, h))
 
--- what stands in a slot
+-- the id in a slot, and the address in it
 pub slot_there : (addresses : List ℕ) (ids : List (Option ℕ)) (i : ℕ) → i < length (map (address_in_slot addresses) ids)
     → (held : Option ℕ) × (slice_get ids i ≡ Some held)
     × (slice_index (map (address_in_slot addresses) ids) i ≡ address_in_slot addresses held)

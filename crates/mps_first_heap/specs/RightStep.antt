@@ -1,4 +1,4 @@
--- What is promised of a call, in each world for which the heap stands, and whichever its line is.
+-- What a call guarantees, in each world for which the heap stands, and in each line.
 use Rattle.std.specs.Prelude.{◌≡◌, ◌↔◌, ℕ, ◌+◌, nat_lt, IsTrue, Option, Some, length}
 use Rattle.mps_model.specs.declared.call.Call.{Call}
 use Rattle.mps_model.specs.declared.reply.Reply.TheVariants as reply
@@ -17,7 +17,7 @@ use Rattle.mps_first_heap.specs.Unsupported.{is_unsupported_call}
 abbrev pub IsReplayed : World → Step → Type 0
 IsReplayed w s = (pools : ℕ) → replay_from (live_blocks w) (records_of_step pools s) ≡ Some (live_blocks (world_after w s))
 
--- the step is legal, what is kept then stands for the world after it, and its records tell which blocks are live
+-- the step is legal, the new state stands for the world after it, and its records give the live blocks after it
 pub record IsRightStep (w : World) (s : Step) (state : HeapState) : Type 0 where
   pub is_legal : IsLegalStep w s
   pub stands : StandsFor state (world_after w s)
@@ -27,15 +27,15 @@ pub record IsRightStep (w : World) (s : Step) (state : HeapState) : Type 0 where
 abbrev pub IsLegalCall : (old : HeapState) → Call → Done → Type 0
 IsLegalCall old call done = (w : World) (line : ℕ) → StandsFor old w → IsLegalStep w (step_of line call done)
 
--- what is kept then stands for the world after the step
+-- the new state stands for the world after the step
 abbrev pub StandsAfter : (old : HeapState) → Call → Done → (new : HeapState) → Type 0
 StandsAfter old call done new = (w : World) (line : ℕ) → StandsFor old w → StandsFor new (world_after w (step_of line call done))
 
--- the records of the step tell which blocks are live after it
+-- the records of the step, replayed, give the live blocks after it
 abbrev pub IsReplayedCall : (old : HeapState) → Call → Done → Type 0
 IsReplayedCall old call done = (w : World) (line : ℕ) → StandsFor old w → IsReplayed w (step_of line call done)
 
--- the reply is `unsupported` exactly where that is said of the call
+-- the reply is `unsupported` exactly where the call is
 abbrev pub IsUnsupportedExactly : (old : HeapState) → Call → Done → Type 0
 IsUnsupportedExactly old call done = (w : World) → StandsFor old w → (done.reply ≡ reply.Unsupported) ↔ IsTrue (is_unsupported_call w call)
 
@@ -48,7 +48,7 @@ abbrev pub IsNewPoolNumber : (old : HeapState) → Call → Done → Type 0
 IsNewPoolNumber old call done =
     (w : World) → StandsFor old w → done.pool ≡ number_of_new_pool w call (Replied done.reply)
 
--- the world has as many pools more as the call made
+-- the world after the step has the pools before it and those that the call made
 abbrev pub ArePoolsCounted : (old : HeapState) → Call → Done → Type 0
 ArePoolsCounted old call done =
     (w : World) (line : ℕ) → StandsFor old w

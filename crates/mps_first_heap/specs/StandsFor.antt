@@ -18,7 +18,7 @@ use Rattle.mps_model.specs.World.{World, empty_world, Pool, Collected, PointMemo
 use Rattle.mps_first_heap.specs.HeapState.{HeapState, empty_heap, the_pool, front_format, is_named}
 use Rattle.mps_first_heap.specs.declared.done.Done.{Done}
 
--- ---- the objects that words are
+-- ---- objects as words
 
 -- cell k of a block with this head, whose word is this. No reference was ever written
 abbrev pub cell_in : (head k word : ℕ) → Cell
@@ -146,7 +146,7 @@ parts_of h p = record {
 abbrev pub world_of : HeapState → Past → World
 world_of h p = world_with (parts_of h p)
 
--- ---- what holds of it
+-- ---- how a state agrees with its past
 
 -- what a name stands for
 abbrev pub thing_of : HeapState → Name → Option Thing

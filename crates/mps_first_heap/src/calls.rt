@@ -12,7 +12,7 @@ use crate::using::{commit, init, number};
 use mps_model::{Call, Reply};
 use std::alloc::{AllocError, Global};
 
-/// Answers a call. An `Err` is for out of memory, and leaves the heap as it was.
+/// Answers a call. An `Err` says that memory is out, and leaves the heap as it was.
 pub fn answer(heap: &mut Arena, alloc: Global, call: &Call) -> Result<Done, AllocError>
     requires { IsInRange call.now }
     ensures ok { IfOk result (λ done. HasOutcome (outcome (state_of heap.old) call.now) done (state_of heap.new)) }

@@ -8,11 +8,14 @@ use mps_model::Reply;
 /// The number of the heap's only pool.
 pub const THE_POOL: u32 = 0;
 
-/// What a call did: its reply, the move that it made, and the number of the pool that it made.
+/// What a call did.
 #[derive(Clone, Copy, Debug, PartialEq, Eq)]
 pub struct Done {
+    /// The reply.
     pub reply: Reply,
+    /// The move that the call made.
     pub moved: Option<Move>,
+    /// The number of the pool that the call made.
     pub pool: Option<u32>,
 }
 

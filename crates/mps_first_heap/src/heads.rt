@@ -1,11 +1,11 @@
-// What heads say of blocks, for any word that is asked.
+// The size and the cells of a block, by its head.
 ghost use Rattle.std.specs.Prelude.{◌≡◌, ◌+◌, IsTrue, slice_index};
 ghost use Rattle.mps_first_heap.specs.HeapState.{words_of_head, is_number_cell};
 ghost use Rattle.mps_format.specs.Front.{front_layout};
 
 use mps_format::{Format, Front};
 
-/// The words of a block with this head, 0 where it is no head.
+/// The number of words of a block with this head; 0 where it is no head.
 pub fn words_of_head(head: u64) -> u32
     ensures { result ≡ words_of_head head }
 {
@@ -37,7 +37,7 @@ pub fn is_number_cell(head: u64, cell: u64) -> bool
     !is_reference(head, cell as u32)
 }
 
-/// The word n cells after an address, 0 past the end.
+/// The word in a cell of the block at an address; 0 past the end.
 pub fn word_at(words: &[u64], address: u32, cell: u32) -> u64
     ensures { result ≡ slice_index words.now (address + cell) }
 {

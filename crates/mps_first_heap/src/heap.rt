@@ -52,7 +52,7 @@ impl FirstHeap {
         }
     }
 
-    /// Answers a call. An `Err` is for out of memory, which only `arena` and `table` take.
+    /// Answers a call. An `Err` says that memory is out; only `arena` and `table` take any.
     pub fn call(&mut self, alloc: Global, call: &Call) -> Result<Done, AllocError>
         requires { IsInRange call.now }
         ensures legal { IfOk result (λ done. IsLegalCall self.old call.now done) }

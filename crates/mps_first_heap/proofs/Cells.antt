@@ -1,4 +1,4 @@
--- Facts on lists and on the cells of blocks.
+-- The cells of blocks, and what a write changes of them.
 use Rattle.std.proofs.Common.{◌≡◌, ℕ, zero, suc, ◌+◌, ◌-◌, ◌<◌, ◌≤◌, true, false, refl, sym, ◌∙◌, ap, subst, List, [], ◌∷◌, ◌++◌, length, take, drop, map, Some, None, arith, add-one, add-zero, add-zero, slice_index}
 use Rattle.std.specs.Prelude.{slice_get, slice_set, if◌then◌else◌, replicate, min}
 use Rattle.std.specs.List.{AllByRecursion}
@@ -70,7 +70,7 @@ objects-set_after words bound i v (p ∷ ps) h bs =
     ap (λ o. o ∷ map (object_of_words (slice_set words i v)) ps) (object_in-set_after words bound i v p h bs.0)
     ∙ ap (λ os. object_of_words words p ∷ os) (objects-set_after words bound i v ps h bs.1)
 
--- a block stays a block after a write after it, and up to a later bound
+-- a block stays a block where a word past its end is written, and up to a later bound
 pub block-set_after : (words : List ℕ) (bound later i v address : ℕ) → bound ≤ i → bound ≤ later → IsBlockAt words bound address
     → IsBlockAt (slice_set words i v) later address
 block-set_after words bound later i v address h l b =
@@ -120,7 +120,7 @@ slice_get-cells_in head k (w ∷ ws) (suc i) h =
     slice_get-cells_in head (suc k) ws i (omega (arith, h))
     ∙ ap (λ n. Some (cell_in head n (slice_index ws i))) (let e : suc k + i ≡ k + suc i = omega arith in e)
 
--- writing a word changes its cell alone
+-- where a word is written, its cell alone changes
 pub cells_in-set : (head k : ℕ) (words : List ℕ) (i v : ℕ)
     → cells_in head k (slice_set words i v) ≡ slice_set (cells_in head k words) i (cell_in head (k + i) v)
 cells_in-set head k [] i v = refl
@@ -130,7 +130,7 @@ cells_in-set head k (w ∷ ws) (suc i) v =
     ∙ ap (λ n. cell_in head k w ∷ slice_set (cells_in head (suc k) ws) i (cell_in head n v))
         (let e : suc k + i ≡ k + suc i = omega arith in e)
 
--- the words of a block, with one written
+-- the words of a block where one is written
 pub block_words-set : (words : List ℕ) (address size i v : ℕ) → take size (drop address (slice_set words (address + i) v))
     ≡ slice_set (take size (drop address words)) i v
 block_words-set words address size i v = ap (take size) (drop-set-add address words i v) ∙ take-set_within size i v (drop address words)
@@ -153,7 +153,7 @@ new_cells_of_zeros head j (suc n) =
     ap (λ rest. cell_in head (suc j) 0 ∷ rest) (new_cells_of_zeros head (suc j) n)
     ∙ ap (λ m. cell_in head (suc j) 0 ∷ new_cells_from front_layout head m n) (sym (add-one (suc j)))
 
--- the words after a write to a prefix of zeros
+-- the words of a block where its head is written before zeros
 words_written : (words : List ℕ) (front size head : ℕ) → front + suc size ≤ length words
     → ((k : ℕ) → front ≤ k → slice_index words k ≡ 0) → take (suc size) (drop front (slice_set words front head)) ≡ head ∷ replicate size 0
 words_written [] front size head h z = absurd (omega (arith, h))

@@ -1,4 +1,4 @@
--- Names, and one more of them.
+-- Names, and what they stand for once there is one more.
 use Rattle.std.proofs.Common.{◌≡◌, ℕ, Bool, true, false, refl, sym, ◌∙◌, ap, subst, List, [], ◌∷◌, ◌++◌, None, Some, Option}
 use Rattle.std.specs.Prelude.{◌||◌, ◌==◌, if◌then◌else◌}
 use Rattle.std.specs.Str.{bytes_eq}
@@ -41,7 +41,7 @@ thing_in-push (m ∷ ms) name thing n =
         ≡ or_else (if b then Some m.thing else thing_in ms n) (one_thing name thing n))
     [ true ↦ refl | false ↦ thing_in-push ms name thing n ]
 
--- what names stand for, with one more that nothing had
+-- what names stand for, once a free name stands for a thing
 pub names_made : (names : List NamedThing) (name : Name) (thing : Thing) (before after : Name → Option Thing)
     → ((n : Name) → thing_in names n ≡ before n) → before name ≡ None → after name ≡ Some thing
     → ((n : Name) → same_name name n ≡ false → before n ≡ after n) → (n : Name)

@@ -1,4 +1,4 @@
--- The heap answers `unsupported` exactly where that is said.
+-- When a reply is `unsupported` exactly where the call is.
 use Rattle.std.proofs.Common.{◌≡◌, ◌<◌, true, false, refl, sym, ◌∙◌, ap, Err}
 use Rattle.std.specs.Prelude.{◌↔◌, nat_lt, not, ◌||◌}
 use Rattle.std.proofs.lemmas.Bool.{false≢true, or_right, or_from, lt-ltb}
@@ -20,13 +20,13 @@ IsExact w c r = (r ≡ reply.Unsupported) ↔ (is_unsupported_call w c ≡ true)
 pub exact_unsupported : (w : World) (c : Call) → is_unsupported_call w c ≡ true → IsExact w c reply.Unsupported
 exact_unsupported w c e = ((λ _. e), (λ _. refl))
 
--- where it isn't
+-- where the call is supported
 pub exact_answered : (w : World) (c : Call) (r : Reply) → is_unsupported (Replied r) ≡ false
     → is_unsupported_call w c ≡ false → IsExact w c r
 exact_answered w c r said_so e =
     ((λ is. absurd (false≢true (sym said_so ∙ ap (λ (s : Reply). is_unsupported (Replied s)) is))), (λ t. absurd (false≢true (sym e ∙ t))))
 
--- the four cases
+-- the four reasons for which a call is unsupported
 pub by_form : (w : World) (c : Call) → not (is_implemented c) ≡ true → is_unsupported_call w c ≡ true
 by_form w c e = ap (λ b. b || is_out_of_turn w c || makes_second w c || is_unreported (act false w w c)) e
 
@@ -44,7 +44,7 @@ by_unreported w c why e t =
     or_right (not (is_implemented c) || is_out_of_turn w c || makes_second w c) (is_unreported (act false w w c)) (ap is_unreported e
         ∙ ap not t)
 
--- none of them
+-- a call with none of them
 pub supported : (w : World) (c : Call) → not (is_implemented c) ≡ false → is_out_of_turn w c ≡ false → makes_second w c ≡ false
     → is_unreported (act false w w c) ≡ false → is_unsupported_call w c ≡ false
 supported w c form turn second known =

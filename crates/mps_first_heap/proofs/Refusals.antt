@@ -1,4 +1,4 @@
--- Which calls the model refuses without telling, in the worlds for which the heap stands.
+-- Which calls the model refuses, in the worlds for which the heap stands, with a refusal that the heap does not report.
 use Rattle.std.proofs.Common.{◌≡◌, ℕ, zero, suc, ◌+◌, ◌<◌, ◌≤◌, Bool, true, false, refl, sym, ◌∙◌, ap, subst, List, length, None, Some, Err, Option, arith, slice_index, inl, inr, take, drop, ◌⊎◌}
 use Rattle.std.specs.Prelude.{slice_get, nat_lt, is_some, not, ◌&&◌, ◌||◌, if◌then◌else◌}
 use Rattle.std.proofs.lemmas.List.{length-map}
@@ -13,10 +13,10 @@ use Rattle.mps_model.specs.Graph.{Cell, HeadCell, NumberCell, ReferenceCell, Thi
 use Rattle.mps_model.specs.Checked.{slot_in, point_named, pool_named, number_at, number_in, required, ◌>>=◌}
 use Rattle.mps_first_heap.specs.HeapState.{HeapState, is_named, is_name_taken, is_point, is_pool, has_slot, is_number_cell, words_of_head}
 use Rattle.mps_first_heap.specs.StandsFor.{Past, Agrees, world_of, cell_in, cells_at, address_in_slot, IsBlockAt}
-use Rattle.mps_first_heap.proofs.Lists.{length-cells_in, length-block_words, slice_get-cells_in}
+use Rattle.mps_first_heap.proofs.Cells.{length-cells_in, length-block_words, slice_get-cells_in}
 use Rattle.mps_first_heap.proofs.Worlds.{is_named-some, world_of-parts}
 
--- ---- what a name doesn't stand for
+-- ---- names
 
 abbrev if_point : HeapState → Name → Option Thing
 if_point h n = if is_named h.point n then Some (PointThing 0) else None
