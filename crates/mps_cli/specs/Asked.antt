@@ -10,7 +10,7 @@ use Rattle.mps_report.specs.Reports.{ReportsStatus}
 use Rattle.mps_log_reader.specs.Ending.{IsUnopened, is_input_verdict}
 use Rattle.mps_log_reader.specs.Opening.{OpensNothing}
 use Rattle.mps_blocks.specs.Listed.{ListedWith, IsOnly as IsOnlyList, ListsPart}
-use Rattle.mps_txt.specs.Text.{ReadWith, IsCutShort as IsCutShortText, IsOnlyReading}
+use Rattle.mps_txt.specs.Text.{ReadWith, IsCutShort as IsCutShortText, IsUnique as IsUniqueReading}
 use Rattle.mps_cnv.specs.Converted.{ConvertedWith, ConvertsUntilReadFault, ConvertsUntilWriteFault, IsUnique as IsUniqueConversion}
 use Rattle.mps_workload.specs.Ending.{FailsWithin}
 use Rattle.mps_workload.specs.Script.{script as generated_script}
@@ -75,7 +75,7 @@ pub record ReadsText (text : List ℕ) (status : ℕ) (old new : Outside) : Type
   -- a text that the desk tells: its readable text was printed, line by line, up to the end or to the line that is reported
   pub readable : (bytes : List ℕ) → old.text text ≡ Some bytes → ReadWith bytes status old new
   -- and nothing else
-  pub only : is_input_verdict status ≡ true → (bytes : List ℕ) → old.text text ≡ Some bytes → IsOnlyReading bytes status old new
+  pub only : is_input_verdict status ≡ true → (bytes : List ℕ) → old.text text ≡ Some bytes → IsUniqueReading bytes status old new
   -- where a write failed, a prefix of the readable text of some lines at a prefix of the text was printed
   pub cut : status ≡ 4 → (bytes : List ℕ) → old.text text ≡ Some bytes → IsCutShortText bytes old new
   -- a text that is not there is not read, and nothing is printed

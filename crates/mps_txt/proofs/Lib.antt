@@ -1,18 +1,18 @@
-mod Joined
-mod Named
-mod Fields
-mod OneCut
-mod Words
-mod Lines
+mod AppendedTexts
+mod InternedName
+mod EventFields
+mod SplitAtByte
+mod NumberTexts
+mod RecordWords
 mod Spelling
-mod PutLines
-mod Closed
-mod Fronts
+mod PutLine
+mod LastLineFeed
+pub mod PendingLine
 pub mod NextLine
-pub mod AllLines
-mod FirstVersion
-pub mod FirstLines
+pub mod LinesSoFar
+mod VersionOne
+pub mod FirstLine
 pub mod WholeText
-pub mod Cut
-pub mod OnlyReading
+pub mod FailedWrite
+pub mod UniqueReading
 mod AscendingLabels

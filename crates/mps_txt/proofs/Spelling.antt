@@ -11,10 +11,10 @@ use Rattle.mps_event.specs.Grammar.{IsRecord}
 use Rattle.mps_event.proofs.Records.{event_of_fields, count-le}
 use Rattle.mps_numerals.specs.Hexadecimal.{hexadecimal}
 use Rattle.mps_log_reader.specs.RecordLine.{field_text}
-use Rattle.mps_txt.specs.Cuts.{Lacks, following}
+use Rattle.mps_txt.specs.Separators.{Lacks, separated}
 use Rattle.mps_txt.specs.Line.{record_text, Spells}
-use Rattle.mps_txt.proofs.Words.{decimal_lacks, hexadecimal_lacks, same_number}
-use Rattle.mps_txt.proofs.Lines.{small_code, fields_after, text_of_record, same_fields}
+use Rattle.mps_txt.proofs.NumberTexts.{decimal_lacks, hexadecimal_lacks, same_number}
+use Rattle.mps_txt.proofs.RecordWords.{small_code, fields_after, text_of_record, same_fields}
 
 -- ---- no line feed
 
@@ -48,37 +48,37 @@ longest_of : (last : Bool) (x y : List ℕ) (n : ℕ) → length x ≤ n → len
 longest_of true x y n h k = h
 longest_of false x y n h k = k
 
-onto_short : (fuel base n : ℕ) (front : List ℕ) → length (digits_onto fuel base false n front) ≤ fuel + length front
-onto_short zero base n front = omega arith
-onto_short (suc fuel) base n front =
+onto_at_most : (fuel base n : ℕ) (front : List ℕ) → length (digits_onto fuel base false n front) ≤ fuel + length front
+onto_at_most zero base n front = omega arith
+onto_at_most (suc fuel) base n front =
     let next = digit_glyph false (n % base) ∷ front in
-    longest_of (eqb (n / base) 0) next (digits_onto fuel base false (n / base) next) (suc fuel + length front) (omega arith) (omega (arith, onto_short fuel base (n / base) next))
+    longest_of (eqb (n / base) 0) next (digits_onto fuel base false (n / base) next) (suc fuel + length front) (omega arith) (omega (arith, onto_at_most fuel base (n / base) next))
 
-digits_short : (base n : ℕ) → length (digits base false n) ≤ 64
+digits_at_most : (base n : ℕ) → length (digits base false n) ≤ 64
 unfolding digits
-digits_short base n = omega (arith, onto_short 64 base n [])
+digits_at_most base n = omega (arith, onto_at_most 64 base n [])
 
-fields_short : (fields : List ℕ) → length (flat_map field_text fields) ≤ 65 * length fields
-fields_short [] = omega arith
-fields_short (field ∷ fields) = omega (arith, length-append (field_text field) (flat_map field_text fields), digits_short 16 field, fields_short fields)
+fields_at_most : (fields : List ℕ) → length (flat_map field_text fields) ≤ 65 * length fields
+fields_at_most [] = omega arith
+fields_at_most (field ∷ fields) = omega (arith, length-append (field_text field) (flat_map field_text fields), digits_at_most 16 field, fields_at_most fields)
 
-pub record_text_short : (version : Version) (r : Record) → IsRecord version r → length (record_text r) ≤ 4096
-record_text_short version r h =
+pub record_text_at_most : (version : Version) (r : Record) → IsRecord version r → length (record_text r) ≤ 4096
+record_text_at_most version r h =
     let event = event_of_fields version r.code r.fields h.fields in
     omega (
       arith,
       length-append (decimal r.line ++ codes " " ++ decimal r.code) (flat_map field_text r.fields),
       length-append (decimal r.line ++ codes " ") (decimal r.code),
       length-append (decimal r.line) (codes " "),
-      digits_short 10 r.line,
-      digits_short 10 r.code,
-      fields_short r.fields,
+      digits_at_most 10 r.line,
+      digits_at_most 10 r.code,
+      fields_at_most r.fields,
       event.count,
       count-le event.event,
     )
 
-pub text_short : (version : Version) (line : List ℕ) (r : Record) → Spells version line r → length line ≤ 4096
-text_short version line r h = omega (arith, ap (λ (x : List ℕ). length x) h.text, record_text_short version r h.grammar)
+pub text_at_most : (version : Version) (line : List ℕ) (r : Record) → Spells version line r → length line ≤ 4096
+text_at_most version line r h = omega (arith, ap (λ (x : List ℕ). length x) h.text, record_text_at_most version r h.grammar)
 
 -- ---- one record
 
@@ -91,7 +91,7 @@ one_text version line r s h k =
     let code_fits : r.code < 2 ^ 64 = omega (arith, small_code version r h.grammar) in
     let other_line : s.line < 2 ^ 64 = omega (arith, k.grammar.line_fits) in
     let other_code : s.code < 2 ^ 64 = omega (arith, small_code version s k.grammar) in
-    let same = same_number r.line s.line (Some (decimal r.code ++ following 32 (fields_after r.fields))) (Some (decimal s.code ++ following 32 (fields_after s.fields))) line_fits other_line
+    let same = same_number r.line s.line (Some (decimal r.code ++ separated 32 (fields_after r.fields))) (Some (decimal s.code ++ separated 32 (fields_after s.fields))) line_fits other_line
     (sym (text_of_record r) ∙ sym h.text ∙ k.text ∙ text_of_record s) in
     let codes_same = same_number r.code s.code (fields_after r.fields) (fields_after s.fields) code_fits other_code (some_is _ _ same.1) in
     let fields_same = same_fields r.fields s.fields (recursion_from_All (λ field. field < 2 ^ 64) r.fields h.grammar.fields_fit) (recursion_from_All (λ field. field < 2 ^ 64) s.fields k.grammar.fields_fit) codes_same.1 in

@@ -11,134 +11,128 @@ use Rattle.mps_report.specs.Reports.{status_of, report_of}
 use Rattle.mps_report.specs.Streams.{Reports}
 use Rattle.mps_log_reader.specs.Input.{Buffered, IsComplete}
 use Rattle.mps_log_reader.specs.Left.{left_of}
-use Rattle.mps_log_reader.specs.PutOut.{put_out, Grows, PrintsAsFar, IsToFlush}
+use Rattle.mps_log_reader.specs.PutOut.{put_out, Grows, PutsOut, PrintsAsFar, IsToFlush}
 use Rattle.mps_log_reader.specs.Opening.{first_line}
 use Rattle.mps_log_reader.specs.RecordLine.{record_line}
 use Rattle.mps_log_reader.proofs.Reported.{has_reported}
 use Rattle.mps_log_reader.proofs.PartPut.{as_far_of_text, as_far_later}
 use Rattle.mps_report.proofs.Outside.{reports_only-same, reports_only-then}
+use Rattle.mps_txt.specs.declared.bad_text_line.BadTextLine.{BadTextLine}
+use Rattle.mps_txt.specs.BadTextLine.{text_of_bad_line}
 use Rattle.mps_txt.specs.Readable.{readable}
-use Rattle.mps_txt.specs.Text.{closed, readable_text, BeginsWith, Reads, FirstLines, BreaksOff, FailsBefore, FailsBehind, WantsMemory, HasRead, ReadWith}
-use Rattle.mps_txt.specs.TextSteps.{ShowsFirst, ShowsAll, ShowsCome, ShowsBeforeMemory, AllLines, TextOpens, IsWholeOrLast}
-use Rattle.mps_txt.proofs.AllLines.{whole_known}
-use Rattle.mps_txt.proofs.FirstVersion.{is_second}
+use Rattle.mps_txt.specs.Text.{terminated, Ending, readable_text, BeginsWith, Reads, FirstLines, BreaksOff, FailsInFirstLine, FailsAfterLines, RunsOutOfMemory, HasRead, ReadWith}
+use Rattle.mps_txt.specs.TextSteps.{ShowsLines, ShowsAll, ShowsWholeLines, ShowsBeforeMemory, AllGives, OpensText, IsWholeOrLast}
+use Rattle.mps_txt.proofs.LinesSoFar.{whole_known}
+use Rattle.mps_txt.proofs.VersionOne.{is_second}
 
 printed_all : (line text : List ℕ) (o : Option (List ℕ)) → option_map (λ all. all ++ text) (option_map (λ printed. printed ++ line) o) ≡ option_map (λ before. before ++ (line ++ text)) o
 printed_all line text None = refl
 printed_all line text (Some before) = ap Some (append_assoc before line text)
 
-begins : (version : Version) (bytes left : List ℕ) (before after : Option (List ℕ)) → closed bytes ≡ first_line version ++ closed left → (h : ShowsFirst version left before after)
-    → BeginsWith version h.records h.named (closed h.left) bytes
-begins version bytes left before after is h = record {
-  each = h.each;
-  meaning = h.meaning;
-  few = h.few;
-  spelled = is ∙ ap (λ (x : List ℕ). first_line version ++ x) h.spelled ∙ sym (append_assoc (first_line version) (flat_map record_line h.records) (closed h.left));
-}
+-- the first line of a text was taken, which leaves this, and put out
+pub record FirstLinePut (version : Version) (bytes left out : List ℕ) (a b : Outside) : Type 0 where
+  pub spelled : terminated bytes ≡ first_line version ++ terminated left
+  pub same : b.printed ≡ a.printed
+  pub line : out ≡ first_line version
 
--- what was put out after the first line
-put_all : (version : Version) (out text : List ℕ) (a b : Option (List ℕ)) (after : Option (List ℕ)) → b ≡ a → out ≡ first_line version
-    → after ≡ option_map (λ all. all ++ text) (option_map (λ printed. printed ++ out) b) → after ≡ option_map (λ before. before ++ (first_line version ++ text)) a
-put_all version out text a b after same line put =
-    put
-    ∙ ap (λ (x : List ℕ). option_map (λ (t : List ℕ). t ++ text) (option_map (λ printed. printed ++ x) b)) line
-    ∙ ap (λ (o : Option (List ℕ)). option_map (λ (t : List ℕ). t ++ text) (option_map (λ printed. printed ++ first_line version) o)) same
-    ∙ printed_all (first_line version) text a
+-- the lines after it were read, and what was gathered then was flushed
+pub record LinesFlushed (version : Version) (bytes left gathered : List ℕ) (ending : Ending) (a b c d : Outside) : Type 0 where
+  pub whole : ending ≡ Err stop.ReadFailed → bytes ≡ first_line version ++ left
+  pub unread : d.input ≡ c.input
+  pub grown : Grows b.printed c.printed
+  pub counted : a.out_faults ≤ c.out_faults
+  pub printed : IsToFlush ending → d.printed ≡ put_out c gathered
+  pub far : ending ≡ Err stop.ReadFailed → PrintsAsFar c d gathered
 
-reads : (T : Type 0) (version : Version) (bytes left out : List ℕ) (a b d : Outside) (after : Option (List ℕ)) (ending : Result T Stop)
-    → closed bytes ≡ first_line version ++ closed left → b.printed ≡ a.printed → out ≡ first_line version
-    → ShowsAll version left (put_out b out) after ending → d.printed ≡ after → Reads bytes ending a d
-reads T version bytes left out a b d after ending is same line all printed =
-    let h = all.shown in
-    record {
-      version = version;
-      records = h.records;
-      named = h.named;
-      rest = closed h.left;
-      begins = begins version bytes left (put_out b out) after is h;
-      ends_at = all.ends_at;
-      printed = printed ∙ put_all version out (readable version h.records) a.printed b.printed after same line h.put;
+module _ (version : Version) (bytes left out : List ℕ) (a b : Outside) (first : FirstLinePut version bytes left out a b) where
+  begins : (before after : Option (List ℕ)) (h : ShowsLines version left before after) → BeginsWith version h.records h.named (terminated h.left) bytes
+  begins before after h = record {
+    each = h.each;
+    meaning = h.meaning;
+    at_most = h.at_most;
+    spelled = first.spelled ∙ ap (λ (x : List ℕ). first_line version ++ x) h.spelled ∙ sym (append_assoc (first_line version) (flat_map record_line h.records) (terminated h.left));
+  }
+
+  -- what was put out after the first line
+  put_all : (text : List ℕ) (after : Option (List ℕ)) → PutsOut (put_out b out) after text → after ≡ option_map (λ before. before ++ (first_line version ++ text)) a.printed
+  put_all text after put =
+      put
+      ∙ ap (λ (x : List ℕ). option_map (λ (t : List ℕ). t ++ text) (option_map (λ printed. printed ++ x) b.printed)) first.line
+      ∙ ap (λ (o : Option (List ℕ)). option_map (λ (t : List ℕ). t ++ text) (option_map (λ printed. printed ++ first_line version) o)) first.same
+      ∙ printed_all (first_line version) text a.printed
+
+  reads : (T : Type 0) (d : Outside) (after : Option (List ℕ)) (ending : Result T (Stop BadTextLine)) → d.printed ≡ after → ShowsAll version left (put_out b out) after ending → Reads bytes ending a d
+  reads T d after ending printed all =
+      let h = all.shown in
+      record {
+        version = version;
+        records = h.records;
+        named = h.named;
+        rest = terminated h.left;
+        begins = begins (put_out b out) after h;
+        ends_at = all.ends_at;
+        printed = printed ∙ put_all (readable version h.records) after h.put;
+      }
+
+  -- the first lines of a text, and what is left of it
+  abbrev first_lines : (before after : Option (List ℕ)) → ShowsLines version left before after → FirstLines bytes
+  first_lines before after h = record {
+    version = version;
+    records = h.records;
+    named = h.named;
+    left = h.left;
+    begins = begins before after h;
+  }
+
+  runs_out_of_memory : (d : Outside) (after : Option (List ℕ)) → d.printed ≡ after → ShowsBeforeMemory version left (put_out b out) after → RunsOutOfMemory bytes a d
+  runs_out_of_memory d after printed h = record {
+    lines = first_lines (put_out b out) after h.shown;
+    labelled = is_second version h.shown.records h.shown.named h.next.next h.shown.meaning h.next.takes;
+    next = h.next;
+    printed = printed ∙ put_all (readable version h.shown.records) after h.shown.put;
+  }
+
+  -- ---- every ending
+
+  module _ (gathered : List ℕ) (c d : Outside) where
+    fails_after_lines : LinesFlushed version bytes left gathered (Err stop.ReadFailed) a b c d → ShowsWholeLines version left c.input (put_out b out) (put_out c gathered) → FailsAfterLines bytes a d
+    fails_after_lines f h = record {
+      lines = first_lines (put_out b out) (put_out c gathered) h.shown;
+      whole = f.whole refl ∙ ap (λ (x : List ℕ). first_line version ++ x) h.whole ∙ sym (append_assoc (first_line version) (flat_map record_line h.shown.records) h.shown.left);
+      breaks = subst (λ (o : Option (List ℕ)). BreaksOff h.shown.left o) (sym f.unread) h.breaks;
+      printed = as_far_of_text out (first_line version) (readable version h.shown.records) gathered a b c d first.same first.line h.shown.put f.grown f.counted (f.far refl);
     }
 
--- the first lines of a text, and what is left of it
-abbrev first_lines : (version : Version) (bytes left : List ℕ) (before after : Option (List ℕ)) → closed bytes ≡ first_line version ++ closed left → ShowsFirst version left before after
-    → FirstLines bytes
-first_lines version bytes left before after is h = record {
-  version = version;
-  records = h.records;
-  named = h.named;
-  left = h.left;
-  begins = begins version bytes left before after is h;
-}
+    pub reads_ending : (ending : Ending) → LinesFlushed version bytes left gathered ending a b c d → AllGives version left c.input (put_out b out) (put_out c gathered) ending → HasRead bytes ending a d
+    reads_ending (Ok value) f all = reads (Unit {0}) d (put_out c gathered) (Ok value) (f.printed tt) all
+    reads_ending (Err (stop.Bad bad)) f all = inr (reads (Unit {0}) d (put_out c gathered) (Err (stop.Bad bad)) (f.printed tt) all)
+    reads_ending (Err stop.TooLong) f all = reads (Unit {0}) d (put_out c gathered) (Err stop.TooLong) (f.printed tt) all
+    reads_ending (Err stop.ReadFailed) f all = inr (fails_after_lines f all)
+    reads_ending (Err stop.OutOfMemory) f all = inr (runs_out_of_memory d (put_out c gathered) (f.printed tt) all)
+    reads_ending (Err stop.WriteFailed) f all = tt
+    reads_ending (Err stop.LogFailed) f all = absurd all
 
-fails_after : (version : Version) (bytes left out gathered : List ℕ) (a b c d : Outside) → closed bytes ≡ first_line version ++ closed left → bytes ≡ first_line version ++ left → b.printed ≡ a.printed
-    → out ≡ first_line version → d.input ≡ c.input → Grows b.printed c.printed → a.out_faults ≤ c.out_faults
-    → ShowsCome version left c.input (put_out b out) (put_out c gathered) → PrintsAsFar c d gathered → FailsBehind bytes a d
-fails_after version bytes left out gathered a b c d is whole same line unread grown counted h far = record {
-  front = first_lines version bytes left (put_out b out) (put_out c gathered) is h.shown;
-  whole = whole ∙ ap (λ (x : List ℕ). first_line version ++ x) h.whole ∙ sym (append_assoc (first_line version) (flat_map record_line h.shown.records) h.shown.left);
-  breaks = subst (λ (o : Option (List ℕ)). BreaksOff h.shown.left o) (sym unread) h.breaks;
-  printed = as_far_of_text out (first_line version) (readable version h.shown.records) gathered a b c d same line h.shown.put grown counted far;
-}
+-- ---- where the first line was taken
 
-wants_memory : (version : Version) (bytes left out : List ℕ) (a b d : Outside) (after : Option (List ℕ)) → closed bytes ≡ first_line version ++ closed left → b.printed ≡ a.printed
-    → out ≡ first_line version → ShowsBeforeMemory version left (put_out b out) after → d.printed ≡ after → WantsMemory bytes a d
-wants_memory version bytes left out a b d after is same line h printed = record {
-  front = first_lines version bytes left (put_out b out) after is h.shown;
-  labelled = is_second version h.shown.records h.shown.named h.next.next h.shown.meaning h.next.takes;
-  next = h.next;
-  printed = printed ∙ put_all version out (readable version h.shown.records) a.printed b.printed after same line h.shown.put;
-}
+pub left_known : (version : Version) (bytes : List ℕ) (left : Option (List ℕ)) → Some (terminated bytes) ≡ option_map (λ rest. first_line version ++ terminated rest) left
+    → (rest : List ℕ) × (left ≡ Some rest) × (terminated bytes ≡ first_line version ++ terminated rest)
+left_known version bytes None e = absurd (let f : Some (terminated bytes) ≡ None = e in cc)
+left_known version bytes (Some rest) e = (rest, refl, (let f : Some (terminated bytes) ≡ Some (first_line version ++ terminated rest) = e in cc))
 
-reads_ending : (version : Version) (bytes left out gathered : List ℕ) (a b c d : Outside) (ending : Result (Unit {0}) Stop)
-    → closed bytes ≡ first_line version ++ closed left → (ending ≡ Err stop.ReadFailed → bytes ≡ first_line version ++ left) → b.printed ≡ a.printed → out ≡ first_line version → d.input ≡ c.input → Grows b.printed c.printed → a.out_faults ≤ c.out_faults
-    → AllLines version left c.input (put_out b out) (put_out c gathered) ending → (IsToFlush ending → d.printed ≡ put_out c gathered)
-    → (ending ≡ Err stop.ReadFailed → PrintsAsFar c d gathered) → HasRead bytes ending a d
-reads_ending version bytes left out gathered a b c d (Ok value) is whole same line unread grown counted all printed far =
-    reads (Unit {0}) version bytes left out a b d (put_out c gathered) (Ok value) is same line all (printed tt)
-reads_ending version bytes left out gathered a b c d (Err (stop.BadLine number)) is whole same line unread grown counted all printed far =
-    inr (reads (Unit {0}) version bytes left out a b d (put_out c gathered) (Err (stop.BadLine number)) is same line all (printed tt))
-reads_ending version bytes left out gathered a b c d (Err stop.TooLong) is whole same line unread grown counted all printed far =
-    reads (Unit {0}) version bytes left out a b d (put_out c gathered) (Err stop.TooLong) is same line all (printed tt)
-reads_ending version bytes left out gathered a b c d (Err stop.ReadFailed) is whole same line unread grown counted all printed far =
-    inr (fails_after version bytes left out gathered a b c d is (whole refl) same line unread grown counted all (far refl))
-reads_ending version bytes left out gathered a b c d (Err stop.OutOfMemory) is whole same line unread grown counted all printed far =
-    inr (wants_memory version bytes left out a b d (put_out c gathered) is same line all (printed tt))
-reads_ending version bytes left out gathered a b c d (Err stop.WriteFailed) is whole same line unread grown counted all printed far = tt
-reads_ending version bytes left out gathered a b c d (Err stop.BadHeader) is whole same line unread grown counted all printed far = absurd all
-reads_ending version bytes left out gathered a b c d (Err (stop.BadRecord at fault)) is whole same line unread grown counted all printed far = absurd all
-reads_ending version bytes left out gathered a b c d (Err (stop.BadReplay at)) is whole same line unread grown counted all printed far = absurd all
+-- all of it was taken, where a read may still fail
+pub whole_first_line : (version : Version) (bytes rest : List ℕ) (left : Option (List ℕ)) (b : Buffered) (ending : Ending) → IsWholeOrLast (first_line version) (Some bytes) left b
+    → (IsComplete b → ending ≡ Err stop.ReadFailed → ⊥) → left ≡ Some rest → ending ≡ Err stop.ReadFailed → bytes ≡ first_line version ++ rest
+whole_first_line version bytes rest left b ending whole may_fail known failed = whole_known (first_line version) bytes rest (Some bytes) left b whole (λ complete. may_fail complete failed) refl known
 
-flushed : (R : Type 0) (bytes gathered : List ℕ) (a c d : Outside) (ending result : Result (Unit {0}) Stop)
-    → (result ≡ ending) ⊎ ((result ≡ Err stop.WriteFailed) × R) → (IsToFlush result → d.printed ≡ put_out c gathered) → (result ≡ Err stop.ReadFailed → PrintsAsFar c d gathered)
-    → ((IsToFlush ending → d.printed ≡ put_out c gathered) → (ending ≡ Err stop.ReadFailed → PrintsAsFar c d gathered) → HasRead bytes ending a d)
+-- the flush may fail after any ending
+pub flushed : (R : Type 0) (bytes : List ℕ) (a d : Outside) (ending result : Ending) → (result ≡ ending) ⊎ ((result ≡ Err stop.WriteFailed) × R) → (result ≡ ending → HasRead bytes ending a d)
     → HasRead bytes result a d
-flushed R bytes gathered a c d ending result (inl e) printed far h =
-    subst (λ (r : Result (Unit {0}) Stop). HasRead bytes r a d) (sym e)
-    (h (subst (λ (r : Result (Unit {0}) Stop). IsToFlush r → d.printed ≡ put_out c gathered) e printed) (λ f. far (e ∙ f)))
-flushed R bytes gathered a c d ending result (inr e) printed far h = rw e.0 tt
-
-pub known_left : (version : Version) (bytes : List ℕ) (left : Option (List ℕ)) → Some (closed bytes) ≡ option_map (λ rest. first_line version ++ closed rest) left
-    → (rest : List ℕ) × (left ≡ Some rest) × (closed bytes ≡ first_line version ++ closed rest)
-known_left version bytes None e = absurd (let f : Some (closed bytes) ≡ None = e in cc)
-known_left version bytes (Some rest) e = (rest, refl, (let f : Some (closed bytes) ≡ Some (first_line version ++ closed rest) = e in cc))
-
-pub reads_text : (R : Type 0) (version : Version) (bytes out gathered : List ℕ) (a b c d : Outside) (x : Buffered) (ending result : Result (Unit {0}) Stop)
-    → Some (closed bytes) ≡ option_map (λ rest. first_line version ++ closed rest) (left_of b x) → IsWholeOrLast (first_line version) (Some bytes) (left_of b x) x
-    → (IsComplete x → ending ≡ Err stop.ReadFailed → ⊥) → b.printed ≡ a.printed → out ≡ first_line version → d.input ≡ c.input
-    → Grows b.printed c.printed → a.out_faults ≤ c.out_faults
-    → ((left : List ℕ) → left_of b x ≡ Some left → AllLines version left c.input (put_out b out) (put_out c gathered) ending)
-    → (result ≡ ending) ⊎ ((result ≡ Err stop.WriteFailed) × R) → (IsToFlush result → d.printed ≡ put_out c gathered)
-    → (result ≡ Err stop.ReadFailed → PrintsAsFar c d gathered) → HasRead bytes result a d
-reads_text R version bytes out gathered a b c d x ending result opened whole may_fail same line unread grown counted all first printed far =
-    let g = known_left version bytes (left_of b x) opened in
-    flushed R bytes gathered a c d ending result first printed far
-    (λ p q. reads_ending version bytes g.0 out gathered a b c d ending g.2
-    (λ failed. whole_known (first_line version) bytes g.0 (Some bytes) (left_of b x) x whole (λ complete. may_fail complete failed) refl g.1) same line unread grown counted (all g.0 g.1) p q)
+flushed R bytes a d ending result (inl e) h = subst (λ (r : Ending). HasRead bytes r a d) (sym e) (h e)
+flushed R bytes a d ending result (inr e) h = rw e.0 tt
 
 -- ---- the report changes nothing of what was printed
 
-reads_later : (T : Type 0) (bytes : List ℕ) (ending : Result T Stop) (a b c : Outside) → Reads bytes ending a b → c.printed ≡ b.printed → Reads bytes ending a c
+reads_later : (T : Type 0) (bytes : List ℕ) (ending : Result T (Stop BadTextLine)) (a b c : Outside) → Reads bytes ending a b → c.printed ≡ b.printed → Reads bytes ending a c
 reads_later T bytes ending a b c h e = record {
   version = h.version;
   records = h.records;
@@ -149,60 +143,62 @@ reads_later T bytes ending a b c h e = record {
   printed = e ∙ h.printed;
 }
 
-before_later : (bytes : List ℕ) (a b c : Outside) → c.input ≡ b.input → (b.input ≡ a.input) ⊎ BreaksOff bytes b.input → (c.input ≡ a.input) ⊎ BreaksOff bytes c.input
-before_later bytes a b c e (inl h) = inl (e ∙ h)
-before_later bytes a b c e (inr h) = inr (subst (λ (o : Option (List ℕ)). BreaksOff bytes o) (sym e) h)
+module _ (bytes : List ℕ) (a b c : Outside) (o : OnlyReports b c) where
+  breaks_later : (b.input ≡ a.input) ⊎ BreaksOff bytes b.input → (c.input ≡ a.input) ⊎ BreaksOff bytes c.input
+  breaks_later (inl h) = inl (o.input ∙ h)
+  breaks_later (inr h) = inr (subst (λ (i : Option (List ℕ)). BreaksOff bytes i) (sym o.input) h)
 
-failed_later : (bytes : List ℕ) (a b c : Outside) → OnlyReports b c → FailsBefore bytes a b ⊎ FailsBehind bytes a b → FailsBefore bytes a c ⊎ FailsBehind bytes a c
-failed_later bytes a b c o (inl h) = inl (record { breaks = before_later bytes a b c o.input h.breaks; printed = o.printed ∙ h.printed })
-failed_later bytes a b c o (inr h) = inr (record {
-  front = h.front;
-  whole = h.whole;
-  breaks = subst (λ (o : Option (List ℕ)). BreaksOff h.front.left o) (sym o.input) h.breaks;
-  printed = as_far_later (readable_text h.front.version h.front.records) a b c h.printed o.printed o.out_faults;
-})
+  failed_later : FailsInFirstLine bytes a b ⊎ FailsAfterLines bytes a b → FailsInFirstLine bytes a c ⊎ FailsAfterLines bytes a c
+  failed_later (inl h) = inl (record { breaks = breaks_later h.breaks; printed = o.printed ∙ h.printed })
+  failed_later (inr h) = inr (record {
+    lines = h.lines;
+    whole = h.whole;
+    breaks = subst (λ (i : Option (List ℕ)). BreaksOff h.lines.left i) (sym o.input) h.breaks;
+    printed = as_far_later (readable_text h.lines.version h.lines.records) a b c h.printed o.printed o.out_faults;
+  })
 
-memory_later : (bytes : List ℕ) (a b c : Outside) → OnlyReports b c → OnlyReports a b ⊎ WantsMemory bytes a b → OnlyReports a c ⊎ WantsMemory bytes a c
-memory_later bytes a b c o (inl h) = inl (reports_only-then a b c h o)
-memory_later bytes a b c o (inr h) = inr (record { front = h.front; labelled = h.labelled; next = h.next; printed = o.printed ∙ h.printed })
+  memory_later : OnlyReports a b ⊎ RunsOutOfMemory bytes a b → OnlyReports a c ⊎ RunsOutOfMemory bytes a c
+  memory_later (inl h) = inl (reports_only-then a b c h o)
+  memory_later (inr h) = inr (record { lines = h.lines; labelled = h.labelled; next = h.next; printed = o.printed ∙ h.printed })
 
-read_later : (bytes : List ℕ) (ending : Result (Unit {0}) Stop) (a b c : Outside) → OnlyReports b c → HasRead bytes ending a b → HasRead bytes ending a c
-read_later bytes (Ok value) a b c o h = reads_later (Unit {0}) bytes (Ok value) a b c h o.printed
-read_later bytes (Err (stop.BadLine line)) a b c o (inl h) = inl (record { first = h.first; none = h.none; printed = o.printed ∙ h.printed })
-read_later bytes (Err (stop.BadLine line)) a b c o (inr h) = inr (reads_later (Unit {0}) bytes (Err (stop.BadLine line)) a b c h o.printed)
-read_later bytes (Err stop.TooLong) a b c o h = reads_later (Unit {0}) bytes (Err stop.TooLong) a b c h o.printed
-read_later bytes (Err stop.ReadFailed) a b c o h = failed_later bytes a b c o h
-read_later bytes (Err stop.OutOfMemory) a b c o h = memory_later bytes a b c o h
-read_later bytes (Err stop.WriteFailed) a b c o h = tt
-read_later bytes (Err stop.BadHeader) a b c o h = absurd h
-read_later bytes (Err (stop.BadRecord at fault)) a b c o h = absurd h
-read_later bytes (Err (stop.BadReplay at)) a b c o h = absurd h
+  read_later : (ending : Ending) → HasRead bytes ending a b → HasRead bytes ending a c
+  read_later (Ok value) h = reads_later (Unit {0}) bytes (Ok value) a b c h o.printed
+  read_later (Err (stop.Bad bad)) (inl h) = inl (record { first = h.first; none = h.none; printed = o.printed ∙ h.printed })
+  read_later (Err (stop.Bad bad)) (inr h) = inr (reads_later (Unit {0}) bytes (Err (stop.Bad bad)) a b c h o.printed)
+  read_later (Err stop.TooLong) h = reads_later (Unit {0}) bytes (Err stop.TooLong) a b c h o.printed
+  read_later (Err stop.ReadFailed) h = failed_later h
+  read_later (Err stop.OutOfMemory) h = memory_later h
+  read_later (Err stop.WriteFailed) h = tt
+  read_later (Err stop.LogFailed) h = absurd h
 
-pub read_with : (status : ℕ) (bytes : List ℕ) (ending : Result (Unit {0}) Stop) (a b c : Outside) → b.reported ≡ a.reported → b.err_faults ≡ a.err_faults
-    → HasRead bytes ending a b → OnOk ending (status ≡ 0) → OnOk ending (c ≡ b)
-    → IfErr ending (λ why. status ≡ status_of why) → IfErr ending (λ why. Reports b c (report_of why)) → ReadWith bytes status a c
-read_with status bytes (Ok value) a b c quiet faults h zero same is reports = record {
+-- an ending was reported, with its status
+pub record EndingReported (status : ℕ) (ending : Ending) (a b c : Outside) : Type 0 where
+  pub quiet : b.reported ≡ a.reported
+  pub faults : b.err_faults ≡ a.err_faults
+  pub zero : OnOk ending (status ≡ 0)
+  pub same : OnOk ending (c ≡ b)
+  pub status_is : IfErr ending (λ why. status ≡ status_of why)
+  pub reports : IfErr ending (λ why. Reports b c (report_of text_of_bad_line why))
+
+pub read_with : (status : ℕ) (bytes : List ℕ) (ending : Ending) (a b c : Outside) → EndingReported status ending a b c → HasRead bytes ending a b → ReadWith bytes status a c
+read_with status bytes (Ok value) a b c e h = record {
   ending = Ok value;
-  status_is = zero;
-  read = read_later bytes (Ok value) a b c (subst (λ (o : Outside). OnlyReports b o) (sym same) (reports_only-same b)) h;
-  reported = ap (λ (o : Outside). o.reported) same ∙ quiet;
+  status_is = e.zero;
+  read = read_later bytes a b c (subst (λ (o : Outside). OnlyReports b o) (sym e.same) (reports_only-same b)) (Ok value) h;
+  reported = ap (λ (o : Outside). o.reported) e.same ∙ e.quiet;
 }
-read_with status bytes (Err why) a b c quiet faults h zero same is reports = record {
+read_with status bytes (Err why) a b c e h = record {
   ending = Err why;
-  status_is = is;
-  read = read_later bytes (Err why) a b c reports.others h;
-  reported = has_reported (report_of why) a b c quiet faults reports.reported;
+  status_is = e.status_is;
+  read = read_later bytes a b c e.reports.others (Err why) h;
+  reported = has_reported (report_of text_of_bad_line why) a b c e.quiet e.faults e.reports.reported;
 }
 
 -- ---- what may come before
 
-pub opening_stops : (bytes : List ℕ) (left : Option (List ℕ)) (a b : Outside) (why : Stop) → TextOpens bytes left a.input b.input (Err why) → b.printed ≡ a.printed
+pub opening_stops : (bytes : List ℕ) (left : Option (List ℕ)) (a b : Outside) (why : Stop BadTextLine) → OpensText bytes left a.input b.input (Err why) → b.printed ≡ a.printed
     → HasRead {T = Unit {0}} bytes (Err why) a b
-opening_stops bytes left a b (stop.BadLine line) h same = inl (record { first = h.0; none = h.1; printed = same })
+opening_stops bytes left a b (stop.Bad bad) h same = inl (record { first = h.0; none = h.1; printed = same })
 opening_stops bytes left a b stop.ReadFailed h same = inl (record { breaks = h; printed = same })
 opening_stops bytes left a b stop.WriteFailed h same = tt
-opening_stops bytes left a b stop.OutOfMemory h same = absurd h
-opening_stops bytes left a b stop.BadHeader h same = absurd h
-opening_stops bytes left a b (stop.BadRecord at fault) h same = absurd h
-opening_stops bytes left a b (stop.BadReplay at) h same = absurd h
-opening_stops bytes left a b stop.TooLong h same = absurd h
+opening_stops bytes left a b why h same = absurd h

@@ -1,7 +1,8 @@
+pub mod BadTextLine
 pub mod Labels
 pub mod Readable
-pub mod Cuts
+pub mod Separators
 pub mod Line
-pub mod NextLine
+pub mod PendingLine
 pub mod Text
 pub mod TextSteps

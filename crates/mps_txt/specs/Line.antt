@@ -19,13 +19,17 @@ pub record Spells (version : Version) (line : List ℕ) (r : Record) : Type 0 wh
   pub grammar : IsRecord version r
   pub text : line ≡ record_text r
 
--- the record of a line that was read: its event has a code, and n fields
+-- the record of a line that was read: the code of its event, and as many fields as the event has
 abbrev pub record_of : RecordLine → Record
 record_of entry =
     record { line = entry.line; code = code_of entry.event; fields = take (field_count_of entry.event) entry.fields }
 
 pub a_line_feed_after : (r : Record) → record_line r ≡ record_text r ++ codes "\n"
 a_line_feed_after r = refl
+
+-- the most bytes of a line, without its line feed
+abbrev pub max_line_bytes : ℕ
+max_line_bytes = 4096
 
 -- whether a line is the one of a move in line 10 from 0xaf0 to 0x2000
 abbrev is_the_move : List ℕ → Bool

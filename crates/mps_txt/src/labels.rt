@@ -12,14 +12,16 @@ use std::alloc::Global;
 use std::collections::BTreeMap;
 use std::marker::Model;
 
-// Why a record line could not be taken.
+/// Why the record of a line could not be applied.
 #[derive(Clone, Copy, Debug, PartialEq, Eq)]
 pub(crate) enum LabelFault {
+    /// It has no meaning after the records before it.
     BadLine,
+    /// There is no memory.
     OutOfMemory,
 }
 
-// The interned names, each filled up with zeros, in the order of their numbers, and the name of each labelled address.
+/// The interned names, each filled up with zeros, in the order of their ids, and the id of each labelled address.
 #[derive(Drop)]
 pub(crate) struct Labels {
     names: Vec<[u8; 16]>,
@@ -37,7 +39,7 @@ impl Model for Labels {
 }
 
 impl Labels {
-    // No names and no labels.
+    /// No names and no labels.
     pub(crate) fn new(alloc: Global) -> Labels
         ensures { result ≡ no_names }
     {
@@ -47,7 +49,7 @@ impl Labels {
         }
     }
 
-    // The name that labels an address.
+    /// The name that labels an address.
     pub(crate) fn name_at(&self, address: u64) -> Option<[u8; 16]>
         ensures { option_map name_in result ≡ label_at self.now address }
     {
@@ -55,9 +57,9 @@ impl Labels {
         self.names.get(id as usize).copied()
     }
 
-    // What a record does to the names and the labels.
+    /// Applies a record to the names and the labels.
     pub(crate) fn apply(&mut self, entry: &RecordLine) -> Result<(), LabelFault>
-        ensures taken { OnOk result (after_event entry.now.event entry.now.fields self.old ≡ Some self.new) }
+        ensures state { OnOk result (after_event entry.now.event entry.now.fields self.old ≡ Some self.new) }
         ensures refused { result ≡ Err LabelFault.BadLine → after_event entry.now.event entry.now.fields self.old ≡ None }
         ensures memory { result ≡ Err LabelFault.OutOfMemory → takes_memory entry.now.event entry.now.fields self.old ≡ true }
     {
@@ -75,8 +77,9 @@ impl Labels {
         }
     }
 
+    /// Gives the next id to a name.
     fn intern(&mut self, id: u64, name: [u8; 16]) -> Result<(), LabelFault>
-        ensures taken { OnOk result ((id ≡ length self.old.names) × (self.new ≡ with_name self.old (name_in name))) }
+        ensures state { OnOk result ((id ≡ length self.old.names) × (self.new ≡ with_name self.old (name_in name))) }
         ensures refused { result ≡ Err LabelFault.BadLine → id ≢ length self.old.names }
         ensures memory { result ≡ Err LabelFault.OutOfMemory → id ≡ length self.old.names }
     {
@@ -86,8 +89,9 @@ impl Labels {
         self.names.push(name).map_err(|_| LabelFault::OutOfMemory)
     }
 
+    /// Labels an address with the name of this id.
     fn label(&mut self, at: u64, id: u64) -> Result<(), LabelFault>
-        ensures taken { OnOk result ((id < length self.old.names) × (self.new ≡ with_label self.old at id)) }
+        ensures state { OnOk result ((id < length self.old.names) × (self.new ≡ with_label self.old at id)) }
         ensures refused { result ≡ Err LabelFault.BadLine → length self.old.names ≤ id }
         ensures memory { result ≡ Err LabelFault.OutOfMemory → id < length self.old.names }
     {
@@ -97,8 +101,9 @@ impl Labels {
         self.put(at, id)
     }
 
+    /// Sets the label of an address.
     fn put(&mut self, at: u64, id: u64) -> Result<(), LabelFault>
-        ensures put { OnOk result (self.new ≡ with_label self.old at id) }
+        ensures state { OnOk result (self.new ≡ with_label self.old at id) }
         ensures fault { OnErr result (result ≡ Err LabelFault.OutOfMemory) }
     {
         match self.at.insert(at, id) {
@@ -107,14 +112,16 @@ impl Labels {
         }
     }
 
+    /// Takes the label of an address away.
     fn unlabel(&mut self, at: u64)
         ensures { self.new ≡ without_label self.old at }
     {
         let _ = self.at.remove(&at);
     }
 
+    /// Moves the label of an address to another.
     fn relocate(&mut self, from: u64, to: u64) -> Result<(), LabelFault>
-        ensures moved { OnOk result (self.new ≡ moved self.old from to) }
+        ensures state { OnOk result (self.new ≡ moved self.old from to) }
         ensures fault { OnErr result (result ≡ Err LabelFault.OutOfMemory) }
         ensures memory { OnErr result (is_some (id_at self.old from) ≡ true) }
     {
@@ -127,7 +134,7 @@ impl Labels {
     }
 }
 
-// The 16 bytes of a name: those of two numbers, the lowest first.
+/// The 16 bytes of a name: those of two numbers, the lowest first.
 pub(crate) fn name_of(low: u64, high: u64) -> [u8; 16]
     ensures { result ≡ number_bytes 8 low ++ number_bytes 8 high }
 {

@@ -1,15 +1,17 @@
 //! The readable text of a portable text: each line of numbers becomes a line of words.
 #![tactic(auto)]
 
-mod cuts;
+mod bad_text_line;
 mod labels;
 mod laws;
-mod readable;
+mod readable_line;
 mod record_line;
-mod textual;
+mod text_reader;
+mod words;
 
+pub use bad_text_line::BadTextLine;
 pub use laws::labels_are_a_map;
-pub use textual::txt;
+pub use text_reader::txt;
 
 #[cfg(test)]
 mod tests;

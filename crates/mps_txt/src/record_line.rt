@@ -1,5 +1,5 @@
 // A line of a portable text: the line number and the code in decimal, then the fields in hexadecimal, with one space
-// between them.
+// between each two.
 
 ghost use Rattle.std.specs.Prelude.{◌≡◌, ◌≢◌, ◌≤◌, ◌<◌, ◌^◌, ◌++◌, ◌∷◌, ℕ, List, Option, length, take, decimal, option_copied, All, IfSome, IfNone};
 ghost use Rattle.std.specs.List.{flat_map};
@@ -8,15 +8,15 @@ ghost use Rattle.mps_event.specs.Event.{code_of, event_of, field_count_of};
 ghost use Rattle.mps_event.specs.Grammar.{interns_a_name};
 ghost use Rattle.mps_numerals.specs.Hexadecimal.{hexadecimal};
 ghost use Rattle.mps_log_reader.specs.RecordLine.{field_text};
-ghost use Rattle.mps_txt.specs.Cuts.{following};
+ghost use Rattle.mps_txt.specs.Separators.{separated};
 ghost use Rattle.mps_txt.specs.Line.{Spells, record_of};
 
-use crate::cuts::split_word;
 use crate::labels::name_of;
+use crate::words::split_word;
 use mps_event::{Event, Version, is_padded_name};
 use mps_numerals::{decimal_number, hexadecimal_number};
 
-// A record that a line of a text spells. The fields after those of the event are 0.
+/// A record that a line of a text spells. The fields after those of the event are 0.
 #[derive(Clone, Copy, Debug, PartialEq, Eq)]
 pub(crate) struct RecordLine {
     pub(crate) line: u32,
@@ -24,41 +24,41 @@ pub(crate) struct RecordLine {
     pub(crate) fields: [u64; 4],
 }
 
-// The decimal number at a prefix of a text, and what stands after the space after it.
-fn front_number(text: &[u8]) -> Option<(u64, Option<&[u8]>)>
-    ensures found { IfSome result (λ front. text.now ≡ decimal front.0 ++ following 32 (option_copied front.1)) }
-    ensures fits { IfSome result (λ front. front.0 < 2 ^ 64) }
-    ensures none { IfNone result ((number : ℕ) (rest : Option (List ℕ)) → number < 2 ^ 64 → text.now ≢ decimal number ++ following 32 rest) }
+/// The decimal number that a text begins with, and what stands after the space that follows it.
+fn leading_number(text: &[u8]) -> Option<(u64, Option<&[u8]>)>
+    ensures sound { IfSome result (λ leading. text.now ≡ decimal leading.0 ++ separated 32 (option_copied leading.1)) }
+    ensures at_most { IfSome result (λ leading. leading.0 < 2 ^ 64) }
+    ensures complete { IfNone result ((number : ℕ) (rest : Option (List ℕ)) → number < 2 ^ 64 → text.now ≢ decimal number ++ separated 32 rest) }
 {
     let (word, rest) = split_word(text);
     let number = decimal_number(word)?;
     Some((number, rest))
 }
 
-// The hexadecimal number at a prefix of a text, and what stands after the space after it.
-fn front_field(text: &[u8]) -> Option<(u64, Option<&[u8]>)>
-    ensures found { IfSome result (λ front. text.now ≡ hexadecimal front.0 ++ following 32 (option_copied front.1)) }
-    ensures fits { IfSome result (λ front. front.0 < 2 ^ 64) }
-    ensures none { IfNone result ((number : ℕ) (rest : Option (List ℕ)) → number < 2 ^ 64 → text.now ≢ hexadecimal number ++ following 32 rest) }
+/// The hexadecimal number that a text begins with, and what stands after the space that follows it.
+fn leading_field(text: &[u8]) -> Option<(u64, Option<&[u8]>)>
+    ensures sound { IfSome result (λ leading. text.now ≡ hexadecimal leading.0 ++ separated 32 (option_copied leading.1)) }
+    ensures at_most { IfSome result (λ leading. leading.0 < 2 ^ 64) }
+    ensures complete { IfNone result ((number : ℕ) (rest : Option (List ℕ)) → number < 2 ^ 64 → text.now ≢ hexadecimal number ++ separated 32 rest) }
 {
     let (word, rest) = split_word(text);
     let number = hexadecimal_number(word)?;
     Some((number, rest))
 }
 
-// N fields, each after a space, and nothing after them. The fields after those are 0.
+/// `count` fields, each after a space, with nothing after them. The other fields are 0.
 fn fields_of(text: Option<&[u8]>, count: u16) -> Option<[u64; 4]>
     requires { count ≤ 4 }
-    ensures found { IfSome result (λ fields. following 32 (option_copied text.entry) ≡ flat_map field_text (take count fields)) }
+    ensures sound { IfSome result (λ fields. separated 32 (option_copied text.entry) ≡ flat_map field_text (take count fields)) }
     ensures size { IfSome result (λ fields. length fields ≡ 4) }
-    ensures fits { IfSome result (λ fields. All (λ field. field < 2 ^ 64) fields) }
-    ensures none { IfNone result ((fields : List ℕ) → length fields ≡ count → All (λ field. field < 2 ^ 64) fields
-        → following 32 (option_copied text.entry) ≢ flat_map field_text fields) }
+    ensures at_most { IfSome result (λ fields. All (λ field. field < 2 ^ 64) fields) }
+    ensures complete { IfNone result ((fields : List ℕ) → length fields ≡ count → All (λ field. field < 2 ^ 64) fields
+        → separated 32 (option_copied text.entry) ≢ flat_map field_text fields) }
 {
     let mut fields = [0u64; 4];
     let mut rest = text;
     for i in 0..count {
-        let (field, others) = front_field(rest?)?;
+        let (field, others) = leading_field(rest?)?;
         fields[i as usize] = field;
         rest = others;
     }
@@ -68,22 +68,22 @@ fn fields_of(text: Option<&[u8]>, count: u16) -> Option<[u64; 4]>
     }
 }
 
-// The line number and the code at a prefix of a line, and what stands after the space after them.
+/// The line number and the code that a line begins with, and what stands after the space that follows them.
 fn heading(text: &[u8]) -> Option<(u32, u16, Option<&[u8]>)>
-    ensures found { IfSome result (λ head. text.now ≡ decimal head.0 ++ following 32 (Some (decimal head.1 ++ following 32 (option_copied head.2)))) }
-    ensures line { IfSome result (λ head. head.0 < 2 ^ 32) }
-    ensures code { IfSome result (λ head. head.1 < 2 ^ 16) }
-    ensures none { IfNone result ((line code : ℕ) (rest : Option (List ℕ)) → line < 2 ^ 32 → code < 2 ^ 16
-        → text.now ≢ decimal line ++ following 32 (Some (decimal code ++ following 32 rest))) }
+    ensures sound { IfSome result (λ head. text.now ≡ decimal head.0 ++ separated 32 (Some (decimal head.1 ++ separated 32 (option_copied head.2)))) }
+    ensures line_at_most { IfSome result (λ head. head.0 < 2 ^ 32) }
+    ensures code_at_most { IfSome result (λ head. head.1 < 2 ^ 16) }
+    ensures complete { IfNone result ((line code : ℕ) (rest : Option (List ℕ)) → line < 2 ^ 32 → code < 2 ^ 16
+        → text.now ≢ decimal line ++ separated 32 (Some (decimal code ++ separated 32 rest))) }
 {
-    let (line, rest) = front_number(text)?;
+    let (line, rest) = leading_number(text)?;
     let line = u32::try_from(line).ok()?;
-    let (code, rest) = front_number(rest?)?;
+    let (code, rest) = leading_number(rest?)?;
     let code = u16::try_from(code).ok()?;
     Some((line, code, rest))
 }
 
-// Whether what a record interns, if anything, is a name.
+/// Whether what a record interns, if anything, is a name.
 fn interns_a_name(event: Event, fields: &[u64; 4]) -> bool
     ensures { result ≡ interns_a_name event (take (field_count_of event) fields.now) }
 {
@@ -93,12 +93,12 @@ fn interns_a_name(event: Event, fields: &[u64; 4]) -> bool
     }
 }
 
-// The record that a line of a text of this version spells, without its line feed. None where it spells none.
+/// The record that a line of a text of this version spells, without its line feed; None where it spells none.
 pub(crate) fn record_of_line(text: &[u8], version: Version) -> Option<RecordLine>
-    ensures found { IfSome result (λ entry. Spells version text.now (record_of entry)) }
-    ensures known { IfSome result (λ entry. event_of version (code_of entry.event) ≡ Some entry.event) }
+    ensures sound { IfSome result (λ entry. Spells version text.now (record_of entry)) }
+    ensures event { IfSome result (λ entry. event_of version (code_of entry.event) ≡ Some entry.event) }
     ensures size { IfSome result (λ entry. length entry.fields ≡ 4) }
-    ensures none { IfNone result ((r : Record) → Spells version text.now r → ⊥) }
+    ensures complete { IfNone result ((r : Record) → Spells version text.now r → ⊥) }
 {
     let (line, code, rest) = heading(text)?;
     let event = Event::of_code(code, version)?;

@@ -45,9 +45,20 @@ const BAD_THIRD: [&[u8]; 4] = [
     b"mpslog 2\n1 33\n\n",
 ];
 
+/// Texts without a first line.
+const NO_FIRST: [&[u8]; 4] = [
+    b"",
+    b"mpslog 3\n1 33\n",
+    b"mpslog 9\n",
+    b"mpslog 1\r\n1 33\r\n",
+];
+
+/// Up to its second read, of 20 bytes each, one line of it comes whole.
+const CUT: &[u8] = b"mpslog 1\n1 1 8 8\n7 80 1000 3 0\n";
+
 /// What a text gives.
 #[derive(Drop)]
-struct Answers<'a> {
+struct Expected<'a> {
     status: u8,
     printed: &'a [u8],
     reported: &'a [u8],
@@ -59,161 +70,127 @@ fn compare(
     alloc: Global,
     text: &[u8],
     desk: &mut MemDesk,
-    wanted: &Answers<'_>,
+    expected: &Expected<'_>,
 ) -> Result<(), AllocError> {
     desk.add_file("-", text)?;
-    assert_eq!(rt; txt(alloc, "-", desk), wanted.status);
-    assert_eq!(rt; desk.printed(), wanted.printed);
-    assert_eq!(rt; desk.reported(), wanted.reported);
+    assert_eq!(rt; txt(alloc, "-", desk), expected.status);
+    assert_eq!(rt; desk.printed(), expected.printed);
+    assert_eq!(rt; desk.reported(), expected.reported);
     Ok(())
 }
 
-// Read and printed whole and byte by byte, a text gives the same.
+/// Read and printed whole, in a few bytes at a time and byte by byte, a text gives the same.
 fn compare_in_pieces(
     rt: &impl Abort,
     alloc: Global,
     text: &[u8],
-    wanted: &Answers<'_>,
+    expected: &Expected<'_>,
 ) -> Result<(), AllocError> {
-    for most in [usize::MAX, 1] {
+    for most in [usize::MAX, 7, 1] {
         let mut desk = MemDesk::new(alloc);
         desk.pieces(most);
-        compare(rt, alloc, text, &mut desk, wanted)?;
+        compare(rt, alloc, text, &mut desk, expected)?;
     }
     Ok(())
 }
 
+/// A whole text; texts with a wrong line; and one with more bytes before a line feed than any line of a record has.
 #[test]
-fn a_text_with_labels_in_pieces(rt: HostRuntime) -> Result<(), Fail> {
-    let wanted = Answers {
-        status: 0,
-        printed: LABELLED_READABLE,
-        reported: b"",
-    };
-    for most in [usize::MAX, 1, 7] {
-        let mut desk = MemDesk::new(rt.alloc());
-        desk.pieces(most);
-        compare(&rt, rt.alloc(), LABELLED, &mut desk, &wanted)?;
-    }
-    Ok(())
-}
-
-#[test]
-fn texts_with_a_wrong_second_line(rt: HostRuntime) -> Result<(), Fail> {
-    let wanted = Answers {
-        status: 6,
-        printed: b"mpslog 1\n",
-        reported: b"mps: text line 2: bad line\n",
-    };
-    for text in BAD_SECOND {
-        compare_in_pieces(&rt, rt.alloc(), text, &wanted)?;
-    }
-    Ok(())
-}
-
-#[test]
-fn texts_with_a_wrong_third_line(rt: HostRuntime) -> Result<(), Fail> {
-    let wanted = Answers {
-        status: 6,
-        printed: b"mpslog 2\n1 End\n",
-        reported: b"mps: text line 3: bad line\n",
-    };
-    for text in BAD_THIRD {
-        compare_in_pieces(&rt, rt.alloc(), text, &wanted)?;
-    }
-    Ok(())
-}
-
-#[test]
-fn texts_without_a_first_line(rt: HostRuntime) -> Result<(), Fail> {
-    let texts: [&[u8]; 4] = [
-        b"",
-        b"mpslog 3\n1 33\n",
-        b"mpslog 9\n",
-        b"mpslog 1\r\n1 33\r\n",
+fn texts_in_pieces(rt: HostRuntime) -> Result<(), Fail> {
+    let mut long = Vec::from_slice(rt.alloc(), b"mpslog 1\n")?;
+    long.resize(5000, b'1')?;
+    let long: [&[u8]; 1] = [&long];
+    let tables: [(&[&[u8]], u8, &[u8], &[u8]); 5] = [
+        (&[LABELLED], 0, LABELLED_READABLE, b""),
+        (&NO_FIRST, 6, b"", b"mps: text line 1: bad line\n"),
+        (
+            &BAD_SECOND,
+            6,
+            b"mpslog 1\n",
+            b"mps: text line 2: bad line\n",
+        ),
+        (
+            &BAD_THIRD,
+            6,
+            b"mpslog 2\n1 End\n",
+            b"mps: text line 3: bad line\n",
+        ),
+        (&long, 6, b"mpslog 1\n", b"mps: text line 2: bad line\n"),
     ];
-    let wanted = Answers {
-        status: 6,
-        printed: b"",
-        reported: b"mps: text line 1: bad line\n",
-    };
-    for text in texts {
-        compare_in_pieces(&rt, rt.alloc(), text, &wanted)?;
-    }
-    Ok(())
-}
-
-/// More bytes stand before a line feed than any line of a record has.
-#[test]
-fn a_text_with_a_long_line(rt: HostRuntime) -> Result<(), Fail> {
-    let wanted = Answers {
-        status: 6,
-        printed: b"mpslog 1\n",
-        reported: b"mps: text line 2: bad line\n",
-    };
-    let mut text = Vec::from_slice(rt.alloc(), b"mpslog 1\n")?;
-    text.resize(5000, b'1')?;
-    for most in [usize::MAX, 100] {
-        let mut desk = MemDesk::new(rt.alloc());
-        desk.pieces(most);
-        compare(&rt, rt.alloc(), &text, &mut desk, &wanted)?;
-    }
-    Ok(())
-}
-
-/// The second read fails, after 20 bytes: the whole line among them is printed.
-#[test]
-fn a_read_that_fails(rt: HostRuntime) -> Result<(), Fail> {
-    let wanted = Answers {
-        status: 3,
-        printed: b"mpslog 1\n1 ArenaCreate grains=8 limit=8\n",
-        reported: b"mps: read failed\n",
-    };
-    let mut desk = MemDesk::new(rt.alloc());
-    desk.pieces(20);
-    desk.fail(DeskCall::Read, 2)?;
-    compare(
-        &rt,
-        rt.alloc(),
-        b"mpslog 1\n1 1 8 8\n7 80 1000 3 0\n",
-        &mut desk,
-        &wanted,
-    )?;
-    Ok(())
-}
-
-/// A write fails, alone and after a read that failed before; and a report fails, which changes no status.
-#[test]
-fn calls_that_fail(rt: HostRuntime) -> Result<(), Fail> {
-    for (first, second, number, status, printed, reported) in [
-        (
-            DeskCall::Out,
-            DeskCall::Out,
-            2u64,
-            4u8,
-            b"".as_slice(),
-            b"mps: write failed\n".as_slice(),
-        ),
-        (
-            DeskCall::Out,
-            DeskCall::Read,
-            2,
-            3,
-            b"",
-            b"mps: read failed\n",
-        ),
-        (DeskCall::Err, DeskCall::Read, 1, 3, b"", b""),
-    ] {
-        let mut desk = MemDesk::new(rt.alloc());
-        desk.pieces(30);
-        desk.fail(first, 1)?;
-        desk.fail(second, number)?;
-        let wanted = Answers {
+    for (texts, status, printed, reported) in tables {
+        let expected = Expected {
             status,
             printed,
             reported,
         };
-        compare(&rt, rt.alloc(), LABELLED, &mut desk, &wanted)?;
+        for text in texts {
+            compare_in_pieces(&rt, rt.alloc(), text, &expected)?;
+        }
+    }
+    Ok(())
+}
+
+/// A write fails, alone and after a read that failed before; a report fails, which changes no status; and a second read
+/// fails, before which one line had come whole.
+#[test]
+fn calls_that_fail(rt: HostRuntime) -> Result<(), Fail> {
+    let cases: [(
+        &[u8],
+        usize,
+        (DeskCall, u64),
+        (DeskCall, u64),
+        u8,
+        &[u8],
+        &[u8],
+    ); 4] = [
+        (
+            LABELLED,
+            30,
+            (DeskCall::Out, 1),
+            (DeskCall::Out, 2),
+            4,
+            b"",
+            b"mps: write failed\n",
+        ),
+        (
+            LABELLED,
+            30,
+            (DeskCall::Out, 1),
+            (DeskCall::Read, 2),
+            3,
+            b"",
+            b"mps: read failed\n",
+        ),
+        (
+            LABELLED,
+            30,
+            (DeskCall::Err, 1),
+            (DeskCall::Read, 1),
+            3,
+            b"",
+            b"",
+        ),
+        (
+            CUT,
+            20,
+            (DeskCall::Read, 2),
+            (DeskCall::Out, 9),
+            3,
+            b"mpslog 1\n1 ArenaCreate grains=8 limit=8\n",
+            b"mps: read failed\n",
+        ),
+    ];
+    for (text, most, first, second, status, printed, reported) in cases {
+        let mut desk = MemDesk::new(rt.alloc());
+        desk.pieces(most);
+        desk.fail(first.0, first.1)?;
+        desk.fail(second.0, second.1)?;
+        let expected = Expected {
+            status,
+            printed,
+            reported,
+        };
+        compare(&rt, rt.alloc(), text, &mut desk, &expected)?;
     }
     Ok(())
 }

@@ -24,7 +24,7 @@ pub returns-in-Read-clause-asked : goal.returns-in-Read-clause-asked
 returns-in-Read-clause-asked g c = rw c.in-Read.is (record {
   answers = c.txt.ensures.answers;
   readable = c.txt.ensures.readable;
-  only = c.txt.ensures.only;
+  only = c.txt.ensures.unique;
   cut = c.txt.ensures.cut;
   missing = c.txt.ensures.missing;
   reported = c.txt.ensures.reported;

@@ -1,6 +1,6 @@
 use Rattle.std.proofs.Common.{◌∙◌, ap}
 use Rattle.mps_event.specs.Name.{is_padded_name}
-use Rattle.mps_txt.proofs.Lines.{name_tested}
+use Rattle.mps_txt.proofs.RecordWords.{name_tested}
 use Rattle.mps_txt.proofs.record_line.interns_a_name.Goals as goal
 
 pub returns-in-Intern : goal.returns-in-Intern

@@ -1,9 +1,9 @@
 use Rattle.std.proofs.lemmas.Result.{on_ok_weaker}
-use Rattle.mps_txt.proofs.Named.{interned}
+use Rattle.mps_txt.proofs.InternedName.{interned}
 use Rattle.mps_txt.proofs.labels.Labels.apply.Goals as goal
 
-pub returns-in-Intern-clause-taken : goal.returns-in-Intern-clause-taken
-returns-in-Intern-clause-taken c = rw c.in-Intern.is
+pub returns-in-Intern-clause-state : goal.returns-in-Intern-clause-state
+returns-in-Intern-clause-state c = rw c.in-Intern.is
     (on_ok_weaker c.intern.result
     (λ w. interned c.args.entry.now.fields c.args.self.now c.intern.new.self c.name_of.result w.0 c.name_of.ensures w.1)
-    c.intern.ensures.taken)
+    c.intern.ensures.state)

@@ -1,7 +1,0 @@
-use Rattle.mps_txt.proofs.Joined.{four_joined}
-use Rattle.mps_txt.proofs.readable.put_seg.Goals as goal
-
-pub returns-clause-text : goal.returns-clause-text
-returns-clause-text c = λ before after.
-    four_joined c.args.output.now _ _ _ _ _ _ _ _ c.put_hexadecimal.ensures.text c.put_decimal.ensures.text c.put_decimal-2.ensures.text
-    c.put_decimal-3.ensures.text
