@@ -4,7 +4,8 @@ use Rattle.std.proofs.lemmas.List.{length-take, take-append-le, drop-drop}
 use Rattle.mps_arena.specs.Arena.{with_words}
 
 pub written_over : (words new : List ℕ) (at n : ℕ) → n ≡ length words
-    → take n ((take at words ++ (new ++ drop (length new) (drop at words))) ++ drop (length (take at words ++ (new ++ drop (length new) (drop at words)))) words) ≡ with_words words at new
+    → (let whole = take at words ++ (new ++ drop (length new) (drop at words)) in take n (whole ++ drop (length whole) words))
+    ≡ with_words words at new
 written_over words new at n size =
     let whole = take at words ++ (new ++ drop (length new) (drop at words)) in
     let long : n ≤ length whole =

@@ -23,7 +23,8 @@ pub record Scan (table : List ℕ) (need grain low most : ℕ) : Type 0 where
   pub short : grain < low + need
   pub free : (i : ℕ) → low ≤ i → i < grain → get_or table i 0 ≡ 0
   pub ascending : IsAscending grain (length table) (rest table grain)
-  pub lowest : lowest_fitting need (gaps low (length table) (rest table grain)) ≡ lowest_fitting need (gaps 1 (length table) (runs_in table))
+  pub lowest : lowest_fitting need (gaps low (length table) (rest table grain)) ≡ lowest_fitting need
+      (gaps 1 (length table) (runs_in table))
   pub longest_is : max most (longest (gaps low (length table) (rest table grain))) ≡ longest (gaps 1 (length table) (runs_in table))
 
 -- grain 0 begins no run
@@ -31,7 +32,8 @@ pub held_from_one : (table : List ℕ) → IsAscending 1 (length table) (runs_in
 unfolding runs_in
 held_from_one table ascending some = runs_later 1 table 0 1 (length table) ascending (omega arith) (omega arith)
 
-pub scan_start : (table : List ℕ) (need : ℕ) → 0 < need → 0 < length table → IsAscending 1 (length table) (runs_in table) → Scan table need 1 1 0
+pub scan_start : (table : List ℕ) (need : ℕ) → 0 < need → 0 < length table → IsAscending 1 (length table) (runs_in table)
+    → Scan table need 1 1 0
 scan_start table need some size ascending =
     let same = held_from_one table ascending size in
     let P : List Run → Type 0 = λ rs. IsAscending 1 (length table) rs in
@@ -47,14 +49,19 @@ scan_start table need some size ascending =
     }
 
 -- where no run begins at a grain
-free_step : (table : List ℕ) (grain : ℕ) → IsAscending grain (length table) (rest table grain) → grain < length table → get_or table grain 0 ≡ 0
+free_step : (table : List ℕ) (grain : ℕ) → IsAscending grain (length table) (rest table grain) → grain < length table
+    → get_or table grain 0 ≡ 0
     → (rest table grain ≡ rest table (suc grain)) × IsAscending (suc grain) (length table) (rest table (suc grain))
 free_step table grain ascending within none =
     let same : rest table grain ≡ rest table (suc grain) = runs_at_free table grain within none in
-    let P : List Run → Type 0 = λ rs. IsAscending grain (length table) rs in
-    (same, IsAscending-from_lower (suc grain) grain (suc grain) (length table) (drop (suc grain) table) (omega arith) (omega arith) (subst P same ascending))
+    let P : List Run → Type 0 = λ rs. IsAscending grain (length table) rs in (
+      same,
+      IsAscending-from_lower (suc grain) grain (suc grain) (length table) (drop (suc grain) table) (omega arith) (omega arith)
+          (subst P same ascending),
+    )
 
-pub scan_free : (table : List ℕ) (need grain low most : ℕ) → Scan table need grain low most → grain < length table → get_or table grain 0 ≡ 0 → suc grain < low + need → Scan table need (suc grain) low most
+pub scan_free : (table : List ℕ) (need grain low most : ℕ) → Scan table need grain low most → grain < length table
+    → get_or table grain 0 ≡ 0 → suc grain < low + need → Scan table need (suc grain) low most
 scan_free table need grain low most scan within none short =
     let step = free_step table grain scan.ascending within none in
     record {
@@ -72,7 +79,8 @@ scan_free table need grain low most scan within none short =
     }
 
 -- enough free grains from `low` on
-pub scan_found : (table : List ℕ) (need grain low most : ℕ) → 0 < need → Scan table need grain low most → grain < length table → get_or table grain 0 ≡ 0 → low + need ≤ suc grain
+pub scan_found : (table : List ℕ) (need grain low most : ℕ) → 0 < need → Scan table need grain low most → grain < length table
+    → get_or table grain 0 ≡ 0 → low + need ≤ suc grain
     → (lowest_fitting need (gaps 1 (length table) (runs_in table)) ≡ Some low) × (get_or table low 0 ≡ 0)
 scan_found table need grain low most some scan within none fits =
     let step = free_step table grain scan.ascending within none in
@@ -88,7 +96,8 @@ scan_found table need grain low most some scan within none fits =
     )
 
 -- the runs after a run
-run_step : (table : List ℕ) (grain : ℕ) → IsAscending grain (length table) (rest table grain) → grain < length table → 0 < get_or table grain 0
+run_step : (table : List ℕ) (grain : ℕ) → IsAscending grain (length table) (rest table grain) → grain < length table
+    → 0 < get_or table grain 0
     → (rest table grain ≡ record { from = grain; count = get_or table grain 0 } ∷ rest table (grain + get_or table grain 0))
     × IsAscending (grain + get_or table grain 0) (length table) (rest table (grain + get_or table grain 0))
 run_step table grain ascending within some =
@@ -100,16 +109,20 @@ run_step table grain ascending within some =
     let bound = IsAscending-bounds (grain + count) (length table) (rest table (suc grain)) split.2 in
     let jump : suc grain + (count - 1) ≡ grain + count = omega arith in
     let later : rest table (suc grain) ≡ rest table (grain + count) =
-    runs_later (count - 1) table (suc grain) (grain + count) (length table) split.2 (omega arith) bound ∙ ap (λ (g : ℕ). rest table g) jump
+    runs_later (count - 1) table (suc grain) (grain + count) (length table) split.2 (omega arith) bound
+    ∙ ap (λ (g : ℕ). rest table g) jump
     in
     let Q : List Run → Type 0 = λ rs. IsAscending (grain + count) (length table) rs in
     (here ∙ ap (λ (rs : List Run). first ∷ rs) later, subst Q later split.2)
 
-pub run_bound : (table : List ℕ) (grain : ℕ) → IsAscending grain (length table) (rest table grain) → grain < length table → 0 < get_or table grain 0 → grain + get_or table grain 0 ≤ length table
+pub run_bound : (table : List ℕ) (grain : ℕ) → IsAscending grain (length table) (rest table grain) → grain < length table
+    → 0 < get_or table grain 0 → grain + get_or table grain 0 ≤ length table
 run_bound table grain ascending within some =
-    IsAscending-bounds (grain + get_or table grain 0) (length table) (rest table (grain + get_or table grain 0)) (run_step table grain ascending within some).1
+    IsAscending-bounds (grain + get_or table grain 0) (length table) (rest table (grain + get_or table grain 0))
+    (run_step table grain ascending within some).1
 
-pub scan_run : (table : List ℕ) (need grain low most : ℕ) → 0 < need → Scan table need grain low most → grain < length table → 0 < get_or table grain 0
+pub scan_run : (table : List ℕ) (need grain low most : ℕ) → 0 < need → Scan table need grain low most → grain < length table
+    → 0 < get_or table grain 0
     → Scan table need (grain + get_or table grain 0) (grain + get_or table grain 0) (max most (grain - low))
 scan_run table need grain low most some scan within run =
     let count = get_or table grain 0 in
@@ -126,17 +139,31 @@ scan_run table need grain low most some scan within run =
           sym (lowest_fitting_later need low grain after some (omega (arith, scan.short, scan.ordered)))
           ∙ ap (λ (rs : List Run). lowest_fitting need (gaps low (length table) rs)) (sym step.0) ∙ scan.lowest;
       longest_is =
-          omega (arith, longest_front low grain after, scan.longest_is, ap (λ (rs : List Run). longest (gaps low (length table) rs)) step.0);
+          omega (
+            arith,
+            longest_front low grain after,
+            scan.longest_is,
+            ap (λ (rs : List Run). longest (gaps low (length table) rs))
+                step.0,
+          );
     }
 
 pub scan_end : (table : List ℕ) (need grain low most : ℕ) → 0 < need → Scan table need grain low most → length table ≤ grain
-    → (lowest_fitting need (gaps 1 (length table) (runs_in table)) ≡ None) × (longest (gaps 1 (length table) (runs_in table)) ≡ max most (grain - low))
+    → (lowest_fitting need (gaps 1 (length table) (runs_in table)) ≡ None)
+    × (longest (gaps 1 (length table) (runs_in table)) ≡ max most (grain - low))
 scan_end table need grain low most some scan past =
     let same : grain ≡ length table = omega (arith, scan.within) in
     let none : rest table grain ≡ [] = ap (λ (cs : List ℕ). runs_from grain cs) (drop_all grain table past) ∙ runs_from-nil grain in (
       sym scan.lowest ∙ ap (λ (rs : List Run). lowest_fitting need (gaps low (length table) rs)) none
           ∙ last_gap_short need low (length table) some (omega (arith, scan.short, same)),
-      omega (arith, scan.longest_is, ap (λ (rs : List Run). longest (gaps low (length table) rs)) none, longest_last low (length table), same),
+      omega (
+        arith,
+        scan.longest_is,
+        ap (λ (rs : List Run). longest (gaps low (length table) rs)) none,
+        longest_last low
+            (length table),
+        same,
+      ),
     )
 
 -- ---- a run taken, and given back
@@ -146,23 +173,28 @@ pub held_after_take : (table : List ℕ) (grain need : ℕ) → grain < length t
 unfolding runs_in
 held_after_take table grain need within none some =
     let same_grain : 0 + grain ≡ grain = omega arith in
-    runs_from-set 0 table grain need within none some ∙ ap (λ (g : ℕ). with_run (record { from = g; count = need }) (runs_from 0 table)) same_grain
+    runs_from-set 0 table grain need within none some
+    ∙ ap (λ (g : ℕ). with_run (record { from = g; count = need }) (runs_from 0 table)) same_grain
 
-pub held_after_give : (table : List ℕ) (grain : ℕ) → grain < length table → 0 < get_or table grain 0 → runs_in (set table grain 0) ≡ without_run grain (runs_in table)
+pub held_after_give : (table : List ℕ) (grain : ℕ) → grain < length table → 0 < get_or table grain 0
+    → runs_in (set table grain 0) ≡ without_run grain (runs_in table)
 unfolding runs_in
 held_after_give table grain within some =
     let same_grain : 0 + grain ≡ grain = omega arith in
     runs_from-empty 0 table grain within some ∙ ap (λ (g : ℕ). without_run g (runs_from 0 table)) same_grain
 
-pub entry_of : (table : List ℕ) (r : Run) → Contains (runs_in table) r → (r.from < length table) × (get_or table r.from 0 ≡ r.count) × (0 < r.count)
+pub entry_of : (table : List ℕ) (r : Run) → Contains (runs_in table) r
+    → (r.from < length table) × (get_or table r.from 0 ≡ r.count) × (0 < r.count)
 unfolding runs_in
 entry_of table r there =
     let e = entry_of_run 0 table r there in
     let same_grain : r.from ≡ e.0 = omega (arith, e.2) in
     (omega (arith, e.1, same_grain), ap (λ (k : ℕ). get_or table k 0) same_grain ∙ e.3, e.4)
 
-pub sound_after_take : (words table : List ℕ) (committed limit grain need : ℕ) → IsSoundArena words table committed limit → 0 < need → need ≤ limit - committed
-    → lowest_fitting need (gaps 1 (length table) (runs_in table)) ≡ Some grain → get_or table grain 0 ≡ 0 → IsSoundArena words (set table grain need) (committed + need) limit
+pub sound_after_take : (words table : List ℕ) (committed limit grain need : ℕ) → IsSoundArena words table committed limit → 0 < need
+    → need ≤ limit - committed
+    → lowest_fitting need (gaps 1 (length table) (runs_in table)) ≡ Some grain → get_or table grain 0 ≡ 0
+    → IsSoundArena words (set table grain need) (committed + need) limit
 sound_after_take words table committed limit grain need sound some room lowest none =
     let run : Run = record { from = grain; count = need } in
     let gap = in_lowest_gap 1 (length table) (runs_in table) need grain some sound.ascending lowest in
@@ -179,7 +211,8 @@ sound_after_take words table committed limit grain need sound some room lowest n
       within_limit = omega (arith, sound.within_limit);
     }
 
-pub sound_after_give : (words table : List ℕ) (committed limit : ℕ) (r : Run) → IsSoundArena words table committed limit → Contains (runs_in table) r → IsSoundArena words (set table r.from 0) (committed - r.count) limit
+pub sound_after_give : (words table : List ℕ) (committed limit : ℕ) (r : Run) → IsSoundArena words table committed limit
+    → Contains (runs_in table) r → IsSoundArena words (set table r.from 0) (committed - r.count) limit
 sound_after_give words table committed limit r sound there =
     let entry = entry_of table r there in
     let held = held_after_give table r.from entry.0 (omega (arith, entry.1, entry.2)) in
@@ -190,14 +223,16 @@ sound_after_give words table committed limit r sound there =
       nonempty = omega (arith, size, sound.nonempty);
       at_most = omega (arith, size, sound.at_most);
       size = omega (arith, size, sound.size);
-      ascending = subst Q (sym size) (subst P (sym held) (IsAscending-without_run 1 (length table) r.from (runs_in table) sound.ascending));
+      ascending =
+          subst Q (sym size) (subst P (sym held) (IsAscending-without_run 1 (length table) r.from (runs_in table) sound.ascending));
       counted = omega (arith, sound.counted, ap total held, total-without_run 1 (length table) (runs_in table) r sound.ascending there);
       within_limit = omega (arith, sound.within_limit);
     }
 
 -- what a client sees after a run was taken, and after one was given back
 pub state_after_take : (words table : List ℕ) (limit grain need : ℕ) → grain < length table → get_or table grain 0 ≡ 0 → 0 < need
-    → memory_of words (set table grain need) limit ≡ record (memory_of words table limit) { held = with_run (record { from = grain; count = need }) (runs_in table) }
+    → memory_of words (set table grain need) limit
+    ≡ record (memory_of words table limit) { held = with_run (record { from = grain; count = need }) (runs_in table) }
 state_after_take words table limit grain need within none some =
     ap (λ (n : ℕ). seen words limit n (runs_in (set table grain need))) (length-set table grain need)
     ∙ ap (λ (held : List Run). seen words limit (length table) held) (held_after_take table grain need within none some)
@@ -210,18 +245,22 @@ pub state_after_give : (words table : List ℕ) (limit : ℕ) (r : Run) → Cont
 state_after_give words table limit r there =
     let entry = entry_of table r there in
     ap (λ (n : ℕ). seen words limit n (runs_in (set table r.from 0))) (length-set table r.from 0)
-    ∙ ap (λ (held : List Run). seen words limit (length table) held) (held_after_give table r.from entry.0 (omega (arith, entry.1, entry.2)))
+    ∙ ap (λ (held : List Run). seen words limit (length table) held)
+    (held_after_give table r.from entry.0 (omega (arith, entry.1, entry.2)))
   where
     seen : List ℕ → ℕ → ℕ → List Run → ArenaMemory
     seen words limit n held = record { words = words; grains = n - 1; limit = limit; held = held }
 
 -- where the limit allows it and a free run is long enough, the lowest is a new segment
-pub placed_lowest : (grains limit : ℕ) (held : List Run) (need grain : ℕ) → total held + need ≤ limit → lowest_fitting need (gaps 1 (grains + 1) held) ≡ Some grain
+pub placed_lowest : (grains limit : ℕ) (held : List Run) (need grain : ℕ) → total held + need ≤ limit
+    → lowest_fitting need (gaps 1 (grains + 1) held) ≡ Some grain
     → run_placement grains limit held need ≡ NewSegment grain need
 placed_lowest grains limit held need grain room lowest = rw (le-ltb limit (total held + need) room) (rw lowest refl)
 
-pub held_after_placing : (table : List ℕ) (limit need grain : ℕ) → 0 < length table → total (runs_in table) + need ≤ limit → lowest_fitting need (gaps 1 (length table) (runs_in table)) ≡ Some grain
-    → held_after (run_placement (length table - 1) limit (runs_in table) need) (runs_in table) ≡ with_run (record { from = grain; count = need }) (runs_in table)
+pub held_after_placing : (table : List ℕ) (limit need grain : ℕ) → 0 < length table → total (runs_in table) + need ≤ limit
+    → lowest_fitting need (gaps 1 (length table) (runs_in table)) ≡ Some grain
+    → held_after (run_placement (length table - 1) limit (runs_in table) need) (runs_in table)
+    ≡ with_run (record { from = grain; count = need }) (runs_in table)
 held_after_placing table limit need grain some room lowest =
     let end : length table - 1 + 1 ≡ length table = omega arith in
     let here = ap (λ (n : ℕ). lowest_fitting need (gaps 1 n (runs_in table))) end ∙ lowest in
@@ -237,7 +276,8 @@ none_held : (n : ℕ) → runs_in (replicate n 0) ≡ []
 unfolding runs_in
 none_held n = no_runs 0 n
 
-pub new_is_sound : (grains limit : ℕ) → 0 < grains → grains ≤ max_grains → IsSoundArena (replicate (words_of_grain * (grains + 1)) 0) (replicate (grains + 1) 0) 0 limit
+pub new_is_sound : (grains limit : ℕ) → 0 < grains → grains ≤ max_grains
+    → IsSoundArena (replicate (words_of_grain * (grains + 1)) 0) (replicate (grains + 1) 0) 0 limit
 new_is_sound grains limit some few =
     let runs = length-replicate {A = ℕ} (grains + 1) 0 in
     let words = length-replicate {A = ℕ} (words_of_grain * (grains + 1)) 0 in
@@ -252,7 +292,8 @@ new_is_sound grains limit some few =
       within_limit = omega arith;
     }
 
-pub new_state : (grains limit : ℕ) → memory_of (replicate (words_of_grain * (grains + 1)) 0) (replicate (grains + 1) 0) limit ≡ new_arena grains limit
+pub new_state : (grains limit : ℕ)
+    → memory_of (replicate (words_of_grain * (grains + 1)) 0) (replicate (grains + 1) 0) limit ≡ new_arena grains limit
 new_state grains limit =
     let size : length (replicate {A = ℕ} (grains + 1) 0) - 1 ≡ grains = omega (arith, length-replicate {A = ℕ} (grains + 1) 0) in
     ap (λ (n : ℕ). record (new_arena grains limit) { grains = n; held = runs_in (replicate (grains + 1) 0) }) size

@@ -10,7 +10,8 @@ unfolding runs_from
 runs_from-zero grain counts zero none = refl
 runs_from-zero grain counts (suc n) none = absurd (omega arith)
 
-pub runs_from-some : (grain : ℕ) (counts : List ℕ) (c : ℕ) → 0 < c → runs_from grain (c ∷ counts) ≡ record { from = grain; count = c } ∷ runs_from (suc grain) counts
+pub runs_from-some : (grain : ℕ) (counts : List ℕ) (c : ℕ) → 0 < c
+    → runs_from grain (c ∷ counts) ≡ record { from = grain; count = c } ∷ runs_from (suc grain) counts
 unfolding runs_from
 runs_from-some grain counts zero some = absurd (omega arith)
 runs_from-some grain counts (suc n) some = refl
@@ -20,17 +21,22 @@ unfolding runs_from
 runs_from-nil grain = refl
 
 -- the runs from a grain on, where none begins there
-pub runs_at_free : (table : List ℕ) (grain : ℕ) → grain < length table → get_or table grain 0 ≡ 0 → runs_from grain (drop grain table) ≡ runs_from (suc grain) (drop (suc grain) table)
+pub runs_at_free : (table : List ℕ) (grain : ℕ) → grain < length table → get_or table grain 0 ≡ 0
+    → runs_from grain (drop grain table) ≡ runs_from (suc grain) (drop (suc grain) table)
 runs_at_free table grain within none =
-    ap (λ (cs : List ℕ). runs_from grain cs) (drop-cons table grain 0 within) ∙ runs_from-zero grain (drop (suc grain) table) (get_or table grain 0) none
+    ap (λ (cs : List ℕ). runs_from grain cs) (drop-cons table grain 0 within)
+    ∙ runs_from-zero grain (drop (suc grain) table) (get_or table grain 0) none
 
 pub runs_at_run : (table : List ℕ) (grain : ℕ) → grain < length table → 0 < get_or table grain 0
-    → runs_from grain (drop grain table) ≡ record { from = grain; count = get_or table grain 0 } ∷ runs_from (suc grain) (drop (suc grain) table)
+    → runs_from grain (drop grain table)
+    ≡ record { from = grain; count = get_or table grain 0 } ∷ runs_from (suc grain) (drop (suc grain) table)
 runs_at_run table grain within some =
-    ap (λ (cs : List ℕ). runs_from grain cs) (drop-cons table grain 0 within) ∙ runs_from-some grain (drop (suc grain) table) (get_or table grain 0) some
+    ap (λ (cs : List ℕ). runs_from grain cs) (drop-cons table grain 0 within)
+    ∙ runs_from-some grain (drop (suc grain) table) (get_or table grain 0) some
 
 -- runs that begin `n` grains later are those of the table there
-pub runs_later : (n : ℕ) (table : List ℕ) (grain low high : ℕ) → IsAscending low high (runs_from grain (drop grain table)) → grain + n ≤ low → low ≤ length table
+pub runs_later : (n : ℕ) (table : List ℕ) (grain low high : ℕ) → IsAscending low high (runs_from grain (drop grain table))
+    → grain + n ≤ low → low ≤ length table
     → runs_from grain (drop grain table) ≡ runs_from (grain + n) (drop (grain + n) table)
 runs_later zero table grain low high ascending after within =
     let same : grain ≡ grain + 0 = omega arith in
@@ -42,7 +48,8 @@ runs_later (suc n) table grain low high ascending after within =
       | inl none ↦
           let here = runs_at_free table grain short none in
           let P : List Run → Type 0 = λ rs. IsAscending low high rs in
-          here ∙ runs_later n table (suc grain) low high (subst P here ascending) (omega arith) within ∙ ap (λ (g : ℕ). runs_from g (drop g table)) same
+          here ∙ runs_later n table (suc grain) low high (subst P here ascending) (omega arith) within
+          ∙ ap (λ (g : ℕ). runs_from g (drop g table)) same
       | inr some ↦
           let here = runs_at_run table grain short some in
           let P : List Run → Type 0 = λ rs. IsAscending low high rs in
@@ -55,11 +62,13 @@ runs_later (suc n) table grain low high ascending after within =
     cases_zero (suc n) = inr (omega arith)
 
 -- all runs of a table begin at or after its first grain
-pub run_before_all : (grain : ℕ) (counts : List ℕ) (r : Run) → r.from < grain → with_run r (runs_from grain counts) ≡ r ∷ runs_from grain counts
+pub run_before_all : (grain : ℕ) (counts : List ℕ) (r : Run) → r.from < grain
+    → with_run r (runs_from grain counts) ≡ r ∷ runs_from grain counts
 unfolding runs_from
 run_before_all grain [] r before = refl
 run_before_all grain (zero ∷ counts) r before = run_before_all (suc grain) counts r (omega arith)
-run_before_all grain (suc n ∷ counts) r before = with_run_first r (record { from = grain; count = suc n }) (runs_from (suc grain) counts) before
+run_before_all grain (suc n ∷ counts) r before =
+    with_run_first r (record { from = grain; count = suc n }) (runs_from (suc grain) counts) before
 
 -- an entry that was 0 written
 pub runs_from-set : (grain : ℕ) (counts : List ℕ) (i n : ℕ) → i < length counts → get_or counts i 0 ≡ 0 → 0 < n
@@ -87,7 +96,8 @@ runs_from-set grain (suc c ∷ counts) (suc i) n within none some =
     ∙ ap (λ (rs : List Run). with_run put rs) (sym (runs_from-some grain counts (suc c) (omega arith)))
 
 -- an entry that was a run emptied
-pub runs_from-empty : (grain : ℕ) (counts : List ℕ) (i : ℕ) → i < length counts → 0 < get_or counts i 0 → runs_from grain (set counts i 0) ≡ without_run (grain + i) (runs_from grain counts)
+pub runs_from-empty : (grain : ℕ) (counts : List ℕ) (i : ℕ) → i < length counts → 0 < get_or counts i 0
+    → runs_from grain (set counts i 0) ≡ without_run (grain + i) (runs_from grain counts)
 runs_from-empty grain [] i within some = absurd (omega arith)
 runs_from-empty grain (c ∷ counts) zero within some =
     let first : Run = record { from = grain; count = c } in
@@ -103,19 +113,23 @@ runs_from-empty grain (suc c ∷ counts) (suc i) within some =
     let same_grain : suc grain + i ≡ grain + suc i = omega arith in
     let first : Run = record { from = grain; count = suc c } in
     runs_from-some grain (set counts i 0) (suc c) (omega arith)
-    ∙ ap (λ (rs : List Run). first ∷ rs) (runs_from-empty (suc grain) counts i (omega arith) some ∙ ap (λ (g : ℕ). without_run g (runs_from (suc grain) counts)) same_grain)
+    ∙ ap (λ (rs : List Run). first ∷ rs)
+    (runs_from-empty (suc grain) counts i (omega arith) some ∙ ap (λ (g : ℕ). without_run g (runs_from (suc grain) counts)) same_grain)
     ∙ sym (without_run_later (grain + suc i) first (runs_from (suc grain) counts) (λ e. omega arith))
     ∙ ap (λ (rs : List Run). without_run (grain + suc i) rs) (sym (runs_from-some grain counts (suc c) (omega arith)))
 
 -- runs that ascend from somewhere ascend from any grain at or below their table's first
-pub IsAscending-from_lower : (grain low low' high : ℕ) (counts : List ℕ) → low' ≤ grain → low' ≤ high → IsAscending low high (runs_from grain counts) → IsAscending low' high (runs_from grain counts)
+pub IsAscending-from_lower : (grain low low' high : ℕ) (counts : List ℕ) → low' ≤ grain → low' ≤ high
+    → IsAscending low high (runs_from grain counts) → IsAscending low' high (runs_from grain counts)
 unfolding runs_from
 IsAscending-from_lower grain low low' high [] before within ascending = within
-IsAscending-from_lower grain low low' high (zero ∷ counts) before within ascending = IsAscending-from_lower (suc grain) low low' high counts (omega arith) within ascending
+IsAscending-from_lower grain low low' high (zero ∷ counts) before within ascending =
+    IsAscending-from_lower (suc grain) low low' high counts (omega arith) within ascending
 IsAscending-from_lower grain low low' high (suc n ∷ counts) before within ascending = (before, ascending.1, ascending.2)
 
 -- a run of a table is an entry
-pub entry_of_run : (grain : ℕ) (counts : List ℕ) (r : Run) → Contains (runs_from grain counts) r → (i : ℕ) × (i < length counts) × (r.from ≡ grain + i) × (get_or counts i 0 ≡ r.count) × (0 < r.count)
+pub entry_of_run : (grain : ℕ) (counts : List ℕ) (r : Run) → Contains (runs_from grain counts) r
+    → (i : ℕ) × (i < length counts) × (r.from ≡ grain + i) × (get_or counts i 0 ≡ r.count) × (0 < r.count)
 unfolding runs_from
 entry_of_run grain [] r (k, within, is) = absurd (omega arith)
 entry_of_run grain (zero ∷ counts) r there =

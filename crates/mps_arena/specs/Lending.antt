@@ -7,4 +7,5 @@ use Rattle.mps_arena.specs.contracts.arena.Arena.{the_row}
 
 -- the arena ends with the last words after `loan` in their same_grain
 abbrev pub LendsArenaWords : MutBor ArenaMemory → ℕ → MutBor (List ℕ) → Fml
-LendsArenaWords arena at loan = Lends the_row (Array u64 0) arena loan (λ ws. record arena.now { words = with_words arena.now.words (word_of at) ws })
+LendsArenaWords arena at loan =
+    Lends the_row (Array u64 0) arena loan (λ ws. record arena.now { words = with_words arena.now.words (word_of at) ws })

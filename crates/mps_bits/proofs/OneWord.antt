@@ -40,7 +40,8 @@ run_starts_one x i = (
 )
 
 -- two runs that meet or overlap are one
-pub run_starts_more : (x y count step : ℕ) → step ≤ count → AreRunStarts x y count → AreRunStarts x (bit_and y (y / 2 ^ step)) (count + step)
+pub run_starts_more : (x y count step : ℕ) → step ≤ count → AreRunStarts x y count
+    → AreRunStarts x (bit_and y (y / 2 ^ step)) (count + step)
 run_starts_more x y count step meet starts i = (whole, parts)
   where
     both : bit_at (bit_and y (y / 2 ^ step)) i ≡ min (bit_at y i) (bit_at y (step + i))
@@ -84,11 +85,14 @@ mask_high a low i h =
     let same : a * 2 ^ low + 0 ≡ a * 2 ^ low = omega arith in
     subst (λ (x : ℕ). bit_at x i ≡ bit_at a (i - low)) same (bit_at_cat_high a low 0 i (pow_pos low) h)
 
-pub mask_inside : (ones width low i : ℕ) → ones ≡ 2 ^ width - 1 → low + width ≤ 64 → low ≤ i → i < low + width → bit_at (ones * 2 ^ low % 2 ^ 64) i ≡ 1
+pub mask_inside : (ones width low i : ℕ) → ones ≡ 2 ^ width - 1 → low + width ≤ 64 → low ≤ i → i < low + width
+    → bit_at (ones * 2 ^ low % 2 ^ 64) i ≡ 1
 mask_inside ones width low i is fits from to =
-    rw (mask_at ones width low is fits) (mask_high ones low i from ∙ ap (λ (x : ℕ). bit_at x (i - low)) is ∙ bit_at_ones width (i - low) (omega arith))
+    rw (mask_at ones width low is fits)
+    (mask_high ones low i from ∙ ap (λ (x : ℕ). bit_at x (i - low)) is ∙ bit_at_ones width (i - low) (omega arith))
 
-pub mask_outside : (ones width low i : ℕ) → ones ≡ 2 ^ width - 1 → low + width ≤ 64 → (i < low) ⊎ (low + width ≤ i) → bit_at (ones * 2 ^ low % 2 ^ 64) i ≡ 0
+pub mask_outside : (ones width low i : ℕ) → ones ≡ 2 ^ width - 1 → low + width ≤ 64 → (i < low) ⊎ (low + width ≤ i)
+    → bit_at (ones * 2 ^ low % 2 ^ 64) i ≡ 0
 mask_outside ones width low i is fits (inl below) = rw (mask_at ones width low is fits) (mask_low ones low i below)
 mask_outside ones width low i is fits (inr above) =
     rw (mask_at ones width low is fits)
@@ -106,14 +110,16 @@ with_clear word mask i fits within is =
     let turned = bit_at_not w64 mask i fits within in
     omega (arith, e, turned, is)
 
-pub with_clear_other : (word mask i : ℕ) → mask < 2 ^ 64 → i < 64 → bit_at mask i ≡ 0 → bit_at (bit_and word (bit_not w64 mask)) i ≡ bit_at word i
+pub with_clear_other : (word mask i : ℕ) → mask < 2 ^ 64 → i < 64 → bit_at mask i ≡ 0
+    → bit_at (bit_and word (bit_not w64 mask)) i ≡ bit_at word i
 with_clear_other word mask i fits within is =
     let e = bit_at_and word (bit_not w64 mask) i in
     let turned = bit_at_not w64 mask i fits within in
     omega (arith, e, turned, is, bit_at-lt word i)
 
 -- the bits from `low` on, at most `width` of them
-pub low_bits_inside : (word low width ones i : ℕ) → ones ≡ 2 ^ width - 1 → i < width → bit_at (bit_and (word / 2 ^ low) ones) i ≡ bit_at word (low + i)
+pub low_bits_inside : (word low width ones i : ℕ) → ones ≡ 2 ^ width - 1 → i < width
+    → bit_at (bit_and (word / 2 ^ low) ones) i ≡ bit_at word (low + i)
 low_bits_inside word low width ones i is within =
     let e = bit_at_and (word / 2 ^ low) ones i in
     let one : bit_at ones i ≡ 1 = ap (λ (x : ℕ). bit_at x i) is ∙ bit_at_ones width i within in

@@ -43,19 +43,22 @@ index_below_width words at width bits p chunk is =
 pub set_at : (words : List ℕ) (at width bits p : ℕ) → IsChunk words at width bits → bit_at bits p ≡ 1 → bit_in words (at + p) ≡ 1
 set_at words at width bits p chunk is = sym (chunk.inside p (index_below_width words at width bits p chunk is)) ∙ is
 
-pub clear_below : (words : List ℕ) (at width bits p : ℕ) → IsChunk words at width bits → p ≤ width → ((i : ℕ) → i < p → bit_at bits i ≡ 0) → IsClear words at (at + p)
+pub clear_below : (words : List ℕ) (at width bits p : ℕ) → IsChunk words at width bits → p ≤ width
+    → ((i : ℕ) → i < p → bit_at bits i ≡ 0) → IsClear words at (at + p)
 clear_below words at width bits p chunk within none i from to =
     let same : at + (i - at) ≡ i = omega arith in
     ap (λ (j : ℕ). bit_in words j) (sym same) ∙ sym (chunk.inside (i - at) (omega arith)) ∙ none (i - at) (omega arith)
 
-pub clear_above : (words : List ℕ) (at width bits p : ℕ) → IsChunk words at width bits → ((i : ℕ) → p < i → bit_at bits i ≡ 0) → IsClear words (at + p + 1) (at + width)
+pub clear_above : (words : List ℕ) (at width bits p : ℕ) → IsChunk words at width bits → ((i : ℕ) → p < i → bit_at bits i ≡ 0)
+    → IsClear words (at + p + 1) (at + width)
 clear_above words at width bits p chunk none i from to =
     let same : at + (i - at) ≡ i = omega arith in
     ap (λ (j : ℕ). bit_in words j) (sym same) ∙ sym (chunk.inside (i - at) (omega arith)) ∙ none (i - at) (omega arith)
 
 -- ---- a write of one word
 
-pub bit_in_write_inside : (words : List ℕ) (at width word i : ℕ) → at % 64 + width ≤ 64 → at / 64 < length words → at ≤ i → i < at + width → bit_in (set words (at / 64) word) i ≡ bit_at word (at % 64 + (i - at))
+pub bit_in_write_inside : (words : List ℕ) (at width word i : ℕ) → at % 64 + width ≤ 64 → at / 64 < length words → at ≤ i
+    → i < at + width → bit_in (set words (at / 64) word) i ≡ bit_at word (at % 64 + (i - at))
 bit_in_write_inside words at width word i within in_row from to =
     let same : at + (i - at) ≡ i = omega arith in
     ap (λ (j : ℕ). bit_in (set words (at / 64) word) j) (sym same)
@@ -129,7 +132,9 @@ unfolding sum_over
 sum_over_zero f from zero none = refl
 sum_over_zero f from (suc n) none =
     let first : f from ≡ 0 = let same : from + 0 ≡ from = omega arith in ap f (sym same) ∙ none 0 (omega arith) in
-    let rest = sum_over_zero f (suc from) n (λ i h. let same : suc from + i ≡ from + suc i = omega arith in ap f same ∙ none (suc i) (omega arith)) in
+    let rest =
+    sum_over_zero f (suc from) n (λ i h. let same : suc from + i ≡ from + suc i = omega arith in ap f same ∙ none (suc i) (omega arith))
+    in
     omega (arith, first, rest)
 
 -- a number's ones are counted bit by bit
@@ -147,7 +152,8 @@ sum_over-ones (suc k) n small =
     in
     omega (arith, bit_at_lowest n, rest, sum_over-ones k (n / 2) half, ones_step n)
 
-pub chunk_ones : (words : List ℕ) (at width bits : ℕ) → IsChunk words at width bits → width ≤ 64 → bits < 2 ^ 64 → count_ones bits ≡ sum_over (bit_in words) at width
+pub chunk_ones : (words : List ℕ) (at width bits : ℕ) → IsChunk words at width bits → width ≤ 64 → bits < 2 ^ 64
+    → count_ones bits ≡ sum_over (bit_in words) at width
 chunk_ones words at width bits chunk within fits =
     let whole : width + (64 - width) ≡ 64 = omega arith in
     let split = sum_over-add (bit_at bits) 0 width (64 - width) in
@@ -156,11 +162,15 @@ chunk_ones words at width bits chunk within fits =
     let high = ap (λ (k : ℕ). sum_over (bit_at bits) k (64 - width)) start
     ∙ sum_over_zero (bit_at bits) width (64 - width) (λ i h. chunk.above (width + i) (omega arith))
     in
-    let low = sum_over_same (bit_at bits) (bit_in words) 0 at width (λ i h. let same : 0 + i ≡ i = omega arith in ap (bit_at bits) same ∙ chunk.inside i h) in
+    let low =
+    sum_over_same (bit_at bits) (bit_in words) 0 at width
+    (λ i h. let same : 0 + i ≡ i = omega arith in ap (bit_at bits) same ∙ chunk.inside i h)
+    in
     omega (arith, sum_over-ones 64 bits fits, split, all, high, low)
 
 -- a count up to `at`, and the chunk from there on
-pub sum_over_upto : (words : List ℕ) (from at width : ℕ) → from ≤ at → sum_over (bit_in words) from (at + width - from) ≡ sum_over (bit_in words) from (at - from) + sum_over (bit_in words) at width
+pub sum_over_upto : (words : List ℕ) (from at width : ℕ) → from ≤ at
+    → sum_over (bit_in words) from (at + width - from) ≡ sum_over (bit_in words) from (at - from) + sum_over (bit_in words) at width
 sum_over_upto words from at width after =
     let count : at + width - from ≡ at - from + width = omega arith in
     let index : from + (at - from) ≡ at = omega arith in

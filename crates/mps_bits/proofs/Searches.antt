@@ -41,7 +41,9 @@ pub data Lowest (p : ℕ → Bool) (from n : ℕ) : Type 0 where
   missing : lowest_from p from n ≡ None → ((i : ℕ) → from ≤ i → i < from + n → p i ≡ false) → Lowest p from n
 
 pub lowest_cases : (p : ℕ → Bool) (from n : ℕ) → Lowest p from n
-lowest_cases p from zero = let none : (i : ℕ) → from ≤ i → i < from + 0 → p i ≡ false = λ i above below. absurd (omega arith) in missing (lowest_from_none p from 0 none) none
+lowest_cases p from zero =
+    let none : (i : ℕ) → from ≤ i → i < from + 0 → p i ≡ false = λ i above below. absurd (omega arith) in missing
+    (lowest_from_none p from 0 none) none
 lowest_cases p from (suc n) =
     elim (cases_Bool (p from)) [
       | inl passes ↦
@@ -83,7 +85,8 @@ highest_below_is p (suc n) index is =
     elim (cases_lt index n) [
       | inl earlier ↦
           cond-false (p n) (Some n) (highest_below p n) (is.higher n earlier (omega arith))
-          ∙ highest_below_is p n index (record { below = earlier; passes = is.passes; higher = λ i above below. is.higher i above (omega arith) })
+          ∙ highest_below_is p n index
+          (record { below = earlier; passes = is.passes; higher = λ i above below. is.higher i above (omega arith) })
       | inr here ↦
           let same : n ≡ index = omega (arith, is.below) in
           cond-true (p n) (Some n) (highest_below p n) (ap p same ∙ is.passes) ∙ ap (λ (i : ℕ). Some i) same

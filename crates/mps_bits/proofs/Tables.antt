@@ -36,9 +36,11 @@ pub table_new : (words : List ℕ) (len : ℕ) → ((i : ℕ) → i < len → bi
 table_new words len clear =
     same_lists (table_of words len) (replicate len false) (length-table_of words len ∙ sym (length-replicate len false)) (λ k d h.
     let within : k < len = omega (arith, h, length-table_of words len) in
-    get_or-table_of words len k d within ∙ ne_eqb (bit_in words k) 1 (λ e. omega (arith, clear k within)) ∙ sym (get_or-replicate len k false d within))
+    get_or-table_of words len k d within ∙ ne_eqb (bit_in words k) 1 (λ e. omega (arith, clear k within))
+    ∙ sym (get_or-replicate len k false d within))
 
-pub table_set : (old new : List ℕ) (len at : ℕ) (value : Bool) → at < len → bit_in new at ≡ cond value 1 0 → ((i : ℕ) → i ≢ at → bit_in new i ≡ bit_in old i)
+pub table_set : (old new : List ℕ) (len at : ℕ) (value : Bool) → at < len → bit_in new at ≡ cond value 1 0
+    → ((i : ℕ) → i ≢ at → bit_in new i ≡ bit_in old i)
     → table_of new len ≡ set (table_of old len) at value
 table_set old new len at value within same other =
     let size : length (table_of new len) ≡ length (set (table_of old len) at value) =
@@ -57,7 +59,8 @@ table_set old new len at value within same other =
           ∙ sym (get_or-set_other (table_of old len) at k value d there)
     ])
 
-pub table_range : (old new : List ℕ) (len from to : ℕ) (value : Bool) → from ≤ to → to ≤ len → ((i : ℕ) → from ≤ i → i < to → bit_in new i ≡ cond value 1 0)
+pub table_range : (old new : List ℕ) (len from to : ℕ) (value : Bool) → from ≤ to → to ≤ len
+    → ((i : ℕ) → from ≤ i → i < to → bit_in new i ≡ cond value 1 0)
     → ((i : ℕ) → (i < from) ⊎ (to ≤ i) → bit_in new i ≡ bit_in old i) → table_of new len ≡ with_range (table_of old len) from to value
 table_range old new len from to value ordered within inside outside =
     let room : to ≤ length (table_of old len) = omega (arith, within, length-table_of old len) in
@@ -76,14 +79,16 @@ table_range old new len from to value ordered within inside outside =
     ∙ elim (cases_lt k from) [
       | inl below ↦ kept k d short (inl below)
       | inr above ↦ elim (cases_lt k to) [
-        | inl under ↦ bit_written (bit_in new k) value (inside k above under) ∙ sym (with_range_inside (table_of old len) from to value k d ordered room above under)
+        | inl under ↦ bit_written (bit_in new k) value (inside k above under)
+            ∙ sym (with_range_inside (table_of old len) from to value k d ordered room above under)
         | inr past ↦ kept k d short (inr past)
       ]
     ])
 
 -- ---- searches
 
-pub next_set_is : (words : List ℕ) (len from : ℕ) (r : Option ℕ) → MatchOption r (IsClear words from len) (λ p. IsLowestSet words from len p) → r ≡ next_set (table_of words len) from
+pub next_set_is : (words : List ℕ) (len from : ℕ) (r : Option ℕ)
+    → MatchOption r (IsClear words from len) (λ p. IsLowestSet words from len p) → r ≡ next_set (table_of words len) from
 unfolding next_set
 next_set_is words len from None clear =
     sym (lowest_from_none (bit (table_of words len)) from (length (table_of words len) - from) (λ i above below.
@@ -97,7 +102,8 @@ next_set_is words len from (Some p) is =
       lower = λ i above below. clear_bit words len i (omega (arith, below, is.below)) (is.lower i above below);
     }))
 
-pub next_set_below_is : (words : List ℕ) (len from to : ℕ) (r : Option ℕ) → to ≤ len → MatchOption r (IsClear words from to) (λ p. IsLowestSet words from to p) → r ≡ next_set_below (table_of words len) from to
+pub next_set_below_is : (words : List ℕ) (len from to : ℕ) (r : Option ℕ) → to ≤ len
+    → MatchOption r (IsClear words from to) (λ p. IsLowestSet words from to p) → r ≡ next_set_below (table_of words len) from to
 unfolding next_set_below
 next_set_below_is words len from to None within clear =
     sym (lowest_from_none (bit (table_of words len)) from (to - from) (λ i above below.
@@ -111,10 +117,12 @@ next_set_below_is words len from to (Some p) within is =
       lower = λ i above below. clear_bit words len i (omega (arith, below, is.below)) (is.lower i above below);
     }))
 
-pub previous_set_is : (words : List ℕ) (len at : ℕ) (r : Option ℕ) → at < len → MatchOption r (IsClear words 0 (at + 1)) (λ p. IsHighestSet words (at + 1) p) → r ≡ previous_set (table_of words len) at
+pub previous_set_is : (words : List ℕ) (len at : ℕ) (r : Option ℕ) → at < len
+    → MatchOption r (IsClear words 0 (at + 1)) (λ p. IsHighestSet words (at + 1) p) → r ≡ previous_set (table_of words len) at
 unfolding previous_set
 previous_set_is words len at None within clear =
-    sym (highest_below_none (bit (table_of words len)) (at + 1) (λ i below. clear_bit words len i (omega arith) (clear i (omega arith) below)))
+    sym (highest_below_none (bit (table_of words len)) (at + 1)
+    (λ i below. clear_bit words len i (omega arith) (clear i (omega arith) below)))
 previous_set_is words len at (Some p) within is =
     sym (highest_below_is (bit (table_of words len)) (at + 1) p (record {
       below = is.below;
@@ -129,11 +137,14 @@ run_is_clear words len p n within clear =
 
 run_was_clear : (words : List ℕ) (len p n : ℕ) → p + n ≤ len → is_clear_run (table_of words len) p n ≡ true → IsClear words p (p + n)
 run_was_clear words len p n within all i above below =
-    let tested : eqb (bit_in words i) 1 ≡ false = sym (bit-table_of words len i (omega arith)) ∙ clear_run_at (table_of words len) p n all i above below in
+    let tested : eqb (bit_in words i) 1 ≡ false =
+    sym (bit-table_of words len i (omega arith)) ∙ clear_run_at (table_of words len) p n all i above below
+    in
     omega (arith, eqb-false (bit_in words i) 1 tested, bit_in-lt words i)
 
 no_run : (words : List ℕ) (len p n : ℕ) → p + n ≤ len → ¬ IsClear words p (p + n) → is_clear_run (table_of words len) p n ≡ false
-no_run words len p n within none = false_from_ne_true (is_clear_run (table_of words len) p n) (λ all. none (run_was_clear words len p n within all))
+no_run words len p n within none =
+    false_from_ne_true (is_clear_run (table_of words len) p n) (λ all. none (run_was_clear words len p n within all))
 
 pub lowest_clear_run_is : (words : List ℕ) (len from to n : ℕ) (r : Option ℕ) → to ≤ len
     → MatchOption r ((p : ℕ) → from ≤ p → p + n ≤ to → ¬ IsClear words p (p + n)) (λ p. IsLowestRun words from to n p)
@@ -151,7 +162,8 @@ lowest_clear_run_is words len from to n (Some p) within is =
       lower = λ q above below. no_run words len q n (omega (arith, is.below)) (is.lower q above below);
     }))
 
-pub count_set_is : (words : List ℕ) (len from to : ℕ) → from ≤ to → to ≤ len → sum_over (bit_in words) from (to - from) ≡ count_set (table_of words len) from to
+pub count_set_is : (words : List ℕ) (len from to : ℕ) → from ≤ to → to ≤ len
+    → sum_over (bit_in words) from (to - from) ≡ count_set (table_of words len) from to
 unfolding count_set
 count_set_is words len from to ordered within =
     let counted = count_slice (table_of words len) from (to - from) (omega (arith, length-table_of words len)) in

@@ -6,7 +6,8 @@ use Rattle.mps_base.proofs.Runs.{with_run_first, with_run_later, without_run_fir
 use Rattle.mps_seg.specs.Extents.{has_word, is_covered}
 
 pub has_word-true : (r : Run) (word : ℕ) → r.from ≤ word → word < end_of r → has_word r word ≡ true
-has_word-true r word above below = and_from (leb r.from word) (ltb word (end_of r)) (le-leb r.from word above) (lt-ltb word (end_of r) below)
+has_word-true r word above below =
+    and_from (leb r.from word) (ltb word (end_of r)) (le-leb r.from word above) (lt-ltb word (end_of r) below)
 
 pub has_word-parts : (r : Run) (word : ℕ) → has_word r word ≡ true → (r.from ≤ word) × (word < end_of r)
 has_word-parts r word is =
@@ -31,7 +32,8 @@ contains_put r (s ∷ rs) =
     ]
 
 -- a run that can be put among ascending ones lies apart from each
-pub apart_from_put : (low high : ℕ) (rs : List Run) (r s : Run) → IsAscending low high (with_run r rs) → Contains rs s → (end_of r ≤ s.from) ⊎ (end_of s ≤ r.from)
+pub apart_from_put : (low high : ℕ) (rs : List Run) (r s : Run) → IsAscending low high (with_run r rs) → Contains rs s
+    → (end_of r ≤ s.from) ⊎ (end_of s ≤ r.from)
 apart_from_put low high [] r s ascending (k, within, is) = absurd (omega arith)
 apart_from_put low high (t ∷ rs) r s ascending there =
     let P : List Run → Type 0 = λ xs. IsAscending low high xs in
@@ -51,7 +53,8 @@ apart_from_put low high (t ∷ rs) r s ascending there =
     ]
 
 -- two of ascending runs are one or lie apart
-pub apart_each : (low high : ℕ) (rs : List Run) (r s : Run) → IsAscending low high rs → Contains rs r → Contains rs s → (r.from ≡ s.from) ⊎ ((end_of r ≤ s.from) ⊎ (end_of s ≤ r.from))
+pub apart_each : (low high : ℕ) (rs : List Run) (r s : Run) → IsAscending low high rs → Contains rs r → Contains rs s
+    → (r.from ≡ s.from) ⊎ ((end_of r ≤ s.from) ⊎ (end_of s ≤ r.from))
 apart_each low high [] r s ascending (k, within, is) there = absurd (omega arith)
 apart_each low high (t ∷ rs) r s ascending here there =
     elim (contains_cases rs r t here) [
@@ -106,7 +109,8 @@ uncovered_below low high rs word ascending below =
     let bounds = contained_bounds low high rs by.0 ascending by.1 in
     absurd (omega (arith, bounds.0, (has_word-parts by.0 word by.2).0)))
 
-pub uncovered_by_put : (low high : ℕ) (rs : List Run) (r : Run) (word : ℕ) → IsAscending low high (with_run r rs) → r.from ≤ word → word < end_of r → is_covered rs word ≡ false
+pub uncovered_by_put : (low high : ℕ) (rs : List Run) (r : Run) (word : ℕ) → IsAscending low high (with_run r rs) → r.from ≤ word
+    → word < end_of r → is_covered rs word ≡ false
 uncovered_by_put low high rs r word ascending above below =
     false_from_ne_true (is_covered rs word) (λ is.
     let by = covered_by rs word is in
@@ -119,7 +123,8 @@ uncovered_by_put low high rs r word ascending above below =
 pub covered_put_has : (r : Run) (rs : List Run) (word : ℕ) → has_word r word ≡ true → is_covered (with_run r rs) word ≡ true
 covered_put_has r rs word has = covers_contained (with_run r rs) r word (contains_put r rs) has
 
-pub covered_put_other : (r : Run) (rs : List Run) (word : ℕ) → has_word r word ≡ false → is_covered (with_run r rs) word ≡ is_covered rs word
+pub covered_put_other : (r : Run) (rs : List Run) (word : ℕ) → has_word r word ≡ false
+    → is_covered (with_run r rs) word ≡ is_covered rs word
 covered_put_other r [] word other = covered_later r [] word other
 covered_put_other r (s ∷ rs) word other =
     elim (cases_lt r.from s.from) [
@@ -129,7 +134,8 @@ covered_put_other r (s ∷ rs) word other =
           ∙ ap (λ (b : Bool). cond (has_word s word) true b) (covered_put_other r rs word other)
     ]
 
-pub uncovered_taken : (low high : ℕ) (rs : List Run) (r : Run) (word : ℕ) → IsAscending low high rs → Contains rs r → has_word r word ≡ true → is_covered (without_run r.from rs) word ≡ false
+pub uncovered_taken : (low high : ℕ) (rs : List Run) (r : Run) (word : ℕ) → IsAscending low high rs → Contains rs r
+    → has_word r word ≡ true → is_covered (without_run r.from rs) word ≡ false
 uncovered_taken low high [] r word ascending (k, within, is) has = absurd (omega arith)
 uncovered_taken low high (s ∷ rs) r word ascending there has =
     let parts = has_word-parts r word has in
@@ -144,7 +150,8 @@ uncovered_taken low high (s ∷ rs) r word ascending there has =
           ∙ uncovered_taken (end_of s) high rs r word ascending.2 later has
     ]
 
-pub covered_taken_other : (low high : ℕ) (rs : List Run) (r : Run) (word : ℕ) → IsAscending low high rs → Contains rs r → has_word r word ≡ false → is_covered (without_run r.from rs) word ≡ is_covered rs word
+pub covered_taken_other : (low high : ℕ) (rs : List Run) (r : Run) (word : ℕ) → IsAscending low high rs → Contains rs r
+    → has_word r word ≡ false → is_covered (without_run r.from rs) word ≡ is_covered rs word
 covered_taken_other low high [] r word ascending (k, within, is) other = absurd (omega arith)
 covered_taken_other low high (s ∷ rs) r word ascending there other =
     elim (contains_cases rs r s there) [

@@ -25,20 +25,25 @@ unfolding bit
 bit_past bits i past = get_or_past bits i false past
 
 pub bit_within : (bits : List Bool) (i : ℕ) → bit bits i ≡ true → i < length bits
-bit_within bits i is = elim (cases_lt i (length bits)) [ inl within ↦ within | inr past ↦ absurd (both_ways (bit bits i) (bit_past bits i past) is) ]
+bit_within bits i is =
+    elim (cases_lt i (length bits)) [ inl within ↦ within | inr past ↦ absurd (both_ways (bit bits i) (bit_past bits i past) is) ]
 
-pub bit-with_range_inside : (bits : List Bool) (from to i : ℕ) (value : Bool) → from ≤ to → to ≤ length bits → from ≤ i → i < to → bit (with_range bits from to value) i ≡ value
+pub bit-with_range_inside : (bits : List Bool) (from to i : ℕ) (value : Bool) → from ≤ to → to ≤ length bits → from ≤ i → i < to
+    → bit (with_range bits from to value) i ≡ value
 unfolding bit
-bit-with_range_inside bits from to i value ordered within above below = with_range_inside bits from to value i false ordered within above below
+bit-with_range_inside bits from to i value ordered within above below =
+    with_range_inside bits from to value i false ordered within above below
 
-pub bit-with_range_outside : (bits : List Bool) (from to i : ℕ) (value : Bool) → from ≤ to → to ≤ length bits → (i < from) ⊎ (to ≤ i) → bit (with_range bits from to value) i ≡ bit bits i
+pub bit-with_range_outside : (bits : List Bool) (from to i : ℕ) (value : Bool) → from ≤ to → to ≤ length bits → (i < from) ⊎ (to ≤ i)
+    → bit (with_range bits from to value) i ≡ bit bits i
 unfolding bit
 bit-with_range_outside bits from to i value ordered within out = with_range_outside bits from to value i false ordered within out
 
 -- tables of one length with the same bits are one
 pub same_bits : (xs ys : List Bool) → length xs ≡ length ys → ((i : ℕ) → i < length xs → bit xs i ≡ bit ys i) → xs ≡ ys
 unfolding bit
-same_bits xs ys size same = same_lists xs ys size (λ k d h. get_or_default xs k d false h ∙ same k h ∙ get_or_default ys k false d (omega (arith, size)))
+same_bits xs ys size same =
+    same_lists xs ys size (λ k d h. get_or_default xs k d false h ∙ same k h ∙ get_or_default ys k false d (omega (arith, size)))
 
 pub length-minus : (xs ys : List Bool) → length (minus xs ys) ≡ length xs
 unfolding minus
@@ -67,30 +72,35 @@ minus-set_first xs ys i within none =
       | inl here ↦
           ap (λ (j : ℕ). bit (set xs i true) j && not (bit ys j)) here
           ∙ ap (λ (b : Bool). b && not (bit ys i)) (bit-set_same xs i true within) ∙ ap (λ (b : Bool). not b) none
-          ∙ sym (ap (λ (j : ℕ). bit (set (minus xs ys) i true) j) here ∙ bit-set_same (minus xs ys) i true (omega (arith, within, length-minus xs ys)))
+          ∙ sym (ap (λ (j : ℕ). bit (set (minus xs ys) i true) j) here ∙ bit-set_same (minus xs ys) i true
+          (omega (arith, within, length-minus xs ys)))
       | inr other ↦
           ap (λ (b : Bool). b && not (bit ys k)) (bit-set_other xs i k true other) ∙ sym (bit-minus xs ys k short)
           ∙ sym (bit-set_other (minus xs ys) i k true other)
     ])
 
 -- one fewer, where it is taken from the first or put into the second
-pub minus_less : (xs xs' ys ys' : List Bool) (i : ℕ) → i < length xs → length xs' ≡ length xs → ((j : ℕ) → j ≢ i → bit xs' j ≡ bit xs j) → ((j : ℕ) → j ≢ i → bit ys' j ≡ bit ys j)
+pub minus_less : (xs xs' ys ys' : List Bool) (i : ℕ) → i < length xs → length xs' ≡ length xs → ((j : ℕ) → j ≢ i → bit xs' j ≡ bit xs j)
+    → ((j : ℕ) → j ≢ i → bit ys' j ≡ bit ys j)
     → (bit xs' i && not (bit ys' i)) ≡ false → minus xs' ys' ≡ set (minus xs ys) i false
 minus_less xs xs' ys ys' i within size others others' none =
-    same_bits (minus xs' ys') (set (minus xs ys) i false) (length-minus xs' ys' ∙ size ∙ sym (length-set (minus xs ys) i false ∙ length-minus xs ys)) (λ k h.
+    same_bits (minus xs' ys') (set (minus xs ys) i false)
+    (length-minus xs' ys' ∙ size ∙ sym (length-set (minus xs ys) i false ∙ length-minus xs ys)) (λ k h.
     let short : k < length xs = omega (arith, h, length-minus xs' ys', size) in
     bit-minus xs' ys' k (omega (arith, short, size))
     ∙ elim (cases_eq k i) [
       | inl here ↦
           ap (λ (j : ℕ). bit xs' j && not (bit ys' j)) here ∙ none
-          ∙ sym (ap (λ (j : ℕ). bit (set (minus xs ys) i false) j) here ∙ bit-set_same (minus xs ys) i false (omega (arith, within, length-minus xs ys)))
+          ∙ sym (ap (λ (j : ℕ). bit (set (minus xs ys) i false) j) here ∙ bit-set_same (minus xs ys) i false
+          (omega (arith, within, length-minus xs ys)))
       | inr other ↦
           ap (λ (b : Bool). b && not (bit ys' k)) (others k other) ∙ ap (λ (b : Bool). bit xs k && not b) (others' k other)
           ∙ sym (bit-minus xs ys k short) ∙ sym (bit-set_other (minus xs ys) i k false other)
     ])
 
 -- the same, where the bit was in the second
-pub minus_same : (xs xs' ys ys' : List Bool) (i : ℕ) → length xs' ≡ length xs → ((j : ℕ) → j ≢ i → bit xs' j ≡ bit xs j) → ((j : ℕ) → j ≢ i → bit ys' j ≡ bit ys j)
+pub minus_same : (xs xs' ys ys' : List Bool) (i : ℕ) → length xs' ≡ length xs → ((j : ℕ) → j ≢ i → bit xs' j ≡ bit xs j)
+    → ((j : ℕ) → j ≢ i → bit ys' j ≡ bit ys j)
     → (bit xs' i && not (bit ys' i)) ≡ (bit xs i && not (bit ys i)) → minus xs' ys' ≡ minus xs ys
 minus_same xs xs' ys ys' i size others others' here_same =
     same_bits (minus xs' ys') (minus xs ys) (length-minus xs' ys' ∙ size ∙ sym (length-minus xs ys)) (λ k h.

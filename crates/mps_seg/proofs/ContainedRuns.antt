@@ -58,17 +58,20 @@ contains_still from t (s ∷ rs) there other =
     ]
 
 -- a run taken out of ascending ones, and put back
-pub taken_and_put : (low high : ℕ) (rs : List Run) (r : Run) → IsAscending low high rs → Contains rs r → with_run r (without_run r.from rs) ≡ rs
+pub taken_and_put : (low high : ℕ) (rs : List Run) (r : Run) → IsAscending low high rs → Contains rs r
+    → with_run r (without_run r.from rs) ≡ rs
 taken_and_put low high [] r ascending (k, within, is) = absurd (omega arith)
 taken_and_put low high (s ∷ rs) r ascending there =
     elim (contains_cases rs r s there) [
       | inl same ↦
           ap (λ (xs : List Run). with_run r xs) (without_run_first r.from s rs (ap (λ (x : Run). x.from) (sym same)))
-          ∙ before_all (end_of s) high rs r ascending.2 (omega (arith, ascending.1, ap (λ (x : Run). x.from) same)) ∙ ap (λ (x : Run). x ∷ rs) (sym same)
+          ∙ before_all (end_of s) high rs r ascending.2 (omega (arith, ascending.1, ap (λ (x : Run). x.from) same))
+          ∙ ap (λ (x : Run). x ∷ rs) (sym same)
       | inr later ↦
           let bounds = contained_bounds (end_of s) high rs r ascending.2 later in
           ap (λ (xs : List Run). with_run r xs) (without_run_later r.from s rs (λ e. omega (arith, bounds.0, ascending.1, e)))
-          ∙ with_run_later r s (without_run r.from rs) (omega (arith, bounds.0)) ∙ ap (λ (xs : List Run). s ∷ xs) (taken_and_put (end_of s) high rs r ascending.2 later)
+          ∙ with_run_later r s (without_run r.from rs) (omega (arith, bounds.0))
+          ∙ ap (λ (xs : List Run). s ∷ xs) (taken_and_put (end_of s) high rs r ascending.2 later)
     ]
   where
     before_all : (low high : ℕ) (rs : List Run) (r : Run) → IsAscending low high rs → r.from < low → with_run r rs ≡ r ∷ rs
@@ -76,7 +79,8 @@ taken_and_put low high (s ∷ rs) r ascending there =
     before_all low high (s ∷ rs) r ascending before = with_run_first r s rs (omega (arith, ascending.0))
 
 -- the extents that begin in a run of words
-pub begins_within : (low high : ℕ) (rs : List Run) (t : Run) → Contains rs t → low ≤ t.from → t.from < high → Contains (runs_within low high rs) t
+pub begins_within : (low high : ℕ) (rs : List Run) (t : Run) → Contains rs t → low ≤ t.from → t.from < high
+    → Contains (runs_within low high rs) t
 begins_within low high [] t (k, within, is) above below = absurd (omega arith)
 begins_within low high (s ∷ rs) t there above below =
     let P : List Run → Type 0 = λ xs. Contains xs t in
@@ -92,13 +96,16 @@ begins_within low high (s ∷ rs) t there above below =
           subst P (sym here) (elim (contains_cases rs t s there) [
             | inl same ↦
                 let from : s.from ≡ t.from = ap (λ (x : Run). x.from) same in
-                absurd (both_ways (leb low s.from && ltb s.from high) outside (and_from (leb low s.from) (ltb s.from high) (le-leb low s.from (omega (arith, from))) (lt-ltb s.from high (omega (arith, from)))))
+                absurd (both_ways (leb low s.from && ltb s.from high) outside
+                (and_from (leb low s.from) (ltb s.from high) (le-leb low s.from (omega (arith, from)))
+                (lt-ltb s.from high (omega (arith, from)))))
             | inr later ↦ begins_within low high rs t later above below
           ])
     ]
 
 -- ascending runs that begin at one number are one
-pub same_count : (low high : ℕ) (rs : List Run) (r s : Run) → IsAscending low high rs → Contains rs r → Contains rs s → r.from ≡ s.from → r.count ≡ s.count
+pub same_count : (low high : ℕ) (rs : List Run) (r s : Run) → IsAscending low high rs → Contains rs r → Contains rs s → r.from ≡ s.from
+    → r.count ≡ s.count
 same_count low high [] r s ascending (k, within, is) there e = absurd (omega arith)
 same_count low high (t ∷ rs) r s ascending here there e =
     elim (contains_cases rs r t here) [
@@ -125,16 +132,23 @@ put_apart low high (s ∷ rs) r ascending some above below apart =
     let first = apart s (contains_first rs s) in
     elim (cases_lt r.from s.from) [
       | inl before ↦
-          let room : end_of r ≤ s.from = elim first [ inl following ↦ following | inr ahead ↦ absurd (omega (arith, ahead, ascending.1)) ] in
+          let room : end_of r ≤ s.from =
+          elim first [ inl following ↦ following | inr ahead ↦ absurd (omega (arith, ahead, ascending.1)) ]
+          in
           subst P (sym (with_run_first r s rs before)) (above, some, (room, ascending.1, ascending.2))
       | inr after ↦
           let room : end_of s ≤ r.from = elim first [ inl following ↦ absurd (omega (arith, following, some)) | inr ahead ↦ ahead ] in
-          subst P (sym (with_run_later r s rs after))
-          (ascending.0, ascending.1, put_apart (end_of s) high rs r ascending.2 some room below (λ t there. apart t (contains_later rs t s there)))
+          subst P (sym (with_run_later r s rs after)) (
+            ascending.0,
+            ascending.1,
+            put_apart (end_of s) high rs r ascending.2 some room below
+                (λ t there. apart t (contains_later rs t s there)),
+          )
     ]
 
 -- one side of a bound, for each of runs that are whole
-pub side_of : (low high : ℕ) (rs : List Run) (t : Run) → AreWhole low high rs → Contains rs t → (end_of t ≤ low) ⊎ ((high ≤ t.from) ⊎ ((low ≤ t.from) × (t.from < high)))
+pub side_of : (low high : ℕ) (rs : List Run) (t : Run) → AreWhole low high rs → Contains rs t
+    → (end_of t ≤ low) ⊎ ((high ≤ t.from) ⊎ ((low ≤ t.from) × (t.from < high)))
 side_of low high [] t whole (k, within, is) = absurd (omega arith)
 side_of low high (s ∷ rs) t whole there =
     elim (contains_cases rs t s there) [

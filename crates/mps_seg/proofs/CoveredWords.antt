@@ -26,13 +26,17 @@ words_within low high r = cond (leb low r.from && ltb r.from high) r.count 0
 
 words_within_here : (low high : ℕ) (r : Run) → low ≤ r.from → r.from < high → words_within low high r ≡ r.count
 words_within_here low high r above below =
-    cond-true (leb low r.from && ltb r.from high) r.count 0 (and_from (leb low r.from) (ltb r.from high) (le-leb low r.from above) (lt-ltb r.from high below))
+    cond-true (leb low r.from && ltb r.from high) r.count 0
+    (and_from (leb low r.from) (ltb r.from high) (le-leb low r.from above) (lt-ltb r.from high below))
 
 words_within_none : (low high : ℕ) (r : Run) → (r.from < low) ⊎ (high ≤ r.from) → words_within low high r ≡ 0
-words_within_none low high r (inl below) = cond-false (leb low r.from && ltb r.from high) r.count 0 (and_left (leb low r.from) (ltb r.from high) (lt-leb low r.from below))
-words_within_none low high r (inr above) = cond-false (leb low r.from && ltb r.from high) r.count 0 (and_right (leb low r.from) (ltb r.from high) (le-ltb r.from high above))
+words_within_none low high r (inl below) =
+    cond-false (leb low r.from && ltb r.from high) r.count 0 (and_left (leb low r.from) (ltb r.from high) (lt-leb low r.from below))
+words_within_none low high r (inr above) =
+    cond-false (leb low r.from && ltb r.from high) r.count 0 (and_right (leb low r.from) (ltb r.from high) (le-ltb r.from high above))
 
-total_within-cons : (low high : ℕ) (r : Run) (rs : List Run) → total (runs_within low high (r ∷ rs)) ≡ words_within low high r + total (runs_within low high rs)
+total_within-cons : (low high : ℕ) (r : Run) (rs : List Run)
+    → total (runs_within low high (r ∷ rs)) ≡ words_within low high r + total (runs_within low high rs)
 total_within-cons low high r rs =
     let rest = runs_within low high rs in
     let inside = leb low r.from && ltb r.from high in
@@ -43,36 +47,52 @@ total_within-cons low high r rs =
       | inr out ↦ omega (arith, ap (λ (xs : List Run). total xs) (cond-false inside (r ∷ rest) rest out), cond-false inside r.count 0 out)
     ]
 
-total_put : (low high : ℕ) (r : Run) (rs : List Run) → total (runs_within low high (with_run r rs)) ≡ words_within low high r + total (runs_within low high rs)
+total_put : (low high : ℕ) (r : Run) (rs : List Run)
+    → total (runs_within low high (with_run r rs)) ≡ words_within low high r + total (runs_within low high rs)
 total_put low high r [] = total_within-cons low high r []
 total_put low high r (s ∷ rs) =
     elim (cases_lt r.from s.from) [
-      | inl before ↦ ap (λ (xs : List Run). total (runs_within low high xs)) (with_run_first r s rs before) ∙ total_within-cons low high r (s ∷ rs)
+      | inl before ↦ ap (λ (xs : List Run). total (runs_within low high xs)) (with_run_first r s rs before)
+          ∙ total_within-cons low high r (s ∷ rs)
       | inr after ↦
-          let now = ap (λ (xs : List Run). total (runs_within low high xs)) (with_run_later r s rs after) ∙ total_within-cons low high s (with_run r rs) in
+          let now =
+          ap (λ (xs : List Run). total (runs_within low high xs)) (with_run_later r s rs after)
+          ∙ total_within-cons low high s (with_run r rs)
+          in
           omega (arith, now, total_within-cons low high s rs, total_put low high r rs)
     ]
 
-total_taken : (low high a b : ℕ) (r : Run) (rs : List Run) → IsAscending a b rs → Contains rs r → total (runs_within low high (without_run r.from rs)) + words_within low high r ≡ total (runs_within low high rs)
+total_taken : (low high a b : ℕ) (r : Run) (rs : List Run) → IsAscending a b rs → Contains rs r
+    → total (runs_within low high (without_run r.from rs)) + words_within low high r ≡ total (runs_within low high rs)
 total_taken low high a b r [] ascending (k, within, is) = absurd (omega arith)
 total_taken low high a b r (s ∷ rs) ascending there =
     elim (contains_cases rs r s there) [
       | inl same ↦
-          let now = ap (λ (xs : List Run). total (runs_within low high xs)) (without_run_first r.from s rs (ap (λ (x : Run). x.from) (sym same))) in
+          let now =
+          ap (λ (xs : List Run). total (runs_within low high xs)) (without_run_first r.from s rs (ap (λ (x : Run). x.from) (sym same)))
+          in
           omega (arith, now, total_within-cons low high s rs, ap (λ (x : Run). words_within low high x) same)
       | inr later ↦
           let bounds = contained_bounds (end_of s) b rs r ascending.2 later in
           let now =
-          ap (λ (xs : List Run). total (runs_within low high xs)) (without_run_later r.from s rs (λ e. omega (arith, bounds.0, ascending.1, e)))
+          ap (λ (xs : List Run). total (runs_within low high xs))
+          (without_run_later r.from s rs (λ e. omega (arith, bounds.0, ascending.1, e)))
           ∙ total_within-cons low high s (without_run r.from rs)
           in
           omega (arith, now, total_within-cons low high s rs, total_taken low high (end_of s) b r rs ascending.2 later)
     ]
 
-none_within : (low high : ℕ) (rs : List Run) → ((t : Run) → Contains rs t → (t.from < low) ⊎ (high ≤ t.from)) → total (runs_within low high rs) ≡ 0
+none_within : (low high : ℕ) (rs : List Run) → ((t : Run) → Contains rs t → (t.from < low) ⊎ (high ≤ t.from))
+    → total (runs_within low high rs) ≡ 0
 none_within low high [] out = refl
 none_within low high (r ∷ rs) out =
-    omega (arith, total_within-cons low high r rs, words_within_none low high r (out r (contains_first rs r)), none_within low high rs (λ t there. out t (contains_later rs t r there)))
+    omega (
+      arith,
+      total_within-cons low high r rs,
+      words_within_none low high r (out r (contains_first rs r)),
+      none_within low high rs
+          (λ t there. out t (contains_later rs t r there)),
+    )
 
 -- the segment in which a run of words lies, by the grain in which it begins
 pub record OwnSegment (held : List Run) (size : ℕ) (firsts : List ℕ) (grain : ℕ) (r : Run) : Type 0 where
@@ -85,45 +105,57 @@ pub record OwnSegment (held : List Run) (size : ℕ) (firsts : List ℕ) (grain 
   pub below : r.from < words_of_grain * end_of run
 
 module _
-  (held : List Run) (size : ℕ) (firsts counts : List ℕ) (covered : List Run)
-  (counted : IsCounted held size firsts counts covered) (ascending : IsAscending 1 size held)
+    (held : List Run) (size : ℕ) (firsts counts : List ℕ) (covered : List Run)
+    (counted : IsCounted held size firsts counts covered) (ascending : IsAscending 1 size held)
   where
-  pub own_segment : (grain : ℕ) (r : Run) → LiesIn held r → 0 < r.count
-      → words_of_grain * grain ≤ r.from → r.from < words_of_grain * grain + words_of_grain → OwnSegment held size firsts grain r
-  own_segment grain r lies some above below =
-      let bounds = contained_bounds 1 size held lies.grains ascending lies.there in
-      let within : grain < size = omega (arith, bounds.2, lies.before) in
-      let over = run_over_in 1 size held lies.grains grain ascending lies.there (omega (arith, lies.after)) (omega (arith, lies.before)) in
-      record {
-        run = lies.grains;
-        there = lies.there;
-        first = counted.firsts_are grain within ∙ ap or_zero over;
-        grain_within = within;
-        first_within = omega (arith, bounds.1, bounds.2);
-        above = lies.after;
-        below = omega (arith, lies.before);
-      }
+    pub own_segment : (grain : ℕ) (r : Run) → LiesIn held r → 0 < r.count
+        → words_of_grain * grain ≤ r.from → r.from < words_of_grain * grain + words_of_grain → OwnSegment held size firsts grain r
+    own_segment grain r lies some above below =
+        let bounds = contained_bounds 1 size held lies.grains ascending lies.there in
+        let within : grain < size = omega (arith, bounds.2, lies.before) in
+        let over =
+        run_over_in 1 size held lies.grains grain ascending lies.there (omega (arith, lies.after)) (omega (arith, lies.before))
+        in
+        record {
+          run = lies.grains;
+          there = lies.there;
+          first = counted.firsts_are grain within ∙ ap or_zero over;
+          grain_within = within;
+          first_within = omega (arith, bounds.1, bounds.2);
+          above = lies.after;
+          below = omega (arith, lies.before);
+        }
 
 module _
-  (arena : ArenaMemory) (table : List Entry) (ex : ExtentLists) (firsts counts : List ℕ)
-  (held : IsHeld arena table ex) (counted : IsCounted arena.held (arena.grains + 1) firsts counts ex.covered)
+    (arena : ArenaMemory) (table : List Entry) (ex : ExtentLists) (firsts counts : List ℕ)
+    (held : IsHeld arena table ex) (counted : IsCounted arena.held (arena.grains + 1) firsts counts ex.covered)
   where
-  pub own_segment_of_free : (grain : ℕ) (r : Run) → LiesIn (map grains_of_segment (segments_in table)) r → 0 < r.count → words_of_grain * grain ≤ r.from → r.from < words_of_grain * grain + words_of_grain → OwnSegment arena.held (arena.grains + 1) firsts grain r
-  own_segment_of_free grain r lies some above below =
-      let P : List Run → Type 0 = λ rs. LiesIn rs r in
-      own_segment arena.held (arena.grains + 1) firsts counts ex.covered counted held.ascending grain r (subst P (sym held.held) lies) some above below
+    pub own_segment_of_free : (grain : ℕ) (r : Run) → LiesIn (map grains_of_segment (segments_in table)) r → 0 < r.count
+        → words_of_grain * grain ≤ r.from → r.from < words_of_grain * grain + words_of_grain
+        → OwnSegment arena.held (arena.grains + 1) firsts grain r
+    own_segment_of_free grain r lies some above below =
+        let P : List Run → Type 0 = λ rs. LiesIn rs r in
+        own_segment arena.held (arena.grains + 1) firsts counts ex.covered counted held.ascending grain r
+        (subst P (sym held.held) lies) some above below
 
-  pub own_segment_of_covered : (grain : ℕ) (r : Run) → Contains ex.covered r → words_of_grain * grain ≤ r.from → r.from < words_of_grain * grain + words_of_grain → OwnSegment arena.held (arena.grains + 1) firsts grain r
-  own_segment_of_covered grain r listed above below =
-      own_segment arena.held (arena.grains + 1) firsts counts ex.covered counted held.ascending grain r (held.inside r listed) (held.nonempty r listed) above below
+    pub own_segment_of_covered : (grain : ℕ) (r : Run) → Contains ex.covered r → words_of_grain * grain ≤ r.from
+        → r.from < words_of_grain * grain + words_of_grain → OwnSegment arena.held (arena.grains + 1) firsts grain r
+    own_segment_of_covered grain r listed above below =
+        own_segment arena.held (arena.grains + 1) firsts counts ex.covered counted held.ascending grain r (held.inside r listed)
+        (held.nonempty r listed) above below
 
 -- a run begins in one segment alone
-words_in_own_segment : (size : ℕ) (held : List Run) (h t r : Run) → IsAscending 1 size held → Contains held h → Contains held t → words_of_grain * h.from ≤ r.from → r.from < words_of_grain * end_of h → h.from ≡ t.from → words_within (words_of_grain * t.from) (words_of_grain * end_of t) r ≡ r.count
+words_in_own_segment : (size : ℕ) (held : List Run) (h t r : Run) → IsAscending 1 size held → Contains held h → Contains held t
+    → words_of_grain * h.from ≤ r.from → r.from < words_of_grain * end_of h → h.from ≡ t.from
+    → words_within (words_of_grain * t.from) (words_of_grain * end_of t) r ≡ r.count
 words_in_own_segment size held h t r ascending there there' above below same =
     let count = same_count 1 size held h t ascending there there' same in
-    words_within_here (words_of_grain * t.from) (words_of_grain * end_of t) r (omega (arith, same, above)) (omega (arith, same, below, count))
+    words_within_here (words_of_grain * t.from) (words_of_grain * end_of t) r (omega (arith, same, above))
+    (omega (arith, same, below, count))
 
-words_in_other_segment : (size : ℕ) (held : List Run) (h t r : Run) → IsAscending 1 size held → Contains held h → Contains held t → words_of_grain * h.from ≤ r.from → r.from < words_of_grain * end_of h → h.from ≢ t.from → words_within (words_of_grain * t.from) (words_of_grain * end_of t) r ≡ 0
+words_in_other_segment : (size : ℕ) (held : List Run) (h t r : Run) → IsAscending 1 size held → Contains held h → Contains held t
+    → words_of_grain * h.from ≤ r.from → r.from < words_of_grain * end_of h → h.from ≢ t.from
+    → words_within (words_of_grain * t.from) (words_of_grain * end_of t) r ≡ 0
 words_in_other_segment size held h t r ascending there there' above below other =
     elim (apart_each 1 size held h t ascending there there') [
       | inl same ↦ absurd (other same)
@@ -133,84 +165,106 @@ words_in_other_segment size held h t r ascending there there' above below other 
     ]
 
 module _
-  (held : List Run) (size : ℕ) (firsts counts : List ℕ) (covered : List Run)
-  (counted : IsCounted held size firsts counts covered) (ascending : IsAscending 1 size held)
+    (held : List Run) (size : ℕ) (firsts counts : List ℕ) (covered : List Run)
+    (counted : IsCounted held size firsts counts covered) (ascending : IsAscending 1 size held)
   where
-  pub counted_after_cover : (grain : ℕ) (r : Run) → OwnSegment held size firsts grain r
-      → IsCounted held size firsts (set counts (get_or firsts grain 0) (get_or counts (get_or firsts grain 0) 0 + r.count)) (with_run r covered)
-  counted_after_cover grain r own =
-      let first = get_or firsts grain 0 in
-      let now = get_or counts first 0 + r.count in
-      record {
-        firsts_size = counted.firsts_size;
-        counts_size = length-set counts first now ∙ counted.counts_size;
-        firsts_are = counted.firsts_are;
-        counts_are = λ t there.
-            let was = counted.counts_are t there in
-            let put = total_put (words_of_grain * t.from) (words_of_grain * end_of t) r covered in
-            elim (cases_eq t.from first) [
-              | inl here ↦
-                  let more = words_in_own_segment size held own.run t r ascending own.there there own.above own.below (sym own.first ∙ sym here) in
-                  ap (λ (k : ℕ). get_or (set counts first now) k 0) here ∙ get_or-set_same counts first now 0 (omega (arith, own.first, own.first_within, counted.counts_size))
-                  ∙ ap (λ (k : ℕ). get_or counts k 0 + r.count) (sym here) ∙ omega (arith, was, put, more)
-              | inr other ↦
-                  let none = words_in_other_segment size held own.run t r ascending own.there there own.above own.below (λ e. other (sym e ∙ sym own.first)) in
-                  get_or-set_other counts first t.from now 0 other ∙ omega (arith, was, put, none)
-            ];
-      }
+    pub counted_after_cover : (grain : ℕ) (r : Run) → OwnSegment held size firsts grain r
+        → IsCounted held size firsts
+        (set counts (get_or firsts grain 0) (get_or counts (get_or firsts grain 0) 0 + r.count)) (with_run r covered)
+    counted_after_cover grain r own =
+        let first = get_or firsts grain 0 in
+        let now = get_or counts first 0 + r.count in
+        record {
+          firsts_size = counted.firsts_size;
+          counts_size = length-set counts first now ∙ counted.counts_size;
+          firsts_are = counted.firsts_are;
+          counts_are = λ t there.
+              let was = counted.counts_are t there in
+              let put = total_put (words_of_grain * t.from) (words_of_grain * end_of t) r covered in
+              elim (cases_eq t.from first) [
+                | inl here ↦
+                    let more =
+                    words_in_own_segment size held own.run t r ascending own.there there own.above own.below (sym own.first ∙ sym here)
+                    in
+                    ap (λ (k : ℕ). get_or (set counts first now) k 0) here
+                    ∙ get_or-set_same counts first now 0 (omega (arith, own.first, own.first_within, counted.counts_size))
+                    ∙ ap (λ (k : ℕ). get_or counts k 0 + r.count) (sym here) ∙ omega (arith, was, put, more)
+                | inr other ↦
+                    let none =
+                    words_in_other_segment size held own.run t r ascending own.there there own.above own.below
+                    (λ e. other (sym e ∙ sym own.first))
+                    in
+                    get_or-set_other counts first t.from now 0 other ∙ omega (arith, was, put, none)
+              ];
+        }
 
-  pub counted_after_uncover : (grain a b : ℕ) (r : Run) → IsAscending a b covered → Contains covered r → OwnSegment held size firsts grain r
-      → IsCounted held size firsts (set counts (get_or firsts grain 0) (get_or counts (get_or firsts grain 0) 0 - r.count)) (without_run r.from covered)
-  counted_after_uncover grain a b r ascending' listed own =
-      let first = get_or firsts grain 0 in
-      let now = get_or counts first 0 - r.count in
-      record {
-        firsts_size = counted.firsts_size;
-        counts_size = length-set counts first now ∙ counted.counts_size;
-        firsts_are = counted.firsts_are;
-        counts_are = λ t there.
-            let was = counted.counts_are t there in
-            let less = total_taken (words_of_grain * t.from) (words_of_grain * end_of t) a b r covered ascending' listed in
-            elim (cases_eq t.from first) [
-              | inl here ↦
-                  let fewer = words_in_own_segment size held own.run t r ascending own.there there own.above own.below (sym own.first ∙ sym here) in
-                  ap (λ (k : ℕ). get_or (set counts first now) k 0) here ∙ get_or-set_same counts first now 0 (omega (arith, own.first, own.first_within, counted.counts_size))
-                  ∙ ap (λ (k : ℕ). get_or counts k 0 - r.count) (sym here) ∙ omega (arith, was, less, fewer)
-              | inr other ↦
-                  let none = words_in_other_segment size held own.run t r ascending own.there there own.above own.below (λ e. other (sym e ∙ sym own.first)) in
-                  get_or-set_other counts first t.from now 0 other ∙ omega (arith, was, less, none)
-            ];
-      }
+    pub counted_after_uncover : (grain a b : ℕ) (r : Run) → IsAscending a b covered → Contains covered r
+        → OwnSegment held size firsts grain r
+        → IsCounted held size firsts
+        (set counts (get_or firsts grain 0) (get_or counts (get_or firsts grain 0) 0 - r.count)) (without_run r.from covered)
+    counted_after_uncover grain a b r ascending' listed own =
+        let first = get_or firsts grain 0 in
+        let now = get_or counts first 0 - r.count in
+        record {
+          firsts_size = counted.firsts_size;
+          counts_size = length-set counts first now ∙ counted.counts_size;
+          firsts_are = counted.firsts_are;
+          counts_are = λ t there.
+              let was = counted.counts_are t there in
+              let less = total_taken (words_of_grain * t.from) (words_of_grain * end_of t) a b r covered ascending' listed in
+              elim (cases_eq t.from first) [
+                | inl here ↦
+                    let fewer =
+                    words_in_own_segment size held own.run t r ascending own.there there own.above own.below (sym own.first ∙ sym here)
+                    in
+                    ap (λ (k : ℕ). get_or (set counts first now) k 0) here
+                    ∙ get_or-set_same counts first now 0 (omega (arith, own.first, own.first_within, counted.counts_size))
+                    ∙ ap (λ (k : ℕ). get_or counts k 0 - r.count) (sym here) ∙ omega (arith, was, less, fewer)
+                | inr other ↦
+                    let none =
+                    words_in_other_segment size held own.run t r ascending own.there there own.above own.below
+                    (λ e. other (sym e ∙ sym own.first))
+                    in
+                    get_or-set_other counts first t.from now 0 other ∙ omega (arith, was, less, none)
+              ];
+        }
 
-  -- what is taken out was counted
-  pub counted_before : (grain a b : ℕ) (r : Run) → IsAscending a b covered → Contains covered r → OwnSegment held size firsts grain r
-      → r.count ≤ get_or counts (get_or firsts grain 0) 0
-  counted_before grain a b r ascending' listed own =
-      let was = counted.counts_are own.run own.there in
-      let less = total_taken (words_of_grain * own.run.from) (words_of_grain * end_of own.run) a b r covered ascending' listed in
-      let fewer = words_in_own_segment size held own.run own.run r ascending own.there own.there own.above own.below refl in
-      let here = ap (λ (k : ℕ). get_or counts k 0) own.first in
-      omega (arith, was, less, fewer, here)
+    -- what is taken out was counted
+    pub counted_before : (grain a b : ℕ) (r : Run) → IsAscending a b covered → Contains covered r → OwnSegment held size firsts grain r
+        → r.count ≤ get_or counts (get_or firsts grain 0) 0
+    counted_before grain a b r ascending' listed own =
+        let was = counted.counts_are own.run own.there in
+        let less = total_taken (words_of_grain * own.run.from) (words_of_grain * end_of own.run) a b r covered ascending' listed in
+        let fewer = words_in_own_segment size held own.run own.run r ascending own.there own.there own.above own.below refl in
+        let here = ap (λ (k : ℕ). get_or counts k 0) own.first in
+        omega (arith, was, less, fewer, here)
 
 -- no more words are counted than a segment has
-pub count_fits : (arena : ArenaMemory) (table : List Entry) (ex : ExtentLists) (grains : Run) → IsHeld arena table ex → Contains arena.held grains → covered_words_in grains ex.covered ≤ words_of_grain * grains.count
+pub count_fits : (arena : ArenaMemory) (table : List Entry) (ex : ExtentLists) (grains : Run) → IsHeld arena table ex
+    → Contains arena.held grains → covered_words_in grains ex.covered ≤ words_of_grain * grains.count
 count_fits arena table ex grains held listed =
     let low = words_of_grain * grains.from in
     let high = words_of_grain * end_of grains in
     let whole = whole_in arena table ex held grains listed ex.covered (λ t there. there) in
-    let ascending = runs_within_ascending 0 ex.size low high low ex.covered held.covered_ascending whole (omega arith) (omega arith) (inr refl) in
+    let ascending =
+    runs_within_ascending 0 ex.size low high low ex.covered held.covered_ascending whole (omega arith) (omega arith) (inr refl)
+    in
     let sum = total-le low high (runs_within low high ex.covered) ascending in
     omega (arith, sum)
 
 -- there is room to count what is put, where the segments are held after it
-pub room_to_count : (arena : ArenaMemory) (table : List Entry) (ex : ExtentLists) (firsts counts : List ℕ) (grain : ℕ) (r : Run) (blocks reservations : List Run) → IsCounted arena.held (arena.grains + 1) firsts counts ex.covered
-    → IsHeld arena table (record ex { covered = with_run r ex.covered; blocks = blocks; reservations = reservations }) → OwnSegment arena.held (arena.grains + 1) firsts grain r
+pub room_to_count : (arena : ArenaMemory) (table : List Entry) (ex : ExtentLists) (firsts counts : List ℕ) (grain : ℕ) (r : Run)
+    (blocks reservations : List Run) → IsCounted arena.held (arena.grains + 1) firsts counts ex.covered
+    → IsHeld arena table (record ex { covered = with_run r ex.covered; blocks = blocks; reservations = reservations })
+    → OwnSegment arena.held (arena.grains + 1) firsts grain r
     → get_or counts (get_or firsts grain 0) 0 + r.count < 2 ^ 32
 room_to_count arena table ex firsts counts grain r blocks reservations counted held own =
     let ex' : ExtentLists = record ex { covered = with_run r ex.covered; blocks = blocks; reservations = reservations } in
     let was = counted.counts_are own.run own.there in
     let put = total_put (words_of_grain * own.run.from) (words_of_grain * end_of own.run) r ex.covered in
-    let more = words_in_own_segment (arena.grains + 1) arena.held own.run own.run r held.ascending own.there own.there own.above own.below refl in
+    let more =
+    words_in_own_segment (arena.grains + 1) arena.held own.run own.run r held.ascending own.there own.there own.above own.below refl
+    in
     let here = ap (λ (k : ℕ). get_or counts k 0) own.first in
     let fits = count_fits arena table ex' own.run held own.there in
     let bounds = contained_bounds 1 (arena.grains + 1) arena.held own.run held.ascending own.there in
@@ -231,8 +285,10 @@ pub record Noted (firsts firsts' : List ℕ) (r : Run) (first : ℕ) : Type 0 wh
   pub inside : (g : ℕ) → r.from ≤ g → g < end_of r → get_or firsts' g 0 ≡ first
   pub outside : (g : ℕ) → (g < r.from) ⊎ (end_of r ≤ g) → get_or firsts' g 0 ≡ get_or firsts g 0
 
-pub counted_after_take : (arena : ArenaMemory) (table : List Entry) (ex : ExtentLists) (firsts firsts' counts : List ℕ) (need grain : ℕ) → IsHeld arena table ex → IsCounted arena.held (arena.grains + 1) firsts counts ex.covered → 0 < need
-    → lowest_fitting need (gaps 1 (arena.grains + 1) arena.held) ≡ Some grain → Noted firsts firsts' (record { from = grain; count = need }) grain
+pub counted_after_take : (arena : ArenaMemory) (table : List Entry) (ex : ExtentLists) (firsts firsts' counts : List ℕ) (need grain : ℕ)
+    → IsHeld arena table ex → IsCounted arena.held (arena.grains + 1) firsts counts ex.covered → 0 < need
+    → lowest_fitting need (gaps 1 (arena.grains + 1) arena.held) ≡ Some grain
+    → Noted firsts firsts' (record { from = grain; count = need }) grain
     → IsCounted (with_run (record { from = grain; count = need }) arena.held) (arena.grains + 1) firsts' (set counts grain 0) ex.covered
 counted_after_take arena table ex firsts firsts' counts need grain held counted some lowest noted =
     let r : Run = record { from = grain; count = need } in
@@ -259,7 +315,8 @@ counted_after_take arena table ex firsts firsts' counts need grain held counted 
         | inr from ↦ elim (cases_lt g (grain + need)) [
           | inl below ↦
               noted.inside g from below
-              ∙ sym (ap or_zero (run_over_in 1 (arena.grains + 1) (with_run r arena.held) r g gap.ascending (contains_put r arena.held) from below))
+              ∙ sym (ap or_zero (run_over_in 1 (arena.grains + 1) (with_run r arena.held) r g gap.ascending (contains_put r arena.held)
+              from below))
           | inr past ↦ outside g within (inr past) (has_word-above r g past)
         ]
       ];
@@ -277,7 +334,8 @@ counted_after_take arena table ex firsts firsts' counts need grain held counted 
       ];
     }
 
-pub counted_after_give : (held : List Run) (size : ℕ) (firsts firsts' counts : List ℕ) (covered : List Run) (r : Run) → IsCounted held size firsts counts covered → IsAscending 1 size held → Contains held r → Noted firsts firsts' r 0
+pub counted_after_give : (held : List Run) (size : ℕ) (firsts firsts' counts : List ℕ) (covered : List Run) (r : Run)
+    → IsCounted held size firsts counts covered → IsAscending 1 size held → Contains held r → Noted firsts firsts' r 0
     → IsCounted (without_run r.from held) size firsts' counts covered
 counted_after_give held size firsts firsts' counts covered r counted ascending listed noted =
     let outside = λ (g : ℕ) (within : g < size) (out : (g < r.from) ⊎ (end_of r ≤ g)) (other : has_word r g ≡ false).
@@ -291,7 +349,8 @@ counted_after_give held size firsts firsts' counts covered r counted ascending l
       firsts_are = λ g within. elim (cases_lt g r.from) [
         | inl before ↦ outside g within (inl before) (has_word-below r g before)
         | inr from ↦ elim (cases_lt g (end_of r)) [
-          | inl below ↦ noted.inside g from below ∙ sym (ap or_zero (run_over_taken_has 1 size held r g ascending listed (has_word-true r g from below)))
+          | inl below ↦ noted.inside g from below
+              ∙ sym (ap or_zero (run_over_taken_has 1 size held r g ascending listed (has_word-true r g from below)))
           | inr past ↦ outside g within (inr past) (has_word-above r g past)
         ]
       ];
@@ -299,7 +358,8 @@ counted_after_give held size firsts firsts' counts covered r counted ascending l
     }
 
 -- the words counted for the segment that begins at a grain
-pub count_at : (arena : ArenaMemory) (table : List Entry) (ex : ExtentLists) (firsts counts : List ℕ) (grain : ℕ) (e : Entry) → IsHeld arena table ex → IsCounted arena.held (arena.grains + 1) firsts counts ex.covered → get_or table grain Free ≡ e
+pub count_at : (arena : ArenaMemory) (table : List Entry) (ex : ExtentLists) (firsts counts : List ℕ) (grain : ℕ) (e : Entry)
+    → IsHeld arena table ex → IsCounted arena.held (arena.grains + 1) firsts counts ex.covered → get_or table grain Free ≡ e
     → IsCountAt grain e (get_or counts grain 0) ex
 count_at arena table ex firsts counts grain Free held counted is = tt
 count_at arena table ex firsts counts grain (First n p g k) held counted is =
@@ -320,7 +380,8 @@ pub record Counted (arena : ArenaMemory) (table : List Entry) (ex : ExtentLists)
   pub count : get_or counts (grain_of base) 0 ≡ total (runs_within (word_of s.base) (word_of (end_of_segment s)) ex.covered)
   pub empty : get_or counts (grain_of base) 0 ≡ 0 → runs_within (word_of s.base) (word_of (end_of_segment s)) ex.covered ≡ []
 
-pub counted_at : (arena : ArenaMemory) (table : List Entry) (ex : ExtentLists) (firsts counts : List ℕ) (base : ℕ) (s : Segment) → IsHeld arena table ex → IsCounted arena.held (arena.grains + 1) firsts counts ex.covered
+pub counted_at : (arena : ArenaMemory) (table : List Entry) (ex : ExtentLists) (firsts counts : List ℕ) (base : ℕ) (s : Segment)
+    → IsHeld arena table ex → IsCounted arena.held (arena.grains + 1) firsts counts ex.covered
     → Contains (segments_in table) s → s.base ≡ base → Counted arena table ex counts base s
 counted_at arena table ex firsts counts base s held counted there begins =
     let grain = grain_of base in
@@ -335,14 +396,19 @@ counted_at arena table ex firsts counts base s held counted there begins =
     ∙ ap (λ (b : ℕ). total (runs_within (word_of s.base) b ex.covered)) high
     in
     let whole = whole_in arena table ex held mine listed ex.covered (λ t x. x) in
-    let ascending = runs_within_ascending 0 ex.size (words_of_grain * grain) (words_of_grain * (grain + s.grains)) (words_of_grain * grain) ex.covered held.covered_ascending whole (omega arith) (omega arith) (inr refl) in
+    let ascending =
+    runs_within_ascending 0 ex.size (words_of_grain * grain) (words_of_grain * (grain + s.grains)) (words_of_grain * grain) ex.covered
+    held.covered_ascending whole (omega arith) (omega arith) (inr refl)
+    in
     record {
       within = omega (arith, at.within, held.size, counted.counts_size);
       count = count;
       empty = λ none.
           ap (λ (a : ℕ). runs_within a (word_of (end_of_segment s)) ex.covered) (sym low)
           ∙ ap (λ (b : ℕ). runs_within (words_of_grain * grain) b ex.covered) (sym high)
-          ∙ none_counted (words_of_grain * grain) (words_of_grain * (grain + s.grains)) (runs_within (words_of_grain * grain) (words_of_grain * (grain + s.grains)) ex.covered) ascending (sym (counted.counts_are mine listed) ∙ none);
+          ∙ none_counted (words_of_grain * grain) (words_of_grain * (grain + s.grains))
+          (runs_within (words_of_grain * grain) (words_of_grain * (grain + s.grains)) ex.covered) ascending
+          (sym (counted.counts_are mine listed) ∙ none);
     }
 
 pub counted_seen : (i : Inside) (seen : SegsState) (base : ℕ) (s : Segment)

@@ -37,14 +37,16 @@ pub record Covering (s : Inside) (at words : ℕ) : Type 0 where
       IsCounted s.arena.held (s.arena.grains + 1) s.firsts.items (set s.counts.items (first_at s at) (count_at_first s at + words))
       (with_run (words_at at words) s.extents.covered)
 
-pub covering : (s : Inside) (seen : SegsState) (at words : ℕ) → IsSoundInside s → segs_state s.arena s.table.items s.extents ≡ seen → 0 < words
+pub covering : (s : Inside) (seen : SegsState) (at words : ℕ) → IsSoundInside s → segs_state s.arena s.table.items s.extents ≡ seen
+    → 0 < words
     → CanCover seen (words_at at words) → Covering s at words
 covering s seen at words sound is nonzero free =
     let r = words_at at words in
     let grain = grain_of at in
     let can = subst (λ (x : SegsState). CanCover x r) (sym is) free in
     let own : OwnSegment s.arena.held (s.arena.grains + 1) s.firsts.items grain r =
-    own_segment_of_free s.arena s.table.items s.extents s.firsts.items s.counts.items sound.0 sound.1 grain r can.inside nonzero (omega arith) (omega arith)
+    own_segment_of_free s.arena s.table.items s.extents s.firsts.items s.counts.items sound.0 sound.1 grain r can.inside nonzero
+    (omega arith) (omega arith)
     in
     let P : ℕ → Type 0 = λ size. IsAscending 0 size (with_run r s.extents.covered) in
     let ascending = subst P (sym sound.0.covered_size) can.free in
@@ -55,12 +57,14 @@ covering s seen at words sound is nonzero free =
       grain_within = omega (arith, own.grain_within, sound.1.firsts_size);
       first_within = omega (arith, own.first, own.first_within, sound.1.counts_size);
       fits =
-          room_to_count s.arena s.table.items s.extents s.firsts.items s.counts.items grain r s.extents.blocks s.extents.reservations sound.1
+          room_to_count s.arena s.table.items s.extents s.firsts.items s.counts.items grain r s.extents.blocks s.extents.reservations
+          sound.1
           (held s.extents.blocks s.extents.reservations) own;
       free = ascending;
       held = held;
       counted =
-          counted_after_cover s.arena.held (s.arena.grains + 1) s.firsts.items s.counts.items s.extents.covered sound.1 sound.0.ascending grain r own;
+          counted_after_cover s.arena.held (s.arena.grains + 1) s.firsts.items s.counts.items s.extents.covered sound.1
+          sound.0.ascending grain r own;
     }
 
 -- words that are one covered run
@@ -77,7 +81,8 @@ pub record Uncovering (s : Inside) (at words : ℕ) : Type 0 where
   pub can_cover : (blocks reservations : List Run)
       → CanCover
       (segs_state s.arena s.table.items
-      (record s.extents { covered = without_run (word_of at) s.extents.covered; blocks = blocks; reservations = reservations })) (words_at at words)
+      (record s.extents { covered = without_run (word_of at) s.extents.covered; blocks = blocks; reservations = reservations }))
+      (words_at at words)
 
 pub uncovering : (s : Inside) (at words : ℕ) → IsSoundInside s → Contains s.extents.covered (words_at at words) → Uncovering s at words
 uncovering s at words sound there =
@@ -85,15 +90,18 @@ uncovering s at words sound there =
     let grain = grain_of at in
     let size = s.arena.grains + 1 in
     let own : OwnSegment s.arena.held size s.firsts.items grain r =
-    own_segment_of_covered s.arena s.table.items s.extents s.firsts.items s.counts.items sound.0 sound.1 grain r there (omega arith) (omega arith)
+    own_segment_of_covered s.arena s.table.items s.extents s.firsts.items s.counts.items sound.0 sound.1 grain r there (omega arith)
+    (omega arith)
     in
     record {
       grain_within = omega (arith, own.grain_within, sound.1.firsts_size);
       first_within = omega (arith, own.first, own.first_within, sound.1.counts_size);
       at_most =
-          counted_before s.arena.held size s.firsts.items s.counts.items s.extents.covered sound.1 sound.0.ascending grain 0 s.extents.size r sound.0.covered_ascending there own;
+          counted_before s.arena.held size s.firsts.items s.counts.items s.extents.covered sound.1 sound.0.ascending grain 0
+          s.extents.size r sound.0.covered_ascending there own;
       held = λ blocks reservations. held_after_uncover s.arena s.table.items s.extents sound.0 (word_of at) blocks reservations;
       counted =
-          counted_after_uncover s.arena.held size s.firsts.items s.counts.items s.extents.covered sound.1 sound.0.ascending grain 0 s.extents.size r sound.0.covered_ascending there own;
+          counted_after_uncover s.arena.held size s.firsts.items s.counts.items s.extents.covered sound.1 sound.0.ascending grain 0
+          s.extents.size r sound.0.covered_ascending there own;
       can_cover = λ blocks reservations. free_again s.arena s.table.items s.extents sound.0 r blocks reservations there;
     }

@@ -6,7 +6,8 @@ use Rattle.mps_base.proofs.Runs.{with_run_first, with_run_later, without_run_fir
 use Rattle.mps_seg.specs.Inside.{runs_with}
 
 -- a run before all others
-run_before_all : (f : ℕ → ℕ) (at : ℕ) (bits : List Bool) (r : Run) → r.from < at → with_run r (runs_with f at bits) ≡ r ∷ runs_with f at bits
+run_before_all : (f : ℕ → ℕ) (at : ℕ) (bits : List Bool) (r : Run) → r.from < at
+    → with_run r (runs_with f at bits) ≡ r ∷ runs_with f at bits
 unfolding runs_with
 run_before_all f at [] r before = refl
 run_before_all f at (false ∷ bits) r before = run_before_all f (suc at) bits r (omega arith)
@@ -51,19 +52,25 @@ runs_with-taken f at (true ∷ bits) (suc i) within some =
     (runs_with-taken f (suc at) bits i (omega arith) some ∙ ap (λ (a : ℕ). without_run a (runs_with f (suc at) bits)) shifted)
     ∙ sym (without_run_later (at + suc i) first (runs_with f (suc at) bits) (λ e. omega arith))
 
-pub runs_with_same : (f g : ℕ → ℕ) (at : ℕ) (bits : List Bool) → ((i : ℕ) → get_or bits i false ≡ true → f (at + i) ≡ g (at + i)) → runs_with f at bits ≡ runs_with g at bits
+pub runs_with_same : (f g : ℕ → ℕ) (at : ℕ) (bits : List Bool) → ((i : ℕ) → get_or bits i false ≡ true → f (at + i) ≡ g (at + i))
+    → runs_with f at bits ≡ runs_with g at bits
 unfolding runs_with
 runs_with_same f g at [] same = refl
 runs_with_same f g at (false ∷ bits) same =
-    runs_with_same f g (suc at) bits (λ i is. let shifted : suc at + i ≡ at + suc i = omega arith in ap f shifted ∙ same (suc i) is ∙ ap g (sym shifted))
+    runs_with_same f g (suc at) bits
+    (λ i is. let shifted : suc at + i ≡ at + suc i = omega arith in ap f shifted ∙ same (suc i) is ∙ ap g (sym shifted))
 runs_with_same f g at (true ∷ bits) same =
     let here : at + 0 ≡ at = omega arith in
     let first : f at ≡ g at = ap f (sym here) ∙ same 0 refl ∙ ap g here in
-    let rest = runs_with_same f g (suc at) bits (λ i is. let shifted : suc at + i ≡ at + suc i = omega arith in ap f shifted ∙ same (suc i) is ∙ ap g (sym shifted)) in
+    let rest =
+    runs_with_same f g (suc at) bits
+    (λ i is. let shifted : suc at + i ≡ at + suc i = omega arith in ap f shifted ∙ same (suc i) is ∙ ap g (sym shifted))
+    in
     ap (λ (n : ℕ). record { from = at; count = n } ∷ runs_with f (suc at) bits) first
     ∙ ap (λ (rs : List Run). record { from = at; count = g at } ∷ rs) rest
 
-pub run_of_bit : (f : ℕ → ℕ) (at : ℕ) (bits : List Bool) (i : ℕ) → get_or bits i false ≡ true → Contains (runs_with f at bits) (record { from = at + i; count = f (at + i) })
+pub run_of_bit : (f : ℕ → ℕ) (at : ℕ) (bits : List Bool) (i : ℕ) → get_or bits i false ≡ true
+    → Contains (runs_with f at bits) (record { from = at + i; count = f (at + i) })
 unfolding runs_with
 run_of_bit f at [] i is = absurd (false≢true is)
 run_of_bit f at (false ∷ bits) zero is = absurd (false≢true is)
@@ -81,7 +88,8 @@ run_of_bit f at (true ∷ bits) (suc i) is =
     contains_later (runs_with f (suc at) bits) (record { from = at + suc i; count = f (at + suc i) }) (record { from = at; count = f at })
     (subst P shifted (run_of_bit f (suc at) bits i is))
 
-pub bit_of_run : (f : ℕ → ℕ) (at : ℕ) (bits : List Bool) (r : Run) → Contains (runs_with f at bits) r → (i : ℕ) × (get_or bits i false ≡ true) × (r.from ≡ at + i) × (r.count ≡ f (at + i))
+pub bit_of_run : (f : ℕ → ℕ) (at : ℕ) (bits : List Bool) (r : Run) → Contains (runs_with f at bits) r
+    → (i : ℕ) × (get_or bits i false ≡ true) × (r.from ≡ at + i) × (r.count ≡ f (at + i))
 unfolding runs_with
 bit_of_run f at [] r (k, within, is) = absurd (omega arith)
 bit_of_run f at (false ∷ bits) r there =
@@ -101,7 +109,8 @@ bit_of_run f at (true ∷ bits) r there =
     ]
 
 -- a part of ascending runs
-pub part_ascending : (f : ℕ → ℕ) (low high at : ℕ) (bits part : List Bool) → length part ≡ length bits → ((i : ℕ) → get_or part i false ≡ true → get_or bits i false ≡ true)
+pub part_ascending : (f : ℕ → ℕ) (low high at : ℕ) (bits part : List Bool) → length part ≡ length bits
+    → ((i : ℕ) → get_or part i false ≡ true → get_or bits i false ≡ true)
     → IsAscending low high (runs_with f at bits) → IsAscending low high (runs_with f at part)
 unfolding runs_with
 part_ascending f low high at [] [] size within ascending = ascending

@@ -24,40 +24,50 @@ with_segment_later : (r s : Segment) (rs : List Segment) → s.base ≤ r.base �
 with_segment_later r s rs h = cond-false (ltb r.base s.base) (r ∷ s ∷ rs) (s ∷ with_segment r rs) (le-ltb r.base s.base h)
 
 -- a segment before all others
-segment_before_all : (at : ℕ) (entries : List Entry) (new : Segment) → new.base < address_of_grain at → with_segment new (segments_of_entries at entries) ≡ new ∷ segments_of_entries at entries
+segment_before_all : (at : ℕ) (entries : List Entry) (new : Segment) → new.base < address_of_grain at
+    → with_segment new (segments_of_entries at entries) ≡ new ∷ segments_of_entries at entries
 unfolding segments_of_entries
 segment_before_all at [] new before = refl
 segment_before_all at (Free ∷ entries) new before = segment_before_all (suc at) entries new (omega arith)
 segment_before_all at (First n p g r ∷ entries) new before =
-    with_segment_first new (record { base = address_of_grain at; grains = n; pool = p; generation = g; rank = r }) (segments_of_entries (suc at) entries) before
+    with_segment_first new (record { base = address_of_grain at; grains = n; pool = p; generation = g; rank = r })
+    (segments_of_entries (suc at) entries) before
 
-run_before_all : (at : ℕ) (entries : List Entry) (new : Run) → new.from < at → with_run new (held_from at entries) ≡ new ∷ held_from at entries
+run_before_all : (at : ℕ) (entries : List Entry) (new : Run) → new.from < at
+    → with_run new (held_from at entries) ≡ new ∷ held_from at entries
 unfolding segments_of_entries
 run_before_all at [] new before = refl
 run_before_all at (Free ∷ entries) new before = run_before_all (suc at) entries new (omega arith)
 run_before_all at (First n p g r ∷ entries) new before =
-    with_run_first new (grains_of_segment (record { base = address_of_grain at; grains = n; pool = p; generation = g; rank = r })) (held_from (suc at) entries) (omega arith)
+    with_run_first new (grains_of_segment (record { base = address_of_grain at; grains = n; pool = p; generation = g; rank = r }))
+    (held_from (suc at) entries) (omega arith)
 
 pub segments_put : (at : ℕ) (entries : List Entry) (i n p g : ℕ) (r : Rank) → i < length entries → get_or entries i Free ≡ Free
-    → segments_of_entries at (set entries i (First n p g r)) ≡ with_segment (record { base = address_of_grain (at + i); grains = n; pool = p; generation = g; rank = r }) (segments_of_entries at entries)
+    → segments_of_entries at (set entries i (First n p g r))
+    ≡ with_segment (record { base = address_of_grain (at + i); grains = n; pool = p; generation = g; rank = r })
+    (segments_of_entries at entries)
 unfolding segments_of_entries
 segments_put at [] i n p g r within free = absurd (omega arith)
 segments_put at (First a b c d ∷ entries) zero n p g r within free = cc
 segments_put at (Free ∷ entries) zero n p g r within free =
     let shifted : at ≡ at + 0 = omega arith in
-    sym (segment_before_all (suc at) entries (record { base = address_of_grain at; grains = n; pool = p; generation = g; rank = r }) (omega arith))
-    ∙ ap (λ (a : ℕ). with_segment (record { base = address_of_grain a; grains = n; pool = p; generation = g; rank = r }) (segments_of_entries (suc at) entries)) shifted
+    sym (segment_before_all (suc at) entries (record { base = address_of_grain at; grains = n; pool = p; generation = g; rank = r })
+    (omega arith))
+    ∙ ap (λ (a : ℕ). with_segment (record { base = address_of_grain a; grains = n; pool = p; generation = g; rank = r })
+    (segments_of_entries (suc at) entries)) shifted
 segments_put at (Free ∷ entries) (suc i) n p g r within free =
     let shifted : suc at + i ≡ at + suc i = omega arith in
     segments_put (suc at) entries i n p g r (omega arith) free
-    ∙ ap (λ (a : ℕ). with_segment (record { base = address_of_grain a; grains = n; pool = p; generation = g; rank = r }) (segments_of_entries (suc at) entries)) shifted
+    ∙ ap (λ (a : ℕ). with_segment (record { base = address_of_grain a; grains = n; pool = p; generation = g; rank = r })
+    (segments_of_entries (suc at) entries)) shifted
 segments_put at (First a b c d ∷ entries) (suc i) n p g r within free =
     let shifted : suc at + i ≡ at + suc i = omega arith in
     let head : Segment = record { base = address_of_grain at; grains = a; pool = b; generation = c; rank = d } in
     let new : Segment = record { base = address_of_grain (at + suc i); grains = n; pool = p; generation = g; rank = r } in
     ap (λ (ss : List Segment). head ∷ ss)
     (segments_put (suc at) entries i n p g r (omega arith) free
-    ∙ ap (λ (k : ℕ). with_segment (record { base = address_of_grain k; grains = n; pool = p; generation = g; rank = r }) (segments_of_entries (suc at) entries)) shifted)
+    ∙ ap (λ (k : ℕ). with_segment (record { base = address_of_grain k; grains = n; pool = p; generation = g; rank = r })
+    (segments_of_entries (suc at) entries)) shifted)
     ∙ sym (with_segment_later new head (segments_of_entries (suc at) entries) (omega arith))
 
 pub held_put : (at : ℕ) (entries : List Entry) (i n p g : ℕ) (r : Rank) → i < length entries → get_or entries i Free ≡ Free
@@ -71,17 +81,20 @@ held_put at (Free ∷ entries) zero n p g r within free =
     ∙ ap (λ (a : ℕ). with_run (record { from = a; count = n }) (held_from (suc at) entries)) shifted
 held_put at (Free ∷ entries) (suc i) n p g r within free =
     let shifted : suc at + i ≡ at + suc i = omega arith in
-    held_put (suc at) entries i n p g r (omega arith) free ∙ ap (λ (a : ℕ). with_run (record { from = a; count = n }) (held_from (suc at) entries)) shifted
+    held_put (suc at) entries i n p g r (omega arith) free
+    ∙ ap (λ (a : ℕ). with_run (record { from = a; count = n }) (held_from (suc at) entries)) shifted
 held_put at (First a b c d ∷ entries) (suc i) n p g r within free =
     let shifted : suc at + i ≡ at + suc i = omega arith in
     let head : Run = record { from = grain_of (address_of_grain at); count = a } in
     let new : Run = record { from = at + suc i; count = n } in
     ap (λ (rs : List Run). head ∷ rs)
-    (held_put (suc at) entries i n p g r (omega arith) free ∙ ap (λ (k : ℕ). with_run (record { from = k; count = n }) (held_from (suc at) entries)) shifted)
+    (held_put (suc at) entries i n p g r (omega arith) free ∙ ap
+    (λ (k : ℕ). with_run (record { from = k; count = n }) (held_from (suc at) entries)) shifted)
     ∙ sym (with_run_later new head (held_from (suc at) entries) (omega arith))
 
 -- an entry where a segment begins is a run of held grains
-pub held_of_entry : (at : ℕ) (entries : List Entry) (i n p g : ℕ) (r : Rank) → get_or entries i Free ≡ First n p g r → Contains (held_from at entries) (record { from = at + i; count = n })
+pub held_of_entry : (at : ℕ) (entries : List Entry) (i n p g : ℕ) (r : Rank) → get_or entries i Free ≡ First n p g r
+    → Contains (held_from at entries) (record { from = at + i; count = n })
 unfolding segments_of_entries
 held_of_entry at [] i n p g r is = cc
 held_of_entry at (Free ∷ entries) zero n p g r is = cc
@@ -94,14 +107,17 @@ held_of_entry at (First a b c d ∷ entries) zero n p g r is =
     let count : a ≡ n = cc in
     let P : ℕ → Type 0 = λ k. Contains (held_from at (First a b c d ∷ entries)) (record { from = k; count = a }) in
     let Q : ℕ → Type 0 = λ k. Contains (held_from at (First a b c d ∷ entries)) (record { from = at + 0; count = k }) in
-    subst Q count (subst P shifted (contains_first (held_from (suc at) entries) (record { from = grain_of (address_of_grain at); count = a })))
+    subst Q count (subst P shifted
+    (contains_first (held_from (suc at) entries) (record { from = grain_of (address_of_grain at); count = a })))
 held_of_entry at (First a b c d ∷ entries) (suc i) n p g r is =
     let shifted : suc at + i ≡ at + suc i = omega arith in
     let P : ℕ → Type 0 = λ k. Contains (held_from (suc at) entries) (record { from = k; count = n }) in
-    contains_later (held_from (suc at) entries) (record { from = at + suc i; count = n }) (record { from = grain_of (address_of_grain at); count = a })
+    contains_later (held_from (suc at) entries) (record { from = at + suc i; count = n })
+    (record { from = grain_of (address_of_grain at); count = a })
     (subst P shifted (held_of_entry (suc at) entries i n p g r is))
 
-pub entry_is_held : (table : List Entry) (grain n p g : ℕ) (r : Rank) → get_or table grain Free ≡ First n p g r → Contains (map grains_of_segment (segments_in table)) (record { from = grain; count = n })
+pub entry_is_held : (table : List Entry) (grain n p g : ℕ) (r : Rank) → get_or table grain Free ≡ First n p g r
+    → Contains (map grains_of_segment (segments_in table)) (record { from = grain; count = n })
 unfolding segments_in
 entry_is_held table grain n p g r is =
     let shifted : 0 + grain ≡ grain = omega arith in
@@ -117,13 +133,15 @@ pub new_segments_in : (n : ℕ) → segments_in (replicate n Free) ≡ []
 unfolding segments_in
 new_segments_in n = no_segments 0 n
 
-without_segment_before_all : (at : ℕ) (entries : List Entry) (base : ℕ) → base < address_of_grain at → without_segment (segments_of_entries at entries) base ≡ segments_of_entries at entries
+without_segment_before_all : (at : ℕ) (entries : List Entry) (base : ℕ) → base < address_of_grain at
+    → without_segment (segments_of_entries at entries) base ≡ segments_of_entries at entries
 unfolding segments_of_entries
 without_segment_before_all at [] base before = refl
 without_segment_before_all at (Free ∷ entries) base before = without_segment_before_all (suc at) entries base (omega arith)
 without_segment_before_all at (First n p g r ∷ entries) base before =
     let head : Segment = record { base = address_of_grain at; grains = n; pool = p; generation = g; rank = r } in
-    cond-true (not (eqb (address_of_grain at) base)) (head ∷ without_segment (segments_of_entries (suc at) entries) base) (without_segment (segments_of_entries (suc at) entries) base)
+    cond-true (not (eqb (address_of_grain at) base)) (head ∷ without_segment (segments_of_entries (suc at) entries) base)
+    (without_segment (segments_of_entries (suc at) entries) base)
     (ap (λ (b : Bool). not b) (ne_eqb (address_of_grain at) base (λ e. omega arith)))
     ∙ ap (λ (ss : List Segment). head ∷ ss) (without_segment_before_all (suc at) entries base (omega arith))
 
@@ -136,19 +154,24 @@ segments_taken at (First a b c d ∷ entries) zero n p g r is =
     let shifted : at ≡ at + 0 = omega arith in
     let head : Segment = record { base = address_of_grain at; grains = a; pool = b; generation = c; rank = d } in
     sym (without_segment_before_all (suc at) entries (address_of_grain at) (omega arith))
-    ∙ sym (cond-false (not (eqb (address_of_grain at) (address_of_grain at))) (head ∷ without_segment (segments_of_entries (suc at) entries) (address_of_grain at)) (without_segment (segments_of_entries (suc at) entries) (address_of_grain at))
+    ∙ sym (cond-false (not (eqb (address_of_grain at) (address_of_grain at)))
+    (head ∷ without_segment (segments_of_entries (suc at) entries) (address_of_grain at))
+    (without_segment (segments_of_entries (suc at) entries) (address_of_grain at))
     (ap (λ (x : Bool). not x) (eq-eqb (address_of_grain at) (address_of_grain at) refl)))
     ∙ ap (λ (k : ℕ). without_segment (head ∷ segments_of_entries (suc at) entries) (address_of_grain k)) shifted
 segments_taken at (Free ∷ entries) (suc i) n p g r is =
     let shifted : suc at + i ≡ at + suc i = omega arith in
-    segments_taken (suc at) entries i n p g r is ∙ ap (λ (k : ℕ). without_segment (segments_of_entries (suc at) entries) (address_of_grain k)) shifted
+    segments_taken (suc at) entries i n p g r is
+    ∙ ap (λ (k : ℕ). without_segment (segments_of_entries (suc at) entries) (address_of_grain k)) shifted
 segments_taken at (First a b c d ∷ entries) (suc i) n p g r is =
     let shifted : suc at + i ≡ at + suc i = omega arith in
     let head : Segment = record { base = address_of_grain at; grains = a; pool = b; generation = c; rank = d } in
     let base = address_of_grain (at + suc i) in
     ap (λ (ss : List Segment). head ∷ ss)
-    (segments_taken (suc at) entries i n p g r is ∙ ap (λ (k : ℕ). without_segment (segments_of_entries (suc at) entries) (address_of_grain k)) shifted)
-    ∙ sym (cond-true (not (eqb (address_of_grain at) base)) (head ∷ without_segment (segments_of_entries (suc at) entries) base) (without_segment (segments_of_entries (suc at) entries) base)
+    (segments_taken (suc at) entries i n p g r is ∙ ap
+    (λ (k : ℕ). without_segment (segments_of_entries (suc at) entries) (address_of_grain k)) shifted)
+    ∙ sym (cond-true (not (eqb (address_of_grain at) base)) (head ∷ without_segment (segments_of_entries (suc at) entries) base)
+    (without_segment (segments_of_entries (suc at) entries) base)
     (ap (λ (x : Bool). not x) (ne_eqb (address_of_grain at) base (λ e. omega arith))))
 
 pub held_taken : (at : ℕ) (entries : List Entry) (i n p g : ℕ) (r : Rank) → get_or entries i Free ≡ First n p g r
@@ -157,7 +180,8 @@ unfolding segments_of_entries
 held_taken at [] i n p g r is = cc
 held_taken at (Free ∷ entries) zero n p g r is = cc
 held_taken at (First a b c d ∷ entries) zero n p g r is =
-    sym (without_run_first (at + 0) (record { from = grain_of (address_of_grain at); count = a }) (held_from (suc at) entries) (omega arith))
+    sym (without_run_first (at + 0) (record { from = grain_of (address_of_grain at); count = a }) (held_from (suc at) entries)
+    (omega arith))
 held_taken at (Free ∷ entries) (suc i) n p g r is =
     let shifted : suc at + i ≡ at + suc i = omega arith in
     held_taken (suc at) entries i n p g r is ∙ ap (λ (k : ℕ). without_run k (held_from (suc at) entries)) shifted
@@ -168,7 +192,8 @@ held_taken at (First a b c d ∷ entries) (suc i) n p g r is =
     (held_taken (suc at) entries i n p g r is ∙ ap (λ (k : ℕ). without_run k (held_from (suc at) entries)) shifted)
     ∙ sym (without_run_later (at + suc i) head (held_from (suc at) entries) (λ e. omega arith))
 
-pub segments_after_give : (table : List Entry) (grain n p g : ℕ) (r : Rank) → get_or table grain Free ≡ First n p g r → segments_in (set table grain Free) ≡ without_segment (segments_in table) (address_of_grain grain)
+pub segments_after_give : (table : List Entry) (grain n p g : ℕ) (r : Rank) → get_or table grain Free ≡ First n p g r
+    → segments_in (set table grain Free) ≡ without_segment (segments_in table) (address_of_grain grain)
 unfolding segments_in
 segments_after_give table grain n p g r is =
     let shifted : 0 + grain ≡ grain = omega arith in
@@ -184,7 +209,9 @@ pub record EntryOf (table : List Entry) (s : Segment) (grain : ℕ) : Type 0 whe
   pub is : get_or table grain Free ≡ First s.grains s.pool s.generation s.rank
   pub base : s.base ≡ address_of_grain grain
 
-entry_of_contained : (at : ℕ) (entries : List Entry) (s : Segment) → Contains (segments_of_entries at entries) s → (i : ℕ) × (i < length entries) × (get_or entries i Free ≡ First s.grains s.pool s.generation s.rank) × (s.base ≡ address_of_grain (at + i))
+entry_of_contained : (at : ℕ) (entries : List Entry) (s : Segment) → Contains (segments_of_entries at entries) s
+    → (i : ℕ) × (i < length entries) × (get_or entries i Free ≡ First s.grains s.pool s.generation s.rank)
+    × (s.base ≡ address_of_grain (at + i))
 unfolding segments_of_entries
 entry_of_contained at [] s (k, within, is) = absurd (omega arith)
 entry_of_contained at (Free ∷ entries) s there =
@@ -194,8 +221,13 @@ entry_of_contained at (Free ∷ entries) s there =
 entry_of_contained at (First n p g r ∷ entries) s (zero, within, is) =
     let head : Segment = record { base = address_of_grain at; grains = n; pool = p; generation = g; rank = r } in
     let same : head ≡ s = is in
-    let shifted : at ≡ at + 0 = omega arith in
-    (0, omega arith, ap (λ (x : Segment). First x.grains x.pool x.generation x.rank) same, sym (ap (λ (x : Segment). x.base) same) ∙ ap address_of_grain shifted)
+    let shifted : at ≡ at + 0 = omega arith in (
+      0,
+      omega arith,
+      ap (λ (x : Segment). First x.grains x.pool x.generation x.rank) same,
+      sym (ap (λ (x : Segment). x.base) same) ∙ ap
+          address_of_grain shifted,
+    )
 entry_of_contained at (First n p g r ∷ entries) s (suc k, within, is) =
     let later = entry_of_contained (suc at) entries s (k, omega arith, is) in
     let shifted : suc at + later.0 ≡ at + suc later.0 = omega arith in
@@ -214,7 +246,8 @@ pub record EntryAtBase (table : List Entry) (base : ℕ) (s : Segment) : Type 0 
   pub is : get_or table (grain_of base) Free ≡ First s.grains s.pool s.generation s.rank
   pub aligned : base ≡ address_of_grain (grain_of base)
 
-pub entry_at_base : (table : List Entry) (base : ℕ) (s : Segment) → Contains (segments_in table) s → s.base ≡ base → EntryAtBase table base s
+pub entry_at_base : (table : List Entry) (base : ℕ) (s : Segment) → Contains (segments_in table) s → s.base ≡ base
+    → EntryAtBase table base s
 entry_at_base table base s there begins =
     let e = entry_of_segment table s there in
     let grain : grain_of base ≡ e.0 = omega (arith, e.1.base, begins) in

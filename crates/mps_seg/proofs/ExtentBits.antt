@@ -9,13 +9,15 @@ use Rattle.mps_seg.proofs.BitFacts.{bit_is, bit-set_same, bit-set_other, bit_wit
 use Rattle.mps_seg.proofs.Decode.{runs_with-put, runs_with-taken, runs_with_same, run_of_bit, bit_of_run}
 
 -- the extent that begins at a bit
-pub extent_at : (bits ends : List Bool) (at : ℕ) → bit bits at ≡ true → Contains (extents bits ends) (record { from = at; count = length_at ends at })
+pub extent_at : (bits ends : List Bool) (at : ℕ) → bit bits at ≡ true
+    → Contains (extents bits ends) (record { from = at; count = length_at ends at })
 extent_at bits ends at is =
     let same_word : 0 + at ≡ at = omega arith in
     let P : ℕ → Type 0 = λ a. Contains (extents bits ends) (record { from = a; count = length_at ends a }) in
     subst P same_word (run_of_bit (length_at ends) 0 bits at (sym (bit_is bits at) ∙ is))
 
-pub begin_of : (bits ends : List Bool) (r : Run) → Contains (extents bits ends) r → (bit bits r.from ≡ true) × (r.count ≡ length_at ends r.from)
+pub begin_of : (bits ends : List Bool) (r : Run) → Contains (extents bits ends) r
+    → (bit bits r.from ≡ true) × (r.count ≡ length_at ends r.from)
 begin_of bits ends r there =
     let b = bit_of_run (length_at ends) 0 bits r there in
     let same_word : b.0 ≡ r.from = omega (arith, b.2) in
@@ -26,7 +28,8 @@ begin_of bits ends r there =
 pub record SameLengths (begins ends ends' : List Bool) (but : ℕ) : Type 0 where
   pub others : (s : ℕ) → bit begins s ≡ true → s ≢ but → length_at ends' s ≡ length_at ends s
 
-pub extents_kept : (begins bits ends ends' : List Bool) (but : ℕ) → SameLengths begins ends ends' but → ((s : ℕ) → bit bits s ≡ true → (bit begins s ≡ true) × (s ≢ but))
+pub extents_kept : (begins bits ends ends' : List Bool) (but : ℕ) → SameLengths begins ends ends' but
+    → ((s : ℕ) → bit bits s ≡ true → (bit begins s ≡ true) × (s ≢ but))
     → extents bits ends' ≡ extents bits ends
 extents_kept begins bits ends ends' but same part =
     runs_with_same (length_at ends') (length_at ends) 0 bits (λ i is.
@@ -34,8 +37,10 @@ extents_kept begins bits ends ends' but same part =
     let here = part i (bit_is bits i ∙ is) in
     ap (length_at ends') same_word ∙ same.others i here.0 here.1 ∙ ap (length_at ends) (sym same_word))
 
-pub extents_put : (begins bits ends ends' : List Bool) (at words : ℕ) → SameLengths begins ends ends' at → length_at ends' at ≡ words → at < length bits → bit bits at ≡ false
-    → ((s : ℕ) → bit bits s ≡ true → bit begins s ≡ true) → extents (set bits at true) ends' ≡ with_run (record { from = at; count = words }) (extents bits ends)
+pub extents_put : (begins bits ends ends' : List Bool) (at words : ℕ) → SameLengths begins ends ends' at → length_at ends' at ≡ words
+    → at < length bits → bit bits at ≡ false
+    → ((s : ℕ) → bit bits s ≡ true → bit begins s ≡ true)
+    → extents (set bits at true) ends' ≡ with_run (record { from = at; count = words }) (extents bits ends)
 extents_put begins bits ends ends' at words same here within none part =
     let same_word : 0 + at ≡ at = omega arith in
     let count : length_at ends' (0 + at) ≡ words = ap (length_at ends') same_word ∙ here in
@@ -43,15 +48,19 @@ extents_put begins bits ends ends' at words same here within none part =
     ∙ ap (λ (a : ℕ). with_run (record { from = a; count = length_at ends' (0 + at) }) (extents bits ends')) same_word
     ∙ ap (λ (n : ℕ). with_run (record { from = at; count = n }) (extents bits ends')) count
     ∙ ap (λ (rs : List Run). with_run (record { from = at; count = words }) rs)
-    (extents_kept begins bits ends ends' at same (λ s is. (part s is, λ e. both_ways (bit bits at) none (ap (λ (j : ℕ). bit bits j) (sym e) ∙ is))))
+    (extents_kept begins bits ends ends' at same
+    (λ s is. (part s is, λ e. both_ways (bit bits at) none (ap (λ (j : ℕ). bit bits j) (sym e) ∙ is))))
 
-pub extents_taken : (begins bits ends ends' : List Bool) (at : ℕ) → SameLengths begins ends ends' at → at < length bits → bit bits at ≡ true
+pub extents_taken : (begins bits ends ends' : List Bool) (at : ℕ) → SameLengths begins ends ends' at → at < length bits
+    → bit bits at ≡ true
     → ((s : ℕ) → bit bits s ≡ true → bit begins s ≡ true) → extents (set bits at false) ends' ≡ without_run at (extents bits ends)
 extents_taken begins bits ends ends' at same within some part =
     let same_word : 0 + at ≡ at = omega arith in
     extents_kept begins (set bits at false) ends ends' at same (λ s is.
     elim (cases_eq s at) [
-      | inl here ↦ absurd (both_ways (bit (set bits at false) at) (bit-set_same bits at false within) (ap (λ (j : ℕ). bit (set bits at false) j) (sym here) ∙ is))
+      | inl here ↦
+          absurd (both_ways (bit (set bits at false) at) (bit-set_same bits at false within)
+          (ap (λ (j : ℕ). bit (set bits at false) j) (sym here) ∙ is))
       | inr other ↦ (part s (sym (bit-set_other bits at s false other) ∙ is), other)
     ])
     ∙ runs_with-taken (length_at ends) 0 bits at within (sym (bit_is bits at) ∙ some)
@@ -70,13 +79,16 @@ same_run r s from count = ap (λ (n : ℕ). make n r.count) from ∙ ap (λ (n :
     make from count = record { from = from; count = count }
 
 -- an extent of a part of the bits is one of all
-pub among_all : (begins bits ends : List Bool) (r : Run) → ((s : ℕ) → bit bits s ≡ true → bit begins s ≡ true) → Contains (extents bits ends) r → Contains (extents begins ends) r
+pub among_all : (begins bits ends : List Bool) (r : Run) → ((s : ℕ) → bit bits s ≡ true → bit begins s ≡ true)
+    → Contains (extents bits ends) r → Contains (extents begins ends) r
 among_all begins bits ends r part there =
     let b = begin_of bits ends r there in
     let P : Run → Type 0 = λ x. Contains (extents begins ends) x in
-    subst P (sym (same_run r (record { from = r.from; count = length_at ends r.from }) refl b.1)) (extent_at begins ends r.from (part r.from b.0))
+    subst P (sym (same_run r (record { from = r.from; count = length_at ends r.from }) refl b.1))
+    (extent_at begins ends r.from (part r.from b.0))
 
-pub is_reservation : (begins ends blocks : List Bool) (r : Run) → Contains (extents (minus begins blocks) ends) r → IsReservation begins ends blocks r
+pub is_reservation : (begins ends blocks : List Bool) (r : Run) → Contains (extents (minus begins blocks) ends) r
+    → IsReservation begins ends blocks r
 is_reservation begins ends blocks r there =
     let b = begin_of (minus begins blocks) ends r there in
     let within : r.from < length begins = omega (arith, bit_within (minus begins blocks) r.from b.0, length-minus begins blocks) in

@@ -10,13 +10,17 @@ use Rattle.mps_seg.proofs.BitFacts.{bit_is}
 
 first_run_here : (low high : ℕ) (r : Run) (rs : List Run) → low ≤ r.from → r.from < high → first_run low high (r ∷ rs) ≡ Some r.from
 first_run_here low high r rs above below =
-    cond-true (leb low r.from && ltb r.from high) (Some r.from) (first_run low high rs) (and_from (leb low r.from) (ltb r.from high) (le-leb low r.from above) (lt-ltb r.from high below))
+    cond-true (leb low r.from && ltb r.from high) (Some r.from) (first_run low high rs)
+    (and_from (leb low r.from) (ltb r.from high) (le-leb low r.from above) (lt-ltb r.from high below))
 
-first_run_later : (low high : ℕ) (r : Run) (rs : List Run) → (r.from < low) ⊎ (high ≤ r.from) → first_run low high (r ∷ rs) ≡ first_run low high rs
+first_run_later : (low high : ℕ) (r : Run) (rs : List Run) → (r.from < low) ⊎ (high ≤ r.from)
+    → first_run low high (r ∷ rs) ≡ first_run low high rs
 first_run_later low high r rs (inl below) =
-    cond-false (leb low r.from && ltb r.from high) (Some r.from) (first_run low high rs) (and_left (leb low r.from) (ltb r.from high) (lt-leb low r.from below))
+    cond-false (leb low r.from && ltb r.from high) (Some r.from) (first_run low high rs)
+    (and_left (leb low r.from) (ltb r.from high) (lt-leb low r.from below))
 first_run_later low high r rs (inr above) =
-    cond-false (leb low r.from && ltb r.from high) (Some r.from) (first_run low high rs) (and_right (leb low r.from) (ltb r.from high) (le-ltb r.from high above))
+    cond-false (leb low r.from && ltb r.from high) (Some r.from) (first_run low high rs)
+    (and_right (leb low r.from) (ltb r.from high) (le-ltb r.from high above))
 
 -- the first run found begins below the bound
 pub first_run-below : (low high : ℕ) (rs : List Run) (at : ℕ) → first_run low high rs ≡ Some at → at < high
@@ -24,36 +28,46 @@ first_run-below low high [] at is = let never : None ≡ Some at = is in cc
 first_run-below low high (r ∷ rs) at is =
     elim (cases_Bool (leb low r.from && ltb r.from high)) [
       | inl here ↦
-          let both : Some r.from ≡ Some at = sym (cond-true (leb low r.from && ltb r.from high) (Some r.from) (first_run low high rs) here) ∙ is in
+          let both : Some r.from ≡ Some at =
+          sym (cond-true (leb low r.from && ltb r.from high) (Some r.from) (first_run low high rs) here) ∙ is
+          in
           let same : r.from ≡ at = cc in
           omega (arith, same, ltb-true r.from high (and_parts (leb low r.from) (ltb r.from high) here).1)
-      | inr not_here ↦ first_run-below low high rs at (sym (cond-false (leb low r.from && ltb r.from high) (Some r.from) (first_run low high rs) not_here) ∙ is)
+      | inr not_here ↦
+          first_run-below low high rs at
+          (sym (cond-false (leb low r.from && ltb r.from high) (Some r.from) (first_run low high rs) not_here) ∙ is)
     ]
 
-first_bit : (f : ℕ → ℕ) (at : ℕ) (bits : List Bool) (low high i : ℕ) → low ≤ at + i → at + i < high → get_or bits i false ≡ true → ((j : ℕ) → low ≤ at + j → j < i → get_or bits j false ≡ false)
+first_bit : (f : ℕ → ℕ) (at : ℕ) (bits : List Bool) (low high i : ℕ) → low ≤ at + i → at + i < high → get_or bits i false ≡ true
+    → ((j : ℕ) → low ≤ at + j → j < i → get_or bits j false ≡ false)
     → first_run low high (runs_with f at bits) ≡ Some (at + i)
 unfolding runs_with
 first_bit f at [] low high i above below set lower = absurd (false≢true set)
 first_bit f at (false ∷ bits) low high zero above below set lower = absurd (false≢true set)
 first_bit f at (true ∷ bits) low high zero above below set lower =
     let shifted : at ≡ at + 0 = omega arith in
-    first_run_here low high (record { from = at; count = f at }) (runs_with f (suc at) bits) (omega arith) (omega arith) ∙ ap (λ (n : ℕ). Some n) shifted
+    first_run_here low high (record { from = at; count = f at }) (runs_with f (suc at) bits) (omega arith) (omega arith)
+    ∙ ap (λ (n : ℕ). Some n) shifted
 first_bit f at (false ∷ bits) low high (suc i) above below set lower =
     let shifted : suc at + i ≡ at + suc i = omega arith in
-    first_bit f (suc at) bits low high i (omega arith) (omega arith) set (λ j from under. lower (suc j) (omega arith) (omega arith)) ∙ ap (λ (n : ℕ). Some n) shifted
+    first_bit f (suc at) bits low high i (omega arith) (omega arith) set (λ j from under. lower (suc j) (omega arith) (omega arith))
+    ∙ ap (λ (n : ℕ). Some n) shifted
 first_bit f at (true ∷ bits) low high (suc i) above below set lower =
     let shifted : suc at + i ≡ at + suc i = omega arith in
     elim (cases_lt at low) [
       | inl before ↦
           first_run_later low high (record { from = at; count = f at }) (runs_with f (suc at) bits) (inl before)
-          ∙ first_bit f (suc at) bits low high i (omega arith) (omega arith) set (λ j from under. lower (suc j) (omega arith) (omega arith)) ∙ ap (λ (n : ℕ). Some n) shifted
+          ∙ first_bit f (suc at) bits low high i (omega arith) (omega arith) set
+          (λ j from under. lower (suc j) (omega arith) (omega arith)) ∙ ap (λ (n : ℕ). Some n) shifted
       | inr from ↦ absurd (true≢false (lower 0 (omega arith) (omega arith)))
     ]
 
-no_first_bit : (f : ℕ → ℕ) (at : ℕ) (bits : List Bool) (low high : ℕ) → ((j : ℕ) → low ≤ at + j → at + j < high → get_or bits j false ≡ false) → first_run low high (runs_with f at bits) ≡ None
+no_first_bit : (f : ℕ → ℕ) (at : ℕ) (bits : List Bool) (low high : ℕ)
+    → ((j : ℕ) → low ≤ at + j → at + j < high → get_or bits j false ≡ false) → first_run low high (runs_with f at bits) ≡ None
 unfolding runs_with
 no_first_bit f at [] low high none = refl
-no_first_bit f at (false ∷ bits) low high none = no_first_bit f (suc at) bits low high (λ j from under. none (suc j) (omega arith) (omega arith))
+no_first_bit f at (false ∷ bits) low high none =
+    no_first_bit f (suc at) bits low high (λ j from under. none (suc j) (omega arith) (omega arith))
 no_first_bit f at (true ∷ bits) low high none =
     let later = no_first_bit f (suc at) bits low high (λ j from under. none (suc j) (omega arith) (omega arith)) in
     elim (cases_lt at low) [
@@ -68,10 +82,12 @@ pub first_block_is : (ends blocks : List Bool) (low high : ℕ) → next_set_bel
 unfolding next_set_below
 first_block_is ends blocks low high =
     elim (lowest_cases (bit blocks) low (high - low)) [
-      | found shifted is_some is ↦
-          let here : 0 + shifted ≡ shifted = omega arith in
-          is_some ∙ sym (first_bit (length_at ends) 0 blocks low high shifted (omega (arith, is.above)) (omega (arith, is.below, is.above)) (sym (bit_is blocks shifted) ∙ is.passes)
+      | found start is_some is ↦
+          let here : 0 + start ≡ start = omega arith in
+          is_some ∙ sym (first_bit (length_at ends) 0 blocks low high start (omega (arith, is.above))
+          (omega (arith, is.below, is.above)) (sym (bit_is blocks start) ∙ is.passes)
           (λ j from under. sym (bit_is blocks j) ∙ is.lower j (omega arith) under) ∙ ap (λ (n : ℕ). Some n) here)
       | missing is_none none ↦
-          is_none ∙ sym (no_first_bit (length_at ends) 0 blocks low high (λ j from under. sym (bit_is blocks j) ∙ none j (omega arith) (omega arith)))
+          is_none ∙ sym (no_first_bit (length_at ends) 0 blocks low high
+          (λ j from under. sym (bit_is blocks j) ∙ none j (omega arith) (omega arith)))
     ]

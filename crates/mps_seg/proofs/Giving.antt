@@ -26,12 +26,14 @@ pub record Giving (s : Inside) (base : ℕ) (t : Segment) : Type 0 where
   pub aligned : base ≡ address_of_grain (grain_of base)
   pub listed : Contains s.arena.held (record { from = grain_of base; count = t.grains })
   pub in_arena : grain_of base + t.grains ≤ s.arena.grains + 1
-  pub held : IsHeld (record s.arena { held = without_run (grain_of base) s.arena.held }) (set s.table.items (grain_of base) Free) s.extents
+  pub held : IsHeld (record s.arena { held = without_run (grain_of base) s.arena.held }) (set s.table.items (grain_of base) Free)
+      s.extents
   pub counted : (firsts : List ℕ) → Noted s.firsts.items firsts (record { from = grain_of base; count = t.grains }) 0
       → IsCounted (without_run (grain_of base) s.arena.held) (s.arena.grains + 1) firsts s.counts.items s.extents.covered
   pub segments : segments_in (set s.table.items (grain_of base) Free) ≡ without_segment (segments_in s.table.items) base
 
-pub giving : (s : Inside) (seen : SegsState) (base : ℕ) (t : Segment) → IsSoundInside s → segs_state s.arena s.table.items s.extents ≡ seen
+pub giving : (s : Inside) (seen : SegsState) (base : ℕ) (t : Segment) → IsSoundInside s
+    → segs_state s.arena s.table.items s.extents ≡ seen
     → Contains seen.segments t → IsEmptyAt seen base t → Giving s base t
 giving s seen base t sound is listed empty =
     let grain = grain_of base in
@@ -53,7 +55,8 @@ giving s seen base t sound is listed empty =
       listed = run;
       in_arena = (contained_bounds 1 (s.arena.grains + 1) s.arena.held mine sound.0.ascending run).2;
       held =
-          held_after_give s.arena s.table.items s.extents sound.0 grain t.grains t.pool t.generation t.rank at.is (subst S high (subst R low none.empty));
+          held_after_give s.arena s.table.items s.extents sound.0 grain t.grains t.pool t.generation t.rank at.is
+          (subst S high (subst R low none.empty));
       counted = λ firsts noted.
           counted_after_give s.arena.held (s.arena.grains + 1) s.firsts.items firsts s.counts.items s.extents.covered mine sound.1
           sound.0.ascending run noted;

@@ -10,7 +10,7 @@ use Rattle.mps_base.specs.declared.names.Rank.{Rank}
 use Rattle.mps_arena.specs.Arena.{ArenaMemory, max_grains, new_arena}
 use Rattle.mps_seg.specs.Extents.{nothing_covered, ExtentLists, AreWhole}
 use Rattle.mps_seg.specs.Segs.{CanCover, LiesIn}
-use Rattle.mps_seg.specs.Table.{segments_in, segs_state, IsHeld, segments_of_entries, gaps_at, IsWholeAt}
+use Rattle.mps_seg.specs.Table.{gaps_in_grains, segments_in, segs_state, IsHeld, segments_of_entries, gaps_at, IsWholeAt}
 use Rattle.mps_seg.specs.declared.entry.Entry.{Entry}
 use Rattle.mps_seg.specs.declared.entry.Entry.TheVariants.{Free, First}
 use Rattle.mps_seg.proofs.Apart.{contains_put, apart_from_put, apart_each}
@@ -18,10 +18,9 @@ use Rattle.mps_seg.proofs.ContainedRuns.{contains_put_cases, contains_put_other,
 use Rattle.mps_seg.proofs.Entries.{held_from, segments_put, held_put, entry_is_held, new_segments_in, held_taken, entry_cases}
 use Rattle.mps_seg.proofs.LowestGap.{runs_within_ascending}
 
-module _
-  (arena : ArenaMemory) (table : List Entry) (ex : ExtentLists) (held : IsHeld arena table ex)
-  where
-  pub held_after_cover : (r : Run) (blocks reservations : List Run) → 0 < r.count → IsAscending 0 ex.size (with_run r ex.covered) → LiesIn (map grains_of_segment (segments_in table)) r
+module _ (arena : ArenaMemory) (table : List Entry) (ex : ExtentLists) (held : IsHeld arena table ex) where
+  pub held_after_cover : (r : Run) (blocks reservations : List Run) → 0 < r.count → IsAscending 0 ex.size (with_run r ex.covered)
+      → LiesIn (map grains_of_segment (segments_in table)) r
       → IsHeld arena table (record ex { covered = with_run r ex.covered; blocks = blocks; reservations = reservations })
   held_after_cover r blocks reservations some free lies =
       let P : List Run → Type 0 = λ rs. LiesIn rs r in
@@ -42,7 +41,8 @@ module _
         ];
       }
 
-  pub held_after_uncover : (from : ℕ) (blocks reservations : List Run) → IsHeld arena table (record ex { covered = without_run from ex.covered; blocks = blocks; reservations = reservations })
+  pub held_after_uncover : (from : ℕ) (blocks reservations : List Run)
+      → IsHeld arena table (record ex { covered = without_run from ex.covered; blocks = blocks; reservations = reservations })
   held_after_uncover from blocks reservations = record {
     held = held.held;
     ascending = held.ascending;
@@ -56,13 +56,16 @@ module _
 
   -- words that were covered can be covered again
   pub free_again : (r : Run) (blocks reservations : List Run) → Contains ex.covered r
-      → CanCover (segs_state arena table (record ex { covered = without_run r.from ex.covered; blocks = blocks; reservations = reservations })) r
+      → CanCover
+      (segs_state arena table (record ex { covered = without_run r.from ex.covered; blocks = blocks; reservations = reservations })) r
   free_again r blocks reservations there =
       let P : List Run → Type 0 = λ rs. IsAscending 0 (words_of_grain * (arena.grains + 1)) rs in
       let Q : ℕ → Type 0 = λ size. IsAscending 0 size ex.covered in
       let R : List Run → Type 0 = λ rs. LiesIn rs r in
       record {
-        free = subst P (sym (taken_and_put 0 ex.size ex.covered r held.covered_ascending there)) (subst Q held.covered_size held.covered_ascending);
+        free =
+            subst P (sym (taken_and_put 0 ex.size ex.covered r held.covered_ascending there))
+            (subst Q held.covered_size held.covered_ascending);
         inside = subst R held.held (held.inside r there);
       }
 
@@ -78,12 +81,25 @@ module _
       let apart = apart_each 1 (arena.grains + 1) arena.held lies.grains grains held.ascending lies.there listed in (
         (
           λ above below. elim apart [
-            | inl same ↦ omega (arith, lies.before, same, same_count 1 (arena.grains + 1) arena.held lies.grains grains held.ascending lies.there listed same)
-            | inr sides ↦ elim sides [ inl after ↦ absurd (omega (arith, after, lies.before, some)) | inr before ↦ absurd (omega (arith, before, lies.after)) ]
+            | inl same ↦
+                omega (
+                  arith,
+                  lies.before,
+                  same,
+                  same_count 1 (arena.grains + 1) arena.held lies.grains grains held.ascending
+                      lies.there listed same,
+                )
+            | inr sides ↦
+                elim sides [
+                  | inl after ↦ absurd (omega (arith, after, lies.before, some))
+                  | inr before ↦ absurd
+                      (omega (arith, before, lies.after))
+                ]
           ],
           λ below. elim apart [
             | inl same ↦ absurd (omega (arith, lies.after, same))
-            | inr sides ↦ elim sides [ inl after ↦ omega (arith, after, lies.before) | inr before ↦ absurd (omega (arith, before, lies.after)) ]
+            | inr sides ↦
+                elim sides [ inl after ↦ omega (arith, after, lies.before) | inr before ↦ absurd (omega (arith, before, lies.after)) ]
           ],
         ),
         whole_in grains listed rs (λ x in_rest. part x (contains_later rs x t in_rest)),
@@ -104,7 +120,8 @@ module _
   pub segment_end_fits : (grain n p g : ℕ) (r : Rank) → get_or table grain Free ≡ First n p g r → words_of_grain * (grain + n) ≤ ex.size
   segment_end_fits grain n p g r is = omega (arith, (whole_at grain (First n p g r) is).1)
 
-  free_entry : (need grain : ℕ) → 0 < need → lowest_fitting need (gaps 1 (arena.grains + 1) arena.held) ≡ Some grain → get_or table grain Free ≡ Free
+  free_entry : (need grain : ℕ) → 0 < need → lowest_fitting need (gaps 1 (arena.grains + 1) arena.held) ≡ Some grain
+      → get_or table grain Free ≡ Free
   free_entry need grain some lowest =
       let r : Run = record { from = grain; count = need } in
       let gap = in_lowest_gap 1 (arena.grains + 1) arena.held need grain some held.ascending lowest in
@@ -122,17 +139,22 @@ module _
 
   pub segments_after_take : (need grain pool generation : ℕ) (rank : Rank) → 0 < need
       → lowest_fitting need (gaps 1 (arena.grains + 1) arena.held) ≡ Some grain
-      → segments_in (set table grain (First need pool generation rank)) ≡ with_segment (record { base = address_of_grain grain; grains = need; pool = pool; generation = generation; rank = rank }) (segments_in table)
+      → segments_in (set table grain (First need pool generation rank))
+      ≡ with_segment (record { base = address_of_grain grain; grains = need; pool = pool; generation = generation; rank = rank })
+      (segments_in table)
   unfolding segments_in
   segments_after_take need grain pool generation rank some lowest =
       let gap = in_lowest_gap 1 (arena.grains + 1) arena.held need grain some held.ascending lowest in
       let shifted : 0 + grain ≡ grain = omega arith in
       segments_put 0 table grain need pool generation rank (omega (arith, gap.below, held.size)) (free_entry need grain some lowest)
-      ∙ ap (λ (k : ℕ). with_segment (record { base = address_of_grain k; grains = need; pool = pool; generation = generation; rank = rank }) (segments_of_entries 0 table)) shifted
+      ∙ ap (λ (k : ℕ). with_segment
+      (record { base = address_of_grain k; grains = need; pool = pool; generation = generation; rank = rank })
+      (segments_of_entries 0 table)) shifted
 
   pub held_after_take : (need grain pool generation : ℕ) (rank : Rank) → 0 < need
       → lowest_fitting need (gaps 1 (arena.grains + 1) arena.held) ≡ Some grain
-      → IsHeld (record arena { held = with_run (record { from = grain; count = need }) arena.held }) (set table grain (First need pool generation rank)) ex
+      → IsHeld (record arena { held = with_run (record { from = grain; count = need }) arena.held })
+      (set table grain (First need pool generation rank)) ex
   unfolding segments_in
   held_after_take need grain pool generation rank some lowest =
       let r : Run = record { from = grain; count = need } in
@@ -143,7 +165,8 @@ module _
         held =
             ap (λ (rs : List Run). with_run r rs) held.held
             ∙ ap (λ (k : ℕ). with_run (record { from = k; count = need }) (held_from 0 table)) (sym shifted)
-            ∙ sym (held_put 0 table grain need pool generation rank (omega (arith, gap.below, held.size)) (free_entry need grain some lowest));
+            ∙ sym (held_put 0 table grain need pool generation rank (omega (arith, gap.below, held.size))
+            (free_entry need grain some lowest));
         ascending = gap.ascending;
         at_most = held.at_most;
         size = size ∙ held.size;
@@ -152,7 +175,13 @@ module _
         nonempty = held.nonempty;
         inside = λ t there.
             let lies = held.inside t there in
-            record { grains = lies.grains; there = contains_put_other r lies.grains arena.held lies.there; after = lies.after; before = lies.before };
+            record {
+              grains = lies.grains;
+              there = contains_put_other r lies.grains arena.held
+                  lies.there;
+              after = lies.after;
+              before = lies.before;
+            };
       }
 
   pub held_after_give : (grain n p g : ℕ) (r : Rank) → get_or table grain Free ≡ First n p g r
@@ -183,10 +212,20 @@ module _
               | inr apart ↦
                   let bounds = contained_bounds 1 (arena.grains + 1) arena.held mine held.ascending listed in
                   let bounds' = contained_bounds 1 (arena.grains + 1) arena.held lies.grains held.ascending lies.there in
-                  elim apart [ inl after ↦ absurd (omega (arith, after, e, bounds'.1)) | inr before ↦ absurd (omega (arith, before, e, bounds.1)) ]
+                  elim apart [
+                    | inl after ↦ absurd (omega (arith, after, e, bounds'.1))
+                    | inr before ↦ absurd
+                        (omega (arith, before, e, bounds.1))
+                  ]
             ]
             in
-            record { grains = lies.grains; there = contains_still grain lies.grains arena.held lies.there other; after = lies.after; before = lies.before };
+            record {
+              grains = lies.grains;
+              there = contains_still grain lies.grains arena.held lies.there
+                  other;
+              after = lies.after;
+              before = lies.before;
+            };
       }
     where
       not_empty : (t : Run) → Contains ex.covered t → (lies : LiesIn arena.held t) → lies.grains.from ≡ grain → ⊥
@@ -196,34 +235,43 @@ module _
           let listed = subst P (sym held.held) (entry_is_held table grain n p g r is) in
           let count = same_count 1 (arena.grains + 1) arena.held lies.grains mine held.ascending lies.there listed e in
           let Q : List Run → Type 0 = λ rs. Contains rs t in
-          let none = subst Q empty (begins_within (words_of_grain * grain) (words_of_grain * (grain + n)) ex.covered t there (omega (arith, lies.after, e)) (omega (arith, lies.before, e, count, held.nonempty t there))) in
+          let none =
+          subst Q empty (begins_within (words_of_grain * grain) (words_of_grain * (grain + n)) ex.covered t there
+          (omega (arith, lies.after, e)) (omega (arith, lies.before, e, count, held.nonempty t there)))
+          in
           absurd (omega (arith, none.1))
 
   -- a run in a gap of a held run of grains can be covered
-  pub gap_is_free : (grain n p g : ℕ) (k : Rank) (words shifted : ℕ) → get_or table grain Free ≡ First n p g k → 0 < words
-      → lowest_fitting words (gaps (words_of_grain * grain) (words_of_grain * grain + words_of_grain * n) (runs_within (words_of_grain * grain) (words_of_grain * grain + words_of_grain * n) ex.covered)) ≡ Some shifted
-      → CanCover (segs_state arena table ex) (record { from = shifted; count = words })
-  gap_is_free grain n p g k words shifted is some lowest =
+  pub gap_is_free : (grain n p g : ℕ) (k : Rank) (words start : ℕ) → get_or table grain Free ≡ First n p g k → 0 < words
+      → lowest_fitting words (gaps_in_grains grain n ex.covered) ≡ Some start
+      → CanCover (segs_state arena table ex) (record { from = start; count = words })
+  gap_is_free grain n p g k words start is some lowest =
       let low = words_of_grain * grain in
       let high = words_of_grain * grain + words_of_grain * n in
-      let r : Run = record { from = shifted; count = words } in
+      let r : Run = record { from = start; count = words } in
       let whole = whole_at grain (First n p g k) is in
-      let within = runs_within_ascending 0 ex.size low high low ex.covered held.covered_ascending whole.0 (omega arith) (omega arith) (inr refl) in
-      let gap = in_lowest_gap low high (runs_within low high ex.covered) words shifted some within lowest in
+      let within =
+      runs_within_ascending 0 ex.size low high low ex.covered held.covered_ascending whole.0 (omega arith) (omega arith) (inr refl)
+      in
+      let gap = in_lowest_gap low high (runs_within low high ex.covered) words start some within lowest in
       let apart = λ (t : Run) (there : Contains ex.covered t).
       let here : (end_of r ≤ t.from) ⊎ (end_of t ≤ r.from) =
       elim (side_of low high ex.covered t whole.0 there) [
         | inl before ↦ inr (omega (arith, before, gap.above))
         | inr rest ↦ elim rest [
           | inl past ↦ inl (omega (arith, past, gap.below))
-          | inr inside ↦ apart_from_put low high (runs_within low high ex.covered) r t gap.ascending (begins_within low high ex.covered t there inside.0 inside.1)
+          | inr inside ↦
+              apart_from_put low high (runs_within low high ex.covered) r t gap.ascending
+              (begins_within low high ex.covered t there inside.0 inside.1)
         ]
       ]
       in here
       in
       let P : ℕ → Type 0 = λ size. IsAscending 0 size (with_run r ex.covered) in
       record {
-        free = subst P held.covered_size (put_apart 0 ex.size ex.covered r held.covered_ascending some (omega arith) (omega (arith, gap.below, whole.1)) apart);
+        free =
+            subst P held.covered_size
+            (put_apart 0 ex.size ex.covered r held.covered_ascending some (omega arith) (omega (arith, gap.below, whole.1)) apart);
         inside = record {
           grains = record { from = grain; count = n };
           there = entry_is_held table grain n p g k is;
@@ -235,7 +283,9 @@ module _
   -- a new segment can be covered from its base on
   pub new_is_free : (need grain pool generation words : ℕ) (rank : Rank) → 0 < need → 0 < words → words ≤ words_of_grain * need
       → lowest_fitting need (gaps 1 (arena.grains + 1) arena.held) ≡ Some grain
-      → CanCover (segs_state (record arena { held = with_run (record { from = grain; count = need }) arena.held }) (set table grain (First need pool generation rank)) ex) (record { from = words_of_grain * grain; count = words })
+      → CanCover
+      (segs_state (record arena { held = with_run (record { from = grain; count = need }) arena.held })
+      (set table grain (First need pool generation rank)) ex) (record { from = words_of_grain * grain; count = words })
   new_is_free need grain pool generation words rank some covered fits lowest =
       let segment : Run = record { from = grain; count = need } in
       let r : Run = record { from = words_of_grain * grain; count = words } in
@@ -253,7 +303,10 @@ module _
       let P : ℕ → Type 0 = λ size. IsAscending 0 size (with_run r ex.covered) in
       let Q : List Run → Type 0 = λ rs. Contains rs segment in
       record {
-        free = subst P held.covered_size (put_apart 0 ex.size ex.covered r held.covered_ascending covered (omega arith) (omega (arith, gap.below, held.covered_size)) apart);
+        free =
+            subst P held.covered_size
+            (put_apart 0 ex.size ex.covered r held.covered_ascending covered (omega arith)
+            (omega (arith, gap.below, held.covered_size)) apart);
         inside = record {
           grains = segment;
           there = subst Q after.held (contains_put segment arena.held);
@@ -262,21 +315,28 @@ module _
         };
       }
 
-  pub gap_at_is_free : (grain : ℕ) (e : Entry) (pool : ℕ) (rank : Rank) (words shifted : ℕ) → get_or table grain Free ≡ e → 0 < words
-      → lowest_fitting words (gaps_at grain e pool rank ex) ≡ Some shifted → CanCover (segs_state arena table ex) (record { from = shifted; count = words })
-  gap_at_is_free grain Free pool rank words shifted is some lowest = let never : None ≡ Some shifted = lowest in cc
-  gap_at_is_free grain (First n p g k) pool rank words shifted is some lowest =
-      let mine = gaps (words_of_grain * grain) (words_of_grain * grain + words_of_grain * n) (runs_within (words_of_grain * grain) (words_of_grain * grain + words_of_grain * n) ex.covered) in
+  pub gap_at_is_free : (grain : ℕ) (e : Entry) (pool : ℕ) (rank : Rank) (words start : ℕ) → get_or table grain Free ≡ e → 0 < words
+      → lowest_fitting words (gaps_at grain e pool rank ex) ≡ Some start
+      → CanCover (segs_state arena table ex) (record { from = start; count = words })
+  gap_at_is_free grain Free pool rank words start is some lowest = let never : None ≡ Some start = lowest in cc
+  gap_at_is_free grain (First n p g k) pool rank words start is some lowest =
+      let mine =
+      gaps_in_grains grain n ex.covered
+      in
       elim (cases_Bool (eqb p pool && same_rank k rank)) [
         | inl opened ↦
-            gap_is_free grain n p g k words shifted is some (ap (λ (rs : List Run). lowest_fitting words rs) (sym (cond-true (eqb p pool && same_rank k rank) mine [] opened)) ∙ lowest)
+            gap_is_free grain n p g k words start is some
+            (ap (λ (rs : List Run). lowest_fitting words rs) (sym (cond-true (eqb p pool && same_rank k rank) mine [] opened)) ∙ lowest)
         | inr closed ↦
-            let none = ap (λ (rs : List Run). lowest_fitting words rs) (sym (cond-false (eqb p pool && same_rank k rank) mine [] closed)) ∙ lowest in
-            let never : None ≡ Some shifted = none in
+            let none =
+            ap (λ (rs : List Run). lowest_fitting words rs) (sym (cond-false (eqb p pool && same_rank k rank) mine [] closed)) ∙ lowest
+            in
+            let never : None ≡ Some start = none in
             cc
       ]
 
-pub new_is_held : (grains limit : ℕ) → grains ≤ max_grains → IsHeld (new_arena grains limit) (replicate (grains + 1) Free) (nothing_covered (words_of_grain * (grains + 1)))
+pub new_is_held : (grains limit : ℕ) → grains ≤ max_grains
+    → IsHeld (new_arena grains limit) (replicate (grains + 1) Free) (nothing_covered (words_of_grain * (grains + 1)))
 new_is_held grains limit few = record {
   held = ap (λ (ss : List Segment). map grains_of_segment ss) (sym (new_segments_in (grains + 1)));
   ascending = omega arith;

@@ -20,9 +20,11 @@ pub last_of : (ends : List Bool) (from : ℕ) → 0 < length_at ends from → Is
 unfolding length_at next_set
 last_of ends from some =
     elim (lowest_cases (bit ends) from (length ends - from)) [
-      | found shifted is_some is ↦
+      | found last is_some is ↦
           let count = ap (λ (o : Option ℕ). words_upto from o) is_some in
-          let same : shifted ≡ from + words_upto from (lowest_from (bit ends) from (length ends - from)) - 1 = omega (arith, count, is.above) in
+          let same : last ≡ from + words_upto from (lowest_from (bit ends) from (length ends - from)) - 1 =
+          omega (arith, count, is.above)
+          in
           let P : ℕ → Type 0 = λ p. IsLast ends from p in
           subst P same is
       | missing is_none none ↦ absurd (omega (arith, ap (λ (o : Option ℕ). words_upto from o) is_none, some))

@@ -22,7 +22,8 @@ no_runs f at (suc n) = no_runs f (suc at) n
 
 minus_nothing : (n : ℕ) → minus (replicate n false) (replicate n false) ≡ replicate n false
 minus_nothing n =
-    same_bits (minus (replicate n false) (replicate n false)) (replicate n false) (length-minus (replicate n false) (replicate n false)) (λ i h.
+    same_bits (minus (replicate n false) (replicate n false)) (replicate n false)
+    (length-minus (replicate n false) (replicate n false)) (λ i h.
     false_from_ne_true (bit (minus (replicate n false) (replicate n false)) i) (λ is.
     both_ways (bit (replicate n false) i) (no_bit n i) (minus_is_begin (replicate n false) (replicate n false) i is))
     ∙ sym (no_bit n i))
@@ -44,6 +45,12 @@ new_is_sound n small =
 pub new_lists : (n : ℕ) → lists_of (replicate n false) (replicate n false) (replicate n false) ≡ nothing_covered n
 new_lists n =
     let none = no_runs (length_at (replicate n false)) 0 n in
-    ap (λ (size : ℕ). record (lists_of (replicate n false) (replicate n false) (replicate n false)) { size = size }) (length-replicate n false)
-    ∙ ap (λ (bits : List Bool). record (nothing_covered n) { covered = extents (replicate n false) (replicate n false); blocks = extents (replicate n false) (replicate n false); reservations = extents bits (replicate n false) }) (minus_nothing n)
+    ap (λ (size : ℕ). record (lists_of (replicate n false) (replicate n false) (replicate n false)) { size = size })
+    (length-replicate n false)
+    ∙ ap (λ (bits : List Bool). record (nothing_covered n) {
+      covered = extents (replicate n false) (replicate n false);
+      blocks = extents (replicate n false)
+          (replicate n false);
+      reservations = extents bits (replicate n false);
+    }) (minus_nothing n)
     ∙ ap (λ (rs : List Run). record (nothing_covered n) { covered = rs; blocks = rs; reservations = rs }) none

@@ -8,19 +8,20 @@ use Rattle.mps_base.specs.Run.{Run, runs_within, gaps, lowest_fitting}
 use Rattle.mps_base.specs.Segment.{Segment, end_of_segment, is_open_to, gaps_in, gaps_of}
 use Rattle.mps_base.specs.declared.names.Rank.{Rank}
 use Rattle.mps_seg.specs.Extents.{ExtentLists}
-use Rattle.mps_seg.specs.Table.{segments_in, segments_of_entries, gaps_at}
+use Rattle.mps_seg.specs.Table.{gaps_in_grains, segments_in, segments_of_entries, gaps_at}
 use Rattle.mps_seg.specs.declared.entry.Entry.{Entry}
 use Rattle.mps_seg.specs.declared.entry.Entry.TheVariants.{Free, First}
 
-pub lowest_in_prefix : (n shifted : ℕ) (xs ys : List Run) → lowest_fitting n xs ≡ Some shifted → lowest_fitting n (xs ++ ys) ≡ Some shifted
-lowest_in_prefix n shifted [] ys is = let never : None ≡ Some shifted = is in cc
-lowest_in_prefix n shifted (r ∷ xs) ys is =
+pub lowest_in_prefix : (n start : ℕ) (xs ys : List Run) → lowest_fitting n xs ≡ Some start → lowest_fitting n (xs ++ ys) ≡ Some start
+lowest_in_prefix n start [] ys is = let never : None ≡ Some start = is in cc
+lowest_in_prefix n start (r ∷ xs) ys is =
     elim (cases_Bool (leb n r.count)) [
       | inl fits ↦
-          cond-true (leb n r.count) (Some r.from) (lowest_fitting n (xs ++ ys)) fits ∙ sym (cond-true (leb n r.count) (Some r.from) (lowest_fitting n xs) fits) ∙ is
+          cond-true (leb n r.count) (Some r.from) (lowest_fitting n (xs ++ ys)) fits
+          ∙ sym (cond-true (leb n r.count) (Some r.from) (lowest_fitting n xs) fits) ∙ is
       | inr short ↦
           cond-false (leb n r.count) (Some r.from) (lowest_fitting n (xs ++ ys)) short
-          ∙ lowest_in_prefix n shifted xs ys (sym (cond-false (leb n r.count) (Some r.from) (lowest_fitting n xs) short) ∙ is)
+          ∙ lowest_in_prefix n start xs ys (sym (cond-false (leb n r.count) (Some r.from) (lowest_fitting n xs) short) ∙ is)
     ]
 
 pub lowest_in_rest : (n : ℕ) (xs ys : List Run) → lowest_fitting n xs ≡ None → lowest_fitting n (xs ++ ys) ≡ lowest_fitting n ys
@@ -47,7 +48,8 @@ unfolding later_gaps segments_of_entries
 no_gaps covered pool rank grain = refl
 
 gaps_step : (ex : ExtentLists) (pool : ℕ) (rank : Rank) (grain : ℕ) (e : Entry) (entries : List Entry)
-    → later_gaps ex.covered pool rank grain (e ∷ entries) ≡ gaps_at grain e pool rank ex ++ later_gaps ex.covered pool rank (suc grain) entries
+    → later_gaps ex.covered pool rank grain (e ∷ entries)
+    ≡ gaps_at grain e pool rank ex ++ later_gaps ex.covered pool rank (suc grain) entries
 unfolding later_gaps segments_of_entries
 gaps_step ex pool rank grain Free entries = refl
 gaps_step ex pool rank grain (First n p g r) entries =
@@ -55,7 +57,9 @@ gaps_step ex pool rank grain (First n p g r) entries =
     let following = filter (is_open_to pool rank) (segments_of_entries (suc grain) entries) in
     let low : word_of (address_of_grain grain) ≡ words_of_grain * grain = omega arith in
     let high : word_of (end_of_segment s) ≡ words_of_grain * grain + words_of_grain * n = omega arith in
-    let mine = gaps (words_of_grain * grain) (words_of_grain * grain + words_of_grain * n) (runs_within (words_of_grain * grain) (words_of_grain * grain + words_of_grain * n) ex.covered) in
+    let mine =
+    gaps_in_grains grain n ex.covered
+    in
     let same : gaps_in ex.covered s ≡ mine =
     ap (λ (a : ℕ). gaps a (word_of (end_of_segment s)) (runs_within a (word_of (end_of_segment s)) ex.covered)) low
     ∙ ap (λ (b : ℕ). gaps (words_of_grain * grain) b (runs_within (words_of_grain * grain) b ex.covered)) high
@@ -63,10 +67,12 @@ gaps_step ex pool rank grain (First n p g r) entries =
     let gaps_after = λ (rs : List Run). rs ++ flat_map (gaps_in ex.covered) following in
     elim (cases_Bool (is_open_to pool rank s)) [
       | inl opened ↦
-          ap (λ (ss : List Segment). flat_map (gaps_in ex.covered) ss) (cond-true (is_open_to pool rank s) (s ∷ following) following opened)
+          ap (λ (ss : List Segment). flat_map (gaps_in ex.covered) ss)
+          (cond-true (is_open_to pool rank s) (s ∷ following) following opened)
           ∙ ap gaps_after (same ∙ sym (cond-true (is_open_to pool rank s) mine [] opened))
       | inr other ↦
-          ap (λ (ss : List Segment). flat_map (gaps_in ex.covered) ss) (cond-false (is_open_to pool rank s) (s ∷ following) following other)
+          ap (λ (ss : List Segment). flat_map (gaps_in ex.covered) ss)
+          (cond-false (is_open_to pool rank s) (s ∷ following) following other)
           ∙ ap gaps_after (sym (cond-false (is_open_to pool rank s) mine [] other))
     ]
 

@@ -11,7 +11,8 @@ use Rattle.mps_arena.specs.Arena.{ArenaMemory, answer_of_placement, placement_in
 
 -- what a placement of a run is
 pub data PlacementCases (grains limit : ℕ) (held : List Run) (need : ℕ) : Type 0 where
-  placed : (grain : ℕ) → run_placement grains limit held need ≡ NewSegment grain need → lowest_fitting need (gaps 1 (grains + 1) held) ≡ Some grain → PlacementCases grains limit held need
+  placed : (grain : ℕ) → run_placement grains limit held need ≡ NewSegment grain need
+      → lowest_fitting need (gaps 1 (grains + 1) held) ≡ Some grain → PlacementCases grains limit held need
   refused : (why : Refusal) → answer_of_placement (run_placement grains limit held need) ≡ Err why → PlacementCases grains limit held need
 
 pub placement_cases : (grains limit : ℕ) (held : List Run) (need : ℕ) → PlacementCases grains limit held need
@@ -24,26 +25,28 @@ placement_cases grains limit held need =
     over_limit : List Run → ℕ → ℕ → Refusal
     over_limit held limit need = CommitLimit (total held) need limit
 
-    go : (o : Option ℕ) → lowest_fitting need (gaps 1 (grains + 1) held) ≡ o → total held + need ≤ limit → PlacementCases grains limit held need
+    go : (o : Option ℕ) → lowest_fitting need (gaps 1 (grains + 1) held) ≡ o → total held + need ≤ limit
+        → PlacementCases grains limit held need
     go (Some grain) is room = placed grain (rw (le-ltb limit (total held + need) room) (rw is refl)) is
     go None is room = refused (NoRun need (longest (gaps 1 (grains + 1) held))) (rw (le-ltb limit (total held + need) room) (rw is refl))
 
 pub record TakenAt (arena : ArenaMemory) (need grain : ℕ) (base : Addr) : Type 0 where
-  pub shifted : placement_in arena need ≡ NewSegment grain need
+  pub placement_is : placement_in arena need ≡ NewSegment grain need
   pub lowest : lowest_fitting need (gaps 1 (arena.grains + 1) arena.held) ≡ Some grain
   pub base_is : grain_of base.0 ≡ grain
   pub base_at : base.0 ≡ address_of_grain grain
 
-pub taken_at : (arena : ArenaMemory) (need : ℕ) (base : Addr) → Ok base ≡ answer_of_placement (placement_in arena need) → (grain : ℕ) × TakenAt arena need grain base
+pub taken_at : (arena : ArenaMemory) (need : ℕ) (base : Addr) → Ok base ≡ answer_of_placement (placement_in arena need)
+    → (grain : ℕ) × TakenAt arena need grain base
 taken_at arena need base answer =
     elim (placement_cases arena.grains arena.limit arena.held need) [
-      | placed grain shifted lowest ↦
+      | placed grain placement_is lowest ↦
           let left : Result Addr Refusal = Ok base in
           let right : Result Addr Refusal = Ok (record { 0 = address_of_grain grain }) in
-          let both : left ≡ right = answer ∙ ap answer_of_placement shifted in
+          let both : left ≡ right = answer ∙ ap answer_of_placement placement_is in
           let same : base ≡ record { 0 = address_of_grain grain } = cc in
           let at : base.0 ≡ address_of_grain grain = ap (λ (a : Addr). a.0) same in
-          (grain, record { shifted = shifted; lowest = lowest; base_is = omega (arith, at); base_at = at })
+          (grain, record { placement_is = placement_is; lowest = lowest; base_is = omega (arith, at); base_at = at })
       | refused why refusal ↦
           let left : Result Addr Refusal = Ok base in
           let never : left ≡ Err why = answer ∙ refusal in
@@ -52,7 +55,9 @@ taken_at arena need base answer =
 
 -- where nothing was taken
 pub refused_held : (p : Placement) (why : Refusal) (held : List Run) → Err why ≡ answer_of_placement p → held_after p held ≡ held
-refused_held (Place word) why held is = let left : Result Addr Refusal = Err why in let never : left ≡ Ok (record { 0 = 8 * word }) = is in cc
-refused_held (NewSegment grain grains) why held is = let left : Result Addr Refusal = Err why in let never : left ≡ Ok (record { 0 = bytes_of_grain * grain }) = is in cc
+refused_held (Place word) why held is =
+    let left : Result Addr Refusal = Err why in let never : left ≡ Ok (record { 0 = 8 * word }) = is in cc
+refused_held (NewSegment grain grains) why held is =
+    let left : Result Addr Refusal = Err why in let never : left ≡ Ok (record { 0 = bytes_of_grain * grain }) = is in cc
 refused_held (OverLimit committed need limit) why held is = refl
 refused_held (NoFreeRun need length) why held is = refl

@@ -24,58 +24,61 @@ no_change : (begins ends : List Bool) (at : ℕ) → SameLengths begins ends end
 no_change begins ends at = record { others = λ s is other. refl }
 
 module _
-  (covered begins ends blocks : List Bool) (r : Run) (sound : AreSoundTables covered begins ends blocks) (reserved : IsReservation begins ends blocks r)
+    (covered begins ends blocks : List Bool) (r : Run) (sound : AreSoundTables covered begins ends blocks)
+    (reserved : IsReservation begins ends blocks r)
   where
-  abbrev committed' : List Bool
-  committed' = set blocks r.from true
+    abbrev committed' : List Bool
+    committed' = set blocks r.from true
 
-  commit_lists :
-      lists_of begins ends committed'
-      ≡ record (lists_of begins ends blocks) {
-        blocks = with_run r (extents blocks ends);
-        reservations = without_run r.from (extents (minus begins blocks) ends);
-      }
-  unfolding lists
-  commit_lists =
-      let b = begin_of begins ends r reserved.there in
-      let within = bit_within begins r.from b.0 in
-      let placed : r.from < length blocks = omega (arith, within, sound.same_size.2) in
-      let same = no_change begins ends r.from in
-      let put : extents committed' ends ≡ with_run r (extents blocks ends) =
-      extents_put begins blocks ends ends r.from r.count same (sym b.1) placed reserved.no_block sound.blocks_begin
-      in
-      let less : minus begins committed' ≡ set (minus begins blocks) r.from false =
-      minus_less begins begins blocks committed' r.from within refl (λ j other. refl) (others_stay blocks r.from true)
-      (and_right (bit begins r.from) (not (bit committed' r.from)) (ap (λ (x : Bool). not x) (bit-set_same blocks r.from true placed)))
-      in
-      let gone : extents (minus begins committed') ends ≡ without_run r.from (extents (minus begins blocks) ends) =
-      ap (λ (bits : List Bool). extents bits ends) less
-      ∙ extents_taken begins (minus begins blocks) ends ends r.from same (omega (arith, within, length-minus begins blocks)) reserved.reserved (minus_is_begin begins blocks)
-      in
-      ap (λ (rs : List Run). lists (length begins) (extents begins ends) rs (extents (minus begins committed') ends)) put
-      ∙ ap (λ (rs : List Run). lists (length begins) (extents begins ends) (with_run r (extents blocks ends)) rs) gone
+    commit_lists :
+        lists_of begins ends committed'
+        ≡ record (lists_of begins ends blocks) {
+          blocks = with_run r (extents blocks ends);
+          reservations = without_run r.from (extents (minus begins blocks) ends);
+        }
+    unfolding lists
+    commit_lists =
+        let b = begin_of begins ends r reserved.there in
+        let within = bit_within begins r.from b.0 in
+        let placed : r.from < length blocks = omega (arith, within, sound.same_size.2) in
+        let same = no_change begins ends r.from in
+        let put : extents committed' ends ≡ with_run r (extents blocks ends) =
+        extents_put begins blocks ends ends r.from r.count same (sym b.1) placed reserved.no_block sound.blocks_begin
+        in
+        let less : minus begins committed' ≡ set (minus begins blocks) r.from false =
+        minus_less begins begins blocks committed' r.from within refl (λ j other. refl) (others_stay blocks r.from true)
+        (and_right (bit begins r.from) (not (bit committed' r.from)) (ap (λ (x : Bool). not x) (bit-set_same blocks r.from true placed)))
+        in
+        let gone : extents (minus begins committed') ends ≡ without_run r.from (extents (minus begins blocks) ends) =
+        ap (λ (bits : List Bool). extents bits ends) less
+        ∙ extents_taken begins (minus begins blocks) ends ends r.from same (omega (arith, within, length-minus begins blocks))
+        reserved.reserved (minus_is_begin begins blocks)
+        in
+        ap (λ (rs : List Run). lists (length begins) (extents begins ends) rs (extents (minus begins committed') ends)) put
+        ∙ ap (λ (rs : List Run). lists (length begins) (extents begins ends) (with_run r (extents blocks ends)) rs) gone
 
-  commit_is_sound : AreSoundTables covered begins ends committed'
-  commit_is_sound =
-      let b = begin_of begins ends r reserved.there in
-      record {
-        same_size = (sound.same_size.0, sound.same_size.1, length-set blocks r.from true ∙ sound.same_size.2);
-        small = sound.small;
-        ascending = sound.ascending;
-        covered_is = sound.covered_is;
-        ends_inside = sound.ends_inside;
-        blocks_begin = λ word is. elim (cases_eq word r.from) [
-          | inl here ↦ ap (λ (j : ℕ). bit begins j) here ∙ b.0
-          | inr other ↦ sound.blocks_begin word (sym (bit-set_other blocks r.from word true other) ∙ is)
-        ];
-      }
+    commit_is_sound : AreSoundTables covered begins ends committed'
+    commit_is_sound =
+        let b = begin_of begins ends r reserved.there in
+        record {
+          same_size = (sound.same_size.0, sound.same_size.1, length-set blocks r.from true ∙ sound.same_size.2);
+          small = sound.small;
+          ascending = sound.ascending;
+          covered_is = sound.covered_is;
+          ends_inside = sound.ends_inside;
+          blocks_begin = λ word is. elim (cases_eq word r.from) [
+            | inl here ↦ ap (λ (j : ℕ). bit begins j) here ∙ b.0
+            | inr other ↦ sound.blocks_begin word (sym (bit-set_other blocks r.from word true other) ∙ is)
+          ];
+        }
 
 -- a run put among others where none begins, and taken out again
 put_and_taken : (r : Run) (rs : List Run) → ((s : Run) → Contains rs s → s.from ≢ r.from) → without_run r.from (with_run r rs) ≡ rs
 put_and_taken r [] other = without_run_first r.from r [] refl
 put_and_taken r (s ∷ rs) other =
     elim (cases_lt r.from s.from) [
-      | inl before ↦ ap (λ (xs : List Run). without_run r.from xs) (with_run_first r s rs before) ∙ without_run_first r.from r (s ∷ rs) refl
+      | inl before ↦ ap (λ (xs : List Run). without_run r.from xs) (with_run_first r s rs before)
+          ∙ without_run_first r.from r (s ∷ rs) refl
       | inr after ↦
           ap (λ (xs : List Run). without_run r.from xs) (with_run_later r s rs after)
           ∙ without_run_later r.from s (with_run r rs) (λ e. other s (contains_first rs s) (sym e))
@@ -191,7 +194,8 @@ module _ (covered begins ends blocks : List Bool) (at words : ℕ) (put : Put co
           | inr above ↦ elim (cases_lt word (at + words)) [
             | inl below ↦
                 bit-with_range_inside covered at (at + words) word true order room above below
-                ∙ sym (covered_put_has new old word (has_word-true new word above below)) ∙ ap (λ (rs : List Run). is_covered rs word) (sym now)
+                ∙ sym (covered_put_has new old word (has_word-true new word above below))
+                ∙ ap (λ (rs : List Run). is_covered rs word) (sym now)
             | inr past ↦ outside word (inr past) (has_word-above new word past)
           ]
         ];
@@ -215,7 +219,8 @@ module _ (covered begins ends blocks : List Bool) (at words : ℕ) (put : Put co
 
   pub put_lists :
       lists_of begins' ends' blocks
-      ≡ record (lists_of begins ends blocks) { covered = with_run new old; reservations = with_run new (extents (minus begins blocks) ends) }
+      ≡ record (lists_of begins ends blocks)
+      { covered = with_run new old; reservations = with_run new (extents (minus begins blocks) ends) }
   unfolding lists
   put_lists =
       let some = put.nonzero in
@@ -233,10 +238,12 @@ module _ (covered begins ends blocks : List Bool) (at words : ℕ) (put : Put co
       in
       let reserved : extents (minus begins' blocks) ends' ≡ with_run new (extents (minus begins blocks) ends) =
       ap (λ (bits : List Bool). extents bits ends') (minus-set_first begins blocks at (omega arith) no_block)
-      ∙ extents_put begins (minus begins blocks) ends ends' at words same put_here (omega (arith, bounds, length-minus begins blocks)) no_reservation
+      ∙ extents_put begins (minus begins blocks) ends ends' at words same put_here (omega (arith, bounds, length-minus begins blocks))
+      no_reservation
       (minus_is_begin begins blocks)
       in
-      ap (λ (n : ℕ). lists n (extents begins' ends') (extents blocks ends') (extents (minus begins' blocks) ends')) (length-set begins at true)
+      ap (λ (n : ℕ). lists n (extents begins' ends') (extents blocks ends') (extents (minus begins' blocks) ends'))
+      (length-set begins at true)
       ∙ ap (λ (rs : List Run). lists (length begins) rs (extents blocks ends') (extents (minus begins' blocks) ends')) put_extents
       ∙ ap (λ (rs : List Run). lists (length begins) (with_run new old) rs (extents (minus begins' blocks) ends')) kept
       ∙ ap (λ (rs : List Run). lists (length begins) (with_run new old) (extents blocks ends) rs) reserved
@@ -254,7 +261,8 @@ module _ (covered begins ends blocks : List Bool) (at words : ℕ) (put : Put co
       commit_is_sound covered' begins' ends' blocks new put_is_sound put_is_reserved
 
   pub block_lists :
-      lists_of begins' ends' blocks' ≡ record (lists_of begins ends blocks) { covered = with_run new old; blocks = with_run new (extents blocks ends) }
+      lists_of begins' ends' blocks' ≡ record (lists_of begins ends blocks)
+      { covered = with_run new old; blocks = with_run new (extents blocks ends) }
   unfolding lists
   block_lists =
       let none = no_begin in
@@ -279,11 +287,14 @@ pub record PutFits (t : Inside) (at words : ℕ) : Type 0 where
   pub in_blocks : at + words ≤ length t.blocks
   pub at_most : at + words < 2 ^ 32
 
-pub put_fits : (t : Inside) (seen : ExtentLists) (at words : ℕ) → AreSoundTables t.covered t.begins t.ends t.blocks → lists_of t.begins t.ends t.blocks ≡ seen
+pub put_fits : (t : Inside) (seen : ExtentLists) (at words : ℕ) → AreSoundTables t.covered t.begins t.ends t.blocks
+    → lists_of t.begins t.ends t.blocks ≡ seen
     → 0 < words → IsAscending 0 seen.size (with_run (record { from = at; count = words }) seen.covered) → PutFits t at words
 put_fits t seen at words sound is nonzero free =
     let P : ExtentLists → Type 0 = λ e. IsAscending 0 e.size (with_run (record { from = at; count = words }) e.covered) in
-    let put : Put t.covered t.begins t.ends t.blocks at words = record { sound = sound; nonzero = nonzero; free = subst P (sym is) free } in
+    let put : Put t.covered t.begins t.ends t.blocks at words =
+    record { sound = sound; nonzero = nonzero; free = subst P (sym is) free }
+    in
     let bounds = put_bounds t.covered t.begins t.ends t.blocks at words put in
     record {
       put = put;

@@ -19,7 +19,8 @@ run_over_none (r ∷ rs) word none =
     cond-false (has_word r word) (Some r.from) (run_over rs word) (none r (contains_first rs r))
     ∙ run_over_none rs word (λ s there. none s (contains_later rs s r there))
 
-pub run_over_is : (rs : List Run) (word : ℕ) (r : Run) → Contains rs r → has_word r word ≡ true → ((s : Run) → Contains rs s → has_word s word ≡ true → s.from ≡ r.from) → run_over rs word ≡ Some r.from
+pub run_over_is : (rs : List Run) (word : ℕ) (r : Run) → Contains rs r → has_word r word ≡ true
+    → ((s : Run) → Contains rs s → has_word s word ≡ true → s.from ≡ r.from) → run_over rs word ≡ Some r.from
 run_over_is [] word r (k, within, is) has one = absurd (omega arith)
 run_over_is (s ∷ rs) word r there has one =
     elim (cases_Bool (has_word s word)) [
@@ -48,7 +49,8 @@ run_over-le (r ∷ rs) word at is =
     ]
 
 -- a run over a word is one of the runs
-pub run_over-contains : (rs : List Run) (word at : ℕ) → run_over rs word ≡ Some at → (n : ℕ) × Contains rs (record { from = at; count = n })
+pub run_over-contains : (rs : List Run) (word at : ℕ) → run_over rs word ≡ Some at
+    → (n : ℕ) × Contains rs (record { from = at; count = n })
 run_over-contains [] word at is = let never : None ≡ Some at = is in cc
 run_over-contains (r ∷ rs) word at is =
     elim (cases_Bool (has_word r word)) [
@@ -62,7 +64,8 @@ run_over-contains (r ∷ rs) word at is =
           (later.0, contains_later rs (record { from = at; count = later.0 }) r later.1)
     ]
 
-pub run_over_in : (low high : ℕ) (rs : List Run) (r : Run) (n : ℕ) → IsAscending low high rs → Contains rs r → r.from ≤ n → n < end_of r → run_over rs n ≡ Some r.from
+pub run_over_in : (low high : ℕ) (rs : List Run) (r : Run) (n : ℕ) → IsAscending low high rs → Contains rs r → r.from ≤ n → n < end_of r
+    → run_over rs n ≡ Some r.from
 run_over_in low high rs r n ascending there above below =
     run_over_is rs n r there (has_word-true r n above below) (λ s there' has.
     elim (cases_eq s.from r.from) [
@@ -70,7 +73,13 @@ run_over_in low high rs r n ascending there above below =
       | inr other ↦ elim (apart_each low high rs s r ascending there' there) [
         | inl same ↦ same
         | inr apart ↦
-            let never : has_word s n ≡ false = elim apart [ inl after ↦ has_word-above s n (omega (arith, after, above)) | inr before ↦ has_word-below s n (omega (arith, before, below)) ] in
+            let never : has_word s n ≡ false =
+            elim apart [
+              | inl after ↦ has_word-above s n (omega (arith, after, above))
+              | inr before ↦ has_word-below s n
+                  (omega (arith, before, below))
+            ]
+            in
             absurd (both_ways (has_word s n) never has)
       ]
     ])
@@ -80,13 +89,15 @@ run_over_put_other r [] n other = cond-false (has_word r n) (Some r.from) None o
 run_over_put_other r (s ∷ rs) n other =
     elim (cases_lt r.from s.from) [
       | inl before ↦
-          ap (λ (xs : List Run). run_over xs n) (with_run_first r s rs before) ∙ cond-false (has_word r n) (Some r.from) (run_over (s ∷ rs) n) other
+          ap (λ (xs : List Run). run_over xs n) (with_run_first r s rs before)
+          ∙ cond-false (has_word r n) (Some r.from) (run_over (s ∷ rs) n) other
       | inr after ↦
           ap (λ (xs : List Run). run_over xs n) (with_run_later r s rs after)
           ∙ ap (λ (o : Option ℕ). cond (has_word s n) (Some s.from) o) (run_over_put_other r rs n other)
     ]
 
-pub run_over_taken_other : (low high : ℕ) (rs : List Run) (r : Run) (n : ℕ) → IsAscending low high rs → Contains rs r → has_word r n ≡ false → run_over (without_run r.from rs) n ≡ run_over rs n
+pub run_over_taken_other : (low high : ℕ) (rs : List Run) (r : Run) (n : ℕ) → IsAscending low high rs → Contains rs r
+    → has_word r n ≡ false → run_over (without_run r.from rs) n ≡ run_over rs n
 run_over_taken_other low high [] r n ascending (k, within, is) other = absurd (omega arith)
 run_over_taken_other low high (s ∷ rs) r n ascending there other =
     elim (contains_cases rs r s there) [
@@ -96,36 +107,39 @@ run_over_taken_other low high (s ∷ rs) r n ascending there other =
       | inr later ↦
           let bounds = contained_bounds (end_of s) high rs r ascending.2 later in
           ap (λ (xs : List Run). run_over xs n) (without_run_later r.from s rs (λ e. omega (arith, bounds.0, ascending.1, e)))
-          ∙ ap (λ (o : Option ℕ). cond (has_word s n) (Some s.from) o) (run_over_taken_other (end_of s) high rs r n ascending.2 later other)
+          ∙ ap (λ (o : Option ℕ). cond (has_word s n) (Some s.from) o)
+          (run_over_taken_other (end_of s) high rs r n ascending.2 later other)
     ]
 
-pub run_over_taken_has : (low high : ℕ) (rs : List Run) (r : Run) (n : ℕ) → IsAscending low high rs → Contains rs r → has_word r n ≡ true → run_over (without_run r.from rs) n ≡ None
+pub run_over_taken_has : (low high : ℕ) (rs : List Run) (r : Run) (n : ℕ) → IsAscending low high rs → Contains rs r
+    → has_word r n ≡ true → run_over (without_run r.from rs) n ≡ None
 run_over_taken_has low high rs r n ascending there has =
     run_over_none (without_run r.from rs) n (λ s there'.
     false_from_ne_true (has_word s n) (λ has'.
-    both_ways (is_covered (without_run r.from rs) n) (uncovered_taken low high rs r n ascending there has) (covers_contained (without_run r.from rs) s n there' has')))
+    both_ways (is_covered (without_run r.from rs) n) (uncovered_taken low high rs r n ascending there has)
+    (covers_contained (without_run r.from rs) s n there' has')))
 
 -- the block that a search by an address found
-pub block_found : (rs : List Run) (word : ℕ) (at : Addr) → Some at ≡ option_map at_word (run_over rs word) → (n : ℕ) × Contains rs (record { from = word_of at.0; count = n })
+pub block_found : (rs : List Run) (word : ℕ) (at : Addr) → Some at ≡ option_map at_word (run_over rs word)
+    → (n : ℕ) × Contains rs (record { from = word_of at.0; count = n })
 block_found rs word at is = go (run_over rs word) refl is
   where
-    go : (o : Option ℕ) → run_over rs word ≡ o → Some at ≡ option_map at_word o → (n : ℕ) × Contains rs (record { from = word_of at.0; count = n })
+    go : (o : Option ℕ) → run_over rs word ≡ o → Some at ≡ option_map at_word o
+        → (n : ℕ) × Contains rs (record { from = word_of at.0; count = n })
     go None found_none given = let never : Some at ≡ None = given in cc
-    go (Some shifted) found_at given =
-        let both : Some at ≡ Some (at_word shifted) = given in
-        let same : at ≡ at_word shifted = cc in
-        let word_is : shifted ≡ word_of at.0 = omega (arith, ap (λ (a : Addr). a.0) same) in
+    go (Some start) found_at given =
+        let both : Some at ≡ Some (at_word start) = given in
+        let same : at ≡ at_word start = cc in
+        let word_is : start ≡ word_of at.0 = omega (arith, ap (λ (a : Addr). a.0) same) in
         let P : ℕ → Type 0 = λ p. (n : ℕ) × Contains rs (record { from = p; count = n }) in
-        subst P word_is (run_over-contains rs word shifted found_at)
+        subst P word_is (run_over-contains rs word start found_at)
 
 -- the extent over a covered word begins at the highest set bit at or below it
 pub record ExtentOver (begins ends : List Bool) (word at : ℕ) : Type 0 where
   pub begin : bit begins at ≡ true
   pub has : has_word (record { from = at; count = length_at ends at }) word ≡ true
 
-module _
-  (covered begins ends blocks : List Bool) (sound : AreSoundTables covered begins ends blocks)
-  where
+module _ (covered begins ends blocks : List Bool) (sound : AreSoundTables covered begins ends blocks) where
   -- where no extent covers a word, no block does
   pub no_block_over : (word : ℕ) → bit covered word ≡ false → run_over (extents blocks ends) word ≡ None
   no_block_over word none =
@@ -134,7 +148,8 @@ module _
       both_ways (is_covered (extents begins ends) word) (sym (sound.covered_is word) ∙ none)
       (covers_contained (extents begins ends) r word (among_all begins blocks ends r sound.blocks_begin there) has)))
 
-  pub extent_over : (word : ℕ) → bit covered word ≡ true → (at : ℕ) × (previous_set begins word ≡ Some at) × ExtentOver begins ends word at
+  pub extent_over : (word : ℕ) → bit covered word ≡ true
+      → (at : ℕ) × (previous_set begins word ≡ Some at) × ExtentOver begins ends word at
   unfolding previous_set
   extent_over word is =
       let by = covered_by (extents begins ends) word (sym (sound.covered_is word) ∙ is) in
@@ -150,31 +165,46 @@ module _
               let s : Run = record { from = i; count = length_at ends i } in
               elim (apart_each 0 (length begins) (extents begins ends) r s sound.ascending by.1 (extent_at begins ends i set)) [
                 | inl same ↦ absurd (omega (arith, same))
-                | inr apart ↦ elim apart [ inl after ↦ absurd (omega (arith, after, parts.1)) | inr before ↦ absurd (omega (arith, before)) ]
+                | inr apart ↦
+                    elim apart [ inl after ↦ absurd (omega (arith, after, parts.1)) | inr before ↦ absurd (omega (arith, before)) ]
               ]);
         }),
         record { begin = b.0; has = subst P b.1 (by.2) },
       )
 
-  pub block_over_is : (word at : ℕ) → ExtentOver begins ends word at → bit blocks at ≡ true → run_over (extents blocks ends) word ≡ Some at
+  pub block_over_is : (word at : ℕ) → ExtentOver begins ends word at → bit blocks at ≡ true
+      → run_over (extents blocks ends) word ≡ Some at
   block_over_is word at over block =
       let r : Run = record { from = at; count = length_at ends at } in
       let parts = has_word-parts r word over.has in
       run_over_is (extents blocks ends) word r (extent_at blocks ends at block) over.has (λ s there has.
       let mine = has_word-parts s word has in
-      elim (apart_each 0 (length begins) (extents begins ends) s r sound.ascending (among_all begins blocks ends s sound.blocks_begin there) (extent_at begins ends at over.begin)) [
+      elim (apart_each 0 (length begins) (extents begins ends) s r sound.ascending
+      (among_all begins blocks ends s sound.blocks_begin there) (extent_at begins ends at over.begin)) [
         | inl same ↦ same
-        | inr apart ↦ elim apart [ inl after ↦ absurd (omega (arith, after, parts.0, mine.1)) | inr before ↦ absurd (omega (arith, before, parts.1, mine.0)) ]
+        | inr apart ↦
+            elim apart [
+              | inl after ↦ absurd (omega (arith, after, parts.0, mine.1))
+              | inr before ↦ absurd
+                  (omega (arith, before, parts.1, mine.0))
+            ]
       ])
 
-  pub reservation_over : (word at : ℕ) → ExtentOver begins ends word at → bit blocks at ≡ false → run_over (extents blocks ends) word ≡ None
+  pub reservation_over : (word at : ℕ) → ExtentOver begins ends word at → bit blocks at ≡ false
+      → run_over (extents blocks ends) word ≡ None
   reservation_over word at over none =
       let r : Run = record { from = at; count = length_at ends at } in
       let parts = has_word-parts r word over.has in
       run_over_none (extents blocks ends) word (λ s there.
       false_from_ne_true (has_word s word) (λ has.
       let mine = has_word-parts s word has in
-      elim (apart_each 0 (length begins) (extents begins ends) s r sound.ascending (among_all begins blocks ends s sound.blocks_begin there) (extent_at begins ends at over.begin)) [
+      elim (apart_each 0 (length begins) (extents begins ends) s r sound.ascending
+      (among_all begins blocks ends s sound.blocks_begin there) (extent_at begins ends at over.begin)) [
         | inl same ↦ both_ways (bit blocks at) none (ap (λ (j : ℕ). bit blocks j) (sym same) ∙ (begin_of blocks ends s there).0)
-        | inr apart ↦ elim apart [ inl after ↦ absurd (omega (arith, after, parts.0, mine.1)) | inr before ↦ absurd (omega (arith, before, parts.1, mine.0)) ]
+        | inr apart ↦
+            elim apart [
+              | inl after ↦ absurd (omega (arith, after, parts.0, mine.1))
+              | inr before ↦ absurd
+                  (omega (arith, before, parts.1, mine.0))
+            ]
       ]))

@@ -31,12 +31,14 @@ over_from at grain (First n p g k ∷ entries) =
     let here : Bool = is_in_segment s at in
     let same : here ≡ has_word r (grain_of at) =
     elim (cases_lt at s.base) [
-      | inl below ↦ and_left (leb s.base at) (ltb at (end_of_segment s)) (lt-leb s.base at below) ∙ sym (has_word-below r (grain_of at) (omega arith))
+      | inl below ↦ and_left (leb s.base at) (ltb at (end_of_segment s)) (lt-leb s.base at below)
+          ∙ sym (has_word-below r (grain_of at) (omega arith))
       | inr from ↦ elim (cases_lt at (end_of_segment s)) [
         | inl under ↦
             and_from (leb s.base at) (ltb at (end_of_segment s)) (le-leb s.base at from) (lt-ltb at (end_of_segment s) under)
             ∙ sym (has_word-true r (grain_of at) (omega arith) (omega arith))
-        | inr past ↦ and_right (leb s.base at) (ltb at (end_of_segment s)) (le-ltb at (end_of_segment s) past) ∙ sym (has_word-above r (grain_of at) (omega arith))
+        | inr past ↦ and_right (leb s.base at) (ltb at (end_of_segment s)) (le-ltb at (end_of_segment s) past)
+            ∙ sym (has_word-above r (grain_of at) (omega arith))
       ]
     ]
     in
@@ -45,26 +47,33 @@ over_from at grain (First n p g k ∷ entries) =
     let base : address_of_grain r.from ≡ s.base = omega arith in
     elim (cases_Bool (has_word r (grain_of at))) [
       | inl has ↦
-          ap (λ (o : Option Segment). option_map base_of o) (cond-true here (Some s) rest (same ∙ has)) ∙ ap (λ (b : ℕ). Some (record { 0 = b })) (sym base)
+          ap (λ (o : Option Segment). option_map base_of o) (cond-true here (Some s) rest (same ∙ has))
+          ∙ ap (λ (b : ℕ). Some (record { 0 = b })) (sym base)
           ∙ sym (ap (λ (o : Option ℕ). option_map base_of_grain o) (cond-true (has_word r (grain_of at)) (Some r.from) rest' has))
       | inr other ↦
-          ap (λ (o : Option Segment). option_map base_of o) (cond-false here (Some s) rest (same ∙ other)) ∙ over_from at (suc grain) entries
+          ap (λ (o : Option Segment). option_map base_of o) (cond-false here (Some s) rest (same ∙ other))
+          ∙ over_from at (suc grain) entries
           ∙ sym (ap (λ (o : Option ℕ). option_map base_of_grain o) (cond-false (has_word r (grain_of at)) (Some r.from) rest' other))
     ]
 
-pub segment_over_is : (arena : ArenaMemory) (table : List Entry) (ex : ExtentLists) (at : ℕ) (o : Option ℕ) → IsHeld arena table ex → run_over arena.held (grain_of at) ≡ o
+pub segment_over_is : (arena : ArenaMemory) (table : List Entry) (ex : ExtentLists) (at : ℕ) (o : Option ℕ) → IsHeld arena table ex
+    → run_over arena.held (grain_of at) ≡ o
     → option_map base_of (segment_over (segments_in table) at) ≡ option_map base_of_grain o
 unfolding segments_in
 segment_over_is arena table ex at o held is =
-    over_from at 0 table ∙ ap (λ (rs : List Run). option_map base_of_grain (run_over rs (grain_of at))) (sym held.held) ∙ ap (λ (x : Option ℕ). option_map base_of_grain x) is
+    over_from at 0 table ∙ ap (λ (rs : List Run). option_map base_of_grain (run_over rs (grain_of at))) (sym held.held)
+    ∙ ap (λ (x : Option ℕ). option_map base_of_grain x) is
 
 pub no_run_past : (size : ℕ) (held : List Run) (grain : ℕ) → IsAscending 1 size held → size ≤ grain → run_over held grain ≡ None
-no_run_past size held grain ascending past = run_over_none held grain (λ r there. has_word-above r grain (omega (arith, (contained_bounds 1 size held r ascending there).2, past)))
+no_run_past size held grain ascending past =
+    run_over_none held grain (λ r there. has_word-above r grain (omega (arith, (contained_bounds 1 size held r ascending there).2, past)))
 
-pub run_from_first : (size : ℕ) (held : List Run) (grain first : ℕ) → IsAscending 1 size held → first ≡ first_over held grain → ((first ≡ 0 → run_over held grain ≡ None) × (first ≢ 0 → run_over held grain ≡ Some first))
+pub run_from_first : (size : ℕ) (held : List Run) (grain first : ℕ) → IsAscending 1 size held → first ≡ first_over held grain
+    → ((first ≡ 0 → run_over held grain ≡ None) × (first ≢ 0 → run_over held grain ≡ Some first))
 run_from_first size held grain first ascending is = go (run_over held grain) refl is
   where
-    go : (o : Option ℕ) → run_over held grain ≡ o → first ≡ or_zero o → ((first ≡ 0 → run_over held grain ≡ None) × (first ≢ 0 → run_over held grain ≡ Some first))
+    go : (o : Option ℕ) → run_over held grain ≡ o → first ≡ or_zero o
+        → ((first ≡ 0 → run_over held grain ≡ None) × (first ≢ 0 → run_over held grain ≡ Some first))
     go None over same = ((λ e. over), (λ other. absurd (other same)))
     go (Some from) over same =
         let run = run_over-contains held grain from over in
@@ -79,10 +88,15 @@ segment_found (s ∷ ss) n base is =
     let here : Bool = is_in_segment s n in
     elim (cases_Bool here) [
       | inl has ↦
-          let both : Some base ≡ Some (base_of s) = is ∙ ap (λ (o : Option Segment). option_map base_of o) (cond-true here (Some s) (segment_over ss n) has) in
+          let both : Some base ≡ Some (base_of s) =
+          is ∙ ap (λ (o : Option Segment). option_map base_of o) (cond-true here (Some s) (segment_over ss n) has)
+          in
           let same : base ≡ base_of s = cc in
           (s, (0, omega arith, refl), sym (ap (λ (a : Addr). a.0) same))
       | inr other ↦
-          let later = segment_found ss n base (is ∙ ap (λ (o : Option Segment). option_map base_of o) (cond-false here (Some s) (segment_over ss n) other)) in
+          let later =
+          segment_found ss n base
+          (is ∙ ap (λ (o : Option Segment). option_map base_of o) (cond-false here (Some s) (segment_over ss n) other))
+          in
           (later.0, (suc later.1.0, omega (arith, later.1.1), later.1.2), later.2)
     ]

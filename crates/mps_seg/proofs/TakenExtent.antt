@@ -93,7 +93,8 @@ module _ (covered begins ends blocks : List Bool) (r : Run) (taken : Taken cover
       let outside = λ (word : ℕ) (out : (word < r.from) ⊎ (end_of r ≤ word)) (other : has_word r word ≡ false).
       let here : bit covered' word ≡ is_covered (extents begins' ends') word =
       bit-with_range_outside covered r.from (end_of r) word false order room out ∙ sound.covered_is word
-      ∙ sym (covered_taken_other 0 (length begins) old r word sound.ascending taken.there other) ∙ ap (λ (rs : List Run). is_covered rs word) (sym now)
+      ∙ sym (covered_taken_other 0 (length begins) old r word sound.ascending taken.there other)
+      ∙ ap (λ (rs : List Run). is_covered rs word) (sym now)
       in here
       in
       record {
@@ -121,7 +122,8 @@ module _ (covered begins ends blocks : List Bool) (r : Run) (taken : Taken cover
           | inr other ↦
               let was : bit ends word ≡ true = sym (bit-set_other ends last word false other) ∙ is in
               elim (cases_lt word r.from) [
-                | inl before ↦ bit-with_range_outside covered r.from (end_of r) word false order room (inl before) ∙ sound.ends_inside word was
+                | inl before ↦ bit-with_range_outside covered r.from (end_of r) word false order room (inl before)
+                    ∙ sound.ends_inside word was
                 | inr above ↦ elim (cases_lt word last) [
                   | inl below ↦ absurd (both_ways (bit ends word) (lowest.lower word above below) was)
                   | inr past ↦
@@ -136,7 +138,8 @@ module _ (covered begins ends blocks : List Bool) (r : Run) (taken : Taken cover
       }
 
   -- the bits of the blocks that stay where a reservation is taken out, and where a block is
-  pub others_than_reservation : bit blocks r.from ≡ false → (word : ℕ) → bit blocks word ≡ true → (bit begins word ≡ true) × (word ≢ r.from)
+  pub others_than_reservation : bit blocks r.from ≡ false → (word : ℕ) → bit blocks word ≡ true
+      → (bit begins word ≡ true) × (word ≢ r.from)
   others_than_reservation none word is =
       (taken.sound.blocks_begin word is, λ e. both_ways (bit blocks r.from) none (ap (λ (j : ℕ). bit blocks j) (sym e) ∙ is))
 
@@ -152,22 +155,26 @@ module _ (covered begins ends blocks : List Bool) (r : Run) (taken : Taken cover
   pub uncover_lists :
       IsReservation begins ends blocks r
       → lists_of begins' ends' blocks
-      ≡ record (lists_of begins ends blocks) { covered = without_run r.from old; reservations = without_run r.from (extents (minus begins blocks) ends) }
+      ≡ record (lists_of begins ends blocks)
+      { covered = without_run r.from old; reservations = without_run r.from (extents (minus begins blocks) ends) }
   unfolding lists
   uncover_lists reserved =
       let within = bit_within begins r.from (begin_of begins ends r taken.there).0 in
       let same = taken_same in
       let kept = extents_kept begins blocks ends ends' r.from same (others_than_reservation reserved.no_block) in
       let less : minus begins' blocks ≡ set (minus begins blocks) r.from false =
-      minus_less begins begins' blocks blocks r.from within (length-set begins r.from false) (others_stay begins r.from false) (λ j other. refl)
+      minus_less begins begins' blocks blocks r.from within (length-set begins r.from false) (others_stay begins r.from false)
+      (λ j other. refl)
       (ap (λ (b : Bool). b && not (bit blocks r.from)) (bit-set_same begins r.from false within))
       in
       let gone : extents (minus begins' blocks) ends' ≡ without_run r.from (extents (minus begins blocks) ends) =
       ap (λ (bits : List Bool). extents bits ends') less
-      ∙ extents_taken begins (minus begins blocks) ends ends' r.from same (omega (arith, within, length-minus begins blocks)) reserved.reserved
+      ∙ extents_taken begins (minus begins blocks) ends ends' r.from same (omega (arith, within, length-minus begins blocks))
+      reserved.reserved
       (minus_is_begin begins blocks)
       in
-      ap (λ (n : ℕ). lists n (extents begins' ends') (extents blocks ends') (extents (minus begins' blocks) ends')) (length-set begins r.from false)
+      ap (λ (n : ℕ). lists n (extents begins' ends') (extents blocks ends') (extents (minus begins' blocks) ends'))
+      (length-set begins r.from false)
       ∙ ap (λ (rs : List Run). lists (length begins) rs (extents blocks ends') (extents (minus begins' blocks) ends')) taken_extents
       ∙ ap (λ (rs : List Run). lists (length begins) (without_run r.from old) rs (extents (minus begins' blocks) ends')) kept
       ∙ ap (λ (rs : List Run). lists (length begins) (without_run r.from old) (extents blocks ends) rs) gone
@@ -184,7 +191,8 @@ module _ (covered begins ends blocks : List Bool) (r : Run) (taken : Taken cover
       let none_here = and_right (bit begins r.from) (not (bit blocks r.from)) (ap (λ (b : Bool). not b) block) in
       let none : bit (minus begins blocks) r.from ≡ false = bit-minus begins blocks r.from within ∙ none_here in
       let still : minus begins' blocks' ≡ minus begins blocks =
-      minus_same begins begins' blocks blocks' r.from (length-set begins r.from false) (others_stay begins r.from false) (others_stay blocks r.from false)
+      minus_same begins begins' blocks blocks' r.from (length-set begins r.from false) (others_stay begins r.from false)
+      (others_stay blocks r.from false)
       (ap (λ (b : Bool). b && not (bit blocks' r.from)) (bit-set_same begins r.from false within) ∙ sym none_here)
       in
       let kept : extents (minus begins' blocks') ends' ≡ extents (minus begins blocks) ends =
@@ -195,7 +203,8 @@ module _ (covered begins ends blocks : List Bool) (r : Run) (taken : Taken cover
       ))
       in
       let gone = extents_taken begins blocks ends ends' r.from same placed block taken.sound.blocks_begin in
-      ap (λ (n : ℕ). lists n (extents begins' ends') (extents blocks' ends') (extents (minus begins' blocks') ends')) (length-set begins r.from false)
+      ap (λ (n : ℕ). lists n (extents begins' ends') (extents blocks' ends') (extents (minus begins' blocks') ends'))
+      (length-set begins r.from false)
       ∙ ap (λ (rs : List Run). lists (length begins) rs (extents blocks' ends') (extents (minus begins' blocks') ends')) taken_extents
       ∙ ap (λ (rs : List Run). lists (length begins) (without_run r.from old) rs (extents (minus begins' blocks') ends')) gone
       ∙ ap (λ (rs : List Run). lists (length begins) (without_run r.from old) (without_run r.from (extents blocks ends)) rs) kept
@@ -212,7 +221,8 @@ pub record TakenFits (t : Inside) (at words : ℕ) : Type 0 where
   pub at_most : at + words < 2 ^ 32
   pub last_is : next_set t.ends at ≡ Some (at + words - 1)
 
-taken_fits : (t : Inside) (at words : ℕ) → Taken t.covered t.begins t.ends t.blocks (record { from = at; count = words }) → TakenFits t at words
+taken_fits : (t : Inside) (at words : ℕ) → Taken t.covered t.begins t.ends t.blocks (record { from = at; count = words })
+    → TakenFits t at words
 taken_fits t at words taken =
     let r : Run = record { from = at; count = words } in
     let sound = taken.sound in
@@ -233,7 +243,8 @@ pub record ReservationFits (t : Inside) (at words : ℕ) : Type 0 where
   pub reserved : IsReservation t.begins t.ends t.blocks (record { from = at; count = words })
 
 pub reservation_fits : (t : Inside) (seen : ExtentLists) (at words : ℕ) → AreSoundTables t.covered t.begins t.ends t.blocks
-    → lists_of t.begins t.ends t.blocks ≡ seen → Contains seen.reservations (record { from = at; count = words }) → ReservationFits t at words
+    → lists_of t.begins t.ends t.blocks ≡ seen → Contains seen.reservations (record { from = at; count = words })
+    → ReservationFits t at words
 reservation_fits t seen at words sound is listed =
     let r : Run = record { from = at; count = words } in
     let P : ExtentLists → Type 0 = λ e. Contains e.reservations r in

@@ -37,7 +37,8 @@ pub record Taking (s : Inside) (base words pool generation : ℕ) (rank : Rank) 
   pub held_is : held_after (placement_in s.arena (grains_needed words)) s.arena.held ≡ with_run (new_run base words) s.arena.held
   pub held : IsHeld (arena_with s.arena base words) (set s.table.items (grain_of base) (new_entry words pool generation rank)) s.extents
   pub counted : (firsts : List ℕ) → Noted s.firsts.items firsts (new_run base words) (grain_of base)
-      → IsCounted (with_run (new_run base words) s.arena.held) (s.arena.grains + 1) firsts (set s.counts.items (grain_of base) 0) s.extents.covered
+      → IsCounted (with_run (new_run base words) s.arena.held) (s.arena.grains + 1) firsts
+      (set s.counts.items (grain_of base) 0) s.extents.covered
   pub segments :
       segments_in (set s.table.items (grain_of base) (new_entry words pool generation rank))
       ≡ segments_after (placement_for (segs_state s.arena s.table.items s.extents) words) pool generation rank (segments_in s.table.items)
@@ -56,7 +57,7 @@ taking s base words pool generation rank sound nonzero answer =
     let taken = taken_at arena need base answer in
     let P : ℕ → Type 0 = λ g. placement_in arena need ≡ NewSegment g need in
     let Q : ℕ → Type 0 = λ g. lowest_fitting need (gaps 1 (arena.grains + 1) arena.held) ≡ Some g in
-    let shifted = subst P (sym taken.1.base_is) taken.1.shifted in
+    let placement_is = subst P (sym taken.1.base_is) taken.1.placement_is in
     let lowest = subst Q (sym taken.1.base_is) taken.1.lowest in
     let gap = in_lowest_gap 1 (arena.grains + 1) arena.held need grain some sound.0.ascending lowest in
     let first : words_of_grain * grain ≡ word_of base.0 = omega (arith, taken.1.base_at) in
@@ -72,13 +73,14 @@ taking s base words pool generation rank sound nonzero answer =
       in_counts = omega (arith, gap.below, some, sound.1.counts_size);
       at_most = omega (arith, gap.below, some, sound.0.at_most);
       in_firsts = omega (arith, gap.below, sound.1.firsts_size);
-      held_is = ap (λ (p : Placement). held_after p arena.held) shifted;
+      held_is = ap (λ (p : Placement). held_after p arena.held) placement_is;
       held = held_after_take arena s.table.items s.extents sound.0 need grain pool generation rank some lowest;
       counted = λ firsts noted.
-          counted_after_take arena s.table.items s.extents s.firsts.items firsts s.counts.items need grain sound.0 sound.1 some lowest noted;
+          counted_after_take arena s.table.items s.extents s.firsts.items firsts s.counts.items need grain sound.0 sound.1 some lowest
+          noted;
       segments =
           segments_after_take arena s.table.items s.extents sound.0 need grain pool generation rank some lowest
-          ∙ ap (λ (p : Placement). segments_after p pool generation rank (segments_in s.table.items)) (sym (seen ∙ shifted));
+          ∙ ap (λ (p : Placement). segments_after p pool generation rank (segments_in s.table.items)) (sym (seen ∙ placement_is));
       can_cover =
           subst R first
           (new_is_free arena s.table.items s.extents sound.0 need grain pool generation words rank some nonzero (omega arith) lowest);

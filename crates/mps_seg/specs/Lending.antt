@@ -8,4 +8,5 @@ use Rattle.mps_seg.specs.contracts.segs.Segs.{the_row}
 
 -- the words end as the last ones after `loan`, in their place
 abbrev pub LendsSegmentWords : MutBor SegsState → ℕ → MutBor (List ℕ) → Fml
-LendsSegmentWords segs at loan = Lends the_row (Array u64 0) segs loan (λ ws. record segs.now { words = with_words segs.now.words (word_of at) ws })
+LendsSegmentWords segs at loan =
+    Lends the_row (Array u64 0) segs loan (λ ws. record segs.now { words = with_words segs.now.words (word_of at) ws })

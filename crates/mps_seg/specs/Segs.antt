@@ -54,7 +54,8 @@ segments_after (NoFreeRun need longest) pool generation rank ss = ss
 
 -- the moves after a placement
 abbrev pub moves_after : Placement → (pool generation : ℕ) → Moves → Moves
-moves_after (NewSegment grain grains) pool generation moves = with_move moves (Seg (record { 0 = address_of_grain grain }) grains pool generation)
+moves_after (NewSegment grain grains) pool generation moves =
+    with_move moves (Seg (record { 0 = address_of_grain grain }) grains pool generation)
 moves_after (Place word) pool generation moves = moves
 moves_after (OverLimit committed need limit) pool generation moves = moves
 moves_after (NoFreeRun need longest) pool generation moves = moves

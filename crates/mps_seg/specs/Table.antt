@@ -15,7 +15,8 @@ unfoldable pub segments_of_entries : ℕ → List Entry → List Segment
 segments_of_entries grain [] = []
 segments_of_entries grain (Free ∷ entries) = segments_of_entries (suc grain) entries
 segments_of_entries grain (First grains pool generation rank ∷ entries) =
-    record { base = address_of_grain grain; grains = grains; pool = pool; generation = generation; rank = rank } ∷ segments_of_entries (suc grain) entries
+    record { base = address_of_grain grain; grains = grains; pool = pool; generation = generation; rank = rank } ∷ segments_of_entries
+    (suc grain) entries
 
 unfoldable pub segments_in : List Entry → List Segment
 segments_in table = segments_of_entries 0 table
@@ -62,20 +63,28 @@ pub record IsCounted (held : List Run) (size : ℕ) (firsts counts : List ℕ) (
   pub firsts_are : (grain : ℕ) → grain < size → get_or firsts grain 0 ≡ first_over held grain
   pub counts_are : (r : Run) → Contains held r → get_or counts r.from 0 ≡ covered_words_in r covered
 
+-- the runs that begin in the words of n grains from a grain on, and the gaps between them
+abbrev pub runs_in_grains : (grain grains : ℕ) → List Run → List Run
+runs_in_grains grain grains rs = runs_within (words_of_grain * grain) (words_of_grain * grain + words_of_grain * grains) rs
+
+abbrev pub gaps_in_grains : (grain grains : ℕ) → List Run → List Run
+gaps_in_grains grain grains rs =
+    gaps (words_of_grain * grain) (words_of_grain * grain + words_of_grain * grains) (runs_in_grains grain grains rs)
+
 -- the gaps of the segment that begins at a grain, where one does and it is of the pool and the rank
-abbrev pub gaps_at : ℕ → Entry → ℕ → Rank → ExtentLists → List Run
+abbrev pub gaps_at : (grain : ℕ) → Entry → (pool : ℕ) → Rank → ExtentLists → List Run
 gaps_at grain Free pool rank extents = []
 gaps_at grain (First grains of generation at) pool rank extents =
-    if of == pool && same_rank at rank then gaps (words_of_grain * grain) (words_of_grain * grain + words_of_grain * grains) (runs_within (words_of_grain * grain) (words_of_grain * grain + words_of_grain * grains) extents.covered)
-    else []
+    if of == pool && same_rank at rank then gaps_in_grains grain grains extents.covered else []
 
 -- no extent has words on both sides of a bound of the segment that begins at a grain, and the segment lies in the arena
-abbrev pub IsWholeAt : ℕ → Entry → ExtentLists → Type 0
+abbrev pub IsWholeAt : (grain : ℕ) → Entry → ExtentLists → Type 0
 IsWholeAt grain Free extents = Unit {0}
 IsWholeAt grain (First grains pool generation rank) extents =
-    AreWhole (words_of_grain * grain) (words_of_grain * grain + words_of_grain * grains) extents.covered × (words_of_grain * grain + words_of_grain * grains ≤ extents.size)
+    AreWhole (words_of_grain * grain) (words_of_grain * grain + words_of_grain * grains) extents.covered
+    × (words_of_grain * grain + words_of_grain * grains ≤ extents.size)
 
 -- how many words of the segment are covered that begins at a grain
-abbrev pub IsCountAt : ℕ → Entry → ℕ → ExtentLists → Type 0
+abbrev pub IsCountAt : (grain : ℕ) → Entry → (covered : ℕ) → ExtentLists → Type 0
 IsCountAt grain Free covered extents = Unit {0}
-IsCountAt grain (First grains pool generation rank) covered extents = covered ≡ total (runs_within (words_of_grain * grain) (words_of_grain * grain + words_of_grain * grains) extents.covered)
+IsCountAt grain (First grains pool generation rank) covered extents = covered ≡ total (runs_in_grains grain grains extents.covered)

@@ -73,7 +73,9 @@ impl Segs {
         requires at_most { words ≤ max_block_words }
         requires fits { 0 < trail.old.spare }
         ensures value { result ≡ answer_of_placement (placement_for self.old words) }
-        ensures state { self.new ≡ record self.old { segments = segments_after (placement_for self.old words) pool generation rank self.old.segments } }
+        ensures state { self.new ≡ record self.old {
+          segments = segments_after (placement_for self.old words) pool generation rank self.old.segments;
+        } }
         ensures moves { trail.new ≡ moves_after (placement_for self.old words) pool generation trail.old }
         ensures free { IfOk result (λ base. CanCover self.new (record { from = word_of base.0; count = words })) }
     {
@@ -333,7 +335,8 @@ fn gap_between(
     extents.lowest_gap(low, high, words as usize)
 }
 
-/// Where the lowest gap of at least `words` words begins in the segment that begins at a grain, where one does and it is of the pool and the rank.
+/// Where the lowest gap of at least `words` words begins in the segment that begins at a grain. There is none where no segment begins
+/// there, and where the segment is of another pool or rank.
 fn gap_after(
     extents: &Extents,
     grain: usize,

@@ -10,23 +10,31 @@ loop-grain-init c = scan_start c.args.table.now c.args.need c.requires.nonzero c
 pub returns-then-grain-low-clause-value : goal.returns-then-grain-low-clause-value
 returns-then-grain-low-clause-value c =
     let scan = c.loop-grain.invariant in
-    (scan_found c.args.table.now c.args.need c.loop-grain.grain c.loop-grain.low c.loop-grain.most c.requires.nonzero scan c.loop-grain-test.true c.if-count-eq0.true (omega arith)).0
+    (scan_found c.args.table.now c.args.need c.loop-grain.grain c.loop-grain.low c.loop-grain.most c.requires.nonzero scan
+    c.loop-grain-test.true c.if-count-eq0.true (omega arith)).0
 
 pub returns-then-grain-low-clause-free : goal.returns-then-grain-low-clause-free
 returns-then-grain-low-clause-free c =
     let scan = c.loop-grain.invariant in
-    (scan_found c.args.table.now c.args.need c.loop-grain.grain c.loop-grain.low c.loop-grain.most c.requires.nonzero scan c.loop-grain-test.true c.if-count-eq0.true (omega arith)).1
+    (scan_found c.args.table.now c.args.need c.loop-grain.grain c.loop-grain.low c.loop-grain.most c.requires.nonzero scan
+    c.loop-grain-test.true c.if-count-eq0.true (omega arith)).1
 
 pub loop-grain-preserved-else-grain-low : goal.loop-grain-preserved-else-grain-low
 loop-grain-preserved-else-grain-low c =
     let scan = c.loop-grain.invariant in
     let P : ℕ → Type 0 = λ g. Scan c.args.table.now c.args.need g c.loop-grain.low c.loop-grain.most in
     subst P (sym (add-one c.loop-grain.grain))
-    (scan_free c.args.table.now c.args.need c.loop-grain.grain c.loop-grain.low c.loop-grain.most scan c.loop-grain-test.true c.if-count-eq0.true (omega arith))
+    (scan_free c.args.table.now c.args.need c.loop-grain.grain c.loop-grain.low c.loop-grain.most scan c.loop-grain-test.true
+    c.if-count-eq0.true (omega arith))
 
 pub overflow_add-grain-else-count-eq0 : goal.overflow_add-grain-else-count-eq0
 overflow_add-grain-else-count-eq0 c =
-    omega (arith, run_bound c.args.table.now c.loop-grain.grain c.loop-grain.invariant.ascending c.loop-grain-test.true (omega (arith, c.if-count-eq0.false)), c.requires.at_most)
+    omega (
+      arith,
+      run_bound c.args.table.now c.loop-grain.grain c.loop-grain.invariant.ascending c.loop-grain-test.true
+          (omega (arith, c.if-count-eq0.false)),
+      c.requires.at_most,
+    )
 
 pub loop-grain-preserved : goal.loop-grain-preserved
 loop-grain-preserved c =
@@ -36,13 +44,16 @@ loop-grain-preserved c =
     let P : ℕ → Type 0 = λ m. Scan table c.args.need (grain + get_or table grain 0) (grain + get_or table grain 0) m in
     let most : c.max-most.result ≡ max c.loop-grain.most (grain - low) = grind (arith, nat_tests, common_steps) in
     subst P (sym most)
-    (scan_run table c.args.need grain low c.loop-grain.most c.requires.nonzero c.loop-grain.invariant c.loop-grain-test.true (omega (arith, c.if-count-eq0.false)))
+    (scan_run table c.args.need grain low c.loop-grain.most c.requires.nonzero c.loop-grain.invariant c.loop-grain-test.true
+    (omega (arith, c.if-count-eq0.false)))
 
 pub returns-clause-value : goal.returns-clause-value
 returns-clause-value c =
-    (scan_end c.args.table.now c.args.need c.loop-grain.grain c.loop-grain.low c.loop-grain.most c.requires.nonzero c.loop-grain.invariant c.loop-grain-test.false).0
+    (scan_end c.args.table.now c.args.need c.loop-grain.grain c.loop-grain.low c.loop-grain.most c.requires.nonzero
+    c.loop-grain.invariant c.loop-grain-test.false).0
 
 pub returns-clause-most : goal.returns-clause-most
 returns-clause-most c =
-    (scan_end c.args.table.now c.args.need c.loop-grain.grain c.loop-grain.low c.loop-grain.most c.requires.nonzero c.loop-grain.invariant c.loop-grain-test.false).1
+    (scan_end c.args.table.now c.args.need c.loop-grain.grain c.loop-grain.low c.loop-grain.most c.requires.nonzero
+    c.loop-grain.invariant c.loop-grain-test.false).1
     ∙ (grind (arith, nat_tests, common_steps))

@@ -9,7 +9,9 @@ loop-at-init c =
     record {
       from_on = omega arith;
       within = inr refl;
-      counted = sym (ap (λ (k : ℕ). sum_over (bit_in c.args.words.now) c.args.from k) none ∙ sum_over-none (bit_in c.args.words.now) c.args.from);
+      counted =
+          sym (ap (λ (k : ℕ). sum_over (bit_in c.args.words.now) c.args.from k) none ∙ sum_over-none (bit_in c.args.words.now)
+          c.args.from);
     }
 
 pub overflow_add-count : goal.overflow_add-count

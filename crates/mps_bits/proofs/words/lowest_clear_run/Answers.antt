@@ -10,8 +10,13 @@ returns-then-at-width c =
     let at = c.loop-at.at in
     let start = c.loop-at.start in
     let width = c.width_at-width.result in
-    let chunk : IsChunk words at width c.chunk-bits.result = record { inside = c.chunk-bits.ensures.inside; above = c.chunk-bits.ensures.above } in
-    let clear = clear_join words start at (at + width) c.loop-at.invariant.clear (clear_of_zero words at width c.chunk-bits.result chunk c.if-bits-eq0.true) in
+    let chunk : IsChunk words at width c.chunk-bits.result =
+    record { inside = c.chunk-bits.ensures.inside; above = c.chunk-bits.ensures.above }
+    in
+    let clear =
+    clear_join words start at (at + width) c.loop-at.invariant.clear
+    (clear_of_zero words at width c.chunk-bits.result chunk c.if-bits-eq0.true)
+    in
     record {
       above = c.loop-at.invariant.from_on;
       below = omega (arith, c.width_at-width.ensures.in_range);
@@ -29,7 +34,10 @@ returns-then-at-lowest_one c =
     let l = c.lowest_one.result in
     let chunk : IsChunk words at width bits = record { inside = c.chunk-bits.ensures.inside; above = c.chunk-bits.ensures.above } in
     let within = index_below_width words at width bits l chunk c.lowest_one.ensures.set in
-    let clear = clear_join words start at (at + l) c.loop-at.invariant.clear (clear_below words at width bits l chunk (omega (arith, within)) c.lowest_one.ensures.below) in
+    let clear =
+    clear_join words start at (at + l) c.loop-at.invariant.clear
+    (clear_below words at width bits l chunk (omega (arith, within)) c.lowest_one.ensures.below)
+    in
     record {
       above = c.loop-at.invariant.from_on;
       below = omega (arith, within, c.width_at-width.ensures.in_range);
@@ -51,8 +59,10 @@ returns-in-Some c =
       below = omega (arith, found.below, c.width_at-width.ensures.in_range);
       clear = chunk_run words at width bits index c.args.count chunk found.below found.clear;
       lower =
-          no_run_more words c.args.from c.loop-at.start at width bits c.lowest_one.result c.args.count (at + index) chunk c.lowest_one.ensures.set (omega arith) c.loop-at.invariant.none
-          (λ q below clear. found.lower q (omega arith) (run_in_chunk words at width bits q c.args.count chunk (omega (arith, found.below)) clear));
+          no_run_more words c.args.from c.loop-at.start at width bits c.lowest_one.result c.args.count (at + index) chunk
+          c.lowest_one.ensures.set (omega arith) c.loop-at.invariant.none
+          (λ q below clear. found.lower q (omega arith)
+          (run_in_chunk words at width bits q c.args.count chunk (omega (arith, found.below)) clear));
     }
 
 pub loop-at-preserved : goal.loop-at-preserved
@@ -69,7 +79,9 @@ loop-at-preserved c =
             from_on = c.loop-at.invariant.from_on;
             ordered = omega arith;
             short = omega arith;
-            clear = clear_join words start at (at + width) c.loop-at.invariant.clear (clear_of_zero words at width bits chunk w.if-bits-eq0.true);
+            clear =
+                clear_join words start at (at + width) c.loop-at.invariant.clear
+                (clear_of_zero words at width bits chunk w.if-bits-eq0.true);
             none = c.loop-at.invariant.none;
           })
       | else-bits-eq0+else-at-lowest_one+in_default w ↦
@@ -82,7 +94,8 @@ loop-at-preserved c =
             short = omega (arith, short_above width bits h c.args.count none w.highest_one.ensures.above);
             clear = clear_above words at width bits h chunk w.highest_one.ensures.above;
             none =
-                no_run_more words c.args.from start at width bits w.lowest_one.result c.args.count (at + h + 1) chunk w.lowest_one.ensures.set (omega arith) c.loop-at.invariant.none
+                no_run_more words c.args.from start at width bits w.lowest_one.result c.args.count (at + h + 1) chunk
+                w.lowest_one.ensures.set (omega arith) c.loop-at.invariant.none
                 (no_run_upto_highest words at width bits h c.args.count chunk w.highest_one.ensures.set within none);
           })
     ]

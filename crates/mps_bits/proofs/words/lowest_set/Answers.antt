@@ -15,7 +15,9 @@ returns-then-bits-ne0 c =
       above = omega arith;
       below = omega (arith, within, c.width_at-width.ensures.in_range);
       set = set_at words at width bits p chunk c.lowest_one.ensures.set;
-      lower = clear_join words c.args.from at (at + p) c.loop-at.invariant.clear (clear_below words at width bits p chunk (omega (arith, within)) c.lowest_one.ensures.below);
+      lower =
+          clear_join words c.args.from at (at + p) c.loop-at.invariant.clear
+          (clear_below words at width bits p chunk (omega (arith, within)) c.lowest_one.ensures.below);
     }
 
 pub loop-at-preserved : goal.loop-at-preserved
@@ -23,8 +25,12 @@ loop-at-preserved c =
     let words = c.args.words.now in
     let at = c.loop-at.at in
     let width = c.width_at-width.result in
-    let chunk : IsChunk words at width c.chunk-bits.result = record { inside = c.chunk-bits.ensures.inside; above = c.chunk-bits.ensures.above } in
+    let chunk : IsChunk words at width c.chunk-bits.result =
+    record { inside = c.chunk-bits.ensures.inside; above = c.chunk-bits.ensures.above }
+    in
     record {
       from_on = omega arith;
-      clear = clear_join words c.args.from at (at + width) c.loop-at.invariant.clear (clear_of_zero words at width c.chunk-bits.result chunk c.if-bits-ne0.false);
+      clear =
+          clear_join words c.args.from at (at + width) c.loop-at.invariant.clear
+          (clear_of_zero words at width c.chunk-bits.result chunk c.if-bits-ne0.false);
     }

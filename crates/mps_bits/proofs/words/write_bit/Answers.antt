@@ -14,4 +14,5 @@ returns-clause-unchanged c =
     let at = c.args.at in
     λ i other.
     let out : (i < at) ⊎ (at + 1 ≤ i) = elim (cases_lt i at) [ inl below ↦ inl below | inr from ↦ inr (omega arith) ] in
-    bit_in_write_outside c.args.words.now at 1 c.with_bits.result i (omega arith) (omega (arith, c.requires)) c.with_bits.ensures.unchanged out
+    bit_in_write_outside c.args.words.now at 1 c.with_bits.result i (omega arith) (omega (arith, c.requires))
+    c.with_bits.ensures.unchanged out

@@ -11,7 +11,10 @@ loop-at-preserved c =
     let word = c.with_bits.result in
     let in_word : at % 64 + width ≤ 64 = c.width_at-width.ensures.in_word in
     let in_row : at / 64 < length words = omega (arith, c.loop-at.auto.words, c.requires) in
-    let kept = λ (i : ℕ) (out : (i < at) ⊎ (at + width ≤ i)). bit_in_write_outside words at width word i in_word in_row c.with_bits.ensures.unchanged out in
+    let kept =
+    λ (i : ℕ) (out : (i < at) ⊎ (at + width ≤ i)). bit_in_write_outside words at width word i in_word in_row
+    c.with_bits.ensures.unchanged out
+    in
     record {
       from_on = omega arith;
       within = inl c.width_at-width.ensures.in_range;
@@ -31,6 +34,7 @@ returns-clause-unchanged c =
       | inl before ↦ c.loop-at.invariant.outside i (inl before)
       | inr after ↦ elim (cases_lt i c.args.from) [
         | inl before ↦ c.loop-at.invariant.outside i (inl before)
-        | inr from ↦ c.loop-at.invariant.outside i (inr (elim c.loop-at.invariant.within [ inl within ↦ omega arith | inr stays ↦ omega arith ]))
+        | inr from ↦
+            c.loop-at.invariant.outside i (inr (elim c.loop-at.invariant.within [ inl within ↦ omega arith | inr stays ↦ omega arith ]))
       ]
     ]

@@ -17,7 +17,8 @@ invariant_of-self c =
     let run : Run = record { from = grain_of c.args.base.0; count = c.args.grains } in
     let P : ArenaMemory → Type 0 = λ a. Contains a.held run in
     let there = subst P (sym c.self.view_is) c.requires.held in
-    sound_after_give c.self.inside.words.items c.self.inside.runs.items c.self.inside.committed c.self.inside.limit run c.self.invariant there
+    sound_after_give c.self.inside.words.items c.self.inside.runs.items c.self.inside.committed c.self.inside.limit run
+    c.self.invariant there
 
 pub returns : goal.returns
 returns c =

@@ -11,8 +11,13 @@ returns c =
     let inside = c.self.inside in (
       (
         refl,
-        λ w. ap (λ (ws : List ℕ). memory_of ws inside.runs.items inside.limit) (written_over inside.words.items w from inside.words.len inside.words.ok.0)
+        λ w. ap (λ (ws : List ℕ). memory_of ws inside.runs.items inside.limit)
+            (written_over inside.words.items w from inside.words.len inside.words.ok.0)
             ∙ ap (λ (a : ArenaMemory). record a { words = with_words a.words from w }) c.self.view_is,
       ),
-      record { writes_back = tt; value = c.slice_mut.ensures.value ∙ ap (λ (a : ArenaMemory). slice_range a.words from (from + c.args.words)) c.self.view_is },
+      record {
+        writes_back = tt;
+        value = c.slice_mut.ensures.value ∙ ap
+            (λ (a : ArenaMemory). slice_range a.words from (from + c.args.words)) c.self.view_is;
+      },
     )

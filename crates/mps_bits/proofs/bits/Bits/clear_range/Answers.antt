@@ -14,9 +14,12 @@ pub returns-clause-state : goal.returns-clause-state
 returns-clause-state c =
     let size = length_of_table c.self.inside.words.items c.self.inside.len c.args.self.now c.self.view_is in
     let old = c.deref_mut.ensures.value in
-    let new = with_items_is c.self.inside.words c.write_range.new.words (omega (arith, c.write_range.auto.words, c.deref_mut.ensures.len)) in
+    let new =
+    with_items_is c.self.inside.words c.write_range.new.words (omega (arith, c.write_range.auto.words, c.deref_mut.ensures.len))
+    in
     ap (λ (ws : List ℕ). table_of ws c.self.inside.len) new
-    ∙ table_range c.deref_mut.result.now c.write_range.new.words c.self.inside.len c.args.from c.args.to false c.requires.ordered (omega (arith, size, c.requires.in_table)) c.write_range.ensures.inside c.write_range.ensures.unchanged
+    ∙ table_range c.deref_mut.result.now c.write_range.new.words c.self.inside.len c.args.from c.args.to false c.requires.ordered
+    (omega (arith, size, c.requires.in_table)) c.write_range.ensures.inside c.write_range.ensures.unchanged
     ∙ ap (λ (ws : List ℕ). with_range (table_of ws c.self.inside.len) c.args.from c.args.to false) old
     ∙ ap (λ (t : List Bool). with_range t c.args.from c.args.to false) c.self.view_is
 

@@ -12,6 +12,7 @@ pub returns : goal.returns
 returns c =
     let size = length_of_table c.self.inside.words.items c.self.inside.len c.args.self.now c.self.view_is in
     c.count_set.ensures
-    ∙ count_set_is c.deref.result.now c.self.inside.len c.args.from c.args.to c.requires.ordered (omega (arith, size, c.requires.in_table))
+    ∙ count_set_is c.deref.result.now c.self.inside.len c.args.from c.args.to c.requires.ordered
+    (omega (arith, size, c.requires.in_table))
     ∙ ap (λ (ws : List ℕ). count_set (table_of ws c.self.inside.len) c.args.from c.args.to) c.deref.ensures.value
     ∙ ap (λ (t : List Bool). count_set t c.args.from c.args.to) c.self.view_is

@@ -7,4 +7,5 @@ use Rattle.mps_bits.proofs.bits.Bits.new.Goals as goal
 pub returns : goal.returns
 returns c =
     table_new c.in_ok-words.words.items c.args.len
-    (λ i within. ap (λ (ws : List ℕ). bit_in ws i) (c.in_ok-words.ensures.items_if_clones_equal (λ y h. h)) ∙ bit_in-zeros ((c.args.len + 63) / 64) i)
+    (λ i within. ap (λ (ws : List ℕ). bit_in ws i) (c.in_ok-words.ensures.items_if_clones_equal (λ y h. h)) ∙ bit_in-zeros
+    ((c.args.len + 63) / 64) i)

@@ -11,6 +11,7 @@ lowest_set-requires c =
 pub returns : goal.returns
 returns c =
     let size = length_of_table c.self.inside.words.items c.self.inside.len c.args.self.now c.self.view_is in
-    next_set_below_is c.deref.result.now c.self.inside.len c.args.from c.args.to c.lowest_set.result (omega (arith, size, c.requires)) c.lowest_set.ensures
+    next_set_below_is c.deref.result.now c.self.inside.len c.args.from c.args.to c.lowest_set.result (omega (arith, size, c.requires))
+    c.lowest_set.ensures
     ∙ ap (λ (ws : List ℕ). next_set_below (table_of ws c.self.inside.len) c.args.from c.args.to) c.deref.ensures.value
     ∙ ap (λ (t : List Bool). next_set_below t c.args.from c.args.to) c.self.view_is

@@ -16,6 +16,7 @@ highest_set-requires c =
 pub returns : goal.returns
 returns c =
     let size = length_of_table c.self.inside.words.items c.self.inside.len c.args.self.now c.self.view_is in
-    previous_set_is c.deref.result.now c.self.inside.len c.args.at c.highest_set.result (omega (arith, size, c.requires)) c.highest_set.ensures
+    previous_set_is c.deref.result.now c.self.inside.len c.args.at c.highest_set.result (omega (arith, size, c.requires))
+    c.highest_set.ensures
     ∙ ap (λ (ws : List ℕ). previous_set (table_of ws c.self.inside.len) c.args.at) c.deref.ensures.value
     ∙ ap (λ (t : List Bool). previous_set t c.args.at) c.self.view_is

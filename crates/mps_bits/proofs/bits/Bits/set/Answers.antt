@@ -16,7 +16,8 @@ returns-clause-state c =
     let old = c.deref_mut.ensures.value in
     let new = with_items_is c.self.inside.words c.write_bit.new.words (omega (arith, c.write_bit.auto.words, c.deref_mut.ensures.len)) in
     ap (λ (ws : List ℕ). table_of ws c.self.inside.len) new
-    ∙ table_set c.deref_mut.result.now c.write_bit.new.words c.self.inside.len c.args.at true (omega (arith, size, c.requires)) c.write_bit.ensures.same c.write_bit.ensures.unchanged
+    ∙ table_set c.deref_mut.result.now c.write_bit.new.words c.self.inside.len c.args.at true (omega (arith, size, c.requires))
+    c.write_bit.ensures.same c.write_bit.ensures.unchanged
     ∙ ap (λ (ws : List ℕ). set (table_of ws c.self.inside.len) c.args.at true) old
     ∙ ap (λ (t : List Bool). set t c.args.at true) c.self.view_is
 

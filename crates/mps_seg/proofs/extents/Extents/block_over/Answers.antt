@@ -12,7 +12,8 @@ returns-then-word-len c =
     let ends = c.self.inside.ends in
     let blocks = c.self.inside.blocks in
     let sound = c.self.invariant in
-    sym (no_block_over covered begins ends blocks sound c.args.word (bit_past covered c.args.word (omega (arith, c.if-word-len.true, c.len.ensures))))
+    sym (no_block_over covered begins ends blocks sound c.args.word
+    (bit_past covered c.args.word (omega (arith, c.if-word-len.true, c.len.ensures))))
     ∙ ap (λ (e : ExtentLists). run_over e.blocks c.args.word) c.self.view_is
 
 pub returns-then-not-test : goal.returns-then-not-test

@@ -55,7 +55,8 @@ returns-clause-state c =
     let taken = block_fits c.self.inside c.args.self.now c.args.at c.args.words c.self.invariant c.self.view_is c.requires in
     rw (c.clear.ensures.state, c.clear-2.ensures.state, c.clear-3.ensures.state)
     (drop_lists t.covered t.begins t.ends t.blocks r taken.fits.taken taken.block
-    ∙ ap (λ (e : ExtentLists). record e { covered = without_run c.args.at e.covered; blocks = without_run c.args.at e.blocks }) c.self.view_is)
+    ∙ ap (λ (e : ExtentLists). record e { covered = without_run c.args.at e.covered; blocks = without_run c.args.at e.blocks })
+    c.self.view_is)
 
 pub returns-clause-was_covered : goal.returns-clause-was_covered
 returns-clause-was_covered c =

@@ -11,7 +11,9 @@ invariant_of-result c =
     let P2 : List Bool → Type 0 = λ t. AreSoundTables clear t c.in_ok-new-3.field-0 c.in_ok-new-4.field-0 in
     let P3 : List Bool → Type 0 = λ t. AreSoundTables clear clear t c.in_ok-new-4.field-0 in
     let P4 : List Bool → Type 0 = λ t. AreSoundTables clear clear clear t in
-    subst P1 (sym c.in_ok-new.ensures) (subst P2 (sym c.in_ok-new-2.ensures) (subst P3 (sym c.in_ok-new-3.ensures) (subst P4 (sym c.in_ok-new-4.ensures) (new_is_sound n c.requires))))
+    subst P1 (sym c.in_ok-new.ensures)
+    (subst P2 (sym c.in_ok-new-2.ensures)
+    (subst P3 (sym c.in_ok-new-3.ensures) (subst P4 (sym c.in_ok-new-4.ensures) (new_is_sound n c.requires))))
 
 pub returns : goal.returns
 returns c =

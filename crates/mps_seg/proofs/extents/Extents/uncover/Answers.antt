@@ -50,7 +50,8 @@ returns-clause-state c =
     let taken = reservation_fits c.self.inside c.args.self.now c.args.at c.args.words c.self.invariant c.self.view_is c.requires in
     rw (c.clear.ensures.state, c.clear-2.ensures.state)
     (uncover_lists t.covered t.begins t.ends t.blocks r taken.fits.taken taken.reserved
-    ∙ ap (λ (e : ExtentLists). record e { covered = without_run c.args.at e.covered; reservations = without_run c.args.at e.reservations }) c.self.view_is)
+    ∙ ap (λ (e : ExtentLists). record e
+    { covered = without_run c.args.at e.covered; reservations = without_run c.args.at e.reservations }) c.self.view_is)
 
 pub returns-clause-was_covered : goal.returns-clause-was_covered
 returns-clause-was_covered c =

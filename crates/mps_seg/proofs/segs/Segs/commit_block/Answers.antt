@@ -7,7 +7,8 @@ use Rattle.mps_seg.proofs.segs.Segs.commit_block.Goals as goal
 
 pub commit_block-requires-clause-free : goal.commit_block-requires-clause-free
 commit_block-requires-clause-free c =
-    (covering c.self.inside c.args.self.now c.args.at.0 c.args.words c.self.invariant c.self.view_is c.requires.nonzero c.requires.free).free
+    (covering c.self.inside c.args.self.now c.args.at.0 c.args.words c.self.invariant c.self.view_is c.requires.nonzero
+    c.requires.free).free
 
 pub index-requires : goal.index-requires
 index-requires c =
@@ -50,4 +51,5 @@ invariant_of-self c =
     get_or_read s.counts.items c.index.result.now c.index_mut.result.now within c.index_mut.ensures.value 0
     ∙ ap (λ (k : ℕ). get_or s.counts.items k 0) first
     in
-    rw (c.commit_block.ensures, first, count) (facts.held (with_run (words_at c.args.at.0 c.args.words) s.extents.blocks) s.extents.reservations, facts.counted)
+    rw (c.commit_block.ensures, first, count)
+    (facts.held (with_run (words_at c.args.at.0 c.args.words) s.extents.blocks) s.extents.reservations, facts.counted)

@@ -46,7 +46,8 @@ invariant_of-self c =
     get_or_read s.counts.items c.index.result.now c.index_mut.result.now within c.index_mut.ensures.value 0
     ∙ ap (λ (k : ℕ). get_or s.counts.items k 0) first
     in
-    rw (c.drop_block.ensures.state, first, count) (facts.held (without_run (word_of c.args.at.0) s.extents.blocks) s.extents.reservations, facts.counted)
+    rw (c.drop_block.ensures.state, first, count)
+    (facts.held (without_run (word_of c.args.at.0) s.extents.blocks) s.extents.reservations, facts.counted)
 
 pub returns-clause-free : goal.returns-clause-free
 returns-clause-free c =

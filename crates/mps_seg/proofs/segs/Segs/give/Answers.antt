@@ -20,7 +20,9 @@ unreachable-requires c =
     let empty = c.requires.empty in
     let t = empty.0 in
     let facts = giving c.self.inside c.args.self.now c.args.base.0 t c.self.invariant c.self.view_is empty.1 empty.2 in
-    let read = get_or_read c.self.inside.table.items (grain_of c.args.base.0) c.index.result.now facts.in_table c.index.ensures Free ∙ facts.is in
+    let read =
+    get_or_read c.self.inside.table.items (grain_of c.args.base.0) c.index.result.now facts.in_table c.index.ensures Free ∙ facts.is
+    in
     let never : Free ≡ First t.grains t.pool t.generation t.rank = sym c.in_default.is ∙ read in
     cc
 

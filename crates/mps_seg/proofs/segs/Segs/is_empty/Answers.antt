@@ -10,7 +10,9 @@ use Rattle.mps_seg.proofs.segs.Segs.is_empty.Goals as goal
 
 pub index-requires : goal.index-requires
 index-requires c =
-    let at = counted_seen c.self.inside c.args.self.now c.args.base.0 c.requires.0 c.self.invariant c.self.view_is c.requires.1 c.requires.2 in
+    let at =
+    counted_seen c.self.inside c.args.self.now c.args.base.0 c.requires.0 c.self.invariant c.self.view_is c.requires.1 c.requires.2
+    in
     omega (arith, at.within, c.self.inside.counts.ok.0)
 
 pub returns-clause-sound : goal.returns-clause-sound

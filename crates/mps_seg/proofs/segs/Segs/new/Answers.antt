@@ -20,12 +20,16 @@ invariant_of-result c =
     let n = c.args.grains + 1 in
     let firsts : c.in_ok-vec-2.field-0.items ≡ replicate n 0 = c.in_ok-vec-2.ensures.items_if_clones_equal (λ y h. h) in
     let counts : c.in_ok-vec-3.field-0.items ≡ replicate n 0 = c.in_ok-vec-3.ensures.items_if_clones_equal (λ y h. h) in
-    let C : ArenaMemory → Type 0 = λ a. IsCounted a.held (a.grains + 1) c.in_ok-vec-2.field-0.items c.in_ok-vec-3.field-0.items c.in_ok-new-2.field-0.covered in
+    let C : ArenaMemory → Type 0 =
+    λ a. IsCounted a.held (a.grains + 1) c.in_ok-vec-2.field-0.items c.in_ok-vec-3.field-0.items c.in_ok-new-2.field-0.covered
+    in
     let D : ExtentLists → Type 0 = λ e. IsCounted [] n c.in_ok-vec-2.field-0.items c.in_ok-vec-3.field-0.items e.covered in
     let E : List ℕ → Type 0 = λ fs. IsCounted [] n fs c.in_ok-vec-3.field-0.items [] in
     let F : List ℕ → Type 0 = λ cs. IsCounted [] n (replicate n 0) cs [] in (
-      subst P (sym c.in_ok-new.ensures) (subst Q (sym entries) (subst R (sym c.in_ok-new-2.ensures) (new_is_held c.args.grains c.args.limit c.requires.at_most))),
-      subst C (sym c.in_ok-new.ensures) (subst D (sym c.in_ok-new-2.ensures) (subst E (sym firsts) (subst F (sym counts) (new_is_counted n)))),
+      subst P (sym c.in_ok-new.ensures)
+          (subst Q (sym entries) (subst R (sym c.in_ok-new-2.ensures) (new_is_held c.args.grains c.args.limit c.requires.at_most))),
+      subst C (sym c.in_ok-new.ensures)
+          (subst D (sym c.in_ok-new-2.ensures) (subst E (sym firsts) (subst F (sym counts) (new_is_counted n)))),
     )
 
 pub returns : goal.returns
@@ -33,5 +37,6 @@ returns c =
     let entries : c.in_ok-vec.field-0.items ≡ replicate (c.args.grains + 1) Free = c.in_ok-vec.ensures.items_if_clones_equal (λ y h. h) in
     ap (λ (a : ArenaMemory). segs_state a c.in_ok-vec.field-0.items c.in_ok-new-2.field-0) c.in_ok-new.ensures
     ∙ ap (λ (t : List Entry). segs_state (new_arena c.args.grains c.args.limit) t c.in_ok-new-2.field-0) entries
-    ∙ ap (λ (e : ExtentLists). segs_state (new_arena c.args.grains c.args.limit) (replicate (c.args.grains + 1) Free) e) c.in_ok-new-2.ensures
+    ∙ ap (λ (e : ExtentLists). segs_state (new_arena c.args.grains c.args.limit) (replicate (c.args.grains + 1) Free) e)
+    c.in_ok-new-2.ensures
     ∙ ap (λ (ss : List Segment). record (new_segments c.args.grains c.args.limit) { segments = ss }) (new_segments_in (c.args.grains + 1))

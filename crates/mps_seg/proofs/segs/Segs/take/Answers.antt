@@ -63,7 +63,8 @@ invariant_of-self-2 c =
     taking s c.in_ok-base.base a.words a.pool a.generation a.rank c.self.invariant c.requires.nonzero c.in_ok-base.ensures.value
     in
     let now = with_items_is s.firsts c.note_first.new.firsts (omega (arith, c.note_first.auto.firsts, c.deref_mut.ensures.len)) in
-    let noted : Noted s.firsts.items c.note_first.new.firsts (new_run c.in_ok-base.base.0 a.words) (grain_of c.in_ok-base.base.0) = record {
+    let noted : Noted s.firsts.items c.note_first.new.firsts (new_run c.in_ok-base.base.0 a.words)
+    (grain_of c.in_ok-base.base.0) = record {
       size = c.note_first.ensures.size ∙ ap (λ (fs : List ℕ). length fs) c.deref_mut.ensures.value;
       inside = c.note_first.ensures.written;
       outside = λ g out. c.note_first.ensures.unchanged g out ∙ ap (λ (fs : List ℕ). get_or fs g 0) c.deref_mut.ensures.value;
@@ -81,7 +82,8 @@ returns-clause-state c =
     record st { segments = segments_after (placement_for st a.words) a.pool a.generation a.rank st.segments }
     in
     rw c.take_run.ensures.state
-    (ap (λ (ss : List Segment). record (segs_state s.arena s.table.items s.extents) { segments = ss }) facts.segments ∙ ap after c.self.view_is)
+    (ap (λ (ss : List Segment). record (segs_state s.arena s.table.items s.extents) { segments = ss }) facts.segments ∙ ap after
+    c.self.view_is)
 
 pub returns-clause-free : goal.returns-clause-free
 returns-clause-free c =

@@ -14,14 +14,18 @@ use Rattle.mps_seg.proofs.segs.Segs.walk.Goals as goal
 pub index-requires : goal.index-requires
 index-requires c =
     let s = c.self.inside in
-    let at = entry_at_seen_base s.arena s.table.items s.extents c.args.self.now c.args.base.0 c.requires.0 c.self.view_is c.requires.1 c.requires.2 in
+    let at =
+    entry_at_seen_base s.arena s.table.items s.extents c.args.self.now c.args.base.0 c.requires.0 c.self.view_is c.requires.1 c.requires.2
+    in
     omega (arith, at.within, s.table.ok.0)
 
 pub unreachable-requires : goal.unreachable-requires
 unreachable-requires c =
     let s = c.self.inside in
     let t = c.requires.0 in
-    let at = entry_at_seen_base s.arena s.table.items s.extents c.args.self.now c.args.base.0 t c.self.view_is c.requires.1 c.requires.2 in
+    let at =
+    entry_at_seen_base s.arena s.table.items s.extents c.args.self.now c.args.base.0 t c.self.view_is c.requires.1 c.requires.2
+    in
     let read = get_or_read s.table.items (grain_of c.args.base.0) c.index.result.now at.within c.index.ensures Free ∙ at.is in
     let never : Free ≡ First t.grains t.pool t.generation t.rank = sym c.in_default.is ∙ read in
     cc
@@ -31,7 +35,9 @@ first_block-requires c =
     let s = c.self.inside in
     let t = c.requires.0 in
     let grain = grain_of c.args.base.0 in
-    let at = entry_at_seen_base s.arena s.table.items s.extents c.args.self.now c.args.base.0 t c.self.view_is c.requires.1 c.requires.2 in
+    let at =
+    entry_at_seen_base s.arena s.table.items s.extents c.args.self.now c.args.base.0 t c.self.view_is c.requires.1 c.requires.2
+    in
     let read = get_or_read s.table.items grain c.index.result.now at.within c.index.ensures Free ∙ at.is in
     let grains = grains_read c.in-First.is read in
     omega (
@@ -45,7 +51,9 @@ overflow_mul-result c =
     let s = c.self.inside in
     let t = c.requires.0 in
     let grain = grain_of c.args.base.0 in
-    let at = entry_at_seen_base s.arena s.table.items s.extents c.args.self.now c.args.base.0 t c.self.view_is c.requires.1 c.requires.2 in
+    let at =
+    entry_at_seen_base s.arena s.table.items s.extents c.args.self.now c.args.base.0 t c.self.view_is c.requires.1 c.requires.2
+    in
     let read = get_or_read s.table.items grain c.index.result.now at.within c.index.ensures Free ∙ at.is in
     let grains = grains_read c.in-First.is read in
     let low = word_of c.args.from.0 in
