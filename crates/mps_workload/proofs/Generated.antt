@@ -19,7 +19,8 @@ no_lines_more count step state le =
 
 -- the lines of a step by the three numbers that were drawn for it
 step_drawn : (step state slot target kind : ℕ)
-    → slot ≡ number_below 16 (next_state state) → target ≡ number_below 16 (next_state (next_state state)) → kind ≡ number_below 8 (state_after_step state)
+    → slot ≡ number_below 16 (next_state state) → target ≡ number_below 16 (next_state (next_state state))
+    → kind ≡ number_below 8 (state_after_step state)
     → step_lines step state ≡ lines_of_kind kind step slot target
 step_drawn step state slot target kind slot-is target-is kind-is = rw (slot-is, target-is, kind-is) refl
 
@@ -37,7 +38,8 @@ makes_an_object kind step slot target lt =
 -- the first line of an object
 pub object_begins : (count step state slot target kind after : ℕ) (text : List ℕ) (rest : List (List ℕ))
     → step < count
-    → slot ≡ number_below 16 (next_state state) → target ≡ number_below 16 (next_state (next_state state)) → kind ≡ number_below 8 (state_after_step state)
+    → slot ≡ number_below 16 (next_state state) → target ≡ number_below 16 (next_state (next_state state))
+    → kind ≡ number_below 8 (state_after_step state)
     → after ≡ state_after_step state → kind < 4
     → allocating_lines step slot target ≡ text ∷ rest
     → lines_from (count - step) step state ≡ text ∷ (rest ++ lines_from (count - (step + 1)) (step + 1) after)
@@ -51,7 +53,8 @@ object_begins count step state slot target kind after text rest lt slot-is targe
 -- the one line of another step
 pub step_ends : (count step state slot target kind after : ℕ) (text : List ℕ)
     → step < count
-    → slot ≡ number_below 16 (next_state state) → target ≡ number_below 16 (next_state (next_state state)) → kind ≡ number_below 8 (state_after_step state)
+    → slot ≡ number_below 16 (next_state state) → target ≡ number_below 16 (next_state (next_state state))
+    → kind ≡ number_below 8 (state_after_step state)
     → after ≡ state_after_step state
     → ((n : ℕ) → lines_of_kind kind n slot target ≡ text ∷ [])
     → lines_from (count - step) step state ≡ text ∷ lines_from (count - (step + 1)) (step + 1) after

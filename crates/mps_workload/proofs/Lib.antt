@@ -1,2 +1,2 @@
 pub mod Generated
-pub mod Failing
+pub mod PartPrinted

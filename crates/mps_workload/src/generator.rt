@@ -1,32 +1,35 @@
 // `gen`: prints a generated script.
 
-ghost use Rattle.std.specs.Prelude.{◌≡◌, ◌≤◌, ◌⊎◌, ◌++◌, [], length, OnOk, OnErr};
+ghost use Rattle.std.specs.Prelude.{◌≡◌, ◌≤◌, ◌⊎◌, ◌++◌, [], codes, length, OnOk, OnErr};
 ghost use Rattle.std.specs.List.{flat_map};
 ghost use Rattle.mps_workload.specs.Ending.{IsGenerated, FailsWithin};
 ghost use Rattle.mps_workload.specs.Script.{script};
-ghost use Rattle.mps_report.specs.Reports.{report_of};
 ghost use Rattle.mps_report.specs.Streams.{Prints, PrintsPart, Gathers, Reports};
-ghost use Rattle.mps_report.specs.declared.stop.Stop.TheVariants.{OutOfMemory};
 
 use crate::lines::GenLines;
 use mps_base::{Desk, Failed};
-use mps_report::{Output, Stop, report_ending};
+use mps_report::{NoBadPlace, Output, Stop, report_ending};
 use std::alloc::Global;
 
-/// Prints the generated script of a seed, of n steps, and answers the status of the program: 0, or with a report 4
-/// where a write failed, 8 for out of memory. It prints and reports, and does nothing else.
+/// Prints the generated script of a seed, of n steps, and returns the status of the program: 0, or with a report 4
+/// where a write failed, 8 where there is no memory. It prints and reports, and does nothing else.
 pub fn generate<D: Desk>(alloc: Global, seed: u64, count: u64, desk: &mut D) -> u8
     requires { count ≤ 1000000 }
     ensures whole { result ≡ 0 → Prints (D.outside desk.old) (D.outside desk.new) (script seed count) }
-    ensures known { (result ≡ 0) ⊎ (result ≡ 4) ⊎ (result ≡ 8) }
-    ensures failed { result ≡ 4 → FailsWithin (D.outside desk.old) (D.outside desk.new) (script seed count) }
-    ensures no_memory { result ≡ 8 → Reports (D.outside desk.old) (D.outside desk.new) (report_of OutOfMemory) }
+    ensures statuses { (result ≡ 0) ⊎ (result ≡ 4) ⊎ (result ≡ 8) }
+    ensures cut { result ≡ 4 → FailsWithin (D.outside desk.old) (D.outside desk.new) (script seed count) }
+    ensures no_memory { result ≡ 8 → Reports (D.outside desk.old) (D.outside desk.new) (codes "mps: out of memory\n") }
 {
     let ending = print_script(alloc, seed, count, desk);
     report_ending(ending, desk)
 }
 
-fn print_script<D: Desk>(alloc: Global, seed: u64, count: u64, desk: &mut D) -> Result<(), Stop>
+fn print_script<D: Desk>(
+    alloc: Global,
+    seed: u64,
+    count: u64,
+    desk: &mut D,
+) -> Result<(), Stop<NoBadPlace>>
     requires { count ≤ 1000000 }
     ensures { IsGenerated (D.outside desk.old) (D.outside desk.new) (script seed count) result }
 {
@@ -48,7 +51,7 @@ fn print_all_lines<D: Desk>(
 ) -> Result<(), Failed>
     requires { output.old ≡ [] }
     ensures printed { OnOk result (Prints (D.outside desk.old) (D.outside desk.new) (flat_map (λ line. line) lines.old)) }
-    ensures failed { OnErr result (PrintsPart (D.outside desk.old) (D.outside desk.new) (flat_map (λ line. line) lines.old)) }
+    ensures part { OnErr result (PrintsPart (D.outside desk.old) (D.outside desk.new) (flat_map (λ line. line) lines.old)) }
 {
     gather_lines(lines, output, desk)?;
     output.flush(desk)
@@ -59,8 +62,9 @@ fn gather_lines<D: Desk>(
     output: &mut Output,
     desk: &mut D,
 ) -> Result<(), Failed>
-    ensures gathered { OnOk result (Gathers (D.outside desk.old) (D.outside desk.new) output.old output.new (flat_map (λ line. line) lines.old)) }
-    ensures failed { OnErr result (PrintsPart (D.outside desk.old) (D.outside desk.new) (output.old ++ flat_map (λ line. line) lines.old)) }
+    ensures gathered { OnOk result (Gathers (D.outside desk.old) (D.outside desk.new) output.old output.new
+        (flat_map (λ line. line) lines.old)) }
+    ensures part { OnErr result (PrintsPart (D.outside desk.old) (D.outside desk.new) (output.old ++ flat_map (λ line. line) lines.old)) }
 {
     let mut line = [0u8; 64];
     while let Some(length) = lines.next_line(&mut line) {
@@ -72,7 +76,7 @@ fn gather_lines<D: Desk>(
 fn gather_line<D: Desk>(text: &[u8], output: &mut Output, desk: &mut D) -> Result<(), Failed>
     requires { length text.now ≤ 64 }
     ensures gathered { OnOk result (Gathers (D.outside desk.old) (D.outside desk.new) output.old output.new text.now) }
-    ensures failed { OnErr result (PrintsPart (D.outside desk.old) (D.outside desk.new) output.old) }
+    ensures part { OnErr result (PrintsPart (D.outside desk.old) (D.outside desk.new) output.old) }
 {
     output.make_room(desk)?;
     output.text(text);

@@ -3,35 +3,37 @@
 ghost use Rattle.std.specs.Prelude.{◌≡◌, ◌≤◌, ◌<◌, ◌∷◌, [], take, drop, MatchOption, IfSome};
 ghost use Rattle.mps_workload.specs.Script.{script_lines, ending_lines, next_state, number_below, state_after_step};
 ghost use Rattle.mps_workload.specs.GenLines.{lines_left, CanStand};
-ghost use Rattle.mps_workload.specs.declared.lines.Place.TheVariants as place;
+ghost use Rattle.mps_workload.specs.declared.lines.Position.TheVariants as position;
 
 use crate::script_lines::{put_allocating, put_ending, put_making, put_step};
 use std::marker::Model;
 
+/// The multiplier of the linear congruential generator.
 const MULTIPLIER: u64 = 6364136223846793005;
 
+/// Its increment.
 const INCREMENT: u64 = 1442695040888963407;
 
-// Where a generator stands in its script.
+/// Where a generator stands in its script.
 #[derive(Clone, Copy, Debug, PartialEq, Eq)]
-enum Place {
-    // After n of the lines that make things.
+enum Position {
+    /// After n of the lines that make things.
     Making(u8),
-    // Before a step.
+    /// Before a step.
     Stepping,
-    // Within a step that makes an object, after n lines of it: it goes into one slot and refers to another's.
-    Allocating { rest: u8, slot: u64, target: u64 },
-    // After n of the last lines.
+    /// Within a step that makes an object, after n lines of it: it goes into one slot and refers to another's.
+    Allocating { written: u8, slot: u64, target: u64 },
+    /// After n of the last lines.
     Ending(u8),
 }
 
-// A place in a script, and what the lines from there on come from.
+/// A position in a script, and what the lines from there on come from.
 #[derive(Debug, Drop)]
 struct Standing {
     state: u64,
     step: u64,
     count: u64,
-    place: Place,
+    position: Position,
 }
 
 /// The lines of a generated script, one by one. It takes no memory. Contracts see the lines that are left.
@@ -63,58 +65,58 @@ impl GenLines {
                 state: seed,
                 step: 0,
                 count,
-                place: Place::Making(0),
+                position: Position::Making(0),
             },
         }
     }
 
-    /// Writes the next line with its line feed at a prefix of `line`, and answers its length. None exactly after the
+    /// Writes the next line with its line feed at a prefix of `line`, and returns its length. None exactly after the
     /// last line.
     pub fn next_line(&mut self, line: &mut [u8; 64]) -> Option<u32>
         ensures line { MatchOption result ((self.old ≡ []) × (self.new ≡ [])) (λ length. self.old ≡ take length line.new ∷ self.new) }
-        ensures short { IfSome result (λ length. length ≤ 64) }
+        ensures at_most { IfSome result (λ length. length ≤ 64) }
     {
         let at = &mut self.standing;
-        match at.place {
-            Place::Making(rest) => Some(at.making_line(rest, line)),
-            Place::Stepping if at.step < at.count => Some(at.step_line(line)),
-            Place::Stepping => Some(at.ending_line(0, line)),
-            Place::Allocating {
-                rest,
+        match at.position {
+            Position::Making(written) => Some(at.making_line(written, line)),
+            Position::Stepping if at.step < at.count => Some(at.step_line(line)),
+            Position::Stepping => Some(at.ending_line(0, line)),
+            Position::Allocating {
+                written,
                 slot,
                 target,
-            } => Some(at.allocating_line(rest, slot, target, line)),
-            Place::Ending(rest) if rest < 3 => Some(at.ending_line(rest, line)),
-            Place::Ending(_) => None,
+            } => Some(at.allocating_line(written, slot, target, line)),
+            Position::Ending(written) if written < 3 => Some(at.ending_line(written, line)),
+            Position::Ending(_) => None,
         }
     }
 }
 
-// Each method writes the next line of one place, goes after it, and answers its length.
+// Each method writes the next line from one position, goes past it, and returns its length.
 impl Standing {
-    // One of the lines that make things.
-    fn making_line(&mut self, rest: u8, line: &mut [u8; 64]) -> u32
-        requires here { self.old.place ≡ place.Making rest }
+    /// One of the lines that make things.
+    fn making_line(&mut self, written: u8, line: &mut [u8; 64]) -> u32
+        requires here { self.old.position ≡ position.Making written }
         requires stands { CanStand self.old }
         ensures line { lines_left self.old ≡ take result line.new ∷ lines_left self.new }
-        ensures short { result ≤ 64 }
+        ensures at_most { result ≤ 64 }
         ensures stands { CanStand self.new }
     {
-        let length = put_making(rest, line);
-        self.place = if rest < 4 {
-            Place::Making(rest + 1)
+        let length = put_making(written, line);
+        self.position = if written < 4 {
+            Position::Making(written + 1)
         } else {
-            Place::Stepping
+            Position::Stepping
         };
         length
     }
 
-    // The first line of a step.
+    /// The first line of a step.
     fn step_line(&mut self, line: &mut [u8; 64]) -> u32
-        requires here { self.old.place ≡ place.Stepping }
+        requires here { self.old.position ≡ position.Stepping }
         requires more { self.old.step < self.old.count }
         ensures line { lines_left self.old ≡ take result line.new ∷ lines_left self.new }
-        ensures short { result ≤ 64 }
+        ensures at_most { result ≤ 64 }
         ensures stands { CanStand self.new }
     {
         let Drawn {
@@ -126,8 +128,8 @@ impl Standing {
         self.state = state;
         let makes_an_object = kind < 4;
         if makes_an_object {
-            self.place = Place::Allocating {
-                rest: 1,
+            self.position = Position::Allocating {
+                written: 1,
                 slot,
                 target,
             };
@@ -138,43 +140,43 @@ impl Standing {
         }
     }
 
-    // Another line of a step that makes an object.
-    fn allocating_line(&mut self, rest: u8, slot: u64, target: u64, line: &mut [u8; 64]) -> u32
-        requires here { self.old.place ≡ place.Allocating rest slot target }
+    /// Another line of a step that makes an object.
+    fn allocating_line(&mut self, written: u8, slot: u64, target: u64, line: &mut [u8; 64]) -> u32
+        requires here { self.old.position ≡ position.Allocating written slot target }
         requires stands { CanStand self.old }
         ensures line { lines_left self.old ≡ take result line.new ∷ lines_left self.new }
-        ensures short { result ≤ 64 }
+        ensures at_most { result ≤ 64 }
         ensures stands { CanStand self.new }
     {
-        if rest < 3 {
-            self.place = Place::Allocating {
-                rest: rest + 1,
+        if written < 3 {
+            self.position = Position::Allocating {
+                written: written + 1,
                 slot,
                 target,
             };
-            put_allocating(rest, self.step, slot, target, line)
+            put_allocating(written, self.step, slot, target, line)
         } else {
             let length = put_allocating(3, self.step, slot, target, line);
             self.step += 1;
-            self.place = Place::Stepping;
+            self.position = Position::Stepping;
             length
         }
     }
 
-    // One of the last lines.
-    fn ending_line(&mut self, rest: u8, line: &mut [u8; 64]) -> u32
-        requires here { lines_left self.old ≡ drop rest ending_lines }
-        requires some { rest < 3 }
+    /// One of the last lines.
+    fn ending_line(&mut self, written: u8, line: &mut [u8; 64]) -> u32
+        requires here { lines_left self.old ≡ drop written ending_lines }
+        requires some { written < 3 }
         ensures line { lines_left self.old ≡ take result line.new ∷ lines_left self.new }
-        ensures short { result ≤ 64 }
+        ensures at_most { result ≤ 64 }
         ensures stands { CanStand self.new }
     {
-        self.place = Place::Ending(rest + 1);
-        put_ending(rest, line)
+        self.position = Position::Ending(written + 1);
+        put_ending(written, line)
     }
 }
 
-// The three numbers of a step, and the state after them.
+/// The three numbers of a step, and the state after them.
 #[derive(Clone, Copy)]
 struct Drawn {
     slot: u64,
@@ -183,13 +185,13 @@ struct Drawn {
     state: u64,
 }
 
-// Draws the three numbers of a step, in their order.
+/// Draws the three numbers of a step, in their order.
 fn draw(state: u64) -> Drawn
     ensures slot { result.slot ≡ number_below 16 (next_state state) }
     ensures target { result.target ≡ number_below 16 (next_state (next_state state)) }
     ensures kind { result.kind ≡ number_below 8 (state_after_step state) }
     ensures after { result.state ≡ state_after_step state }
-    ensures known { result.kind < 8 }
+    ensures below { result.kind < 8 }
 {
     let first = next(state);
     let second = next(first);
@@ -202,14 +204,14 @@ fn draw(state: u64) -> Drawn
     }
 }
 
-// The state after one.
+/// The state after one.
 fn next(state: u64) -> u64
     ensures { result ≡ next_state state }
 {
     state.wrapping_mul(MULTIPLIER).wrapping_add(INCREMENT)
 }
 
-// The number below a bound that a state gives.
+/// The number below a bound that a state gives.
 fn below(bound: u64, state: u64) -> u64
     requires { 0 < bound }
     ensures { result ≡ number_below bound state }

@@ -8,17 +8,17 @@ use Rattle.mps_report.proofs.Outside.{prints-then, prints-as, risen_earlier}
 use Rattle.mps_report.proofs.Gathering.{IsGathered, joined}
 
 -- a prefix of a text is one of a longer text
-front_of_longer : (text more : List ℕ) (n : ℕ) → (m : ℕ) × (take n text ≡ take m (text ++ more))
-front_of_longer [] more zero = (0, refl)
-front_of_longer [] more (suc n) = (0, refl)
-front_of_longer (x ∷ xs) more zero = (0, refl)
-front_of_longer (x ∷ xs) more (suc n) =
-    let front = front_of_longer xs more n in
+prefix_of_longer : (text more : List ℕ) (n : ℕ) → (m : ℕ) × (take n text ≡ take m (text ++ more))
+prefix_of_longer [] more zero = (0, refl)
+prefix_of_longer [] more (suc n) = (0, refl)
+prefix_of_longer (x ∷ xs) more zero = (0, refl)
+prefix_of_longer (x ∷ xs) more (suc n) =
+    let front = prefix_of_longer xs more n in
     (suc front.0, ap (λ (t : List ℕ). x ∷ t) front.1)
 
 part_of_longer : (a b : Outside) (text more : List ℕ) → PrintsPart a b text → PrintsPart a b (text ++ more)
 part_of_longer a b text more p =
-    let front = front_of_longer text more p.count in
+    let front = prefix_of_longer text more p.count in
     record { count = front.0; part = prints-as a b _ _ front.1 p.part; fault = p.fault }
 
 part_after : (a b c : Outside) (front text : List ℕ) → Prints a b front → PrintsPart b c text → PrintsPart a c (front ++ text)
