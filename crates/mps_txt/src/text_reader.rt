@@ -37,11 +37,11 @@ const MAX_LINE_BYTES: usize = 4096;
 /// or with a report 3 where a read failed, 4 where a write failed, 6 at the first line that is wrong, 7 where line 2^32
 /// begins, 8 when out of memory.
 pub fn txt<D: Desk>(alloc: Global, text: &str, desk: &mut D) -> u8
-    ensures answers { StatusIsJustified (D.outside desk.old) (D.outside desk.new) result }
+    ensures status { StatusIsJustified (D.outside desk.old) (D.outside desk.new) result }
     // Where it is known what the desk opens, this was read, printed and reported. After a failed read the lines that had
     // come whole, each with its line feed, are printed; a prefix of that, where a write failed too. Memory runs out before
     // the desk is called, or at a line that interns a name, sets a label or moves one; then the lines before it are printed.
-    ensures readable { (bytes : List ℕ) → (D.outside desk.old).text text.now ≡ Some bytes
+    ensures sound { (bytes : List ℕ) → (D.outside desk.old).text text.now ≡ Some bytes
         → ReadWith bytes result (D.outside desk.old) (D.outside desk.new) }
     // And nothing else, where the status is of the text alone: a whole text gives 0 and all of its readable text, one with
     // a wrong line gives 6, the number of that line and the readable text before it.
@@ -116,7 +116,7 @@ fn open_text<D: Desk>(
 
 /// Takes the first line, and returns its version.
 fn take_first_line(input: &mut Input) -> Result<Version, Stop<BadTextLine>>
-    ensures known { StopIsJustified input.old result }
+    ensures justified { StopIsJustified input.old result }
     ensures taken { TakesFirstLine input.old input.new result }
     ensures failed { input.new.failed ≡ input.old.failed }
 {
@@ -127,7 +127,7 @@ fn take_first_line(input: &mut Input) -> Result<Version, Stop<BadTextLine>>
 
 /// The version of the first line, and how many bytes it takes with its line feed.
 fn first_line(input: &Input) -> Result<(Version, usize), Stop<BadTextLine>>
-    ensures known { StopIsJustified input.now result }
+    ensures justified { StopIsJustified input.now result }
     ensures size { IfOk result (λ found. found.1 ≤ length input.now.pending) }
     ensures sound { FindsVersion input.now result }
 {
@@ -161,7 +161,7 @@ fn bad_line(number: u64) -> Stop<BadTextLine>
 
 /// The pending line without its line feed, and how many bytes it takes with it; None at the end of the text.
 fn next_line(input: &Input, number: u64) -> Result<Option<(&[u8], usize)>, Stop<BadTextLine>>
-    ensures known { StopIsJustified input.now result }
+    ensures justified { StopIsJustified input.now result }
     ensures size { IfOk result (λ o. IfSome o (λ found. found.1 ≤ length input.now.pending)) }
     ensures sound { IfOk result (λ o. IfSome o (λ found. IsPendingLine input.now found.0.now found.1)) }
     ensures end { IfOk result (λ o. IfNone o ((input.now.pending ≡ []) × (input.now.failed ≡ false))) }
@@ -246,7 +246,7 @@ fn read_line(
     output: &mut Output,
 ) -> Result<Option<usize>, Stop<BadTextLine>>
     requires { length output.old + 512 ≤ 65536 }
-    ensures known { StopIsJustified input.now result }
+    ensures justified { StopIsJustified input.now result }
     ensures size { IfOk result (λ o. IfSome o (λ size. size ≤ length input.now.pending)) }
     ensures gives { PendingGives version number labels.old labels.new input.now output.old output.new result }
 {

@@ -22,8 +22,8 @@ returns-in-Generate-clause-asked g c = rw c.in-Generate.is (record {
 
 pub returns-in-Read-clause-asked : goal.returns-in-Read-clause-asked
 returns-in-Read-clause-asked g c = rw c.in-Read.is (record {
-  answers = c.txt.ensures.answers;
-  readable = c.txt.ensures.readable;
+  answers = c.txt.ensures.status;
+  readable = c.txt.ensures.sound;
   only = c.txt.ensures.unique;
   cut = c.txt.ensures.cut;
   missing = c.txt.ensures.missing;

@@ -5,8 +5,8 @@ use Rattle.mps_txt.proofs.FailedWrite.{cut_with_status}
 use Rattle.mps_txt.proofs.UniqueReading.{unique_reading}
 use Rattle.mps_txt.proofs.text_reader.txt.Goals as goal
 
-pub returns-clause-readable : goal.returns-clause-readable
-returns-clause-readable g c bytes known =
+pub returns-clause-sound : goal.returns-clause-sound
+returns-clause-sound g c bytes known =
     read_with c.report_ending.result bytes c.read_text-ending.result (g.D.Desk.outside c.args.desk.now) (g.D.Desk.outside c.read_text-ending.new.desk) (g.D.Desk.outside c.report_ending.new.desk)
     (record {
       quiet = c.read_text-ending.ensures.reported;
@@ -20,7 +20,7 @@ returns-clause-readable g c bytes known =
 
 pub returns-clause-unique : goal.returns-clause-unique
 returns-clause-unique g c verdict bytes known =
-    unique_reading bytes c.report_ending.result (g.D.Desk.outside c.args.desk.now) (g.D.Desk.outside c.report_ending.new.desk) verdict (returns-clause-readable g c bytes known)
+    unique_reading bytes c.report_ending.result (g.D.Desk.outside c.args.desk.now) (g.D.Desk.outside c.report_ending.new.desk) verdict (returns-clause-sound g c bytes known)
 
 pub returns-clause-reported : goal.returns-clause-reported
 returns-clause-reported g c =
