@@ -43,7 +43,7 @@ world_committing h p = world_by h p true true (is_some h.pool) true
 
 pub is_world_committing : (h : HeapState) (p : Past) → is_some h.table ≡ true → is_some h.point ≡ true → h.is_open ≡ true
     → world_of h p ≡ world_committing h p
-is_world_committing h p t q o = world_of-parts h p true true (is_some h.pool) true t q refl o
+is_world_committing h p t q o = world_of-parts h p t q refl o
 
 abbrev step_committed : HeapState → (line : ℕ) → (name : Name) → Slot → Rattle.mps_model.specs.Step.Step
 step_committed h line name slot = step_of line (call.Commit name slot) (ok_with_move (commit_move h))
@@ -66,7 +66,7 @@ world_committed h p slot t q =
         (map some_address p.addresses ++ some_address h.reserved ∷ [])) (length-map p.addresses (object_of_words h.words))
     ∙ ap (λ addresses. committed_with h p (map (object_of_words h.words) (p.addresses ++ h.reserved ∷ []))
         (slice_set p.ids slot.index (Some (length p.addresses))) addresses) (sym (map_push some_address p.addresses h.reserved))
-    ∙ sym (world_of-parts (with_object h slot) (past_with_object h p slot) true true (is_some h.pool) false t q refl refl)
+    ∙ sym (world_of-parts (with_object h slot) (past_with_object h p slot) t q refl refl)
 
 -- ---- the state agrees with its past
 
@@ -201,8 +201,8 @@ module _ (h : HeapState) (p : Past) (name : Name) (slot : Slot) (n : NamesPoint 
             ++ some_address h.reserved ∷ [] } in
         let e = act_of_commit moved name n.named p.ids slot s.held s.named s.there (slice_index h.words h.reserved)
             (cells_at h.words h.reserved) in
-        right_step (world_committing h p) (step_committed h line name slot) (with_object h slot) (past_with_object h p slot) refl
-        (record { moves_are_legal = (legal_commit, tt); moves_are_due = refl; answer_is_due = sym (ap answer_from e); marked = tt })
+        right_step (world_committing h p) (step_committed h line name slot) (with_object h slot) (past_with_object h p slot)
+        (record { answered = refl; moves_are_legal = (legal_commit, tt); moves_are_due = refl; answer_is_due = sym (ap answer_from e); marked = tt })
         (ap (λ r. with_client_remembered (world_from (with_next_address (world_committing h p) (bytes_of_word * h.reserved)) r)) e
         ∙ world_committed h p slot s.table n.point)
         agrees_with_object

@@ -72,7 +72,7 @@ exact_table_where h p name slots few a true e =
     (supported (world_of h p) (call.Table name slots) refl (in_turn h may.made)
     (ap (λ b. nat_lt 0 (length (one_if b (Some p.ids)))) (not_some h.table may.first))
     (ap (λ w. is_unreported (act_table w name slots))
-        (world_of-parts h p false (is_some h.point) (is_some h.pool) h.is_open (not_some h.table may.first) refl refl refl)
+        (world_of-parts h p (not_some h.table may.first) refl refl refl)
     ∙ ap is_unreported (act_of_table (parts_by h p false (is_some h.point) (is_some h.pool) h.is_open) name (a.names name
         ∙ not_taken h name may.free) slots
     (le-ltb most_slots (0 + slots) (omega arith)))))
@@ -113,7 +113,7 @@ exact_pool_built h p name a may =
     (supported (world_of h p) (call.Pool name kind.Amc 1) refl (in_turn h may.made)
     (ap (λ b. nat_lt 0 (length (one_if b front_pool))) (not_some h.pool may.first))
     (ap (λ w. is_unreported (act_pool w name kind.Amc 1))
-        (world_of-parts h p (is_some h.table) (is_some h.point) false h.is_open refl refl (not_some h.pool may.first) refl)
+        (world_of-parts h p refl refl (not_some h.pool may.first) refl)
     ∙ ap is_unreported (act_of_pool (parts_by h p (is_some h.table) (is_some h.point) false h.is_open) name (a.names name
         ∙ not_taken h name may.free))))
 

@@ -127,7 +127,7 @@ exact_open h p name head at valid false o =
     (nat_le (size_field head) (h.buffer_end - h.buffer_start)) refl
 exact_open h p name head at valid true o =
     unsupported_check h p name head refusal.Open refl
-    (ap (λ w. check_reserve w name head) (world_of-parts h p (is_some h.table) true true true refl at.point at.pool o)
+    (ap (λ w. check_reserve w name head) (world_of-parts h p refl at.point at.pool o)
     ∙ reserve_open (parts_by h p (is_some h.table) true true true) name at.named (reservation_of_words h.words h.reserved) head valid)
 
 exact_head : (h : HeapState) (p : Past) (name : Name) (head : ℕ) → NamesPoint h p name → (b : Bool) → is_front head ≡ b
@@ -135,7 +135,7 @@ exact_head : (h : HeapState) (p : Past) (name : Name) (head : ℕ) → NamesPoin
 exact_head h p name head at true valid = exact_open h p name head at valid h.is_open refl
 exact_head h p name head at false valid =
     unsupported_check h p name head refusal.BadHead refl
-    (ap (λ w. check_reserve w name head) (world_of-parts h p (is_some h.table) true true h.is_open refl at.point at.pool refl)
+    (ap (λ w. check_reserve w name head) (world_of-parts h p refl at.point at.pool refl)
     ∙ reserve_bad_head (parts_by h p (is_some h.table) true true h.is_open) name at.named
     (some_if h.is_open (reservation_of_words h.words h.reserved)) head valid)
 

@@ -133,7 +133,7 @@ module _ (h : HeapState) (p : Past) (name : Name) (cell value : ℕ) where
   exact_init_open n false o =
       exact_unsupported (world_of h p) (call.InitNumber name cell value)
       (by_unreported (world_of h p) (call.InitNumber name cell value) refusal.NotOpen
-      (ap (λ w. act_init_number w name cell value) (world_of-parts h p (is_some h.table) true (is_some h.pool) false refl n.point refl o)
+      (ap (λ w. act_init_number w name cell value) (world_of-parts h p refl n.point refl o)
       ∙ init_not_open (parts_by h p (is_some h.table) true (is_some h.pool) false) name n.named cell value)
       refl)
 
@@ -182,7 +182,7 @@ module _ (h : HeapState) (p : Past) (name : Name) (slot : Slot) where
           ≡ Ok (record { number = 0; value = point_with (some_if h.is_open (reservation_of_words h.words h.reserved)) })
   found_point n =
       let named = n.named in
-      ap (λ w. point_named w name) (world_of-parts h p (is_some h.table) true (is_some h.pool) h.is_open refl n.point refl refl)
+      ap (λ w. point_named w name) (world_of-parts h p refl n.point refl refl)
           ∙ rw named refl
 
   exact_commit_open : NamesPoint h p name → HasSlot h p slot → (b : Bool) → h.is_open ≡ b
@@ -196,7 +196,7 @@ module _ (h : HeapState) (p : Past) (name : Name) (slot : Slot) where
   exact_commit_open n s false o =
       exact_unsupported (world_of h p) (call.Commit name slot)
       (by_unreported (world_of h p) (call.Commit name slot) refusal.NotOpen
-      (ap (λ w. act_commit w name slot) (world_of-parts h p true true (is_some h.pool) false s.table n.point refl o)
+      (ap (λ w. act_commit w name slot) (world_of-parts h p s.table n.point refl o)
       ∙ commit_not_open (parts_by h p true true (is_some h.pool) false) name n.named p.ids slot s.held s.named s.there)
       refl)
 

@@ -58,7 +58,7 @@ abbrev pub world_reserving : HeapState → Past → World
 world_reserving h p = world_by h p (is_some h.table) true (is_some h.pool) true
 
 pub is_world_reserving : (h : HeapState) (p : Past) → is_some h.point ≡ true → h.is_open ≡ true → world_of h p ≡ world_reserving h p
-is_world_reserving h p q o = world_of-parts h p (is_some h.table) true (is_some h.pool) true refl q refl o
+is_world_reserving h p q o = world_of-parts h p refl q refl o
 
 abbrev reserving_with : HeapState → Past → List Object → Reservation → World
 reserving_with h p objects r =
@@ -128,8 +128,8 @@ module _ (h : HeapState) (p : Past) (name : Name) (cell value : ℕ) (m : MayIni
       (slice_index h.words h.reserved) (cells_at h.words h.reserved) cell value (slice_index h.words (h.reserved + cell))
       (number_cell_at h.words h.buffer_start h.reserved cell (m.at.agrees.reservation m.is_open) (omega arith) m.number) in
       right_step (world_reserving h p) (step_of line (call.InitNumber name cell value) (reply_only reply.Ok))
-          (with_number h cell value) p refl
-      (record { moves_are_legal = tt; moves_are_due = refl; answer_is_due = sym (ap answer_from e); marked = tt })
+          (with_number h cell value) p
+      (record { answered = refl; moves_are_legal = tt; moves_are_due = refl; answer_is_due = sym (ap answer_from e); marked = tt })
       (ap (λ r. with_client_remembered (world_from (world_reserving h p) r)) e ∙ world_written)
       agrees_with_number
       (λ pools. ap Some stored_written)

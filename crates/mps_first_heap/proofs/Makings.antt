@@ -105,12 +105,12 @@ right_with_table : (h : HeapState) (p : Past) (line : ℕ) (name : Name) (slots 
     → MayMake h h.table name
     → IsRightStep (world_without_table h p) (step_of line (call.Table name slots) (reply_only reply.Ok)) (with_table h name slots)
 right_with_table h p line name slots few a may =
-    let w = world_of-parts h p false (is_some h.point) (is_some h.pool) h.is_open (not_some h.table may.first) refl refl refl in
+    let w = world_of-parts h p (not_some h.table may.first) refl refl refl in
     let e = act_of_table (parts_by h p false (is_some h.point) (is_some h.pool) h.is_open) name (a.names name
         ∙ not_taken h name may.free) slots (le-ltb most_slots (0 + slots) (omega arith)) in
     right_step (world_without_table h p) (step_of line (call.Table name slots) (reply_only reply.Ok)) (with_table h name slots)
-        (past_with_table p name slots) refl
-    (record { moves_are_legal = tt; moves_are_due = refl; answer_is_due = sym (ap answer_from e); marked = tt })
+        (past_with_table p name slots)
+    (record { answered = refl; moves_are_legal = tt; moves_are_due = refl; answer_is_due = sym (ap answer_from e); marked = tt })
     (ap (λ r. with_client_remembered (world_from (world_without_table h p) r)) e)
     (agrees_with_table h p name slots a may)
     (λ pools. ap Some (ap live_blocks (sym w) ∙ live_blocks-world_of h p))
@@ -123,7 +123,7 @@ table_where h p line name slots few a false e = unsupported_step h p line (call.
 table_where h p line name slots few a true e =
     let may = may_make_facts h h.table name e in
     subst (λ (w : World). IsRightStep w (step_of line (call.Table name slots) (reply_only reply.Ok)) (with_table h name slots))
-    (sym (world_of-parts h p false (is_some h.point) (is_some h.pool) h.is_open (not_some h.table may.first) refl refl refl))
+    (sym (world_of-parts h p (not_some h.table may.first) refl refl refl))
     (right_with_table h p line name slots few a may)
 
 pub right_table : (h : HeapState) (p : Past) (line : ℕ) (name : Name) (slots : ℕ) → slots ≤ most_slots → Agrees h p
@@ -185,12 +185,12 @@ world_without_pool h p = world_by h p (is_some h.table) (is_some h.point) false 
 right_with_pool : (h : HeapState) (p : Past) (line : ℕ) (name : Name) → Agrees h p → MayMake h h.pool name
     → IsRightStep (world_without_pool h p) (step_of line (call.Pool name kind.Amc 1) (reply_only reply.Ok)) (with_pool h name)
 right_with_pool h p line name a may =
-    let w = world_of-parts h p (is_some h.table) (is_some h.point) false h.is_open refl refl (not_some h.pool may.first) refl in
+    let w = world_of-parts h p refl refl (not_some h.pool may.first) refl in
     let e = act_of_pool (parts_by h p (is_some h.table) (is_some h.point) false h.is_open) name (a.names name
         ∙ not_taken h name may.free) in
     right_step (world_without_pool h p) (step_of line (call.Pool name kind.Amc 1) (reply_only reply.Ok)) (with_pool h name)
-        (past_with_pool p name) refl
-    (record { moves_are_legal = tt; moves_are_due = refl; answer_is_due = sym (ap answer_from e); marked = tt })
+        (past_with_pool p name)
+    (record { answered = refl; moves_are_legal = tt; moves_are_due = refl; answer_is_due = sym (ap answer_from e); marked = tt })
     (ap (λ r. with_client_remembered (world_from (world_without_pool h p) r)) e)
     (agrees_with_pool h p name a may)
     (λ pools. ap Some (ap live_blocks (sym w) ∙ live_blocks-world_of h p))
@@ -202,7 +202,7 @@ pool_built h p line name a may kind.Amc format k f =
     subst (λ (n : ℕ). IsRightStep (world_of h p) (step_of line (call.Pool name kind.Amc n) (reply_only reply.Ok)) (with_pool h name))
         (sym f)
     (subst (λ (w : World). IsRightStep w (step_of line (call.Pool name kind.Amc 1) (reply_only reply.Ok)) (with_pool h name))
-    (sym (world_of-parts h p (is_some h.table) (is_some h.point) false h.is_open refl refl (not_some h.pool may.first) refl))
+    (sym (world_of-parts h p refl refl (not_some h.pool may.first) refl))
     (right_with_pool h p line name a may))
 pool_built h p line name a may kind.Amcz format k f = absurd (false≢true k)
 pool_built h p line name a may kind.Ams format k f = absurd (false≢true k)
@@ -281,7 +281,7 @@ world_without_point h p = world_by h p (is_some h.table) false true false
 pub is_world_without_point : (h : HeapState) (p : Past) (pool : Name) → Agrees h p → h.point ≡ None → is_pool h pool ≡ true
     → world_of h p ≡ world_without_point h p
 is_world_without_point h p pool a none there =
-    world_of-parts h p (is_some h.table) false true false refl (not_some h.point none)
+    world_of-parts h p refl (not_some h.point none)
         (is_named-some h.pool pool (and_parts (not (is_named h.table pool)) (is_named h.pool pool) there).1) (a.before_point none).not_open
 
 abbrev pointed_with : HeapState → Past → Name → PointMemory → World
@@ -299,7 +299,7 @@ world_pointed h p name pool a none there =
     ap (λ n. pointed_with h p name (memory_with n 0 0)) (sym u.no_reserved)
     ∙ ap (λ n. pointed_with h p name (memory_with h.reserved n 0)) (sym u.no_start)
     ∙ ap (λ n. pointed_with h p name (memory_with h.reserved h.buffer_start n)) (sym u.no_end)
-    ∙ sym (world_of-parts (with_point h name) (past_with_point p name) (is_some h.table) true true false refl refl
+    ∙ sym (world_of-parts (with_point h name) (past_with_point p name) refl refl
         (is_named-some h.pool pool (and_parts (not (is_named h.table pool)) (is_named h.pool pool) there).1) u.not_open)
 
 right_with_point : (h : HeapState) (p : Past) (line : ℕ) (name pool : Name) → Agrees h p → MayMake h h.point name → is_pool h pool ≡ true
@@ -309,8 +309,8 @@ right_with_point h p line name pool a may there =
     let e = act_of_point (parts_by h p (is_some h.table) false true false) name (a.names name
         ∙ not_taken h name may.free) pool (pool_there h p pool a there) in
     right_step (world_without_point h p) (step_of line (call.Point name pool rank.Exact) (reply_only reply.Ok)) (with_point h name)
-        (past_with_point p name) refl
-    (record { moves_are_legal = tt; moves_are_due = refl; answer_is_due = sym (ap answer_from e); marked = tt })
+        (past_with_point p name)
+    (record { answered = refl; moves_are_legal = tt; moves_are_due = refl; answer_is_due = sym (ap answer_from e); marked = tt })
     (ap (λ r. with_client_remembered (world_from (world_without_point h p) r)) e ∙ world_pointed h p name pool a may.first there)
     (agrees_with_point h p name pool a may there)
     (λ pools. ap Some (ap live_blocks (sym w) ∙ live_blocks-world_of h p))
@@ -402,7 +402,7 @@ world_before_arena h p = world_by h (past_arena p) false false false false
 is_world_before_arena : (h : HeapState) (p : Past) → Agrees h p → h.grains ≡ 0 → world_of h p ≡ world_before_arena h p
 is_world_before_arena h p a z =
     let u = unmade h p a z in
-    world_of-parts h p false false false false (not_some h.table u.table) (not_some h.point u.point) (not_some h.pool u.pool)
+    world_of-parts h p (not_some h.table u.table) (not_some h.point u.point) (not_some h.pool u.pool)
         (a.before_point u.point).not_open
     ∙ ap (λ addresses. world_by h (record p { ids = []; addresses = addresses }) false false false false) (no_addresses_yet h p a u.point)
 
@@ -410,8 +410,8 @@ right_made : (h : HeapState) (p : Past) (line : ℕ) (grains limit : ℕ) → Ag
     → IsRightStep (world_before_arena h p) (step_of line (call.Arena grains limit) (reply_only reply.Ok)) (arena_made grains limit)
 right_made h p line grains limit a z =
     right_step (world_before_arena h p) (step_of line (call.Arena grains limit) (reply_only reply.Ok))
-        (arena_made grains limit) (past_arena p) refl
-    (record { moves_are_legal = tt; moves_are_due = refl; answer_is_due = refl; marked = tt })
+        (arena_made grains limit) (past_arena p)
+    (record { answered = refl; moves_are_legal = tt; moves_are_due = refl; answer_is_due = refl; marked = tt })
     refl
     (agrees_arena h p grains limit a z)
     (λ pools. refl)

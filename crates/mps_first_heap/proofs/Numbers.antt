@@ -26,7 +26,7 @@ abbrev pub world_with_table : HeapState → Past → World
 world_with_table h p = world_by h p true (is_some h.point) (is_some h.pool) h.is_open
 
 pub is_world_with_table : (h : HeapState) (p : Past) → is_some h.table ≡ true → world_of h p ≡ world_with_table h p
-is_world_with_table h p t = world_of-parts h p true (is_some h.point) (is_some h.pool) h.is_open t refl refl refl
+is_world_with_table h p t = world_of-parts h p t refl refl refl
 
 -- the reply about a cell of the block at an address, by whether it is a number
 abbrev pub cell_reply : HeapState → (address cell : ℕ) → Bool → Reply
@@ -56,8 +56,8 @@ module _ (h : HeapState) (p : Past) (slot : Slot) (cell : ℕ) where
       → act_number (world_with_table h p) slot cell ≡ says (reply.Number number) (world_with_table h p)
       → IsRightStep (world_with_table h p) (step_of line (call.Number slot cell) (reply_only (reply.Number number))) h
   right_known_number line number s e =
-      right_step (world_with_table h p) (step_of line (call.Number slot cell) (reply_only (reply.Number number))) h p refl
-      (record { moves_are_legal = tt; moves_are_due = refl; answer_is_due = sym (ap answer_from e); marked = tt })
+      right_step (world_with_table h p) (step_of line (call.Number slot cell) (reply_only (reply.Number number))) h p
+      (record { answered = refl; moves_are_legal = tt; moves_are_due = refl; answer_is_due = sym (ap answer_from e); marked = tt })
       (ap (λ r. with_client_remembered (world_from (world_with_table h p) r)) e ∙ sym (is_world_with_table h p s.table))
       s.agrees
       (λ pools. ap Some (unchanged s))
@@ -65,8 +65,8 @@ module _ (h : HeapState) (p : Past) (slot : Slot) (cell : ℕ) where
   right_null : (line : ℕ) → HasSlot h p slot → act_number (world_with_table h p) slot cell ≡ Err refusal.NullRef
       → IsRightStep (world_with_table h p) (step_of line (call.Number slot cell) (reply_only (reply.Refused refusal.NullRef))) h
   right_null line s e =
-      right_step (world_with_table h p) (step_of line (call.Number slot cell) (reply_only (reply.Refused refusal.NullRef))) h p refl
-      (record { moves_are_legal = tt; moves_are_due = refl; answer_is_due = sym (ap answer_from e); marked = tt })
+      right_step (world_with_table h p) (step_of line (call.Number slot cell) (reply_only (reply.Refused refusal.NullRef))) h p
+      (record { answered = refl; moves_are_legal = tt; moves_are_due = refl; answer_is_due = sym (ap answer_from e); marked = tt })
       (ap (λ r. with_client_remembered (world_from (world_with_table h p) r)) e ∙ sym (is_world_with_table h p s.table))
       s.agrees
       (λ pools. ap Some (unchanged s))

@@ -85,7 +85,7 @@ no_index h p slot a t i =
     let past : slice_get p.ids slot.index ≡ None =
         slice_get_past p.ids slot.index (subst (λ (n : ℕ). n ≤ slot.index) (ap length a.slots
         ∙ length-map p.ids (address_in_slot p.addresses)) le) in
-    ap (λ w. slot_in w slot) (world_of-parts h p true (is_some h.point) (is_some h.pool) h.is_open
+    ap (λ w. slot_in w slot) (world_of-parts h p
         (is_named-some h.table slot.name t) refl refl refl)
     ∙ rw (named, past) refl
 

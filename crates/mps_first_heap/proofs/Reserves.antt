@@ -44,7 +44,7 @@ world_at_rest h p = world_by h p (is_some h.table) true true false
 
 pub is_world_at_rest : (h : HeapState) (p : Past) → Agrees h p → is_some h.point ≡ true → h.is_open ≡ false
     → world_of h p ≡ world_at_rest h p
-is_world_at_rest h p a q o = world_of-parts h p (is_some h.table) true true false refl q (pool_with_point h p a q) o
+is_world_at_rest h p a q o = world_of-parts h p refl q (pool_with_point h p a q) o
 
 abbrev pub at_rest : Numbered Point
 at_rest = record { number = 0; value = point_with None }
@@ -142,7 +142,7 @@ world_reserved h p head a q o valid room =
     ∙ ap (λ r. reserved_with h p (map (object_of_words (slice_set h.words h.buffer_start head)) p.addresses) r
         (h.buffer_start + size_field head) (h.buffer_end - (h.buffer_start + size_field head)))
         (sym (reservation_made h head valid (omega arith) a.fresh))
-    ∙ sym (world_of-parts (reserved_in_buffer h head) p (is_some h.table) true true true refl q (pool_with_point h p a q) refl)
+    ∙ sym (world_of-parts (reserved_in_buffer h head) p refl q (pool_with_point h p a q) refl)
 
 stored_reserved : (h : HeapState) (p : Past) (head : ℕ) → Agrees h p → h.is_open ≡ false
     → stored h.words p.addresses ≡ stored (reserved_in_buffer h head).words p.addresses
@@ -243,8 +243,8 @@ right_in_buffer h p line name head m fits =
     let placed = placed_in_buffer h p head m.valid fits in
     let e = act_placed h p h p name head m.at.named m.at.named m.valid (ap refuse_without_place placed)
         ∙ ap (λ placement. placing_done (world_at_rest h p) placement head) placed in
-    right_step (world_at_rest h p) (step_in_buffer line name head) (reserved_in_buffer h head) p refl
-    (record { moves_are_legal = tt;
+    right_step (world_at_rest h p) (step_in_buffer line name head) (reserved_in_buffer h head) p
+    (record { answered = refl; moves_are_legal = tt;
         moves_are_due = record { poll = no_poll h p name head;
         segment = segment_due h p name head (Place h.buffer_start) m.at.named m.valid placed };
         answer_is_due = sym (ap answer_from e); marked = tt })
@@ -279,8 +279,8 @@ right_refused h p line name head m fits over =
     let need = grains_needed (size_field head) in
     let placed = placed_after h p head m.valid fits ∙ over_limit h.grains h.limit h.held p.segments need m.at.agrees.held over in
     let e = act_refused h p name head (refusal.CommitLimit h.held need h.limit) m.at.named m.valid (ap refuse_without_place placed) in
-    right_step (world_at_rest h p) (step_refused h line name head need) h p refl
-    (record { moves_are_legal = tt;
+    right_step (world_at_rest h p) (step_refused h line name head need) h p
+    (record { answered = refl; moves_are_legal = tt;
         moves_are_due = record { poll = no_poll h p name head;
         segment = segment_due h p name head (OverLimit h.held need h.limit) m.at.named m.valid placed };
         answer_is_due = sym (ap answer_from e); marked = tt })
@@ -378,9 +378,9 @@ right_taken h p line name head m fits limit inside =
     let e = ap (λ (v : World). act_reserve (world_at_rest h p) v name head) w
         ∙ act_placed h p taken later name head m.at.named m.at.named m.valid (ap refuse_without_place placed)
         ∙ ap (λ placement. placing_done (world_at_rest taken later) placement head) placed' in
-    right_step (world_at_rest h p) (step_after h line name head need) (reserved_in_buffer taken head) later refl
+    right_step (world_at_rest h p) (step_after h line name head need) (reserved_in_buffer taken head) later
     (record {
-      moves_are_legal = (legal_segment h p name head need m.at.named m.valid placed, tt);
+      answered = refl; moves_are_legal = (legal_segment h p name head need m.at.named m.valid placed, tt);
       moves_are_due = record { poll = no_poll h p name head;
           segment = segment_due h p name head (NewSegment (h.held + 1) need) m.at.named m.valid placed };
       answer_is_due = sym (ap answer_from e);
@@ -398,44 +398,42 @@ right_taken h p line name head m fits limit inside =
 abbrev is_right : (h : HeapState) → (p : Past) → (line : ℕ) → (name : Name) → (head : ℕ) → Outcome → Type 0
 is_right h p line name head o = IsRightStep (world_of h p) (step_of line (call.Reserve name head) o.done) o.state
 
-right_in_arena : (h : HeapState) (p : Past) (line : ℕ) (name : Name) (head : ℕ) → MayReserve h p name head
-    → nat_le (size_field head) (h.buffer_end - h.buffer_start) ≡ false
-    → nat_lt h.limit (h.held + grains_needed (size_field head)) ≡ false → (b : Bool)
-        → nat_lt h.grains (h.held + grains_needed (size_field head)) ≡ b
-    → is_right h p line name head
-        (if b then unsupported h else record { done = ok_with_move (segment_move h (grains_needed (size_field head)));
-        state = reserved_in_buffer (with_segment_taken h (grains_needed (size_field head))) head })
-right_in_arena h p line name head m fits limit true e = unsupported_step h p line (call.Reserve name head) m.at.agrees
-right_in_arena h p line name head m fits limit false e =
-    let need = grains_needed (size_field head) in
-    subst (λ (w : World). IsRightStep w (step_after h line name head need) (reserved_in_buffer (with_segment_taken h need) head))
-        (sym (is_world_at_rest h p m.at.agrees m.at.point m.not_open))
-    (right_taken h p line name head m fits limit (ltb-false h.grains (h.held + need) e))
+module _ (h : HeapState) (p : Past) (line : ℕ) (name : Name) (head : ℕ) (m : MayReserve h p name head) where
+  right_in_arena : nat_le (size_field head) (h.buffer_end - h.buffer_start) ≡ false
+      → nat_lt h.limit (h.held + grains_needed (size_field head)) ≡ false → (b : Bool)
+          → nat_lt h.grains (h.held + grains_needed (size_field head)) ≡ b
+      → is_right h p line name head
+          (if b then unsupported h else record { done = ok_with_move (segment_move h (grains_needed (size_field head)));
+          state = reserved_in_buffer (with_segment_taken h (grains_needed (size_field head))) head })
+  right_in_arena fits limit true e = unsupported_step h p line (call.Reserve name head) m.at.agrees
+  right_in_arena fits limit false e =
+      let need = grains_needed (size_field head) in
+      subst (λ (w : World). IsRightStep w (step_after h line name head need) (reserved_in_buffer (with_segment_taken h need) head))
+          (sym (is_world_at_rest h p m.at.agrees m.at.point m.not_open))
+      (right_taken h p line name head m fits limit (ltb-false h.grains (h.held + need) e))
 
-right_in_limit : (h : HeapState) (p : Past) (line : ℕ) (name : Name) (head : ℕ) → MayReserve h p name head
-    → nat_le (size_field head) (h.buffer_end - h.buffer_start) ≡ false
-    → (b : Bool) → nat_lt h.limit (h.held + grains_needed (size_field head)) ≡ b
-    → is_right h p line name head (if b then with_reply h (over_limit_reply h (grains_needed (size_field head)))
-        else (if nat_lt h.grains (h.held + grains_needed (size_field head)) then unsupported h
-        else record { done = ok_with_move (segment_move h (grains_needed (size_field head)));
-        state = reserved_in_buffer (with_segment_taken h (grains_needed (size_field head))) head }))
-right_in_limit h p line name head m fits true e =
-    subst (λ (w : World). IsRightStep w (step_refused h line name head (grains_needed (size_field head))) h)
-        (sym (is_world_at_rest h p m.at.agrees m.at.point m.not_open))
-    (right_refused h p line name head m fits e)
-right_in_limit h p line name head m fits false e =
-    right_in_arena h p line name head m fits e (nat_lt h.grains (h.held + grains_needed (size_field head))) refl
+  right_in_limit : nat_le (size_field head) (h.buffer_end - h.buffer_start) ≡ false
+      → (b : Bool) → nat_lt h.limit (h.held + grains_needed (size_field head)) ≡ b
+      → is_right h p line name head (if b then with_reply h (over_limit_reply h (grains_needed (size_field head)))
+          else (if nat_lt h.grains (h.held + grains_needed (size_field head)) then unsupported h
+          else record { done = ok_with_move (segment_move h (grains_needed (size_field head)));
+          state = reserved_in_buffer (with_segment_taken h (grains_needed (size_field head))) head }))
+  right_in_limit fits true e =
+      subst (λ (w : World). IsRightStep w (step_refused h line name head (grains_needed (size_field head))) h)
+          (sym (is_world_at_rest h p m.at.agrees m.at.point m.not_open))
+      (right_refused h p line name head m fits e)
+  right_in_limit fits false e =
+      right_in_arena fits e (nat_lt h.grains (h.held + grains_needed (size_field head))) refl
 
-right_placed : (h : HeapState) (p : Past) (line : ℕ) (name : Name) (head : ℕ) → MayReserve h p name head
-    → (b : Bool) → nat_le (size_field head) (h.buffer_end - h.buffer_start) ≡ b
-    → is_right h p line name head (if b then with_reply (reserved_in_buffer h head) reply.Ok
-        else reserve_after h head (grains_needed (size_field head)))
-right_placed h p line name head m true e =
-    subst (λ (w : World). IsRightStep w (step_in_buffer line name head) (reserved_in_buffer h head))
-        (sym (is_world_at_rest h p m.at.agrees m.at.point m.not_open))
-    (right_in_buffer h p line name head m e)
-right_placed h p line name head m false e =
-    right_in_limit h p line name head m e (nat_lt h.limit (h.held + grains_needed (size_field head))) refl
+  right_placed : (b : Bool) → nat_le (size_field head) (h.buffer_end - h.buffer_start) ≡ b
+      → is_right h p line name head (if b then with_reply (reserved_in_buffer h head) reply.Ok
+          else reserve_after h head (grains_needed (size_field head)))
+  right_placed true e =
+      subst (λ (w : World). IsRightStep w (step_in_buffer line name head) (reserved_in_buffer h head))
+          (sym (is_world_at_rest h p m.at.agrees m.at.point m.not_open))
+      (right_in_buffer h p line name head m e)
+  right_placed false e =
+      right_in_limit e (nat_lt h.limit (h.held + grains_needed (size_field head))) refl
 
 reserve_where : (h : HeapState) (p : Past) (line : ℕ) (name : Name) (head : ℕ) → Agrees h p → (b : Bool)
     → (is_point h name && is_front head && not h.is_open) ≡ b
@@ -444,7 +442,8 @@ reserve_where h p line name head a false e = unsupported_step h p line (call.Res
 reserve_where h p line name head a true e =
     let both = and_parts (is_point h name && is_front head) (not h.is_open) e in
     let first = and_parts (is_point h name) (is_front head) both.0 in
-    right_placed h p line name head (record { at = names_point h p name a first.0; not_open = not-true h.is_open both.1;
+    right_placed h p line name head
+    (record { at = names_point h p name a first.0; not_open = not-true h.is_open both.1;
         valid = first.1 }) (nat_le (size_field head) (h.buffer_end - h.buffer_start)) refl
 
 pub right_reserve : (h : HeapState) (p : Past) (line : ℕ) (name : Name) (head : ℕ) → Agrees h p

@@ -17,8 +17,9 @@ use Rattle.mps_first_heap.specs.StandsFor.{Past, Agrees, world_of, step_of}
 use Rattle.mps_first_heap.specs.RightStep.{IsRightStep}
 use Rattle.mps_first_heap.proofs.Worlds.{held_are_live, stored, live_blocks-world_of}
 
--- the moves and the answer of a step are due
+-- the step was answered, and its moves and its answer are due
 pub record IsDue (w : World) (s : Step) : Type 0 where
+  pub answered : is_unsupported s.answer ≡ false
   pub moves_are_legal : AreLegalMoves s.call w None s.moves
   pub moves_are_due : AreMovesOf w s.call s.answer s.moves
   pub answer_is_due : s.answer ≡ reply_to (is_block s.answer) (judged_world w s.call s.moves) (moved_world w s.call s.moves) s.call
@@ -37,11 +38,11 @@ legal_if_answered w s state p due after a = record {
 }
 
 -- a step that was answered is right where its moves and its answer are due, and the new state agrees with the world after it
-pub right_step : (w : World) (s : Step) (state : HeapState) (p : Past) → is_unsupported s.answer ≡ false → IsDue w s
+pub right_step : (w : World) (s : Step) (state : HeapState) (p : Past) → IsDue w s
     → world_after w s ≡ world_of state p → Agrees state p
     → ((pools : ℕ) → replay_from (live_blocks w) (records_of_step pools s) ≡ Some (stored state.words p.addresses)) → IsRightStep w s state
-right_step w s state p answered due after a replays = record {
-  is_legal = subst (λ (b : Bool). MatchBool b (s.moves ≡ []) (IsAnsweredStep w s)) (sym answered)
+right_step w s state p due after a replays = record {
+  is_legal = subst (λ (b : Bool). MatchBool b (s.moves ≡ []) (IsAnsweredStep w s)) (sym due.answered)
       (legal_if_answered w s state p due after a);
   stands = record { past = p; world = after; agrees = a };
   is_replayed = λ pools. replays pools ∙ ap Some (sym (ap live_blocks after ∙ live_blocks-world_of state p));

@@ -144,9 +144,9 @@ parts_by h p table point pool is_open = record (parts_of h p) {
 abbrev pub world_by : HeapState → Past → (table point pool is_open : Bool) → World
 world_by h p table point pool is_open = world_with (parts_by h p table point pool is_open)
 
-pub world_of-parts : (h : HeapState) (p : Past) (table point pool is_open : Bool) → is_some h.table ≡ table → is_some h.point ≡ point
+pub world_of-parts : (h : HeapState) (p : Past) {table point pool is_open : Bool} → is_some h.table ≡ table → is_some h.point ≡ point
     → is_some h.pool ≡ pool → h.is_open ≡ is_open → world_of h p ≡ world_by h p table point pool is_open
-world_of-parts h p table point pool is_open t q l o =
+world_of-parts h p {table} {point} {pool} {is_open} t q l o =
     ap (λ b. world_by h p b (is_some h.point) (is_some h.pool) h.is_open) t
     ∙ ap (λ b. world_by h p table b (is_some h.pool) h.is_open) q
     ∙ ap (λ b. world_by h p table point b h.is_open) l
