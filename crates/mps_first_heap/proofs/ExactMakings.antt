@@ -67,7 +67,7 @@ table_taken h p name slots a e = let t = taken_thing h p name a e in let named =
 exact_table_where : (h : HeapState) (p : Past) (name : Name) (slots : ℕ) → slots ≤ most_slots → Agrees h p → (b : Bool)
     → may_make_first h h.table name ≡ b → IsExact (world_of h p) (call.Table name slots) (made_reply b)
 exact_table_where h p name slots few a true e =
-    let may = may_make_facts h h.table name e in
+    let may = may_make_facts h p h.table name a e in
     exact_answered (world_of h p) (call.Table name slots) reply.Ok refl
     (supported (world_of h p) (call.Table name slots) refl (in_turn h may.made)
     (ap (λ b. nat_lt 0 (length (one_if b (Some p.ids)))) (not_some h.table may.first))
@@ -106,31 +106,31 @@ not_built name kind.Ams format e = refl
 not_built name kind.Awl format e = refl
 not_built name kind.Lo format e = refl
 
-exact_pool_built : (h : HeapState) (p : Past) (name : Name) → Agrees h p → MayMake h h.pool name
+exact_pool_built : (h : HeapState) (p : Past) (name : Name) → MayMake h p h.pool name
     → IsExact (world_of h p) (call.Pool name kind.Amc 1) reply.Ok
-exact_pool_built h p name a may =
+exact_pool_built h p name may =
     exact_answered (world_of h p) (call.Pool name kind.Amc 1) reply.Ok refl
     (supported (world_of h p) (call.Pool name kind.Amc 1) refl (in_turn h may.made)
     (ap (λ b. nat_lt 0 (length (one_if b front_pool))) (not_some h.pool may.first))
     (ap (λ w. is_unreported (act_pool w name kind.Amc 1))
         (world_of-parts h p refl refl (not_some h.pool may.first) refl)
-    ∙ ap is_unreported (act_of_pool (parts_by h p (is_some h.table) (is_some h.point) false h.is_open) name (a.names name
+    ∙ ap is_unreported (act_of_pool (parts_by h p (is_some h.table) (is_some h.point) false h.is_open) name (may.agrees.names name
         ∙ not_taken h name may.free))))
 
-pool_of_kind : (h : HeapState) (p : Past) (name : Name) → Agrees h p → MayMake h h.pool name → (k : Kind) (format : ℕ) → is_amc k ≡ true
+pool_of_kind : (h : HeapState) (p : Past) (name : Name) → MayMake h p h.pool name → (k : Kind) (format : ℕ) → is_amc k ≡ true
     → format ≡ 1 → IsExact (world_of h p) (call.Pool name k format) reply.Ok
-pool_of_kind h p name a may kind.Amc format k f =
-    subst (λ (n : ℕ). IsExact (world_of h p) (call.Pool name kind.Amc n) reply.Ok) (sym f) (exact_pool_built h p name a may)
-pool_of_kind h p name a may kind.Amcz format k f = absurd (false≢true k)
-pool_of_kind h p name a may kind.Ams format k f = absurd (false≢true k)
-pool_of_kind h p name a may kind.Awl format k f = absurd (false≢true k)
-pool_of_kind h p name a may kind.Lo format k f = absurd (false≢true k)
+pool_of_kind h p name may kind.Amc format k f =
+    subst (λ (n : ℕ). IsExact (world_of h p) (call.Pool name kind.Amc n) reply.Ok) (sym f) (exact_pool_built h p name may)
+pool_of_kind h p name may kind.Amcz format k f = absurd (false≢true k)
+pool_of_kind h p name may kind.Ams format k f = absurd (false≢true k)
+pool_of_kind h p name may kind.Awl format k f = absurd (false≢true k)
+pool_of_kind h p name may kind.Lo format k f = absurd (false≢true k)
 
 exact_pool_may : (h : HeapState) (p : Past) (name : Name) (k : Kind) (format : ℕ) → Agrees h p → is_implemented_pool k format ≡ true
     → (b : Bool) → may_make_first h h.pool name ≡ b → IsExact (world_of h p) (call.Pool name k format) (made_reply b)
 exact_pool_may h p name k format a built true e =
     let both = and_parts (is_amc k) (format == 1) built in
-    pool_of_kind h p name a (may_make_facts h h.pool name e) k format both.0 (eqb-true format 1 both.1)
+    pool_of_kind h p name (may_make_facts h p h.pool name a e) k format both.0 (eqb-true format 1 both.1)
 exact_pool_may h p name k format a built false e =
     exact_unsupported (world_of h p) (call.Pool name k format)
     (elim (why_not h h.pool name e) [
@@ -173,24 +173,24 @@ point_without_pool h p name pool a free none =
         (a.names name ∙ not_taken h name free)
     ∙ ap (λ (c : Checked (Numbered Pool)). c >>= point_from (world_of h p) name rank.Exact) (no_pool h p pool a none)
 
-exact_point_pool : (h : HeapState) (p : Past) (name pool : Name) → Agrees h p → MayMake h h.point name → (b : Bool) → is_pool h pool ≡ b
+exact_point_pool : (h : HeapState) (p : Past) (name pool : Name) → MayMake h p h.point name → (b : Bool) → is_pool h pool ≡ b
     → IsExact (world_of h p) (call.Point name pool rank.Exact) (made_reply b)
-exact_point_pool h p name pool a may true there =
+exact_point_pool h p name pool may true there =
     exact_answered (world_of h p) (call.Point name pool rank.Exact) reply.Ok refl
     (supported (world_of h p) (call.Point name pool rank.Exact) refl (in_turn h may.made)
     (ap (λ b. nat_lt 0 (length (one_if b (Some (point_with (some_if h.is_open (reservation_of_words h.words h.reserved)))))))
         (not_some h.point may.first))
-    (ap (λ w. is_unreported (act_point w name pool rank.Exact)) (is_world_without_point h p pool a may.first there)
-    ∙ ap is_unreported (act_of_point (parts_by h p (is_some h.table) false true false) name (a.names name
-        ∙ not_taken h name may.free) pool (pool_there h p pool a there))))
-exact_point_pool h p name pool a may false there =
+    (ap (λ w. is_unreported (act_point w name pool rank.Exact)) (is_world_without_point h p pool may.agrees may.first there)
+    ∙ ap is_unreported (act_of_point (parts_by h p (is_some h.table) false true false) name (may.agrees.names name
+        ∙ not_taken h name may.free) pool (pool_there h p pool may.agrees there))))
+exact_point_pool h p name pool may false there =
     exact_unsupported (world_of h p) (call.Point name pool rank.Exact)
     (by_unreported (world_of h p) (call.Point name pool rank.Exact) refusal.BadName
-        (point_without_pool h p name pool a may.free there) refl)
+        (point_without_pool h p name pool may.agrees may.free there) refl)
 
 exact_point_may : (h : HeapState) (p : Past) (name pool : Name) → Agrees h p → (b : Bool) → may_make_first h h.point name ≡ b
     → IsExact (world_of h p) (call.Point name pool rank.Exact) (made_reply (b && is_pool h pool))
-exact_point_may h p name pool a true e = exact_point_pool h p name pool a (may_make_facts h h.point name e) (is_pool h pool) refl
+exact_point_may h p name pool a true e = exact_point_pool h p name pool (may_make_facts h p h.point name a e) (is_pool h pool) refl
 exact_point_may h p name pool a false e =
     exact_unsupported (world_of h p) (call.Point name pool rank.Exact)
     (elim (why_not h h.point name e) [

@@ -36,16 +36,18 @@ pub not_some : {A : Type 0} (o : Option A) → o ≡ None → is_some o ≡ fals
 not_some o e = ap is_some e
 
 -- the facts by which a first thing may be made
-pub record MayMake (h : HeapState) (there : Option Name) (name : Name) : Type 0 where
+pub record MayMake (h : HeapState) (p : Past) (there : Option Name) (name : Name) : Type 0 where
+  pub agrees : Agrees h p
   pub made : 0 < h.grains
   pub first : there ≡ None
   pub free : is_name_taken h name ≡ false
 
-pub may_make_facts : (h : HeapState) (there : Option Name) (name : Name) → may_make_first h there name ≡ true → MayMake h there name
-may_make_facts h there name e =
+pub may_make_facts : (h : HeapState) (p : Past) (there : Option Name) (name : Name) → Agrees h p → may_make_first h there name ≡ true
+    → MayMake h p there name
+may_make_facts h p there name a e =
     let both = and_parts (is_arena_made h && not (is_some there)) (not (is_name_taken h name)) e in
     let first = and_parts (is_arena_made h) (not (is_some there)) both.0 in
-    record { made = ltb-true 0 h.grains first.0; first = none_of there (not-true (is_some there) first.1);
+    record { agrees = a; made = ltb-true 0 h.grains first.0; first = none_of there (not-true (is_some there) first.1);
         free = not-true (is_name_taken h name) both.1 }
 
 not_zero : (n : ℕ) → 0 < n → n ≡ 0 → ⊥
@@ -79,40 +81,39 @@ names_with_table h p name slots a none free =
     (λ n other. ap (λ t. if is_named t n then Some (TableThing 0) else rest_table h n) none
         ∙ ap (λ b. if b then Some (TableThing 0) else rest_table h n) (sym other))
 
-agrees_with_table : (h : HeapState) (p : Past) (name : Name) (slots : ℕ) → Agrees h p → MayMake h h.table name
+agrees_with_table : (h : HeapState) (p : Past) (name : Name) (slots : ℕ) → MayMake h p h.table name
     → Agrees (with_table h name slots) (past_with_table p name slots)
-agrees_with_table h p name slots a may = record {
-  names = names_with_table h p name slots a may.first may.free;
+agrees_with_table h p name slots may = record {
+  names = names_with_table h p name slots may.agrees may.first may.free;
   slots = null_slots p.addresses slots;
   ids = null_ids (length p.addresses) slots;
-  held = a.held;
-  in_arena = a.in_arena;
-  arena = a.arena;
-  blocks = a.blocks;
-  reservation = a.reservation;
-  buffer = a.buffer;
-  not_null = a.not_null;
-  fresh = a.fresh;
+  held = may.agrees.held;
+  in_arena = may.agrees.in_arena;
+  arena = may.agrees.arena;
+  blocks = may.agrees.blocks;
+  reservation = may.agrees.reservation;
+  buffer = may.agrees.buffer;
+  not_null = may.agrees.not_null;
+  fresh = may.agrees.fresh;
   before_arena = λ z. absurd (not_zero h.grains may.made z);
-  before_pool = a.before_pool;
-  before_point = a.before_point;
+  before_pool = may.agrees.before_pool;
+  before_point = may.agrees.before_point;
 }
 
 abbrev pub world_without_table : HeapState → Past → World
 world_without_table h p = world_by h p false (is_some h.point) (is_some h.pool) h.is_open
 
-right_with_table : (h : HeapState) (p : Past) (line : ℕ) (name : Name) (slots : ℕ) → slots ≤ most_slots → Agrees h p
-    → MayMake h h.table name
+right_with_table : (h : HeapState) (p : Past) (line : ℕ) (name : Name) (slots : ℕ) → slots ≤ most_slots → MayMake h p h.table name
     → IsRightStep (world_without_table h p) (step_of line (call.Table name slots) (reply_only reply.Ok)) (with_table h name slots)
-right_with_table h p line name slots few a may =
+right_with_table h p line name slots few may =
     let w = world_of-parts h p (not_some h.table may.first) refl refl refl in
-    let e = act_of_table (parts_by h p false (is_some h.point) (is_some h.pool) h.is_open) name (a.names name
+    let e = act_of_table (parts_by h p false (is_some h.point) (is_some h.pool) h.is_open) name (may.agrees.names name
         ∙ not_taken h name may.free) slots (le-ltb most_slots (0 + slots) (omega arith)) in
     right_step (world_without_table h p) (step_of line (call.Table name slots) (reply_only reply.Ok)) (with_table h name slots)
         (past_with_table p name slots)
     (record { answered = refl; moves_are_legal = tt; moves_are_due = refl; answer_is_due = sym (ap answer_from e); marked = tt })
     (ap (λ r. with_client_remembered (world_from (world_without_table h p) r)) e)
-    (agrees_with_table h p name slots a may)
+    (agrees_with_table h p name slots may)
     (λ pools. ap Some (ap live_blocks (sym w) ∙ live_blocks-world_of h p))
 
 table_where : (h : HeapState) (p : Past) (line : ℕ) (name : Name) (slots : ℕ) → slots ≤ most_slots → Agrees h p → (b : Bool)
@@ -121,10 +122,10 @@ table_where : (h : HeapState) (p : Past) (line : ℕ) (name : Name) (slots : ℕ
         (accepted_if b h (with_table h name slots)).state
 table_where h p line name slots few a false e = unsupported_step h p line (call.Table name slots) a
 table_where h p line name slots few a true e =
-    let may = may_make_facts h h.table name e in
+    let may = may_make_facts h p h.table name a e in
     subst (λ (w : World). IsRightStep w (step_of line (call.Table name slots) (reply_only reply.Ok)) (with_table h name slots))
     (sym (world_of-parts h p (not_some h.table may.first) refl refl refl))
-    (right_with_table h p line name slots few a may)
+    (right_with_table h p line name slots few may)
 
 pub right_table : (h : HeapState) (p : Past) (line : ℕ) (name : Name) (slots : ℕ) → slots ≤ most_slots → Agrees h p
     → IsRightStep (world_of h p) (step_of line (call.Table name slots) (after_table h name slots).done) (after_table h name slots).state
@@ -160,54 +161,54 @@ names_with_pool h p name a none free =
         else (if is_named t n then Some (PoolThing 0) else if_point h n)) none
     ∙ ap (λ b. if is_named h.table n then Some (TableThing 0) else (if b then Some (PoolThing 0) else if_point h n)) (sym other))
 
-agrees_with_pool : (h : HeapState) (p : Past) (name : Name) → Agrees h p → MayMake h h.pool name
+agrees_with_pool : (h : HeapState) (p : Past) (name : Name) → MayMake h p h.pool name
     → Agrees (with_pool h name) (past_with_pool p name)
-agrees_with_pool h p name a may = record {
-  names = names_with_pool h p name a may.first may.free;
-  slots = a.slots;
-  ids = a.ids;
-  held = a.held;
-  in_arena = a.in_arena;
-  arena = a.arena;
-  blocks = a.blocks;
-  reservation = a.reservation;
-  buffer = a.buffer;
-  not_null = a.not_null;
-  fresh = a.fresh;
+agrees_with_pool h p name may = record {
+  names = names_with_pool h p name may.agrees may.first may.free;
+  slots = may.agrees.slots;
+  ids = may.agrees.ids;
+  held = may.agrees.held;
+  in_arena = may.agrees.in_arena;
+  arena = may.agrees.arena;
+  blocks = may.agrees.blocks;
+  reservation = may.agrees.reservation;
+  buffer = may.agrees.buffer;
+  not_null = may.agrees.not_null;
+  fresh = may.agrees.fresh;
   before_arena = λ z. absurd (not_zero h.grains may.made z);
   before_pool = λ none. absurd (false≢true (sym (ap is_some none)));
-  before_point = a.before_point;
+  before_point = may.agrees.before_point;
 }
 
 abbrev pub world_without_pool : HeapState → Past → World
 world_without_pool h p = world_by h p (is_some h.table) (is_some h.point) false h.is_open
 
-right_with_pool : (h : HeapState) (p : Past) (line : ℕ) (name : Name) → Agrees h p → MayMake h h.pool name
+right_with_pool : (h : HeapState) (p : Past) (line : ℕ) (name : Name) → MayMake h p h.pool name
     → IsRightStep (world_without_pool h p) (step_of line (call.Pool name kind.Amc 1) (reply_only reply.Ok)) (with_pool h name)
-right_with_pool h p line name a may =
+right_with_pool h p line name may =
     let w = world_of-parts h p refl refl (not_some h.pool may.first) refl in
-    let e = act_of_pool (parts_by h p (is_some h.table) (is_some h.point) false h.is_open) name (a.names name
+    let e = act_of_pool (parts_by h p (is_some h.table) (is_some h.point) false h.is_open) name (may.agrees.names name
         ∙ not_taken h name may.free) in
     right_step (world_without_pool h p) (step_of line (call.Pool name kind.Amc 1) (reply_only reply.Ok)) (with_pool h name)
         (past_with_pool p name)
     (record { answered = refl; moves_are_legal = tt; moves_are_due = refl; answer_is_due = sym (ap answer_from e); marked = tt })
     (ap (λ r. with_client_remembered (world_from (world_without_pool h p) r)) e)
-    (agrees_with_pool h p name a may)
+    (agrees_with_pool h p name may)
     (λ pools. ap Some (ap live_blocks (sym w) ∙ live_blocks-world_of h p))
 
-pool_built : (h : HeapState) (p : Past) (line : ℕ) (name : Name) (a : Agrees h p) → MayMake h h.pool name → (kind : Kind) (format : ℕ)
+pool_built : (h : HeapState) (p : Past) (line : ℕ) (name : Name) → MayMake h p h.pool name → (kind : Kind) (format : ℕ)
     → is_amc kind ≡ true → format ≡ 1
     → IsRightStep (world_of h p) (step_of line (call.Pool name kind format) (reply_only reply.Ok)) (with_pool h name)
-pool_built h p line name a may kind.Amc format k f =
+pool_built h p line name may kind.Amc format k f =
     subst (λ (n : ℕ). IsRightStep (world_of h p) (step_of line (call.Pool name kind.Amc n) (reply_only reply.Ok)) (with_pool h name))
         (sym f)
     (subst (λ (w : World). IsRightStep w (step_of line (call.Pool name kind.Amc 1) (reply_only reply.Ok)) (with_pool h name))
     (sym (world_of-parts h p refl refl (not_some h.pool may.first) refl))
-    (right_with_pool h p line name a may))
-pool_built h p line name a may kind.Amcz format k f = absurd (false≢true k)
-pool_built h p line name a may kind.Ams format k f = absurd (false≢true k)
-pool_built h p line name a may kind.Awl format k f = absurd (false≢true k)
-pool_built h p line name a may kind.Lo format k f = absurd (false≢true k)
+    (right_with_pool h p line name may))
+pool_built h p line name may kind.Amcz format k f = absurd (false≢true k)
+pool_built h p line name may kind.Ams format k f = absurd (false≢true k)
+pool_built h p line name may kind.Awl format k f = absurd (false≢true k)
+pool_built h p line name may kind.Lo format k f = absurd (false≢true k)
 
 pool_where : (h : HeapState) (p : Past) (line : ℕ) (name : Name) (kind : Kind) (format : ℕ) → Agrees h p → (b : Bool)
     → (is_implemented_pool kind format && may_make_first h h.pool name) ≡ b
@@ -217,7 +218,7 @@ pool_where h p line name kind format a false e = unsupported_step h p line (call
 pool_where h p line name kind format a true e =
     let both = and_parts (is_implemented_pool kind format) (may_make_first h h.pool name) e in
     let built = and_parts (is_amc kind) (format == 1) both.0 in
-    pool_built h p line name a (may_make_facts h h.pool name both.1) kind format built.0 (eqb-true format 1 built.1)
+    pool_built h p line name (may_make_facts h p h.pool name a both.1) kind format built.0 (eqb-true format 1 built.1)
 
 pub right_pool : (h : HeapState) (p : Past) (line : ℕ) (name : Name) (kind : Kind) (format : ℕ) → Agrees h p
     → IsRightStep (world_of h p) (step_of line (call.Pool name kind format) (after_pool h name kind format).done)
@@ -247,21 +248,21 @@ names_with_point h p name a none free =
     ∙ ap (λ b. if is_named h.table n then Some (TableThing 0)
         else (if is_named h.pool n then Some (PoolThing 0) else (if b then Some (PointThing 0) else None))) (sym other))
 
-agrees_with_point : (h : HeapState) (p : Past) (name pool : Name) → Agrees h p → MayMake h h.point name → is_pool h pool ≡ true
+agrees_with_point : (h : HeapState) (p : Past) (name pool : Name) → MayMake h p h.point name → is_pool h pool ≡ true
     → Agrees (with_point h name) (past_with_point p name)
-agrees_with_point h p name pool a may there = record {
-  names = names_with_point h p name a may.first may.free;
-  slots = a.slots;
-  ids = a.ids;
-  held = a.held;
-  in_arena = a.in_arena;
-  arena = a.arena;
-  blocks = a.blocks;
-  reservation = a.reservation;
-  buffer = a.buffer;
-  not_null = a.not_null;
-  fresh = a.fresh;
-  before_arena = a.before_arena;
+agrees_with_point h p name pool may there = record {
+  names = names_with_point h p name may.agrees may.first may.free;
+  slots = may.agrees.slots;
+  ids = may.agrees.ids;
+  held = may.agrees.held;
+  in_arena = may.agrees.in_arena;
+  arena = may.agrees.arena;
+  blocks = may.agrees.blocks;
+  reservation = may.agrees.reservation;
+  buffer = may.agrees.buffer;
+  not_null = may.agrees.not_null;
+  fresh = may.agrees.fresh;
+  before_arena = may.agrees.before_arena;
   before_pool = λ none. absurd
       (false≢true (sym (ap is_some none)
       ∙ is_named-some h.pool pool (and_parts (not (is_named h.table pool)) (is_named h.pool pool) there).1));
@@ -302,27 +303,27 @@ world_pointed h p name pool a none there =
     ∙ sym (world_of-parts (with_point h name) (past_with_point p name) refl refl
         (is_named-some h.pool pool (and_parts (not (is_named h.table pool)) (is_named h.pool pool) there).1) u.not_open)
 
-right_with_point : (h : HeapState) (p : Past) (line : ℕ) (name pool : Name) → Agrees h p → MayMake h h.point name → is_pool h pool ≡ true
+right_with_point : (h : HeapState) (p : Past) (line : ℕ) (name pool : Name) → MayMake h p h.point name → is_pool h pool ≡ true
     → IsRightStep (world_without_point h p) (step_of line (call.Point name pool rank.Exact) (reply_only reply.Ok)) (with_point h name)
-right_with_point h p line name pool a may there =
-    let w = is_world_without_point h p pool a may.first there in
-    let e = act_of_point (parts_by h p (is_some h.table) false true false) name (a.names name
-        ∙ not_taken h name may.free) pool (pool_there h p pool a there) in
+right_with_point h p line name pool may there =
+    let w = is_world_without_point h p pool may.agrees may.first there in
+    let e = act_of_point (parts_by h p (is_some h.table) false true false) name (may.agrees.names name
+        ∙ not_taken h name may.free) pool (pool_there h p pool may.agrees there) in
     right_step (world_without_point h p) (step_of line (call.Point name pool rank.Exact) (reply_only reply.Ok)) (with_point h name)
         (past_with_point p name)
     (record { answered = refl; moves_are_legal = tt; moves_are_due = refl; answer_is_due = sym (ap answer_from e); marked = tt })
-    (ap (λ r. with_client_remembered (world_from (world_without_point h p) r)) e ∙ world_pointed h p name pool a may.first there)
-    (agrees_with_point h p name pool a may there)
+    (ap (λ r. with_client_remembered (world_from (world_without_point h p) r)) e ∙ world_pointed h p name pool may.agrees may.first there)
+    (agrees_with_point h p name pool may there)
     (λ pools. ap Some (ap live_blocks (sym w) ∙ live_blocks-world_of h p))
 
-point_built : (h : HeapState) (p : Past) (line : ℕ) (name pool : Name) → Agrees h p → MayMake h h.point name → is_pool h pool ≡ true
+point_built : (h : HeapState) (p : Past) (line : ℕ) (name pool : Name) → MayMake h p h.point name → is_pool h pool ≡ true
     → (at_rank : Rank) → is_exact at_rank ≡ true
     → IsRightStep (world_of h p) (step_of line (call.Point name pool at_rank) (reply_only reply.Ok)) (with_point h name)
-point_built h p line name pool a may there rank.Exact e =
+point_built h p line name pool may there rank.Exact e =
     subst (λ (w : World). IsRightStep w (step_of line (call.Point name pool rank.Exact) (reply_only reply.Ok)) (with_point h name))
-        (sym (is_world_without_point h p pool a may.first there))
-    (right_with_point h p line name pool a may there)
-point_built h p line name pool a may there rank.Weak e = absurd (false≢true e)
+        (sym (is_world_without_point h p pool may.agrees may.first there))
+    (right_with_point h p line name pool may there)
+point_built h p line name pool may there rank.Weak e = absurd (false≢true e)
 
 point_where : (h : HeapState) (p : Past) (line : ℕ) (name pool : Name) (at_rank : Rank) → Agrees h p → (b : Bool)
     → (is_exact at_rank && may_make_first h h.point name && is_pool h pool) ≡ b
@@ -332,7 +333,7 @@ point_where h p line name pool at_rank a false e = unsupported_step h p line (ca
 point_where h p line name pool at_rank a true e =
     let both = and_parts (is_exact at_rank && may_make_first h h.point name) (is_pool h pool) e in
     let first = and_parts (is_exact at_rank) (may_make_first h h.point name) both.0 in
-    point_built h p line name pool a (may_make_facts h h.point name first.1) both.1 at_rank first.0
+    point_built h p line name pool (may_make_facts h p h.point name a first.1) both.1 at_rank first.0
 
 pub right_point : (h : HeapState) (p : Past) (line : ℕ) (name pool : Name) (at_rank : Rank) → Agrees h p
     → IsRightStep (world_of h p) (step_of line (call.Point name pool at_rank) (after_point h name pool at_rank).done)

@@ -63,12 +63,12 @@ counts_arena h p grains limit a =
     (λ e. sym (not_some h.pool (a.before_arena (let le = ltb-false 0 h.grains (not-true (is_arena_made h) e) in omega arith)).1))
 
 -- the first pool
-counts_pool_where : (h : HeapState) (name : Name) (kind : Kind) (format : ℕ) (b : Bool)
+counts_pool_where : (h : HeapState) (p : Past) (name : Name) (kind : Kind) (format : ℕ) → Agrees h p → (b : Bool)
     → (is_implemented_pool kind format && may_make_first h h.pool name) ≡ b
     → CountsPools h (call.Pool name kind format) (pool_made_if b h (record h { pool = Some name }))
-counts_pool_where h name kind format false e = counts_unsupported h (call.Pool name kind format)
-counts_pool_where h name kind format true e =
-    let may = may_make_facts h h.pool name (and_parts (is_implemented_pool kind format) (may_make_first h h.pool name) e).1 in
+counts_pool_where h p name kind format a false e = counts_unsupported h (call.Pool name kind format)
+counts_pool_where h p name kind format a true e =
+    let may = may_make_facts h p h.pool name a (and_parts (is_implemented_pool kind format) (may_make_first h h.pool name) e).1 in
     let none : pools_in h ≡ 0 = ap (λ o. length (one_if (is_some o) front_pool)) may.first in
     record { number = ap Some (sym none); count = omega (arith, none) }
 
@@ -118,7 +118,7 @@ counts_pools h p (call.Table table slots) a =
     counts_accepted h (record h { table = Some table; slots = replicate slots 0 }) (call.Table table slots)
         (may_make_first h h.table table) refl (λ e. refl)
 counts_pools h p (call.Pool pool kind format) a =
-    counts_pool_where h pool kind format (is_implemented_pool kind format && may_make_first h h.pool pool) refl
+    counts_pool_where h p pool kind format a (is_implemented_pool kind format && may_make_first h h.pool pool) refl
 counts_pools h p (call.Point point pool at_rank) a =
     counts_accepted h (record h { point = Some point }) (call.Point point pool at_rank)
         (is_exact at_rank && may_make_first h h.point point && is_pool h pool) refl (λ e. refl)
