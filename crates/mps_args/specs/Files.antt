@@ -1,6 +1,7 @@
 -- Words that name files.
 use Rattle.std.specs.Prelude.{◌≡◌, ℕ, ◌==◌, Bool, true, false, ◌||◌, not, codes, List, [], ◌∷◌, refl}
 use Rattle.std.specs.Str.{bytes_eq}
+use Rattle.mps_base.specs.Desk.{standard_input}
 
 -- not empty, and not beginning with `-`
 abbrev pub is_file : List ℕ → Bool
@@ -9,15 +10,11 @@ is_file (first ∷ _) = not (first == 45)
 
 -- a file, or `-` for standard input
 abbrev pub is_file_to_read : List ℕ → Bool
-is_file_to_read word = bytes_eq word (codes "-") || is_file word
+is_file_to_read word = bytes_eq word standard_input || is_file word
 
 -- the log where none is named
 abbrev pub usual_log : List ℕ
 usual_log = codes "mpsio.log"
-
--- standard input, where no script and no text is named
-abbrev pub standard_input : List ℕ
-standard_input = codes "-"
 
 pub a_dash_inside_is_fine : is_file (codes "a-b") ≡ true
 a_dash_inside_is_fine = refl

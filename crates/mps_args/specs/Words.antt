@@ -8,9 +8,10 @@
 --   gen SEED COUNT                 decimal numbers below 2^64; COUNT is at most 1,000,000
 use Rattle.std.specs.Prelude.{◌≡◌, ℕ, nat_le, ◌&&◌, if◌then◌else◌, codes, Option, Some, None, option_and_then, List, [], ◌∷◌, refl}
 use Rattle.std.specs.Str.{bytes_eq}
-use Rattle.mps_script.specs.Number.{decimal_number}
+use Rattle.mps_numerals.specs.Decimal.{decimal_number}
 use Rattle.mps_args.specs.Meaning.{Meaning, Runs, Converts, Reads, Lists, Generates}
-use Rattle.mps_args.specs.Files.{is_file, is_file_to_read, usual_log, standard_input}
+use Rattle.mps_base.specs.Desk.{standard_input}
+use Rattle.mps_args.specs.Files.{is_file, is_file_to_read, usual_log}
 use Rattle.mps_args.specs.Kinds.{kinds_named, all_kinds}
 
 -- ---- what is asked, where the files may be named so

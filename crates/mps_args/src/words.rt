@@ -3,7 +3,7 @@
 ghost use Rattle.std.specs.Prelude.{◌≡◌, option_map, IfSome, [], ◌∷◌};
 ghost use Rattle.std.specs.Int.RustNames.{bit_or};
 ghost use Rattle.mps_event.specs.KindSet.{bits_of};
-ghost use Rattle.mps_script.specs.Number.{decimal_number as number_written};
+ghost use Rattle.mps_numerals.specs.Decimal.{decimal_number as number_written};
 ghost use Rattle.mps_args.specs.Files.{is_file, is_file_to_read};
 ghost use Rattle.mps_args.specs.Kinds.{kind_named, kinds_named, all_kinds};
 ghost use Rattle.mps_args.specs.Words.{running, converting, reading, listing, generating, run_meaning, cnv_meaning, txt_meaning, blocks_meaning, gen_meaning, meaning_after, meaning};
@@ -12,8 +12,8 @@ ghost use Rattle.mps_args.specs.Seen.{meaning_of, texts};
 
 use crate::command::Command;
 use bitflags::Flags;
-use mps_numerals::decimal_number;
 use mps_event::Kinds;
+use mps_numerals::decimal_number;
 
 // The log where none is named.
 const LOG: &str = "mpsio.log";

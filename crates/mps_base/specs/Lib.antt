@@ -7,6 +7,7 @@ pub mod Name
 pub mod Run
 pub mod Segment
 pub mod Placement
+pub mod PoolKind
 pub mod QuietDesk
 pub mod Record
 pub mod Zones

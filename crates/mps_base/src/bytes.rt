@@ -1,7 +1,7 @@
 // Searches and tests of bytes.
 
-ghost use Rattle.std.specs.Prelude.{◌≡◌, ◌==◌, ◌<◌, length, position, IfSome};
-ghost use Rattle.std.specs.List.{list_all};
+ghost use Rattle.std.specs.Prelude.{◌≡◌, ◌==◌, ◌<◌, ◌≤◌, length, position, IfSome};
+ghost use Rattle.std.specs.List.{list_all, position_or_len};
 ghost use Rattle.mps_base.specs.Name.{is_letter, is_name_byte, is_name};
 
 /// The most bytes of a name.
@@ -13,6 +13,14 @@ pub fn find_byte(byte: u8, bytes: &[u8]) -> Option<usize>
     ensures in_bounds { IfSome result (λ index. index < length bytes.now) }
 {
     bytes.iter().position(|other| *other == byte)
+}
+
+/// How many bytes stand before the first such byte: all where there is none.
+pub fn length_before(byte: u8, bytes: &[u8]) -> usize
+    ensures length { result ≡ position_or_len (λ other. other == byte) bytes.now }
+    ensures at_most { result ≤ length bytes.now }
+{
+    find_byte(byte, bytes).unwrap_or(bytes.len())
 }
 
 /// Whether a byte is a letter a to z.

@@ -17,7 +17,7 @@ mod stored_file;
 mod trail;
 
 pub use address::{Addr, BYTES_OF_GRAIN, BYTES_OF_WORD, WORDS_OF_GRAIN, ZoneSet};
-pub use bytes::{MAX_NAME_BYTES, find_byte, is_name};
+pub use bytes::{MAX_NAME_BYTES, find_byte, is_name, length_before};
 pub use desk::{Desk, Failed};
 pub use host_desk::HostDesk;
 pub use mem_desk::{DeskCall, MemDesk};

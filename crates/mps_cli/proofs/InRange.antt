@@ -7,7 +7,8 @@ use Rattle.mps_base.specs.declared.names.Rank.TheVariants.{Exact}
 use Rattle.mps_model.specs.declared.call.Call.{Call}
 use Rattle.mps_model.specs.declared.call.Call.TheVariants as call
 use Rattle.mps_script.specs.Word.{words, two_words, three_words}
-use Rattle.mps_script.specs.Number.{decimal_number, number_of, number_within}
+use Rattle.mps_numerals.specs.Decimal.{decimal_number}
+use Rattle.mps_script.specs.Number.{number_of, number_within}
 use Rattle.mps_script.specs.Name.{name_of, slot_of}
 use Rattle.mps_script.specs.Head.{head_of}
 use Rattle.mps_base.specs.declared.names.Name.{Name}

@@ -5,15 +5,15 @@ ghost use Rattle.mps_base.specs.Record.{record_bytes, records_bytes, header_byte
 ghost use Rattle.mps_event.specs.Grammar.{AreFields};
 ghost use Rattle.mps_event.specs.Event.{code_of};
 ghost use Rattle.mps_event.specs.declared.version.Version.TheVariants.{One};
-ghost use Rattle.mps_model.specs.Log.{record_of, records_of_accepted, records_of_command, kind_number as number_of_kind};
+ghost use Rattle.mps_model.specs.Log.{record_of, records_of_accepted, records_of_command};
 ghost use Rattle.mps_model.specs.Answer.{Replied};
 ghost use Rattle.mps_log_reader.specs.PutOut.{PutsPart};
 ghost use Rattle.mps_cli.specs.Write.{appended, LogTakes};
 ghost use Rattle.mps_cli.specs.Records.{records_of_done};
 
 use crate::write::log_all;
-use mps_base::{Desk, Failed, Kind, Move};
-use mps_event::{Event, Version, header_of, put};
+use mps_base::{Desk, Failed, Move};
+use mps_event::{Event, MFS_NUMBER, MVFF_NUMBER, Version, header_of, kind_number, put};
 use mps_first_heap::Done;
 use mps_model::{Call, Reply};
 
@@ -169,23 +169,15 @@ fn log_accepted<D: Desk>(desk: &mut D, line: u32, pools: u64, call: &Call) -> Re
             desk,
             line,
             Event::PoolCreate,
-            &[pools, 6, words],
+            &[pools, MFS_NUMBER, words],
         ),
-        Call::PoolMvff { .. } => log_record(desk, line, Event::PoolCreate, &[pools, 7, 0]),
+        Call::PoolMvff { .. } => log_record(
+            desk,
+            line,
+            Event::PoolCreate,
+            &[pools, MVFF_NUMBER, 0],
+        ),
         _ => Ok(()),
-    }
-}
-
-/// The number of a kind of pool in the log.
-fn kind_number(kind: Kind) -> u64
-    ensures { result ≡ number_of_kind kind }
-{
-    match kind {
-        Kind::Amc => 1,
-        Kind::Amcz => 2,
-        Kind::Ams => 3,
-        Kind::Awl => 4,
-        Kind::Lo => 5,
     }
 }
 

@@ -121,11 +121,11 @@ fields_fit : (n : ℕ) (bytes : List ℕ) → IsBytes bytes → AllByRecursion (
 fields_fit zero bytes fits = tt
 fields_fit (suc n) bytes fits = (little_from-lt 0 8 bytes fits, fields_fit n (drop 8 bytes) (IsBytes-drop 8 bytes fits))
 
--- ---- the whole record at the front
+-- ---- the record in a prefix of the bytes
 
 -- the number of fields stands in the first bytes
-pub front_count : (n : ℕ) (bytes : List ℕ) → 4 ≤ n → little_number 2 (drop 2 (take n bytes)) ≡ little_number 2 (drop 2 bytes)
-front_count n bytes le =
+pub count_in_prefix : (n : ℕ) (bytes : List ℕ) → 4 ≤ n → little_number 2 (drop 2 (take n bytes)) ≡ little_number 2 (drop 2 bytes)
+count_in_prefix n bytes le =
     let n-is : n ≡ 2 + (n - 2) = omega arith in
     ap (λ (k : ℕ). little_number 2 (drop 2 (take k bytes))) n-is
     ∙ ap (little_number 2) (drop-take 2 (n - 2) bytes)
@@ -136,7 +136,7 @@ record_in-take : (n : ℕ) (bytes : List ℕ) → little_number 2 (drop 2 bytes)
 record_in-take n bytes count =
     let front = take (size_of_record n) bytes in
     let code : little_number 2 front ≡ little_number 2 bytes = little_from-take 0 2 (size_of_record n) bytes (omega arith) in
-    let count-is : little_number 2 (drop 2 front) ≡ little_number 2 (drop 2 bytes) = front_count (size_of_record n) bytes (omega arith) in
+    let count-is : little_number 2 (drop 2 front) ≡ little_number 2 (drop 2 bytes) = count_in_prefix (size_of_record n) bytes (omega arith) in
     let later : drop 4 front ≡ take (4 + 8 * n) (drop 4 bytes) = ap (λ (k : ℕ). drop 4 (take k bytes)) (omega arith) ∙ drop-take 4 (4 + 8 * n) bytes in
     let line : little_number 4 (drop 4 front) ≡ little_number 4 (drop 4 bytes) =
     ap (little_number 4) later ∙ little_from-take 0 4 (4 + 8 * n) (drop 4 bytes) (omega arith) in
@@ -150,7 +150,7 @@ record_in-take n bytes count =
     made : (a b c d : ℕ) (x y : List ℕ) → a ≡ b → c ≡ d → x ≡ y → record_of a c x ≡ record_of b d y
     made a b c d x y e f g = rw (e, f, g) refl
 
--- with the right number of fields and enough bytes, what the front is read as is what the whole record is read as
+-- with the right number of fields and enough bytes, the prefix that the record takes is read as all of the bytes are
 pub known_is : (event : Event) (ended : Bool) (bytes : List ℕ) → little_number 2 (drop 2 bytes) ≡ field_count_of event
     → size_of_record (field_count_of event) ≤ length bytes
     → whole_of event (record_in (take (size_of_record (field_count_of event)) bytes)) ≡ known_of event ended bytes
@@ -176,9 +176,6 @@ record IsKnownAs (event : Event) (bytes : List ℕ) (r : Record) : Type 0 where
 too_few_gives_none : (ended : Bool) (r : Record) → too_few ended ≡ Ok (Some r) → ⊥
 too_few_gives_none true r e = cc
 too_few_gives_none false r e = cc
-
-done : Record → Result (Option Record) LogFault
-done r = Ok (Some r)
 
 whole_gives : (b : Bool) (s r : Record) → cond b (Ok (Some s)) (Err BadString) ≡ Ok (Some r) → (b ≡ true) × (s ≡ r)
 whole_gives true s r e = (refl, cc)
@@ -216,15 +213,15 @@ first_gives version ended (byte ∷ bytes) r e =
     coded_gives (event_of version (little_number 2 (byte ∷ bytes))) ended (byte ∷ bytes) r
     (long_gives (ltb (length (byte ∷ bytes)) 8) ended (coded_of (event_of version (little_number 2 (byte ∷ bytes))) ended (byte ∷ bytes)) r e)
 
--- what is read is a record of the grammar, at the front
-pub record IsFront (version : Version) (r : Record) (bytes : List ℕ) : Type 0 where
+-- the bytes begin with this record of the grammar
+pub record BeginsWith (version : Version) (r : Record) (bytes : List ℕ) : Type 0 where
   pub grammar : IsRecord version r
   pub spelled : bytes ≡ record_bytes r ++ drop (size_of_record (length r.fields)) bytes
 
-front_of : (version : Version) (event : Event) (bytes : List ℕ) → IsBytes bytes → event_of version (little_number 2 bytes) ≡ Some event
+record_begins : (version : Version) (event : Event) (bytes : List ℕ) → IsBytes bytes → event_of version (little_number 2 bytes) ≡ Some event
     → little_number 2 (drop 2 bytes) ≡ field_count_of event → size_of_record (field_count_of event) ≤ length bytes
-    → interns_a_name event (record_in bytes).fields ≡ true → IsFront version (record_in bytes) bytes
-front_of version event bytes fits known count size named =
+    → interns_a_name event (record_in bytes).fields ≡ true → BeginsWith version (record_in bytes) bytes
+record_begins version event bytes fits known count size named =
     let fields = (record_in bytes).fields in
     let count-is : length fields ≡ field_count_of event = length-fields_in (little_number 2 (drop 2 bytes)) (drop 8 bytes) ∙ count in
     let event-is : HasEvent version (record_in bytes).code fields = record { event = event; known = known; count = count-is; named = named } in
@@ -240,18 +237,18 @@ front_of version event bytes fits known count size named =
           ∙ ap (λ (k : ℕ). record_bytes (record_in bytes) ++ drop (size_of_record k) bytes) (sym count-is);
     }
 
-pub found : (version : Version) (ended : Bool) (bytes : List ℕ) (r : Record) → IsBytes bytes → first_of version ended bytes ≡ Ok (Some r) → IsFront version r bytes
-found version ended bytes r fits e =
+pub record_read : (version : Version) (ended : Bool) (bytes : List ℕ) (r : Record) → IsBytes bytes → first_of version ended bytes ≡ Ok (Some r) → BeginsWith version r bytes
+record_read version ended bytes r fits e =
     let g = first_gives version ended bytes r e in
     let k = g.2 in
-    subst (λ (s : Record). IsFront version s bytes) k.is (front_of version g.0 bytes fits g.1 k.count k.size k.named)
+    subst (λ (s : Record). BeginsWith version s bytes) k.is (record_begins version g.0 bytes fits g.1 k.count k.size k.named)
 
--- the same for whatever was answered
-pub is_found : (version : Version) (ended : Bool) (bytes : List ℕ) (answer : Result (Option Record) LogFault) → IsBytes bytes → answer ≡ first_of version ended bytes
-    → IfOk answer (λ front. IfSome front (λ r. IsRecord version r × (bytes ≡ record_bytes r ++ drop (size_of_record (length r.fields)) bytes)))
-is_found version ended bytes (Ok (Some r)) fits e = let f = found version ended bytes r fits (sym e) in (f.grammar, f.spelled)
-is_found version ended bytes (Ok None) fits e = tt
-is_found version ended bytes (Err fault) fits e = tt
+-- the same for any result
+pub sound_reading : (version : Version) (ended : Bool) (bytes : List ℕ) (result : Result (Option Record) LogFault) → IsBytes bytes → result ≡ first_of version ended bytes
+    → IfOk result (λ read. IfSome read (λ r. IsRecord version r × (bytes ≡ record_bytes r ++ drop (size_of_record (length r.fields)) bytes)))
+sound_reading version ended bytes (Ok (Some r)) fits e = let f = record_read version ended bytes r fits (sym e) in (f.grammar, f.spelled)
+sound_reading version ended bytes (Ok None) fits e = tt
+sound_reading version ended bytes (Err fault) fits e = tt
 
 -- ---- what was written is read
 
@@ -324,15 +321,15 @@ read_again version ended r rest h =
     let count : length r.fields < 2 ^ 16 = omega (arith, event.count, count-le event.event) in
     reads_spelled version ended (record_bytes r ++ rest) r event (spelled_by r rest code count h.line_fits h.fields_fit)
 
--- two records at a prefix of the same bytes
-abbrev done_record : Record → Result (Option Record) LogFault
-done_record r = Ok (Some r)
+-- two records with which the same bytes begin
+abbrev read_as : Record → Result (Option Record) LogFault
+read_as r = Ok (Some r)
 
-same_read : (a b : Record) → done_record a ≡ done_record b → a ≡ b
+same_read : (a b : Record) → read_as a ≡ read_as b → a ≡ b
 same_read a b e = cc
 
-pub one_front : (version : Version) (a b : Record) (x y : List ℕ) → IsRecord version a → IsRecord version b → record_bytes a ++ x ≡ record_bytes b ++ y
+pub one_beginning : (version : Version) (a b : Record) (x y : List ℕ) → IsRecord version a → IsRecord version b → record_bytes a ++ x ≡ record_bytes b ++ y
     → (a ≡ b) × (x ≡ y)
-one_front version a b x y ga gb e =
+one_beginning version a b x y ga gb e =
     let same : a ≡ b = same_read a b (sym (read_again version true a x ga) ∙ ap (first_of version true) e ∙ read_again version true b y gb) in
     (same, append_cancel_left (record_bytes b) x y (ap (λ (r : Record). record_bytes r ++ x) (sym same) ∙ e))

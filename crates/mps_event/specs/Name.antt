@@ -1,25 +1,10 @@
--- Names that a log interns: a letter a to z and then letters a to z, digits or underscores, 16 bytes at most, filled up
--- with zeros to 16 bytes.
-use Rattle.std.specs.Prelude.{◌≡◌, ℕ, Bool, true, false, ◌&&◌, ◌||◌, ◌==◌, nat_le, List, [], ◌∷◌, ◌++◌, length, take, drop, position, unwrap_or, codes, replicate, slice_index, refl}
+-- Names that a log interns, filled up with zeros to 16 bytes.
+use Rattle.std.specs.Prelude.{◌≡◌, ℕ, Bool, true, false, ◌&&◌, ◌==◌, List, [], ◌∷◌, ◌++◌, length, take, drop, position, unwrap_or, codes, replicate, slice_index, refl}
 use Rattle.std.specs.List.{list_all}
+use Rattle.mps_base.specs.Name.{is_name}
 use Rattle.mps_base.specs.Record.{number_bytes}
 
-abbrev pub is_between : (low high byte : ℕ) → Bool
-is_between low high byte = nat_le low byte && nat_le byte high
-
--- a letter a to z
-abbrev pub is_letter : ℕ → Bool
-is_letter byte = is_between 97 122 byte
-
--- a letter, a digit or an underscore
-abbrev pub is_name_byte : ℕ → Bool
-is_name_byte byte = is_letter byte || is_between 48 57 byte || (byte == 95)
-
-abbrev pub is_name : List ℕ → Bool
-is_name [] = false
-is_name (first ∷ others) = is_letter first && list_all is_name_byte others
-
--- what stands before the zeros
+-- the bytes before the first zero
 abbrev pub name_in : List ℕ → List ℕ
 name_in bytes = take (unwrap_or (position (λ byte. byte == 0) bytes) (length bytes)) bytes
 

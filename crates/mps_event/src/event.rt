@@ -1,10 +1,43 @@
-// What a record tells, by its code.
+// What a record is of, by its code.
 
 ghost use Rattle.std.specs.Prelude.{◌≡◌};
 
 use crate::version::Version;
 
-/// What a record tells: a kind of record, with a code and a number of fields of its own.
+// The codes, by their events.
+const ARENA_CREATE: u16 = 1;
+
+const LIMIT_SET: u16 = 2;
+
+const POOL_CREATE: u16 = 16;
+
+const FLIP: u16 = 32;
+
+const END: u16 = 33;
+
+const SEG_ALLOC: u16 = 48;
+
+const SEG_FREE: u16 = 49;
+
+const SPLAT: u16 = 64;
+
+const COMMIT: u16 = 80;
+
+const ALLOC: u16 = 81;
+
+const MOVE: u16 = 82;
+
+const STAY: u16 = 83;
+
+const POST: u16 = 84;
+
+const FREE: u16 = 85;
+
+const INTERN: u16 = 96;
+
+const LABEL: u16 = 97;
+
+/// What a record is of: each event has a code and a number of fields of its own.
 #[derive(Clone, Copy, Debug, PartialEq, Eq)]
 pub enum Event {
     /// The arena was made: its grains, and the commit limit in grains.
@@ -49,22 +82,22 @@ impl Event {
         ensures { result ≡ event_of version code }
     {
         match (code, version) {
-            (1, _) => Some(Event::ArenaCreate),
-            (2, _) => Some(Event::LimitSet),
-            (16, _) => Some(Event::PoolCreate),
-            (32, _) => Some(Event::Flip),
-            (33, _) => Some(Event::End),
-            (48, _) => Some(Event::SegAlloc),
-            (49, _) => Some(Event::SegFree),
-            (64, _) => Some(Event::Splat),
-            (80, _) => Some(Event::Commit),
-            (81, _) => Some(Event::Alloc),
-            (82, _) => Some(Event::Move),
-            (83, _) => Some(Event::Stay),
-            (84, _) => Some(Event::Post),
-            (85, _) => Some(Event::Free),
-            (96, Version::Two) => Some(Event::Intern),
-            (97, Version::Two) => Some(Event::Label),
+            (ARENA_CREATE, _) => Some(Event::ArenaCreate),
+            (LIMIT_SET, _) => Some(Event::LimitSet),
+            (POOL_CREATE, _) => Some(Event::PoolCreate),
+            (FLIP, _) => Some(Event::Flip),
+            (END, _) => Some(Event::End),
+            (SEG_ALLOC, _) => Some(Event::SegAlloc),
+            (SEG_FREE, _) => Some(Event::SegFree),
+            (SPLAT, _) => Some(Event::Splat),
+            (COMMIT, _) => Some(Event::Commit),
+            (ALLOC, _) => Some(Event::Alloc),
+            (MOVE, _) => Some(Event::Move),
+            (STAY, _) => Some(Event::Stay),
+            (POST, _) => Some(Event::Post),
+            (FREE, _) => Some(Event::Free),
+            (INTERN, Version::Two) => Some(Event::Intern),
+            (LABEL, Version::Two) => Some(Event::Label),
             _ => None,
         }
     }
@@ -74,22 +107,22 @@ impl Event {
         ensures { result ≡ code_of self }
     {
         match self {
-            Event::ArenaCreate => 1,
-            Event::LimitSet => 2,
-            Event::PoolCreate => 16,
-            Event::Flip => 32,
-            Event::End => 33,
-            Event::SegAlloc => 48,
-            Event::SegFree => 49,
-            Event::Splat => 64,
-            Event::Commit => 80,
-            Event::Alloc => 81,
-            Event::Move => 82,
-            Event::Stay => 83,
-            Event::Post => 84,
-            Event::Free => 85,
-            Event::Intern => 96,
-            Event::Label => 97,
+            Event::ArenaCreate => ARENA_CREATE,
+            Event::LimitSet => LIMIT_SET,
+            Event::PoolCreate => POOL_CREATE,
+            Event::Flip => FLIP,
+            Event::End => END,
+            Event::SegAlloc => SEG_ALLOC,
+            Event::SegFree => SEG_FREE,
+            Event::Splat => SPLAT,
+            Event::Commit => COMMIT,
+            Event::Alloc => ALLOC,
+            Event::Move => MOVE,
+            Event::Stay => STAY,
+            Event::Post => POST,
+            Event::Free => FREE,
+            Event::Intern => INTERN,
+            Event::Label => LABEL,
         }
     }
 

@@ -6,7 +6,7 @@ use thiserror::Error;
 #[error("bad header")]
 pub struct BadMagic;
 
-/// What is wrong with the record at a prefix of some bytes: the first of these that holds, but that `Cut` also comes
+/// What is wrong with the record with which some bytes begin: the first of these that holds, but that `Cut` also comes
 /// first of all where there are fewer than 8 bytes.
 #[derive(Clone, Copy, Debug, PartialEq, Eq, Error)]
 pub enum LogFault {

@@ -11,8 +11,8 @@ use crate::version::Version;
 /// The version of the log that begins with these bytes. `BadMagic` exactly where the first 8 bytes are no header, or
 /// where there are fewer.
 pub fn header(bytes: &[u8]) -> Result<Version, BadMagic>
-    ensures found { IfOk result (λ version. bytes.now ≡ header_bytes (number_of_version version) ++ drop 8 bytes.now) }
-    ensures only { (version : TheVersion) (rest : List ℕ) →
+    ensures sound { IfOk result (λ version. bytes.now ≡ header_bytes (number_of_version version) ++ drop 8 bytes.now) }
+    ensures complete { (version : TheVersion) (rest : List ℕ) →
         bytes.now ≡ header_bytes (number_of_version version) ++ rest → result ≡ Ok version }
 {
     match bytes {

@@ -1,7 +1,7 @@
 // The kinds of events, and which of them to print.
 
-use bitflags::{Flag, Flags, bitflag_items};
 use crate::event::Event;
+use bitflags::{Flag, Flags, bitflag_items};
 
 /// A set of kinds of events. Contracts see its bits.
 #[derive(Clone, Copy, PartialEq, Eq, Debug)]

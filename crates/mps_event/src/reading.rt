@@ -1,4 +1,4 @@
-// Reading the record at a prefix of some bytes.
+// Reading the record with which some bytes begin.
 
 ghost use Rattle.std.specs.Prelude.{◌≡◌, ◌≤◌, ◌++◌, ℕ, List, Some, Ok, Err, IfOk, IfSome, IsOkAnd, length, drop};
 ghost use Rattle.byteorder.specs.Endian.{little_number};
@@ -14,13 +14,13 @@ use crate::record::RecordRef;
 use crate::version::Version;
 use byteorder::{ByteOrder, LittleEndian};
 
-// The bytes of a record before its fields: code, number of fields, line.
+/// The bytes of a record before its fields: code, number of fields, line.
 const HEAD: usize = 8;
 
-// Where the bytes of an interned name begin.
+/// The index at which the bytes of an interned name begin.
 const INTERNED: usize = 16;
 
-/// Reads the record at a prefix of `bytes`, in a log of this version; `ended` says that no more bytes follow these.
+/// Reads the record with which `bytes` begin, in a log of this version; `ended` says that no more bytes follow these.
 /// None exactly where there is no whole record yet: the bytes are empty, or they have not ended and are fewer than 8, or
 /// fewer than a known code with its number of fields needs. `Cut` comes only where the bytes have ended.
 pub fn first<'a>(
@@ -29,16 +29,17 @@ pub fn first<'a>(
     version: Version,
 ) -> Result<Option<RecordRef<'a>>, LogFault>
     // What is read is a record of the grammar, and the bytes begin with its bytes.
-    ensures found { IfOk result (λ front. IfSome front (λ r. IsRecord version r × (bytes.now ≡ record_bytes r ++ drop (size_of_record (length r.fields)) bytes.now))) }
-    // A record of the grammar at the front is read, whatever follows it.
-    ensures only { (r : Record) (rest : List ℕ) → IsRecord version r → bytes.now ≡ record_bytes r ++ rest → result ≡ Ok (Some r) }
+    ensures sound { IfOk result (λ read. IfSome read (λ r. IsRecord version r × (bytes.now ≡ record_bytes r ++ drop (size_of_record (length r.fields)) bytes.now))) }
+    // A record of the grammar with which the bytes begin is read, whatever follows it.
+    ensures complete { (r : Record) (rest : List ℕ) → IsRecord version r → bytes.now ≡ record_bytes r ++ rest → result ≡ Ok (Some r) }
     // Which fault it is.
-    ensures exact { result ≡ first_of version ended bytes.now }
+    ensures value { result ≡ first_of version ended bytes.now }
 {
-    front(bytes, ended, version)
+    first_record(bytes, ended, version)
 }
 
-fn front<'a>(
+/// The same, with its equation alone.
+fn first_record<'a>(
     bytes: &'a [u8],
     ended: bool,
     version: Version,
@@ -53,17 +54,23 @@ fn front<'a>(
     }
     match Event::of_code(LittleEndian::read_u16(bytes), version) {
         None => Err(LogFault::UnknownCode),
-        Some(event) => known(event, bytes, ended),
+        Some(event) => record_of(event, bytes, ended),
     }
 }
 
+/// Where there are too few bytes: a fault where they have ended, and else nothing yet.
 fn too_few<'a>(ended: bool) -> Result<Option<RecordRef<'a>>, LogFault>
     ensures { result ≡ too_few ended }
 {
     if ended { Err(LogFault::Cut) } else { Ok(None) }
 }
 
-fn known<'a>(event: Event, bytes: &'a [u8], ended: bool) -> Result<Option<RecordRef<'a>>, LogFault>
+/// The record of an event with which the bytes begin.
+fn record_of<'a>(
+    event: Event,
+    bytes: &'a [u8],
+    ended: bool,
+) -> Result<Option<RecordRef<'a>>, LogFault>
     requires { 8 ≤ length bytes.now }
     ensures { result ≡ known_of event ended bytes.now }
 {
@@ -75,10 +82,11 @@ fn known<'a>(event: Event, bytes: &'a [u8], ended: bool) -> Result<Option<Record
     if bytes.len() < size {
         return too_few(ended);
     }
-    whole(event, &bytes[..size])
+    whole_record(event, &bytes[..size])
 }
 
-fn whole<'a>(event: Event, bytes: &'a [u8]) -> Result<Option<RecordRef<'a>>, LogFault>
+/// The record of an event that the bytes are, all of them.
+fn whole_record<'a>(event: Event, bytes: &'a [u8]) -> Result<Option<RecordRef<'a>>, LogFault>
     requires count { little_number 2 (drop 2 bytes.now) ≡ field_count_of event }
     requires size { length bytes.now ≡ size_of_record (field_count_of event) }
     ensures { result ≡ whole_of event (record_in bytes.now) }
@@ -90,7 +98,7 @@ fn whole<'a>(event: Event, bytes: &'a [u8]) -> Result<Option<RecordRef<'a>>, Log
     }
 }
 
-// Whether what a whole record interns, if anything, is a name.
+/// Whether what a whole record interns, if anything, is a name.
 fn interns_a_name(event: Event, bytes: &[u8]) -> bool
     requires count { little_number 2 (drop 2 bytes.now) ≡ field_count_of event }
     requires size { length bytes.now ≡ size_of_record (field_count_of event) }

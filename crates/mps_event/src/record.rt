@@ -5,7 +5,7 @@ ghost use Rattle.std.specs.Prelude.{◌≡◌, ◌<◌, ◌+◌, ◌*◌, length
 use byteorder::{ByteOrder, LittleEndian};
 use std::marker::Model;
 
-/// A whole record, which lends its bytes from the log: its fields are read there and copied nowhere. Contracts see the
+/// A whole record, which borrows its bytes from the log: its fields are read there and copied nowhere. Contracts see the
 /// record.
 #[derive(Debug, Drop)]
 pub struct RecordRef<'a> {
@@ -30,7 +30,7 @@ impl<'a> RecordRef<'a> {
     ghost use Rattle.byteorder.specs.Endian.{little_number};
     ghost use Rattle.mps_event.specs.Reading.{record_in, size_of_record};
 
-    // The record that these bytes are, all of them.
+    /// The record that these bytes are, all of them.
     pub(crate) fn new(bytes: &'a [u8]) -> RecordRef<'a>
         requires { length bytes.now ≡ size_of_record (little_number 2 (drop 2 bytes.now)) }
         ensures { result ≡ record_in bytes.now }
@@ -38,7 +38,7 @@ impl<'a> RecordRef<'a> {
         RecordRef { bytes }
     }
 
-    /// The code, which says what the record tells.
+    /// The code of the record's event.
     pub fn code(&self) -> u16
         ensures { result ≡ self.now.code }
     {
@@ -52,14 +52,14 @@ impl<'a> RecordRef<'a> {
         LittleEndian::read_u32(&self.bytes[4..])
     }
 
-    /// How many fields the record has.
+    /// The number of fields.
     pub fn count(&self) -> u16
         ensures { result ≡ length self.now.fields }
     {
         LittleEndian::read_u16(&self.bytes[2..])
     }
 
-    /// The field at a place, counted from 0.
+    /// The field at an index, counted from 0.
     pub fn field(&self, i: u16) -> u64
         requires { i < length self.now.fields }
         ensures { result ≡ slice_index self.now.fields i }
@@ -67,7 +67,7 @@ impl<'a> RecordRef<'a> {
         LittleEndian::read_u64(&self.bytes[8 + 8 * i as usize..])
     }
 
-    /// How many bytes the record has.
+    /// The number of bytes.
     pub fn size(&self) -> usize
         ensures { result ≡ size_of_record (length self.now.fields) }
     {

@@ -8,10 +8,10 @@ ghost use Rattle.mps_event.specs.Reading.{size_of_record};
 use crate::version::Version;
 use byteorder::{ByteOrder, LittleEndian};
 
-/// Writes a record at a prefix of `out`, in a log of this version, and answers how many bytes it has: at most 40.
+/// Writes a record at the start of `out`, in a log of this version, and returns the number of its bytes: at most 40.
 pub fn put(out: &mut [u8], line: u32, code: u16, fields: &[u64], version: Version) -> usize
     requires known { AreFields version code fields.now }
-    requires room { size_of_record (length fields.now) ≤ length out.old }
+    requires fits { size_of_record (length fields.now) ≤ length out.old }
     ensures bytes { out.new ≡ record_bytes (record { line = line; code = code; fields = fields.now }) ++ drop result out.old }
     ensures size { result ≡ size_of_record (length fields.now) }
 {
@@ -22,6 +22,7 @@ pub fn put(out: &mut [u8], line: u32, code: u16, fields: &[u64], version: Versio
     8 + 8 * fields.len()
 }
 
+/// Writes the fields at the start of `out`.
 fn put_fields(out: &mut [u8], fields: &[u64])
     requires { 8 * length fields.now ≤ length out.old }
     ensures { out.new ≡ fields_bytes fields.now ++ drop (8 * length fields.now) out.old }

@@ -4,8 +4,7 @@ use Rattle.std.specs.Prelude.{ℕ, ◌+◌, if◌then◌else◌, List, [], ◌�
 use Rattle.mps_base.specs.Record.{Record, records_bytes, header_bytes, arena_create_code, limit_set_code, pool_create_code, flip_code, end_code, seg_alloc_code, seg_free_code, splat_code, commit_code, alloc_code, move_code, stay_code, post_code, free_code}
 use Rattle.mps_base.specs.declared.moves.Move.{Move}
 use Rattle.mps_base.specs.declared.moves.Move.TheVariants as moves
-use Rattle.mps_base.specs.declared.names.Kind.{Kind}
-use Rattle.mps_base.specs.declared.names.Kind.TheVariants as kind
+use Rattle.mps_base.specs.PoolKind.{kind_number, mfs_number, mvff_number}
 use Rattle.mps_model.specs.declared.call.Call.{Call}
 use Rattle.mps_model.specs.declared.call.Call.TheVariants as call
 use Rattle.mps_model.specs.Answer.{Answer, is_accepted}
@@ -33,14 +32,6 @@ record_of (moves.Free at) line = record_with line free_code (at.0 ∷ [])
 abbrev pub records_of : List Move → (line : ℕ) → List Record
 records_of moves line = map (λ move. record_of move line) moves
 
--- the number of a pool's kind in the log; a manual pool of one size has 6, one of any sizes 7
-abbrev pub kind_number : Kind → ℕ
-kind_number kind.Amc = 1
-kind_number kind.Amcz = 2
-kind_number kind.Ams = 3
-kind_number kind.Awl = 4
-kind_number kind.Lo = 5
-
 -- the record of a command that was accepted, where n pools were made before it
 abbrev pub records_of_accepted : (pools : ℕ) → Call → (line : ℕ) → List Record
 records_of_accepted pools (call.Arena grains limit) line = record_with line arena_create_code (grains ∷ limit ∷ []) ∷ []
@@ -49,8 +40,8 @@ records_of_accepted pools (call.Pool pool kind format) line =
     record_with line pool_create_code (pools ∷ kind_number kind ∷ format ∷ []) ∷ []
 records_of_accepted pools (call.PoolOnChain pool kind format chain) line =
     record_with line pool_create_code (pools ∷ kind_number kind ∷ format ∷ []) ∷ []
-records_of_accepted pools (call.PoolMfs pool words) line = record_with line pool_create_code (pools ∷ 6 ∷ words ∷ []) ∷ []
-records_of_accepted pools (call.PoolMvff pool) line = record_with line pool_create_code (pools ∷ 7 ∷ 0 ∷ []) ∷ []
+records_of_accepted pools (call.PoolMfs pool words) line = record_with line pool_create_code (pools ∷ mfs_number ∷ words ∷ []) ∷ []
+records_of_accepted pools (call.PoolMvff pool) line = record_with line pool_create_code (pools ∷ mvff_number ∷ 0 ∷ []) ∷ []
 records_of_accepted pools _ line = []
 
 -- the record of a command itself

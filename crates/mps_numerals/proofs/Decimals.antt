@@ -1,4 +1,4 @@
--- A decimal number is read from just the text that is written for it.
+-- Decimal numbers: what is read was written so, and what is written is read.
 use Rattle.std.proofs.Common.{◌≡◌, ℕ, ◌+◌, ◌-◌, ◌*◌, ◌^◌, ◌<◌, Bool, true, false, ◌&&◌, nat_lt, if◌then◌else◌, Option, Some, None, IfSome, List, [], ◌∷◌, length, get_or, decimal, refl, ap, ◌∙◌, sym, inl, inr, arith}
 use Rattle.std.specs.Int.{IsInRange}
 use Rattle.std.proofs.lemmas.Bool.{cases_eq}
@@ -66,8 +66,8 @@ parts_of true false v n e = absurd cc
 parts_of false a v n e = absurd cc
 
 -- the number that a text writes is written by just this text
-pub read_is_written : (text : List ℕ) (n : ℕ) → number_in 10 text ≡ Some n → (text ≡ decimal n) × (n < 2 ^ 64)
-read_is_written text n e =
+pub read_was_written : (text : List ℕ) (n : ℕ) → number_in 10 text ≡ Some n → (text ≡ decimal n) × (n < 2 ^ 64)
+read_was_written text n e =
     let k = parts_of (is_canonical text) (are_digits 10 text) (digits_value 10 text) n e in
     let plain = plain_from text k.0 in
     (sym (ap decimal (sym k.2) ∙ decimal-digits_value own text k.1 plain.0 plain.1 k.3), omega (arith, k.2, k.3))
@@ -88,9 +88,9 @@ written_is_read n fits =
     rw (canonical, digits, value) (below_to n fits)
 
 -- ---- what a reader answers
-pub found_as_written : (text : List ℕ) (r : Option ℕ) → r ≡ number_in 10 text → IfSome r (λ n. text ≡ decimal n)
-found_as_written text (Some n) e = (read_is_written text n (sym e)).0
-found_as_written text None e = _
+pub sound_reading : (text : List ℕ) (r : Option ℕ) → r ≡ number_in 10 text → IfSome r (λ n. text ≡ decimal n)
+sound_reading text (Some n) e = (read_was_written text n (sym e)).0
+sound_reading text None e = _
 
-pub written_is_found : (text : List ℕ) (r : Option ℕ) (n : ℕ) → r ≡ number_in 10 text → n < 2 ^ 64 → text ≡ decimal n → r ≡ Some n
-written_is_found text r n e fits written = e ∙ ap (number_in 10) written ∙ written_is_read n fits
+pub complete_reading : (text : List ℕ) (r : Option ℕ) (n : ℕ) → r ≡ number_in 10 text → n < 2 ^ 64 → text ≡ decimal n → r ≡ Some n
+complete_reading text r n e fits written = e ∙ ap (number_in 10) written ∙ written_is_read n fits

@@ -205,8 +205,8 @@ written_to text (suc i) plain are fits within some =
     subst (λ (k : ℕ). take k text ≡ hexadecimal (digits_value 16 (take k text))) (add-one i) next
 
 -- the number that a text writes is written by just this text
-read_is_written : (text : List ℕ) (n : ℕ) → number_in 16 text ≡ Some n → text ≡ hexadecimal n
-read_is_written text n e =
+read_was_written : (text : List ℕ) (n : ℕ) → number_in 16 text ≡ Some n → text ≡ hexadecimal n
+read_was_written text n e =
     let k = parts_of (is_canonical text) (are_digits 16 text) (value_after 16 0 text) n e in
     let plain = plain_from text k.0 in
     let value : digits_value 16 text ≡ n = same_value text k.1 ∙ k.2 in
@@ -222,9 +222,9 @@ written_is_read n fits =
     let value : value_after 16 0 (hexadecimal n) ≡ n = sym (same_value (hexadecimal n) digits) ∙ value_of_hexadecimal n fits in
     rw (canonical, digits, value) (below_to n fits)
 
-pub found_as_written : (text : List ℕ) (r : Option ℕ) → r ≡ number_in 16 text → IfSome r (λ n. text ≡ hexadecimal n)
-found_as_written text (Some n) e = read_is_written text n (sym e)
-found_as_written text None e = tt
+pub sound_reading : (text : List ℕ) (r : Option ℕ) → r ≡ number_in 16 text → IfSome r (λ n. text ≡ hexadecimal n)
+sound_reading text (Some n) e = read_was_written text n (sym e)
+sound_reading text None e = tt
 
-pub written_is_found : (text : List ℕ) (r : Option ℕ) (n : ℕ) → r ≡ number_in 16 text → n < 2 ^ 64 → text ≡ hexadecimal n → r ≡ Some n
-written_is_found text r n e fits written = e ∙ ap (number_in 16) written ∙ written_is_read n fits
+pub complete_reading : (text : List ℕ) (r : Option ℕ) (n : ℕ) → r ≡ number_in 16 text → n < 2 ^ 64 → text ≡ hexadecimal n → r ≡ Some n
+complete_reading text r n e fits written = e ∙ ap (number_in 16) written ∙ written_is_read n fits

@@ -2,7 +2,8 @@
 use Rattle.std.specs.Prelude.{ℕ, ◌≡◌, ◌+◌, ◌-◌, ◌*◌, ◌^◌, ◌==◌, nat_lt, Bool, true, false, not, if◌then◌else◌, codes, Option, Some, None, List, [], ◌∷◌, refl}
 use Rattle.std.specs.List.{list_all}
 
--- what a digit stands for, up to 15 for `f`; 16 for a byte that is no digit
+-- what a digit stands for, up to 15 for `f`; 16 for a byte that is no digit. The codes of the digits are 48 to 57 for `0` to `9`,
+-- and 97 to 102 for `a` to `f`.
 abbrev pub digit_of : ℕ → ℕ
 digit_of b = if nat_lt b 48 then 16 else (if nat_lt b 58 then b - 48 else (if nat_lt b 97 then 16 else (if nat_lt b 103 then b - 87 else 16)))
 
@@ -36,24 +37,6 @@ value_in base bytes = if are_digits base bytes then below_word (digits_value bas
 -- so it is where they are in the right form
 abbrev pub number_in : ℕ → List ℕ → Option ℕ
 number_in base bytes = if is_canonical bytes then value_in base bytes else None
-
-pub the_largest : number_in 10 (codes "18446744073709551615") ≡ Some 18446744073709551615
-the_largest = refl
-
-pub one_more_is_no_number : number_in 10 (codes "18446744073709551616") ≡ None
-one_more_is_no_number = refl
-
-pub no_leading_zero : number_in 10 (codes "07") ≡ None
-no_leading_zero = refl
-
-pub zero_itself : number_in 10 (codes "0") ≡ Some 0
-zero_itself = refl
-
-pub nothing_is_no_number : number_in 10 [] ≡ None
-nothing_is_no_number = refl
-
-pub no_decimal_digit : number_in 10 (codes "1f") ≡ None
-no_decimal_digit = refl
 
 pub in_hexadecimal : number_in 16 (codes "1f") ≡ Some 31
 in_hexadecimal = refl

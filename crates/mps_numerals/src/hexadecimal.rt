@@ -3,12 +3,12 @@
 ghost use Rattle.std.specs.Prelude.{◌≡◌, ◌<◌, ◌≤◌, ◌+◌, ◌++◌, ◌^◌, ℕ, false, length, take, drop, IfSome};
 ghost use Rattle.std.specs.Fmt.{digit_glyph};
 ghost use Rattle.mps_numerals.specs.Hexadecimal.{hexadecimal};
-ghost use Rattle.mps_numerals.specs.Reading.{number_in};
+ghost use Rattle.mps_numerals.specs.Reading.{number_in as number_of};
 
 use crate::put::put_text;
-use crate::reading::number;
+use crate::reading::number_in;
 
-// The digit of a number below 16.
+/// The digit of a number below 16.
 fn glyph(digit: u64) -> u8
     requires { digit < 16 }
     ensures { result ≡ digit_glyph false digit }
@@ -20,9 +20,9 @@ fn glyph(digit: u64) -> u8
     }
 }
 
-// Writes the digits of a number at the end of the room, and answers where they begin.
+/// Writes the digits of a number at the end of the room, and returns the index of the first one.
 fn digits_at_end(number: u64, room: &mut [u8; 16]) -> usize
-    ensures within { result < 16 }
+    ensures in_bounds { result < 16 }
     ensures digits { drop result room.new ≡ hexadecimal number }
 {
     let mut at = 15;
@@ -36,13 +36,13 @@ fn digits_at_end(number: u64, room: &mut [u8; 16]) -> usize
     at
 }
 
-/// Writes a number at `at`, and answers the place after it. What stands before and after stays.
+/// Writes the number at the index `at`, and returns the index after it. The bytes before and after it are unchanged.
 pub fn put_hexadecimal(number: u64, out: &mut [u8], at: usize) -> usize
     requires { at + 16 ≤ length out.old }
     ensures end { result ≡ at + length (hexadecimal number) }
-    ensures short { result ≤ at + 16 }
+    ensures at_most { result ≤ at + 16 }
     ensures text { take result out.new ≡ take at out.old ++ hexadecimal number }
-    ensures rest { drop result out.new ≡ drop result out.old }
+    ensures unchanged { drop result out.new ≡ drop result out.old }
 {
     let mut room = [0u8; 16];
     let from = digits_at_end(number, &mut room);
@@ -50,11 +50,13 @@ pub fn put_hexadecimal(number: u64, out: &mut [u8], at: usize) -> usize
 }
 
 /// The number that the text writes in lower case without leading zeros; None where it is in another form, or has more
-/// than 16 digits. It is read from just the text that is written for it.
+/// than 16 digits.
 pub fn hexadecimal_number(text: &[u8]) -> Option<u64>
-    ensures number { result ≡ number_in 16 text.now }
-    ensures found { IfSome result (λ n. text.now ≡ hexadecimal n) }
-    ensures exact { (n : ℕ) → n < 2 ^ 64 → text.now ≡ hexadecimal n → result ≡ Some n }
+    ensures value { result ≡ number_of 16 text.now }
+    // What is read was written so.
+    ensures sound { IfSome result (λ n. text.now ≡ hexadecimal n) }
+    // What is written is read.
+    ensures complete { (n : ℕ) → n < 2 ^ 64 → text.now ≡ hexadecimal n → result ≡ Some n }
 {
-    number(16, text)
+    number_in(16, text)
 }

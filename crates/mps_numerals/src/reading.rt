@@ -3,9 +3,9 @@ ghost use Rattle.std.specs.Prelude.{◌≡◌, ◌≤◌};
 ghost use Rattle.mps_numerals.specs.Reading.{digit_of, is_canonical, value_in, number_in};
 
 /// What a digit stands for, up to 15 for `f`; 16 for a byte that is no digit.
-fn digit(byte: u8) -> u64
+fn digit_of(byte: u8) -> u64
     ensures value { result ≡ digit_of byte }
-    ensures small { result ≤ 16 }
+    ensures at_most { result ≤ 16 }
 {
     match byte {
         b'0'..=b'9' => u64::from(byte - b'0'),
@@ -14,8 +14,8 @@ fn digit(byte: u8) -> u64
     }
 }
 
-/// One byte or more, and no leading zero but in `0`.
-fn is_plain(digits: &[u8]) -> bool
+/// Whether there are one byte or more, and no leading zero but in `0`.
+fn is_canonical(digits: &[u8]) -> bool
     ensures { result ≡ is_canonical digits.now }
 {
     match digits {
@@ -25,14 +25,14 @@ fn is_plain(digits: &[u8]) -> bool
     }
 }
 
-/// The number that digits of a base write; None where a byte is none, or the number is 2^64 or more.
-fn value(base: u64, digits: &[u8]) -> Option<u64>
+/// The number that digits of a base write; None where a byte is no digit, or the number is 2^64 or more.
+fn value_in(base: u64, digits: &[u8]) -> Option<u64>
     requires { 1 ≤ base }
     ensures { result ≡ value_in base digits.now }
 {
     let mut n: u64 = 0;
     for b in digits {
-        let next = digit(*b);
+        let next = digit_of(*b);
         if next >= base {
             return None;
         }
@@ -42,12 +42,12 @@ fn value(base: u64, digits: &[u8]) -> Option<u64>
 }
 
 /// The number that digits of a base write, where they are in the right form.
-pub fn number(base: u64, digits: &[u8]) -> Option<u64>
+pub fn number_in(base: u64, digits: &[u8]) -> Option<u64>
     requires { 1 ≤ base }
     ensures { result ≡ number_in base digits.now }
 {
-    if is_plain(digits) {
-        value(base, digits)
+    if is_canonical(digits) {
+        value_in(base, digits)
     } else {
         None
     }

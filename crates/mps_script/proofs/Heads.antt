@@ -7,9 +7,9 @@ use Rattle.mps_format.specs.declared.head.Head.TheVariants.{Front, Mapped, Leaf}
 use Rattle.mps_format.specs.HeadText.{is_colon, text_of, IsInWords}
 use Rattle.mps_format.proofs.Colons.{has_colon, cut_at_colon, joined_at_colon}
 use Rattle.mps_script.specs.Word.{cut_at}
-use Rattle.mps_script.specs.Number.{decimal_number}
+use Rattle.mps_numerals.specs.Decimal.{decimal_number}
 use Rattle.mps_script.specs.Head.{two_numbers, head_after, head_in}
-use Rattle.mps_numerals.proofs.Decimals.{read_is_written, written_is_read}
+use Rattle.mps_numerals.proofs.Decimals.{read_was_written, written_is_read}
 
 some_of : {A B : Type 0} (f : A → Option B) (o : Option A) (r : B) → option_and_then f o ≡ Some r → (x : A) × (o ≡ Some x) × (f x ≡ Some r)
 some_of f (Some x) r e = (x, refl, e)
@@ -52,8 +52,8 @@ pair_written text r e =
     let second = some_of _ (decimal_number cut.0.1) r first.2 in
     let at : ℕ = position_or_len is_colon text in
     let there = there_cut text (nat_lt at (length text)) at cut.0 cut.1 in
-    let front = read_is_written cut.0.0 first.0 first.1 in
-    let back = read_is_written cut.0.1 second.0 second.1 in
+    let front = read_was_written cut.0.0 first.0 first.1 in
+    let back = read_was_written cut.0.1 second.0 second.1 in
     let same : (first.0, second.0) ≡ r = cc in
     let before : take at text ≡ decimal first.0 = ap (λ (x : List ℕ × List ℕ). x.0) there.1 ∙ front.0 in
     let after : drop (at + 1) text ≡ decimal second.0 = ap (λ (x : List ℕ × List ℕ). x.1) there.1 ∙ back.0 in
@@ -82,7 +82,7 @@ mapped_written rest h e =
 leaf_written : (rest : List ℕ) (h : Head) → option_and_then (λ n. Some (Leaf n)) (decimal_number rest) ≡ Some h → IsRead (108 ∷ 58 ∷ rest) h
 leaf_written rest h e =
     let k = some_of _ (decimal_number rest) h e in
-    let w = read_is_written rest k.0 k.1 in
+    let w = read_was_written rest k.0 k.1 in
     let same : Leaf k.0 ≡ h = cc in
     subst (IsRead (108 ∷ 58 ∷ rest)) same (ap (λ (t : List ℕ). 108 ∷ 58 ∷ t) w.0, w.1)
 

@@ -5,7 +5,7 @@ use Rattle.mps_format.specs.declared.head.Head.{Head}
 use Rattle.mps_format.specs.declared.head.Head.TheVariants.{Front, Mapped, Leaf}
 use Rattle.mps_format.specs.HeadText.{is_colon, word_of}
 use Rattle.mps_script.specs.Word.{cut_at}
-use Rattle.mps_script.specs.Number.{decimal_number}
+use Rattle.mps_numerals.specs.Decimal.{decimal_number}
 
 -- two decimal numbers with a colon between them
 abbrev pub two_numbers : List ℕ → Option (ℕ × ℕ)

@@ -1,28 +1,15 @@
 -- Names and slots as words.
 use Rattle.std.specs.Prelude.{ℕ, ◌≡◌, ◌==◌, nat_le, Bool, true, false, ◌&&◌, ◌||◌, if◌then◌else◌, codes, Option, Some, None, option_and_then, List, [], ◌∷◌, ◌++◌, length, drop, replicate, refl}
-use Rattle.std.specs.List.{list_all}
+use Rattle.mps_base.specs.Name.{is_name, max_name_bytes}
 use Rattle.mps_base.specs.declared.names.Name.{Name}
 use Rattle.mps_base.specs.declared.names.Slot.{Slot}
 use Rattle.mps_script.specs.Word.{cut_at}
-use Rattle.mps_script.specs.Number.{decimal_number}
-
--- `a` to `z`
-abbrev pub is_letter : ℕ → Bool
-is_letter b = nat_le 97 b && nat_le b 122
-
--- a letter, a digit or an underscore
-abbrev pub is_name_byte : ℕ → Bool
-is_name_byte b = is_letter b || ((nat_le 48 b && nat_le b 57) || (b == 95))
-
--- a letter and then at most 15 bytes of names
-abbrev pub is_name : List ℕ → Bool
-is_name [] = false
-is_name (b ∷ bs) = is_letter b && (nat_le (length bs) 15 && list_all is_name_byte bs)
+use Rattle.mps_numerals.specs.Decimal.{decimal_number}
 
 -- the name that a word writes
 abbrev pub name_of : List ℕ → Option Name
 name_of word =
-    if is_name word then Some (record { len = length word; bytes = word ++ drop (length word) (replicate 16 0) }) else None
+    if is_name word then Some (record { len = length word; bytes = word ++ drop (length word) (replicate max_name_bytes 0) }) else None
 
 -- the slot that a word writes: a name, a dot and a decimal number
 abbrev pub slot_of : List ℕ → Option Slot
@@ -37,12 +24,6 @@ a_name = refl
 
 pub a_digit_is_not_first : name_of (codes "1t") ≡ None
 a_digit_is_not_first = refl
-
-pub sixteen_bytes_are_a_name : is_name (codes "abcdefghijklmnop") ≡ true
-sixteen_bytes_are_a_name = refl
-
-pub seventeen_are_none : is_name (codes "abcdefghijklmnopq") ≡ false
-seventeen_are_none = refl
 
 pub a_slot_needs_its_number : slot_of (codes "t.") ≡ None
 a_slot_needs_its_number = refl

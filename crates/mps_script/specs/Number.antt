@@ -1,17 +1,14 @@
 -- Numbers as words. A decimal number has no leading zero and is below 2^64. A hexadecimal one stands after `0x`, in
 -- lower case, and so has at most 16 digits.
 use Rattle.std.specs.Prelude.{ℕ, ◌≡◌, ◌==◌, nat_le, ◌&&◌, if◌then◌else◌, codes, Option, Some, None, option_and_then, List, [], ◌∷◌, refl}
+use Rattle.mps_numerals.specs.Decimal.{decimal_number}
 use Rattle.mps_numerals.specs.Reading.{number_in}
 
--- a decimal number
-abbrev pub decimal_number : List ℕ → Option ℕ
-decimal_number word = number_in 10 word
-
--- a hexadecimal number
-abbrev pub hexadecimal_number : List ℕ → Option ℕ
-hexadecimal_number [] = None
-hexadecimal_number (a ∷ []) = None
-hexadecimal_number (a ∷ b ∷ digits) = if (a == 48) && (b == 120) then number_in 16 digits else None
+-- a hexadecimal number, after `0x`
+abbrev pub prefixed_hexadecimal : List ℕ → Option ℕ
+prefixed_hexadecimal [] = None
+prefixed_hexadecimal (a ∷ []) = None
+prefixed_hexadecimal (a ∷ b ∷ digits) = if (a == 48) && (b == 120) then number_in 16 digits else None
 
 -- the first of two that is there
 abbrev pub first_of_two : Option ℕ → Option ℕ → Option ℕ
@@ -20,27 +17,12 @@ first_of_two None other = other
 
 -- a number in either form
 abbrev pub number_of : List ℕ → Option ℕ
-number_of word = first_of_two (decimal_number word) (hexadecimal_number word)
+number_of word = first_of_two (decimal_number word) (prefixed_hexadecimal word)
 
 -- a decimal number in a range
 abbrev pub number_within : ℕ → ℕ → List ℕ → Option ℕ
 number_within low high word =
     option_and_then (λ n. if nat_le low n && nat_le n high then Some n else None) (decimal_number word)
-
-pub the_largest : decimal_number (codes "18446744073709551615") ≡ Some 18446744073709551615
-the_largest = refl
-
-pub one_more_is_no_number : decimal_number (codes "18446744073709551616") ≡ None
-one_more_is_no_number = refl
-
-pub no_leading_zero : decimal_number (codes "07") ≡ None
-no_leading_zero = refl
-
-pub zero_itself : decimal_number (codes "0") ≡ Some 0
-zero_itself = refl
-
-pub nothing_is_no_number : decimal_number [] ≡ None
-nothing_is_no_number = refl
 
 pub in_hexadecimal : number_of (codes "0x1f") ≡ Some 31
 in_hexadecimal = refl

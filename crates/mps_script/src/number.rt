@@ -1,15 +1,15 @@
 // Numbers as words.
 ghost use Rattle.std.specs.Prelude.{◌≡◌};
-ghost use Rattle.mps_script.specs.Number.{hexadecimal_number, number_of, number_within};
+ghost use Rattle.mps_script.specs.Number.{prefixed_hexadecimal, number_of, number_within};
 
-use mps_numerals::{decimal_number, hexadecimal_number as digits_in_hexadecimal};
+use mps_numerals::{decimal_number, hexadecimal_number};
 
 /// A hexadecimal number, after `0x`.
-fn hexadecimal(word: &[u8]) -> Option<u64>
-    ensures { result ≡ hexadecimal_number word.now }
+fn prefixed_hexadecimal(word: &[u8]) -> Option<u64>
+    ensures { result ≡ prefixed_hexadecimal word.now }
 {
     match word {
-        [b'0', b'x', digits @ ..] => digits_in_hexadecimal(digits),
+        [b'0', b'x', digits @ ..] => hexadecimal_number(digits),
         _ => None,
     }
 }
@@ -20,7 +20,7 @@ pub fn any_number(word: &[u8]) -> Option<u64>
 {
     match decimal_number(word) {
         Some(n) => Some(n),
-        None => hexadecimal(word),
+        None => prefixed_hexadecimal(word),
     }
 }
 

@@ -1,32 +1,24 @@
 // The words of a line, one after another.
-ghost use Rattle.std.specs.Prelude.{◌≡◌, ◌==◌, ◌∷◌, ◌<◌, ◌≤◌, [], length, not, Some, None, MatchOption};
+ghost use Rattle.std.specs.Prelude.{◌≡◌, ◌==◌, ◌∷◌, ◌<◌, ◌≤◌, [], length, not, position, IfSome, Some, None, MatchOption};
 ghost use Rattle.std.specs.List.{position_or_len};
 ghost use Rattle.mps_script.specs.Word.{words, is_space, cut_at, two_words, three_words};
 
-/// How many bytes stand before the first such byte.
-pub fn length_before(byte: u8, bytes: &[u8]) -> usize
-    ensures length { result ≡ position_or_len (λ b. b == byte) bytes.now }
-    ensures within { result ≤ length bytes.now }
+use mps_base::length_before;
+
+/// The index of the first byte of a word, where there is one.
+fn start_of_word(bytes: &[u8]) -> Option<usize>
+    ensures index { result ≡ position (λ byte. not (is_space byte)) bytes.now }
+    ensures in_bounds { IfSome result (λ index. index < length bytes.now) }
 {
-    for (i, b) in bytes.iter().enumerate() {
-        if *b == byte {
-            return i;
-        }
-    }
-    bytes.len()
+    bytes.iter().position(|byte| *byte != b' ')
 }
 
 /// How many spaces stand before the first word.
 fn length_of_spaces(bytes: &[u8]) -> usize
-    ensures length { result ≡ position_or_len (λ b. not (is_space b)) bytes.now }
-    ensures within { result ≤ length bytes.now }
+    ensures length { result ≡ position_or_len (λ byte. not (is_space byte)) bytes.now }
+    ensures at_most { result ≤ length bytes.now }
 {
-    for (i, b) in bytes.iter().enumerate() {
-        if *b != b' ' {
-            return i;
-        }
-    }
-    bytes.len()
+    start_of_word(bytes).unwrap_or(bytes.len())
 }
 
 /// What stands before and after the first such byte, where there is one.

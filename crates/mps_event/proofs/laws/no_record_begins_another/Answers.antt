@@ -1,5 +1,5 @@
-use Rattle.mps_event.proofs.Records.{one_front}
+use Rattle.mps_event.proofs.Records.{one_beginning}
 use Rattle.mps_event.proofs.laws.no_record_begins_another.Goals as goal
 
 pub returns : goal.returns
-returns c = λ version a b x y ga gb e. one_front version a b x y ga gb e
+returns c = λ version a b x y ga gb e. one_beginning version a b x y ga gb e

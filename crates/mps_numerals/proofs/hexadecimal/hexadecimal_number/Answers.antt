@@ -1,9 +1,9 @@
--- A hexadecimal number is read from just the text that is written for it.
-use Rattle.mps_numerals.proofs.Hexadecimals.{found_as_written, written_is_found}
+-- What is read was written so, and what is written is read.
+use Rattle.mps_numerals.proofs.Hexadecimals.{sound_reading, complete_reading}
 use Rattle.mps_numerals.proofs.hexadecimal.hexadecimal_number.Goals as goal
 
-pub returns-clause-found : goal.returns-clause-found
-returns-clause-found c = found_as_written c.args.text.now c.number.result c.number.ensures
+pub returns-clause-sound : goal.returns-clause-sound
+returns-clause-sound c = sound_reading c.args.text.now c.number_in.result c.number_in.ensures
 
-pub returns-clause-exact : goal.returns-clause-exact
-returns-clause-exact c = λ n fits e. written_is_found c.args.text.now c.number.result n c.number.ensures fits e
+pub returns-clause-complete : goal.returns-clause-complete
+returns-clause-complete c = λ n fits e. complete_reading c.args.text.now c.number_in.result n c.number_in.ensures fits e

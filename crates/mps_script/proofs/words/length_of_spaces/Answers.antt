@@ -1,13 +1,9 @@
-use Rattle.std.proofs.Common.{arith, sym, not}
-use Rattle.std.proofs.lemmas.List.Sums.{position_or_len_is}
-use Rattle.std.proofs.lemmas.Grind.{common_steps}
+use Rattle.std.proofs.Common.{◌∙◌, ap, not, length}
+use Rattle.std.specs.Option.{unwrap_or}
+use Rattle.mps_base.proofs.Positions.{position_or_length}
 use Rattle.mps_script.specs.Word.{is_space}
 use Rattle.mps_script.proofs.words.length_of_spaces.Goals as goal
 
-pub returns-then-b-ne32-clause-length : goal.returns-then-b-ne32-clause-length
-returns-then-b-ne32-clause-length c =
-    sym (position_or_len_is (λ b. not (is_space b)) c.args.bytes.now c.loop-i.i 0 (omega arith) c.loop-i.invariant (λ _. grind (arith, common_steps)))
-
 pub returns-clause-length : goal.returns-clause-length
 returns-clause-length c =
-    sym (position_or_len_is (λ b. not (is_space b)) c.args.bytes.now _ 0 (omega arith) (λ k h. grind (arith, common_steps, c.loop-i.invariant k)) (λ h. absurd (omega arith)))
+    c.unwrap_or.ensures ∙ ap (λ o. unwrap_or o (length c.args.bytes.now)) c.start_of_word.ensures.index ∙ position_or_length (λ byte. not (is_space byte)) c.args.bytes.now
