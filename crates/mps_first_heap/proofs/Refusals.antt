@@ -10,7 +10,7 @@ use Rattle.mps_base.specs.declared.refusal.Refusal.TheVariants as refusal
 use Rattle.mps_format.specs.Fields.{size_field}
 use Rattle.mps_format.specs.Front.{is_front, front_layout}
 use Rattle.mps_model.specs.Graph.{Cell, HeadCell, NumberCell, ReferenceCell, Thing, TableThing, PoolThing, PointThing, thing_in}
-use Rattle.mps_model.specs.Checked.{slot_in, point_named, pool_named, number_at, number_in, required, ◌>>=◌}
+use Rattle.mps_model.specs.Checked.{slot_in, point_named, pool_named, number_at, number_of_cell, required, ◌>>=◌}
 use Rattle.mps_first_heap.specs.HeapState.{HeapState, is_named, is_name_taken, is_point, is_pool, has_slot, is_number_cell, words_of_head}
 use Rattle.mps_first_heap.specs.StandsFor.{Past, Agrees, world_of, cell_in, cells_at, address_in_slot, IsBlockAt}
 use Rattle.mps_first_heap.proofs.Cells.{length-cells_in, length-block_words, slice_get-cells_in}
@@ -139,7 +139,7 @@ no_pool h p name a e = by_table (is_named h.table name) refl
 -- ---- cells without a number
 
 no_number_in : (head k word : ℕ) → is_front head ≡ true → k < size_field head → is_number_cell head k ≡ false
-    → (cell : Cell) × (cell_in head k word ≡ cell) × (number_in cell ≡ Err refusal.NotANumber)
+    → (cell : Cell) × (cell_in head k word ≡ cell) × (number_of_cell cell ≡ Err refusal.NotANumber)
 no_number_in head zero word v lt e = (HeadCell, refl, refl)
 no_number_in head (suc k) word v lt e = (
   ReferenceCell None 0,
@@ -177,4 +177,4 @@ no_number words bound address k b inside e = by_size (cases_lt k (size_field (sl
         ∙ ap (λ n. Some (cell_in (slice_index words address) n (slice_index (take size (drop address words)) k)))
             (let z : 0 + k ≡ k = omega arith in z)
         ∙ ap Some cell.1 in
-        inr (ap (λ (o : Option Cell). required o refusal.BadIndex >>= number_in) there ∙ cell.2)
+        inr (ap (λ (o : Option Cell). required o refusal.BadIndex >>= number_of_cell) there ∙ cell.2)

@@ -5,7 +5,7 @@ use Rattle.mps_base.specs.Address.{Id, Address}
 use Rattle.mps_base.specs.declared.names.Slot.{Slot}
 use Rattle.mps_base.specs.declared.refusal.Refusal.TheVariants as refusal
 use Rattle.mps_model.specs.declared.reply.Reply.TheVariants as reply
-use Rattle.mps_model.specs.Graph.{Graph, NumberCell, AreaWord, PlainWord, Hold, graph_with_cells, with_target}
+use Rattle.mps_model.specs.Graph.{Graph, NumberCell, AreaWord, PlainWord, Hold, graph_with_cells, with_target_cell}
 use Rattle.mps_model.specs.Collection.{Collection, is_condemned, is_settled}
 use Rattle.mps_model.specs.World.{World, address_of, block_of_word, is_copying_object, shown_word}
 use Rattle.mps_model.specs.Checked.{Act, Checked, Found, ◌>>=◌, ◌>>◌, says, done, tells, slot_in, word_in, object_in, cells_of_body, head_of_body, number_at, reference_at, with_graph}
@@ -30,7 +30,7 @@ act_put w target k source = do
   from ← slot_in w source
   object ← object_in w into.value
   reference_at (cells_of_body object.value.body) k
-  done (with_graph w (graph_with_cells w.graph object.number (λ cells. with_target cells k from.value)))
+  done (with_graph w (graph_with_cells w.graph object.number (λ cells. with_target_cell cells k from.value)))
 
 abbrev pub act_number : World → Slot → (k : ℕ) → Checked Act
 act_number w slot k = do

@@ -9,7 +9,7 @@ use Rattle.mps_base.specs.declared.names.Slot.{Slot}
 use Rattle.mps_base.specs.declared.refusal.Refusal.TheVariants as refusal
 use Rattle.mps_format.specs.Layout.{Layout}
 use Rattle.mps_model.specs.declared.reply.Reply.TheVariants as reply
-use Rattle.mps_model.specs.Graph.{Graph, Cell, NumberCell, Body, Automatic, Manual, Object, Point, Reservation, object_at, with_last, with_target, new_cells, has_references}
+use Rattle.mps_model.specs.Graph.{Graph, Cell, NumberCell, Body, Automatic, Manual, Object, Point, Reservation, object_at, with_last, with_target_cell, new_cells, has_references}
 use Rattle.mps_model.specs.World.{World, Pool, PoolKind, Collected, OneSize, AnySize, is_automatic_kind, is_copying_pool, is_leaf_kind, pool_at}
 use Rattle.mps_model.specs.Placement.{ForReserve, ForAlloc, placement_of, buffer_of}
 use Rattle.mps_model.specs.Making.{is_block_size, is_weak_rank}
@@ -116,7 +116,7 @@ act_init_reference w name k source = do
   from ← slot_in w source
   r ← required point.value.reservation refusal.NotOpen
   reference_at r.cells k
-  done (with_reserved_cells w point r (with_target r.cells k from.value))
+  done (with_reserved_cells w point r (with_target_cell r.cells k from.value))
 
 -- the object that a reservation becomes
 abbrev pub committed_object : Point → Reservation → Object

@@ -176,10 +176,10 @@ abbrev pub cell_of : List Cell → (k : ℕ) → Checked Cell
 cell_of cells k = required (slice_get cells k) refusal.BadIndex
 
 -- the number in a cell
-abbrev pub number_in : Cell → Checked ℕ
-number_in (NumberCell number) = Ok number
-number_in HeadCell = Err refusal.NotANumber
-number_in (ReferenceCell target tag) = Err refusal.NotANumber
+abbrev pub number_of_cell : Cell → Checked ℕ
+number_of_cell (NumberCell number) = Ok number
+number_of_cell HeadCell = Err refusal.NotANumber
+number_of_cell (ReferenceCell target tag) = Err refusal.NotANumber
 
 -- what a cell refers to
 abbrev pub reference_in : Cell → Checked (Option ℕ)
@@ -191,7 +191,7 @@ reference_in (NumberCell number) = Err refusal.NotARef
 abbrev pub number_at : List Cell → (k : ℕ) → Checked ℕ
 number_at cells k = do
   cell ← cell_of cells k
-  number_in cell
+  number_of_cell cell
 
 -- what cell k refers to
 abbrev pub reference_at : List Cell → (k : ℕ) → Checked (Option ℕ)

@@ -11,11 +11,11 @@ use Rattle.mps_base.specs.declared.names.Rank.{Rank}
 use Rattle.mps_base.specs.declared.names.Rank.TheVariants as rank
 use Rattle.mps_model.specs.declared.call.Call.{Call}
 use Rattle.mps_model.specs.declared.call.Call.TheVariants as call
-use Rattle.mps_model.specs.Graph.{Graph, Point, Reservation, contains, position_of_first, without_first, entry_at, object_at, size_of, is_automatic, with_last, with_target, graph_with_cells, ids_in_slots}
+use Rattle.mps_model.specs.Graph.{Graph, Point, Reservation, contains, position_of_first, without_first, entry_at, object_at, size_of, is_automatic, with_last, with_target_cell, graph_with_cells, ids_in_slots}
 use Rattle.mps_model.specs.Collection.{Collection, Tracing, Splatting, Reclaiming}
 use Rattle.mps_model.specs.Checked.{number_named, as_point}
 use Rattle.mps_base.specs.Segment.{Segment, is_in_segment, with_segment, without_segment, words_of_segment, grains_of_segment, end_of_segment}
-use Rattle.mps_model.specs.World.{World, Pool, PointMemory, is_automatic_kind, pool_is, is_copying_pool, pool_at, address_of, id_at, object_is, live_automatic_ids, has_area_word, segment_of, with_tail, target_of, generation_of, empty_run}
+use Rattle.mps_model.specs.World.{World, Pool, PointMemory, is_automatic_kind, pool_is, is_copying_pool, pool_at, address_of, id_at, object_is, live_automatic_ids, has_area_word, segment_of, with_tail, target_generation_of, generation_of, empty_run}
 
 -- ---- what a flip condemns
 
@@ -229,7 +229,7 @@ abbrev pub after_moved_of : World → (id to : ℕ) → World
 after_moved_of w id to =
     option_map_or
     (λ o. with_tail (with_collection (with_address w (Some id) (Some to)) (placing (Some id))) o.pool
-    (target_of w o.pool (generation_of w id)) (words_after w to (size_of o)))
+    (target_generation_of w o.pool (generation_of w id)) (words_after w to (size_of o)))
     (object_at w.graph id)
     w
 
@@ -241,7 +241,7 @@ after_moved w (Some id) to = after_moved_of w id to
 abbrev pub after_splat : World → Option ℕ → (cell : ℕ) → World
 after_splat w None cell = w
 after_splat w (Some holder) cell =
-    with_collection (record w { graph = graph_with_cells w.graph holder (λ cells. with_target cells cell None) }) splatting
+    with_collection (record w { graph = graph_with_cells w.graph holder (λ cells. with_target_cell cells cell None) }) splatting
 
 -- the first registration of an object becomes the last message
 abbrev pub graph_posted : Graph → (id : Id) → Graph
@@ -254,14 +254,14 @@ after_post w (Some id) =
     (posting (graph_posted w.graph id) id (option_map_or (λ position. position) (position_of_first w.graph.registered id) 0))
 
 -- the base of the segment in which an address lies
-abbrev pub base_of : World → (address : Address) → Address
-base_of w address = option_map_or (λ (s : Segment). s.base) (segment_of w address) 0
+abbrev pub segment_base_of : World → (address : Address) → Address
+segment_base_of w address = option_map_or (λ (s : Segment). s.base) (segment_of w address) 0
 
 -- a block is freed. Freeing an automatic block is the collector's work
 abbrev pub after_free : World → Option ℕ → (at : Address) → World
 after_free w None at = w
 after_free w (Some id) at =
-    if object_is is_automatic w id then with_collection (with_address w (Some id) None) (reclaiming (base_of w at))
+    if object_is is_automatic w id then with_collection (with_address w (Some id) None) (reclaiming (segment_base_of w at))
     else with_address w (Some id) None
 
 -- the object that the call is about to make, the next one, has this address

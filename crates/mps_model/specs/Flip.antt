@@ -9,7 +9,7 @@ use Rattle.mps_base.specs.declared.moves.Move.TheVariants as moves
 use Rattle.mps_model.specs.declared.call.Call.{Call}
 use Rattle.mps_model.specs.Graph.{ids_in_slots, object_at}
 use Rattle.mps_model.specs.Collection.{is_condemned, is_settled}
-use Rattle.mps_model.specs.World.{World, is_copying_object, target_of, generation_of}
+use Rattle.mps_model.specs.World.{World, is_copying_object, target_generation_of, generation_of}
 use Rattle.mps_model.specs.Placement.{ForMove, placement_of}
 use Rattle.mps_model.specs.Accessing.{address_or_null}
 use Rattle.mps_model.specs.Effect.{Condemnation, chain_of, oldest_of, condemned_by, condemned_zones, world_after_move, world_after_moves}
@@ -30,7 +30,7 @@ pool_of w id = option_map_or (λ o. o.pool) (object_at w.graph id) 0
 abbrev pub moves_to : World → (id : Id) → Placement → List Move
 moves_to w id (Place word) = moves.Moved (at_address (address_or_null w id)) (at_address (address_of_word word)) ∷ []
 moves_to w id (NewSegment grain grains) =
-    moves.Seg (at_address (address_of_grain grain)) grains (pool_of w id) (target_of w (pool_of w id) (generation_of w id))
+    moves.Seg (at_address (address_of_grain grain)) grains (pool_of w id) (target_generation_of w (pool_of w id) (generation_of w id))
     ∷ moves.Moved (at_address (address_or_null w id)) (at_address (address_of_grain grain))
     ∷ []
 moves_to w id (OverLimit committed need limit) = moves.Stay (at_address (address_or_null w id)) ∷ []

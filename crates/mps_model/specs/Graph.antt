@@ -216,8 +216,8 @@ retargeted HeadCell target = HeadCell
 retargeted (NumberCell number) target = NumberCell number
 
 -- cell k refers to another target, and keeps its tag
-abbrev pub with_target : List Cell → (k : ℕ) → (target : Option ℕ) → List Cell
-with_target cells k target = option_map_or (λ cell. slice_set cells k (retargeted cell target)) (slice_get cells k) cells
+abbrev pub with_target_cell : List Cell → (k : ℕ) → (target : Option ℕ) → List Cell
+with_target_cell cells k target = option_map_or (λ cell. slice_set cells k (retargeted cell target)) (slice_get cells k) cells
 
 abbrev pub body_with_cells : Body → (List Cell → List Cell) → Body
 body_with_cells (Automatic head cells is_weak) change = Automatic head (change cells) is_weak

@@ -12,7 +12,7 @@ use Rattle.mps_model.specs.Graph.{Point, Reservation, contains, position_of_firs
 use Rattle.mps_model.specs.Reachable.{IsReachable}
 use Rattle.mps_model.specs.Collection.{Collection, Phase, Tracing, Splatting, Reclaiming, is_condemned, is_kept_in_place, is_settled, MaySurvive}
 use Rattle.mps_base.specs.Segment.{Segment, is_in_segment}
-use Rattle.mps_model.specs.World.{World, is_running, is_live, id_at, segment_at, object_is, is_copying_object, is_any_size_kind, pool_is, is_empty_segment, target_of, generation_of}
+use Rattle.mps_model.specs.World.{World, is_running, is_live, id_at, segment_at, object_is, is_copying_object, is_any_size_kind, pool_is, is_empty_segment, target_generation_of, generation_of}
 use Rattle.mps_model.specs.Placement.{ForReserve, ForMove, ForAlloc, placement_of}
 use Rattle.mps_model.specs.Checked.{Checked, Numbered, point_named, pool_named, block_place_in, cells_of_body}
 use Rattle.mps_model.specs.Allocating.{Reserving, check_reserve}
@@ -145,7 +145,7 @@ pub record IsSegmentForMove (w : World) (base grains pool generation to id : ℕ
   pub first : to ≡ base
   pub placement : IsNewSegmentAt (placement_of w (ForMove id)) base grains
   pub of_pool : IsTrue (object_is (λ o. o.pool == pool) w id)
-  pub of_generation : generation ≡ target_of w pool (generation_of w id)
+  pub of_generation : generation ≡ target_generation_of w pool (generation_of w id)
 
 -- a new segment for a manual block: the next move is its Alloc
 pub record IsSegmentForAlloc (w : World) (base grains pool generation at words of : ℕ) : Type 0 where

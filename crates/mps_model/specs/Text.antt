@@ -1,10 +1,10 @@
 -- The text of an answer: one line, with its line feed.
-use Rattle.std.specs.Prelude.{◌≡◌, ℕ, ◌==◌, if◌then◌else◌, List, [], ◌∷◌, ◌++◌, codes, decimal, refl}
+use Rattle.std.specs.Prelude.{◌≡◌, ℕ, List, [], ◌∷◌, ◌++◌, codes, decimal, refl}
 use Rattle.std.specs.Fmt.{digits}
 use Rattle.mps_base.specs.declared.refusal.Refusal.{Refusal}
 use Rattle.mps_base.specs.declared.refusal.Refusal.TheVariants as refusal
 use Rattle.mps_numerals.specs.Hexadecimal.{hexadecimal}
-use Rattle.mps_format.specs.Fields.{tag_field, size_field, extra_field}
+use Rattle.mps_format.specs.HeadText.{head_text}
 use Rattle.mps_model.specs.declared.reply.Reply.{Reply}
 use Rattle.mps_model.specs.declared.reply.Reply.TheVariants as reply
 use Rattle.mps_model.specs.Answer.{Answer, Replied, Dumped}
@@ -16,17 +16,6 @@ word_text word = codes "0x" ++ hexadecimal word
 -- a space, and a number
 abbrev pub and_number : ℕ → List ℕ
 and_number number = 32 ∷ decimal number
-
--- a colon, and a number
-abbrev pub colon_number : ℕ → List ℕ
-colon_number number = 58 ∷ decimal number
-
--- the text of a head. Its tag is 1 for `front`, 2 for `mapped`, 3 for `leaf`
-abbrev pub head_text : (head : ℕ) → List ℕ
-head_text head =
-    if tag_field head == 1 then codes "f" ++ colon_number (size_field head) ++ colon_number (extra_field head)
-    else (if tag_field head == 2 then codes "m" ++ colon_number (size_field head) ++ colon_number (extra_field head)
-    else codes "l" ++ colon_number (size_field head))
 
 -- the number of a refusal, and the numbers that it prints after it
 abbrev pub refusal_text : Refusal → List ℕ

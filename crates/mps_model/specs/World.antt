@@ -162,8 +162,8 @@ generations_of w pool = option_map length (option_and_then (λ chain. slice_get 
     (option_and_then (λ p. p.chain) (pool_at w pool)))
 
 -- the generation to which a block of this pool and generation moves
-abbrev pub target_of : World → (pool generation : ℕ) → ℕ
-target_of w pool generation = target_generation (generations_of w pool) generation
+abbrev pub target_generation_of : World → (pool generation : ℕ) → ℕ
+target_generation_of w pool generation = target_generation (generations_of w pool) generation
 
 -- ---- segments
 
@@ -205,13 +205,13 @@ numbers_of test first (x ∷ xs) = if test x then first ∷ numbers_of test (fir
 abbrev pub live_ids : World → List ℕ
 live_ids w = numbers_of is_some 0 w.addresses
 
-abbrev pub first_of : List ℕ → Option ℕ
-first_of [] = None
-first_of (n ∷ ns) = Some n
+abbrev pub first_id : List ℕ → Option ℕ
+first_id [] = None
+first_id (n ∷ ns) = Some n
 
 -- the live object at an address
 abbrev pub id_at : World → (address : Address) → Option ℕ
-id_at w address = first_of (numbers_of (is_at address) 0 w.addresses)
+id_at w address = first_id (numbers_of (is_at address) 0 w.addresses)
 
 -- whether the object passes a test
 abbrev pub object_is : (Object → Bool) → World → (id : Id) → Bool
