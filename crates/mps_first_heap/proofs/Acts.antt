@@ -33,8 +33,10 @@ object_with head cells = record { pool = 0; body = Automatic head cells false }
 module _ (w : Parts) (name : Name) (free : thing_in w.names name ≡ None) where
   pub act_of_table : (slots : ℕ) → nat_lt most_slots (0 + slots) ≡ false
       → act_table (world_with (record w { tables = [] })) name slots
-      ≡ done (world_with (record w { names = with_last w.names (record { name = name; thing = TableThing 0 });
-          tables = Some (replicate slots None) ∷ [] }))
+      ≡ done (world_with (record w {
+        names = with_last w.names (record { name = name; thing = TableThing 0 });
+        tables = Some (replicate slots None) ∷ [];
+      }))
   act_of_table slots fits = rw (free, fits) refl
 
   pub act_of_pool : act_pool (world_with (record w { pools = [] })) name kind.Amc 1
@@ -73,7 +75,7 @@ module _ (w : Parts) (name : Name) (named : thing_in w.names name ≡ Some (Poin
 
   pub reserve_open : (r : Reservation) (head : ℕ) → is_front head ≡ true
       → check_reserve (world_with (record w { points = Some (point_with (Some r)) ∷ []; pools = front_pool ∷ [] })) name head
-          ≡ Err refusal.Open
+      ≡ Err refusal.Open
   reserve_open r head valid = rw (named, valid) refl
 
   -- a commit into a slot of the table

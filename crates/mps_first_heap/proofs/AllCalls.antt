@@ -60,7 +60,7 @@ came_right h new c done range came w line s =
     subst (λ (k : HeapState). IsRightStep w (step_of line c done) k) (sym came.is_state)
     (subst (λ (d : Done). IsRightStep w (step_of line c d) (outcome h c).state) (sym came.is_done)
     (subst (λ (v : World). IsRightStep v (step_of line c (outcome h c).done) (outcome h c).state) (sym s.world)
-        (right_call h s.past line c range s.agrees)))
+    (right_call h s.past line c range s.agrees)))
 
 -- a property of the value of an `Ok` gives another
 ok_then : {T E : Type 0} (r : Result T E) {P Q : T → Type 0} → IfOk r P → ((x : T) → P x → Q x) → IfOk r Q
@@ -83,14 +83,14 @@ pub unsupported_exactly : {E : Type 0} (h new : HeapState) (c : Call) (r : Resul
     → IfOk r (λ done. HasOutcome (outcome h c) done new) → IfOk r (λ done. IsUnsupportedExactly h c done)
 unsupported_exactly h new c r range came = ok_then r came (λ done e w s.
     subst (λ (d : Done). IsExact w c d.reply) (sym e.is_done)
-        (subst (λ (v : World). IsExact v c (outcome h c).done.reply) (sym s.world) (exact_call h s.past c range s.agrees)))
+    (subst (λ (v : World). IsExact v c (outcome h c).done.reply) (sym s.world) (exact_call h s.past c range s.agrees)))
 
 pub new_pool_number : {E : Type 0} (h new : HeapState) (c : Call) (r : Result Done E)
     → IfOk r (λ done. HasOutcome (outcome h c) done new) → IfOk r (λ done. IsNewPoolNumber h c done)
 new_pool_number h new c r came = ok_then r came (λ done e w s.
     subst (λ (d : Done). d.pool ≡ number_of_new_pool w c (Replied d.reply)) (sym e.is_done)
     (subst (λ (v : World). (outcome h c).done.pool ≡ number_of_new_pool v c (Replied (outcome h c).done.reply)) (sym s.world)
-        (counts_pools h s.past c s.agrees).number))
+    (counts_pools h s.past c s.agrees).number))
 
 pub pools_counted : {E : Type 0} (h new : HeapState) (c : Call) (r : Result Done E) → IsInRange c
     → IfOk r (λ done. HasOutcome (outcome h c) done new) → IfOk r (λ done. ArePoolsCounted h c done)
@@ -123,5 +123,8 @@ empty_heap_agrees = record {
 
 -- the empty heap stands for the empty world
 pub empty_heap_stands : StandsFor empty_heap empty_world
-empty_heap_stands = record { past = record { ids = []; addresses = []; segments = []; names = [] }; world = refl;
-    agrees = empty_heap_agrees }
+empty_heap_stands = record {
+  past = record { ids = []; addresses = []; segments = []; names = [] };
+  world = refl;
+  agrees = empty_heap_agrees;
+}

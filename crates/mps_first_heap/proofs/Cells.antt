@@ -128,7 +128,7 @@ cells_in-set head k (w ∷ ws) zero v = ap (λ n. cell_in head n v ∷ cells_in 
 cells_in-set head k (w ∷ ws) (suc i) v =
     ap (λ rest. cell_in head k w ∷ rest) (cells_in-set head (suc k) ws i v)
     ∙ ap (λ n. cell_in head k w ∷ slice_set (cells_in head (suc k) ws) i (cell_in head n v))
-        (let e : suc k + i ≡ k + suc i = omega arith in e)
+    (let e : suc k + i ≡ k + suc i = omega arith in e)
 
 -- the words of a block where one is written
 pub block_words-set : (words : List ℕ) (address size i v : ℕ) → take size (drop address (slice_set words (address + i) v))

@@ -56,16 +56,16 @@ committed_with h p objects ids addresses =
 
 world_committed : (h : HeapState) (p : Past) (slot : Slot) → is_some h.table ≡ true → is_some h.point ≡ true
     → committed_with h p (map (object_of_words h.words) p.addresses ++ object_of_words h.words h.reserved ∷ [])
-        (slice_set p.ids slot.index (Some (length (map (object_of_words h.words) p.addresses))))
-        (map some_address p.addresses ++ some_address h.reserved ∷ [])
+    (slice_set p.ids slot.index (Some (length (map (object_of_words h.words) p.addresses))))
+    (map some_address p.addresses ++ some_address h.reserved ∷ [])
     ≡ world_of (with_object h slot) (past_with_object h p slot)
 world_committed h p slot t q =
     ap (λ objects. committed_with h p objects (slice_set p.ids slot.index (Some (length (map (object_of_words h.words) p.addresses))))
-        (map some_address p.addresses ++ some_address h.reserved ∷ [])) (sym (map_push (object_of_words h.words) p.addresses h.reserved))
+    (map some_address p.addresses ++ some_address h.reserved ∷ [])) (sym (map_push (object_of_words h.words) p.addresses h.reserved))
     ∙ ap (λ n. committed_with h p (map (object_of_words h.words) (p.addresses ++ h.reserved ∷ [])) (slice_set p.ids slot.index (Some n))
-        (map some_address p.addresses ++ some_address h.reserved ∷ [])) (length-map p.addresses (object_of_words h.words))
+    (map some_address p.addresses ++ some_address h.reserved ∷ [])) (length-map p.addresses (object_of_words h.words))
     ∙ ap (λ addresses. committed_with h p (map (object_of_words h.words) (p.addresses ++ h.reserved ∷ []))
-        (slice_set p.ids slot.index (Some (length p.addresses))) addresses) (sym (map_push some_address p.addresses h.reserved))
+    (slice_set p.ids slot.index (Some (length p.addresses))) addresses) (sym (map_push some_address p.addresses h.reserved))
     ∙ sym (world_of-parts (with_object h slot) (past_with_object h p slot) t q refl refl)
 
 -- ---- the state agrees with its past
@@ -97,7 +97,7 @@ slots_kept addresses address (held ∷ ids) h =
 slots_pushed : (addresses : List ℕ) (address : ℕ) (ids : List (Option ℕ)) (i : ℕ)
     → list_all (is_null_or_below (length addresses)) ids ≡ true
     → slice_set (map (address_in_slot addresses) ids) i address ≡ map (address_in_slot (addresses ++ address ∷ []))
-        (slice_set ids i (Some (length addresses)))
+    (slice_set ids i (Some (length addresses)))
 slots_pushed addresses address ids i h =
     ap (λ slots. slice_set slots i address) (slots_kept addresses address ids h)
     ∙ ap (λ x. slice_set (map (address_in_slot (addresses ++ address ∷ [])) ids) i x) (sym (last_pushed addresses address))
@@ -110,24 +110,24 @@ ids_more count (None ∷ ids) h = ids_more count ids h
 ids_more count (Some id ∷ ids) h =
     let both = and_parts (nat_lt id count) (list_all (is_null_or_below count) ids) h in
     and_from (nat_lt id (suc count)) (list_all (is_null_or_below (suc count)) ids)
-        (lt-ltb id (suc count) (let lt = ltb-true id count both.0 in omega arith)) (ids_more count ids both.1)
+    (lt-ltb id (suc count) (let lt = ltb-true id count both.0 in omega arith)) (ids_more count ids both.1)
 
 ids_set : (count : ℕ) (ids : List (Option ℕ)) (i id : ℕ) → id < count → list_all (is_null_or_below count) ids ≡ true
     → list_all (is_null_or_below count) (slice_set ids i (Some id)) ≡ true
 ids_set count [] i id lt h = refl
 ids_set count (held ∷ ids) zero id lt h =
     and_from (nat_lt id count) (list_all (is_null_or_below count) ids) (lt-ltb id count lt)
-        (and_parts (is_null_or_below count held) (list_all (is_null_or_below count) ids) h).1
+    (and_parts (is_null_or_below count held) (list_all (is_null_or_below count) ids) h).1
 ids_set count (held ∷ ids) (suc i) id lt h =
     let both = and_parts (is_null_or_below count held) (list_all (is_null_or_below count) ids) h in
     and_from (is_null_or_below count held) (list_all (is_null_or_below count) (slice_set ids i (Some id))) both.0
-        (ids_set count ids i id lt both.1)
+    (ids_set count ids i id lt both.1)
 
 ids_pushed : (addresses : List ℕ) (address : ℕ) (ids : List (Option ℕ)) (i : ℕ) → list_all (is_null_or_below (length addresses)) ids ≡ true
     → list_all (is_null_or_below (length (addresses ++ address ∷ []))) (slice_set ids i (Some (length addresses))) ≡ true
 ids_pushed addresses address ids i h =
     subst (λ (n : ℕ). list_all (is_null_or_below n) (slice_set ids i (Some (length addresses))) ≡ true)
-        (let e : suc (length addresses) ≡ length (addresses ++ address ∷ []) = omega (arith, length_push addresses address) in e)
+    (let e : suc (length addresses) ≡ length (addresses ++ address ∷ []) = omega (arith, length_push addresses address) in e)
     (ids_set (suc (length addresses)) ids i (length addresses) (omega arith) (ids_more (length addresses) ids h))
 
 module _ (h : HeapState) (p : Past) (name : Name) (slot : Slot) (n : NamesPoint h p name) (o : h.is_open ≡ true) where
@@ -197,10 +197,12 @@ module _ (h : HeapState) (p : Past) (name : Name) (slot : Slot) (n : NamesPoint 
 
     right_with_object : IsRightStep (world_committing h p) (step_committed h line name slot) (with_object h slot)
     right_with_object =
-        let moved = record (parts_by h p true true (is_some h.pool) true) { addresses = map some_address p.addresses
-            ++ some_address h.reserved ∷ [] } in
+        let moved = record (parts_by h p true true (is_some h.pool) true) {
+          addresses = map some_address p.addresses
+              ++ some_address h.reserved ∷ [];
+        } in
         let e = act_of_commit moved name n.named p.ids slot s.held s.named s.there (slice_index h.words h.reserved)
-            (cells_at h.words h.reserved) in
+        (cells_at h.words h.reserved) in
         right_step (world_committing h p) (step_committed h line name slot) (with_object h slot) (past_with_object h p slot)
         (record { answered = refl; moves_are_legal = (legal_commit, tt); moves_are_due = refl; answer_is_due = sym (ap answer_from e); marked = tt })
         (ap (λ r. with_client_remembered (world_from (with_next_address (world_committing h p) (bytes_of_word * h.reserved)) r)) e

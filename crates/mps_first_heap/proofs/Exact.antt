@@ -42,15 +42,15 @@ pub by_unreported : (w : World) (c : Call) (why : Refusal) → act false w w c �
     → is_unsupported_call w c ≡ true
 by_unreported w c why e t =
     or_right (not (is_implemented c) || is_out_of_turn w c || makes_second w c) (is_unreported (act false w w c)) (ap is_unreported e
-        ∙ ap not t)
+    ∙ ap not t)
 
 -- a call with none of them
 pub supported : (w : World) (c : Call) → not (is_implemented c) ≡ false → is_out_of_turn w c ≡ false → makes_second w c ≡ false
     → is_unreported (act false w w c) ≡ false → is_unsupported_call w c ≡ false
-supported w c form turn second known =
+supported w c form turn second reported =
     or_from (not (is_implemented c) || is_out_of_turn w c || makes_second w c) (is_unreported (act false w w c))
     (or_from (not (is_implemented c) || is_out_of_turn w c) (makes_second w c)
-        (or_from (not (is_implemented c)) (is_out_of_turn w c) form turn) second) known
+    (or_from (not (is_implemented c)) (is_out_of_turn w c) form turn) second) reported
 
 -- the arena was made
 pub in_turn : (h : HeapState) → 0 < h.grains → not (nat_lt 0 h.grains) ≡ false

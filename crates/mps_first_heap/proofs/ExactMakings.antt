@@ -72,9 +72,9 @@ exact_table_where h p name slots few a true e =
     (supported (world_of h p) (call.Table name slots) refl (in_turn h may.made)
     (ap (λ b. nat_lt 0 (length (one_if b (Some p.ids)))) (not_some h.table may.first))
     (ap (λ w. is_unreported (act_table w name slots))
-        (world_of-parts h p (not_some h.table may.first) refl refl refl)
+    (world_of-parts h p (not_some h.table may.first) refl refl refl)
     ∙ ap is_unreported (act_of_table (parts_by h p false (is_some h.point) (is_some h.pool) h.is_open) name (a.names name
-        ∙ not_taken h name may.free) slots
+    ∙ not_taken h name may.free) slots
     (le-ltb most_slots (0 + slots) (omega arith)))))
 exact_table_where h p name slots few a false e =
     exact_unsupported (world_of h p) (call.Table name slots)
@@ -88,8 +88,8 @@ pub exact_table : (h : HeapState) (p : Past) (name : Name) (slots : ℕ) → slo
     → IsExact (world_of h p) (call.Table name slots) (after_table h name slots).done.reply
 exact_table h p name slots few a =
     subst (λ (r : Reply). IsExact (world_of h p) (call.Table name slots) r)
-        (sym (accepted_reply h (record h { table = Some name; slots = Rattle.std.specs.Prelude.replicate slots 0 })
-        (may_make_first h h.table name)))
+    (sym (accepted_reply h (record h { table = Some name; slots = Rattle.std.specs.Prelude.replicate slots 0 })
+    (may_make_first h h.table name)))
     (exact_table_where h p name slots few a (may_make_first h h.table name) refl)
 
 -- ---- pool
@@ -113,9 +113,9 @@ exact_pool_built h p name may =
     (supported (world_of h p) (call.Pool name kind.Amc 1) refl (in_turn h may.made)
     (ap (λ b. nat_lt 0 (length (one_if b front_pool))) (not_some h.pool may.first))
     (ap (λ w. is_unreported (act_pool w name kind.Amc 1))
-        (world_of-parts h p refl refl (not_some h.pool may.first) refl)
+    (world_of-parts h p refl refl (not_some h.pool may.first) refl)
     ∙ ap is_unreported (act_of_pool (parts_by h p (is_some h.table) (is_some h.point) false h.is_open) name (may.agrees.names name
-        ∙ not_taken h name may.free))))
+    ∙ not_taken h name may.free))))
 
 pool_of_kind : (h : HeapState) (p : Past) (name : Name) → MayMake h p h.pool name → (k : Kind) (format : ℕ) → is_amc k ≡ true
     → format ≡ 1 → IsExact (world_of h p) (call.Pool name k format) reply.Ok
@@ -128,10 +128,10 @@ pool_of_kind h p name may kind.Lo format k f = absurd (false≢true k)
 
 exact_pool_may : (h : HeapState) (p : Past) (name : Name) (k : Kind) (format : ℕ) → Agrees h p → is_implemented_pool k format ≡ true
     → (b : Bool) → may_make_first h h.pool name ≡ b → IsExact (world_of h p) (call.Pool name k format) (made_reply b)
-exact_pool_may h p name k format a built true e =
-    let both = and_parts (is_amc k) (format == 1) built in
+exact_pool_may h p name k format a implemented true e =
+    let both = and_parts (is_amc k) (format == 1) implemented in
     pool_of_kind h p name (may_make_facts h p h.pool name a e) k format both.0 (eqb-true format 1 both.1)
-exact_pool_may h p name k format a built false e =
+exact_pool_may h p name k format a implemented false e =
     exact_unsupported (world_of h p) (call.Pool name k format)
     (elim (why_not h h.pool name e) [
       | no_arena m ↦ by_turn (world_of h p) (call.Pool name k format) (ap not m)
@@ -144,13 +144,13 @@ exact_pool_where : (h : HeapState) (p : Past) (name : Name) (k : Kind) (format :
 exact_pool_where h p name k format a true e = exact_pool_may h p name k format a e (may_make_first h h.pool name) refl
 exact_pool_where h p name k format a false e =
     exact_unsupported (world_of h p) (call.Pool name k format)
-        (by_form (world_of h p) (call.Pool name k format) (not_built name k format e))
+    (by_form (world_of h p) (call.Pool name k format) (not_built name k format e))
 
 pub exact_pool : (h : HeapState) (p : Past) (name : Name) (k : Kind) (format : ℕ) → Agrees h p
     → IsExact (world_of h p) (call.Pool name k format) (after_pool h name k format).done.reply
 exact_pool h p name k format a =
     subst (λ (r : Reply). IsExact (world_of h p) (call.Pool name k format) r)
-        (sym (pool_reply h (record h { pool = Some name }) (is_implemented_pool k format && may_make_first h h.pool name)))
+    (sym (pool_reply h (record h { pool = Some name }) (is_implemented_pool k format && may_make_first h h.pool name)))
     (exact_pool_where h p name k format a (is_implemented_pool k format) refl)
 
 -- ---- point
@@ -164,13 +164,13 @@ abbrev point_from : World → (name : Name) → Rank → Numbered Pool → Check
 point_from w name at_rank of =
     refuse_when (not (Rattle.mps_model.specs.Making.may_have_point of.value.kind at_rank)) refusal.WrongPool
     >> (Rattle.mps_model.specs.Making.refuse_at_limit (Rattle.mps_model.specs.Making.live_points w.graph) 256
-        >> Rattle.mps_model.specs.Checked.done (Rattle.mps_model.specs.Making.with_point w name of.number at_rank))
+    >> Rattle.mps_model.specs.Checked.done (Rattle.mps_model.specs.Making.with_point w name of.number at_rank))
 
 point_without_pool : (h : HeapState) (p : Past) (name pool : Name) → Agrees h p → is_name_taken h name ≡ false → is_pool h pool ≡ false
     → act_point (world_of h p) name pool rank.Exact ≡ Err refusal.BadName
 point_without_pool h p name pool a free none =
     ap (λ t. refuse_when (is_some t) refusal.NameTaken >> (pool_named (world_of h p) pool >>= point_from (world_of h p) name rank.Exact))
-        (a.names name ∙ not_taken h name free)
+    (a.names name ∙ not_taken h name free)
     ∙ ap (λ (c : Checked (Numbered Pool)). c >>= point_from (world_of h p) name rank.Exact) (no_pool h p pool a none)
 
 exact_point_pool : (h : HeapState) (p : Past) (name pool : Name) → MayMake h p h.point name → (b : Bool) → is_pool h pool ≡ b
@@ -179,14 +179,14 @@ exact_point_pool h p name pool may true there =
     exact_answered (world_of h p) (call.Point name pool rank.Exact) reply.Ok refl
     (supported (world_of h p) (call.Point name pool rank.Exact) refl (in_turn h may.made)
     (ap (λ b. nat_lt 0 (length (one_if b (Some (point_with (some_if h.is_open (reservation_of_words h.words h.reserved)))))))
-        (not_some h.point may.first))
+    (not_some h.point may.first))
     (ap (λ w. is_unreported (act_point w name pool rank.Exact)) (is_world_without_point h p pool may.agrees may.first there)
     ∙ ap is_unreported (act_of_point (parts_by h p (is_some h.table) false true false) name (may.agrees.names name
-        ∙ not_taken h name may.free) pool (pool_there h p pool may.agrees there))))
+    ∙ not_taken h name may.free) pool (pool_there h p pool may.agrees there))))
 exact_point_pool h p name pool may false there =
     exact_unsupported (world_of h p) (call.Point name pool rank.Exact)
     (by_unreported (world_of h p) (call.Point name pool rank.Exact) refusal.BadName
-        (point_without_pool h p name pool may.agrees may.free there) refl)
+    (point_without_pool h p name pool may.agrees may.free there) refl)
 
 exact_point_may : (h : HeapState) (p : Past) (name pool : Name) → Agrees h p → (b : Bool) → may_make_first h h.point name ≡ b
     → IsExact (world_of h p) (call.Point name pool rank.Exact) (made_reply (b && is_pool h pool))
@@ -212,7 +212,7 @@ pub exact_point : (h : HeapState) (p : Past) (name pool : Name) (at_rank : Rank)
     → IsExact (world_of h p) (call.Point name pool at_rank) (after_point h name pool at_rank).done.reply
 exact_point h p name pool at_rank a =
     subst (λ (r : Reply). IsExact (world_of h p) (call.Point name pool at_rank) r)
-        (sym (accepted_reply h (record h { point = Some name }) (is_exact at_rank && may_make_first h h.point name && is_pool h pool)))
+    (sym (accepted_reply h (record h { point = Some name }) (is_exact at_rank && may_make_first h h.point name && is_pool h pool)))
     (exact_point_rank h p name pool at_rank a)
 
 -- ---- arena
@@ -229,5 +229,5 @@ pub exact_arena : (h : HeapState) (p : Past) (grains limit : ℕ)
     → IsExact (world_of h p) (call.Arena grains limit) (after_arena h grains limit).done.reply
 exact_arena h p grains limit =
     subst (λ (r : Reply). IsExact (world_of h p) (call.Arena grains limit) r)
-        (sym (accepted_reply h (Rattle.mps_first_heap.specs.Outcome.arena_made grains limit) (not (is_arena_made h))))
+    (sym (accepted_reply h (Rattle.mps_first_heap.specs.Outcome.arena_made grains limit) (not (is_arena_made h))))
     (exact_arena_where h p grains limit (is_arena_made h) refl)

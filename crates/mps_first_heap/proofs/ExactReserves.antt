@@ -33,9 +33,9 @@ use Rattle.mps_first_heap.proofs.Exact.{IsExact, exact_unsupported, exact_answer
 abbrev check_from : World → (head : ℕ) → Numbered Point → Checked Reserving
 check_from w head point =
     required (pool_at w point.value.pool) refusal.BadName
-        >>= (λ pool. refuse_when (not (takes_head w pool head)) refusal.BadHead
-        >> (refuse_when (is_some point.value.reservation) refusal.Open >> Ok
-        (record { point = point; cells = new_cells (layout_of w pool) head })))
+    >>= (λ pool. refuse_when (not (takes_head w pool head)) refusal.BadHead
+    >> (refuse_when (is_some point.value.reservation) refusal.Open >> Ok
+    (record { point = point; cells = new_cells (layout_of w pool) head })))
 
 -- a check that fails refuses the call
 check_fails : (h : HeapState) (p : Past) (name : Name) (head : ℕ) (why : Refusal) → check_reserve (world_of h p) name head ≡ Err why
@@ -52,7 +52,7 @@ unsupported_check h p name head why unreported e =
 supported_reserve : (h : HeapState) (p : Past) (name : Name) (head : ℕ) (r : Reply) → MayReserve h p name head
     → Rattle.mps_model.specs.Answer.is_unsupported (Rattle.mps_model.specs.Answer.Replied r) ≡ false
     → is_unreported (act_reserve (world_at_rest h p) (world_at_rest h p) name head) ≡ false
-        → IsExact (world_of h p) (call.Reserve name head) r
+    → IsExact (world_of h p) (call.Reserve name head) r
 supported_reserve h p name head r m answered reported =
     exact_answered (world_of h p) (call.Reserve name head) r answered
     (supported (world_of h p) (call.Reserve name head) refl (in_turn h m.at.made) refl
@@ -61,7 +61,7 @@ supported_reserve h p name head r m answered reported =
 exact_in_arena : (h : HeapState) (p : Past) (name : Name) (head : ℕ) → MayReserve h p name head
     → nat_le (size_field head) (h.buffer_end - h.buffer_start) ≡ false
     → nat_lt h.limit (h.held + grains_needed (size_field head)) ≡ false → (b : Bool)
-        → nat_lt h.grains (h.held + grains_needed (size_field head)) ≡ b
+    → nat_lt h.grains (h.held + grains_needed (size_field head)) ≡ b
     → IsExact (world_of h p) (call.Reserve name head) (if b then reply.Unsupported else reply.Ok)
 exact_in_arena h p name head m fits limit true e =
     let need = grains_needed (size_field head) in
@@ -69,18 +69,18 @@ exact_in_arena h p name head m fits limit true e =
     let some : 0 < need = omega arith in
     let none = longest (between (h.held + 1) (h.grains + 1)) in
     let placed = placed_after h p head m.valid fits
-        ∙ no_run h.grains h.limit h.held p.segments need m.at.agrees.held limit (ltb-true h.grains (h.held + need) e) some in
+    ∙ no_run h.grains h.limit h.held p.segments need m.at.agrees.held limit (ltb-true h.grains (h.held + need) e) some in
     exact_unsupported (world_of h p) (call.Reserve name head)
     (by_unreported (world_of h p) (call.Reserve name head) (refusal.NoRun need none)
     (ap (λ w. act_reserve w w name head) (is_world_at_rest h p m.at.agrees m.at.point m.not_open)
-        ∙ act_refused h p name head (refusal.NoRun need none) m.at.named m.valid (ap refuse_without_place placed))
+    ∙ act_refused h p name head (refusal.NoRun need none) m.at.named m.valid (ap refuse_without_place placed))
     refl)
 exact_in_arena h p name head m fits limit false e =
     let need = grains_needed (size_field head) in
     let f = front_facts head m.valid in
     let some : 0 < need = omega arith in
     let placed = placed_after h p head m.valid fits
-        ∙ new_segment h.grains h.limit h.held p.segments need m.at.agrees.held limit (ltb-false h.grains (h.held + need) e) some in
+    ∙ new_segment h.grains h.limit h.held p.segments need m.at.agrees.held limit (ltb-false h.grains (h.held + need) e) some in
     supported_reserve h p name head reply.Ok m refl
     (ap is_unreported (act_placed h p h p name head m.at.named m.at.named m.valid (ap refuse_without_place placed)))
 
@@ -88,14 +88,14 @@ exact_in_limit : (h : HeapState) (p : Past) (name : Name) (head : ℕ) → MayRe
     → nat_le (size_field head) (h.buffer_end - h.buffer_start) ≡ false
     → (b : Bool) → nat_lt h.limit (h.held + grains_needed (size_field head)) ≡ b
     → IsExact (world_of h p) (call.Reserve name head)
-        (if b then reply.Refused (refusal.CommitLimit h.held (grains_needed (size_field head)) h.limit)
-        else (if nat_lt h.grains (h.held + grains_needed (size_field head)) then reply.Unsupported else reply.Ok))
+    (if b then reply.Refused (refusal.CommitLimit h.held (grains_needed (size_field head)) h.limit)
+    else (if nat_lt h.grains (h.held + grains_needed (size_field head)) then reply.Unsupported else reply.Ok))
 exact_in_limit h p name head m fits true e =
     let need = grains_needed (size_field head) in
     let placed = placed_after h p head m.valid fits ∙ over_limit h.grains h.limit h.held p.segments need m.at.agrees.held e in
     supported_reserve h p name head (reply.Refused (refusal.CommitLimit h.held need h.limit)) m refl
     (ap is_unreported (act_refused h p name head (refusal.CommitLimit h.held need h.limit) m.at.named m.valid
-        (ap refuse_without_place placed)))
+    (ap refuse_without_place placed)))
 exact_in_limit h p name head m fits false e =
     exact_in_arena h p name head m fits e (nat_lt h.grains (h.held + grains_needed (size_field head))) refl
 
@@ -104,16 +104,16 @@ abbrev placed_reply : HeapState → (head : ℕ) → Bool → Reply
 placed_reply h head b =
     if b then reply.Ok
     else (if nat_lt h.limit (h.held + grains_needed (size_field head))
-        then reply.Refused (refusal.CommitLimit h.held (grains_needed (size_field head)) h.limit)
+    then reply.Refused (refusal.CommitLimit h.held (grains_needed (size_field head)) h.limit)
     else (if nat_lt h.grains (h.held + grains_needed (size_field head)) then reply.Unsupported else reply.Ok))
 
 exact_placed : (h : HeapState) (p : Past) (name : Name) (head : ℕ) → MayReserve h p name head
     → (b : Bool) → nat_le (size_field head) (h.buffer_end - h.buffer_start) ≡ b
-        → IsExact (world_of h p) (call.Reserve name head) (placed_reply h head b)
+    → IsExact (world_of h p) (call.Reserve name head) (placed_reply h head b)
 exact_placed h p name head m true e =
     supported_reserve h p name head reply.Ok m refl
     (ap is_unreported (act_placed h p h p name head m.at.named m.at.named m.valid
-        (ap refuse_without_place (placed_in_buffer h p head m.valid e))))
+    (ap refuse_without_place (placed_in_buffer h p head m.valid e))))
 exact_placed h p name head m false e =
     exact_in_limit h p name head m e (nat_lt h.limit (h.held + grains_needed (size_field head))) refl
 
@@ -144,14 +144,16 @@ exact_at : (h : HeapState) (p : Past) (name : Name) (head : ℕ) → Agrees h p 
 exact_at h p name head a true point = exact_head h p name head (names_point h p name a point) (is_front head) refl
 exact_at h p name head a false point =
     unsupported_check h p name head refusal.BadName refl
-        (ap (λ (c : Checked (Numbered Point)). c >>= check_from (world_of h p) head) (no_point h p name a point))
+    (ap (λ (c : Checked (Numbered Point)). c >>= check_from (world_of h p) head) (no_point h p name a point))
 
 -- ---- the reply in the outcome
 
 after_reply : (h : HeapState) (head need : ℕ) (over past : Bool)
     → (if over then Rattle.mps_first_heap.specs.Outcome.with_reply h (reply.Refused (refusal.CommitLimit h.held need h.limit))
-        else (if past then unsupported h else record { done = ok_with_move (Rattle.mps_first_heap.specs.Outcome.segment_move h need);
-        state = Rattle.mps_first_heap.specs.Outcome.reserved_in_buffer (with_segment_taken h need) head })).done.reply
+    else (if past then unsupported h else record {
+      done = ok_with_move (Rattle.mps_first_heap.specs.Outcome.segment_move h need);
+      state = Rattle.mps_first_heap.specs.Outcome.reserved_in_buffer (with_segment_taken h need) head;
+    })).done.reply
     ≡ (if over then reply.Refused (refusal.CommitLimit h.held need h.limit) else (if past then reply.Unsupported else reply.Ok))
 after_reply h head need true past = refl
 after_reply h head need false true = refl
@@ -174,5 +176,5 @@ pub exact_reserve : (h : HeapState) (p : Past) (name : Name) (head : ℕ) → Ag
     → IsExact (world_of h p) (call.Reserve name head) (after_reserve h name head).done.reply
 exact_reserve h p name head a =
     subst (λ (r : Reply). IsExact (world_of h p) (call.Reserve name head) r)
-        (sym (reserved_reply h head (is_point h name && is_front head && not h.is_open)))
+    (sym (reserved_reply h head (is_point h name && is_front head && not h.is_open)))
     (exact_at h p name head a (is_point h name) refl)

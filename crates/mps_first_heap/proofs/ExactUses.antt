@@ -59,7 +59,7 @@ module _ (h : HeapState) (p : Past) (slot : Slot) (cell : ℕ) where
       exact_answered (world_of h p) (call.Number slot cell) (reply.Refused refusal.NullRef) refl
       (supported (world_of h p) (call.Number slot cell) refl (in_turn h s.made) refl
       (ap (λ w. is_unreported (act_number w slot cell)) (is_world_with_table h p s.table)
-          ∙ ap is_unreported (act_number_null h p slot cell s there)))
+      ∙ ap is_unreported (act_number_null h p slot cell s there)))
   exact_number_held (Some id) s there =
       let o = object_facts h p slot id s there in
       let at = slice_index p.addresses id in
@@ -67,16 +67,16 @@ module _ (h : HeapState) (p : Past) (slot : Slot) (cell : ℕ) where
       let ne : (at == 0) ≡ false = ne_eqb at 0 (λ e. omega arith) in
       let number = is_number_cell (head_at h at) cell in
       subst (λ (b : Bool). IsExact (world_of h p) (call.Number slot cell) (if b then reply.Refused refusal.NullRef
-          else cell_reply h at cell number))
+      else cell_reply h at cell number))
       (sym ne)
       (exact_number_where id o number refl)
 
   exact_number_in : Agrees h p → (b : Bool) → has_slot h slot ≡ b
       → IsExact (world_of h p) (call.Number slot cell) (if b then number_reply_at h (slice_index h.slots slot.index) cell
-          else reply.Unsupported)
+      else reply.Unsupported)
   exact_number_in a false e =
       let refused = λ (why : Refusal) (f : slot_in (world_of h p) slot ≡ Err why). ap
-          (λ (c : Checked (Found (Option ℕ))). c >>= number_from (world_of h p) cell) f in
+      (λ (c : Checked (Found (Option ℕ))). c >>= number_from (world_of h p) cell) f in
       exact_unsupported (world_of h p) (call.Number slot cell)
       (elim (no_slot h p slot a e) [
         | inl f ↦ by_unreported (world_of h p) (call.Number slot cell) refusal.BadName (refused refusal.BadName f) refl
@@ -153,7 +153,7 @@ pub exact_init : (h : HeapState) (p : Past) (name : Name) (cell value : ℕ) →
     → IsExact (world_of h p) (call.InitNumber name cell value) (after_init h name cell value).done.reply
 exact_init h p name cell value a =
     subst (λ (r : Reply). IsExact (world_of h p) (call.InitNumber name cell value) r)
-        (sym (init_reply h p name cell value (may_init h name cell)))
+    (sym (init_reply h p name cell value (may_init h name cell)))
     (exact_init_at h p name cell value a (is_point h name) refl)
 
 -- ---- commit
@@ -179,11 +179,11 @@ module _ (h : HeapState) (p : Past) (name : Name) (slot : Slot) where
   -- the point that the model finds by its name
   found_point : NamesPoint h p name
       → point_named (world_of h p) name
-          ≡ Ok (record { number = 0; value = point_with (some_if h.is_open (reservation_of_words h.words h.reserved)) })
+      ≡ Ok (record { number = 0; value = point_with (some_if h.is_open (reservation_of_words h.words h.reserved)) })
   found_point n =
       let named = n.named in
       ap (λ w. point_named w name) (world_of-parts h p refl n.point refl refl)
-          ∙ rw named refl
+      ∙ rw named refl
 
   exact_commit_open : NamesPoint h p name → HasSlot h p slot → (b : Bool) → h.is_open ≡ b
       → IsExact (world_of h p) (call.Commit name slot) (ok_if b)
@@ -204,7 +204,7 @@ module _ (h : HeapState) (p : Past) (name : Name) (slot : Slot) where
       → is_unsupported_call (world_of h p) (call.Commit name slot) ≡ true
   no_slot_refuses n why f unreported =
       let point : Numbered Point =
-          record { number = 0; value = point_with (some_if h.is_open (reservation_of_words h.words h.reserved)) } in
+      record { number = 0; value = point_with (some_if h.is_open (reservation_of_words h.words h.reserved)) } in
       by_unreported (world_of h p) (call.Commit name slot) why
       (ap (λ (c : Checked (Numbered Point)). c >>= commit_from (world_of h p) slot) (found_point n)
       ∙ ap (λ (c : Checked (Found (Option ℕ))). c >>= commit_with (world_of h p) point) f)

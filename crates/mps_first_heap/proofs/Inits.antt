@@ -30,18 +30,21 @@ with_number h cell value = record h { words = slice_set h.words (h.reserved + ce
 -- the reservation after the write
 reservation_written : (words : List ℕ) (address cell value : ℕ) → 0 < cell → is_number_cell (slice_index words address) cell ≡ true
     → reservation_of_words (slice_set words (address + cell) value) address
-        ≡ record { head = slice_index words address; cells = slice_set (cells_at words address) cell (NumberCell value); is_doomed = false }
+    ≡ record { head = slice_index words address; cells = slice_set (cells_at words address) cell (NumberCell value); is_doomed = false }
 reservation_written words address cell value pos number =
     let head = slice_index words address in
     let lt : address < address + cell = omega arith in
-    ap (λ (h : ℕ). record { head = h; cells = cells_in h 0 (take (size_field h) (drop address (slice_set words (address + cell) value)));
-        is_doomed = false }) (slice_index-set_other words (address + cell) address value lt)
+    ap (λ (h : ℕ). record {
+      head = h;
+      cells = cells_in h 0 (take (size_field h) (drop address (slice_set words (address + cell) value)));
+      is_doomed = false;
+    }) (slice_index-set_other words (address + cell) address value lt)
     ∙ ap (λ (ws : List ℕ). record { head = head; cells = cells_in head 0 ws; is_doomed = false })
-        (block_words-set words address (size_field head) cell value)
+    (block_words-set words address (size_field head) cell value)
     ∙ ap (λ (cells : List Cell). record { head = head; cells = cells; is_doomed = false })
-        (cells_in-set head 0 (take (size_field head) (drop address words)) cell value
+    (cells_in-set head 0 (take (size_field head) (drop address words)) cell value
     ∙ ap (λ (c : Cell). slice_set (cells_at words address) cell c)
-        (ap (λ n. cell_in head n value) (let e : 0 + cell ≡ cell = omega arith in e) ∙ number_cell head cell value number))
+    (ap (λ n. cell_in head n value) (let e : 0 + cell ≡ cell = omega arith in e) ∙ number_cell head cell value number))
 
 -- a block stays a block where a word after its head is written
 block_written : (words : List ℕ) (bound address i value : ℕ) → address < i → IsBlockAt words bound address
@@ -62,8 +65,10 @@ is_world_reserving h p q o = world_of-parts h p refl q refl o
 
 abbrev reserving_with : HeapState → Past → List Object → Reservation → World
 reserving_with h p objects r =
-    world_with (record (parts_by h p (is_some h.table) true (is_some h.pool) true) { objects = objects;
-        points = Some (point_with (Some r)) ∷ [] })
+    world_with (record (parts_by h p (is_some h.table) true (is_some h.pool) true) {
+      objects = objects;
+      points = Some (point_with (Some r)) ∷ [];
+    })
 
 module _ (h : HeapState) (p : Past) (name : Name) (cell value : ℕ) (m : MayInit h p name cell) where
   bound : end_of_objects h ≡ h.reserved
@@ -84,9 +89,9 @@ module _ (h : HeapState) (p : Past) (name : Name) (cell value : ℕ) (m : MayIni
       let r : Reservation = record { head = slice_index h.words h.reserved; cells = cells_after; is_doomed = false } in
       let words = slice_set h.words (h.reserved + cell) value in
       ap (λ objects. reserving_with h p objects r)
-          (sym (objects-set_after h.words (end_of_objects h) (h.reserved + cell) value p.addresses le m.at.agrees.blocks))
+      (sym (objects-set_after h.words (end_of_objects h) (h.reserved + cell) value p.addresses le m.at.agrees.blocks))
       ∙ ap (λ r. reserving_with h p (map (object_of_words words) p.addresses) r)
-          (sym (reservation_written h.words h.reserved cell value m.positive m.number))
+      (sym (reservation_written h.words h.reserved cell value m.positive m.number))
       ∙ sym (is_world_reserving (with_number h cell value) p m.at.point m.is_open)
 
   agrees_with_number : Agrees (with_number h cell value) p
@@ -128,7 +133,7 @@ module _ (h : HeapState) (p : Past) (name : Name) (cell value : ℕ) (m : MayIni
       (slice_index h.words h.reserved) (cells_at h.words h.reserved) cell value (slice_index h.words (h.reserved + cell))
       (number_cell_at h.words h.buffer_start h.reserved cell (m.at.agrees.reservation m.is_open) (omega arith) m.number) in
       right_step (world_reserving h p) (step_of line (call.InitNumber name cell value) (reply_only reply.Ok))
-          (with_number h cell value) p
+      (with_number h cell value) p
       (record { answered = refl; moves_are_legal = tt; moves_are_due = refl; answer_is_due = sym (ap answer_from e); marked = tt })
       (ap (λ r. with_client_remembered (world_from (world_reserving h p) r)) e ∙ world_written)
       agrees_with_number
@@ -149,5 +154,5 @@ module _ (h : HeapState) (p : Past) (line : ℕ) (name : Name) (cell value : ℕ
 
 pub right_init : (h : HeapState) (p : Past) (line : ℕ) (name : Name) (cell value : ℕ) → Agrees h p
     → IsRightStep (world_of h p) (step_of line (call.InitNumber name cell value) (after_init h name cell value).done)
-        (after_init h name cell value).state
+    (after_init h name cell value).state
 right_init h p line name cell value a = init_where h p line name cell value a (may_init h name cell) refl

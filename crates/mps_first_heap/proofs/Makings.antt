@@ -47,8 +47,12 @@ pub may_make_facts : (h : HeapState) (p : Past) (there : Option Name) (name : Na
 may_make_facts h p there name a e =
     let both = and_parts (is_arena_made h && not (is_some there)) (not (is_name_taken h name)) e in
     let first = and_parts (is_arena_made h) (not (is_some there)) both.0 in
-    record { agrees = a; made = ltb-true 0 h.grains first.0; first = none_of there (not-true (is_some there) first.1);
-        free = not-true (is_name_taken h name) both.1 }
+    record {
+      agrees = a;
+      made = ltb-true 0 h.grains first.0;
+      first = none_of there (not-true (is_some there) first.1);
+      free = not-true (is_name_taken h name) both.1;
+    }
 
 not_zero : (n : ℕ) → 0 < n → n ≡ 0 → ⊥
 not_zero n lt e = omega arith
@@ -79,7 +83,7 @@ names_with_table h p name slots a none free =
     names_made p.names name (TableThing 0) (thing_of h) (thing_of (with_table h name slots)) a.names (not_taken h name free)
     (ap (λ b. if b then Some (TableThing 0) else rest_table h name) (same_name_itself name))
     (λ n other. ap (λ t. if is_named t n then Some (TableThing 0) else rest_table h n) none
-        ∙ ap (λ b. if b then Some (TableThing 0) else rest_table h n) (sym other))
+    ∙ ap (λ b. if b then Some (TableThing 0) else rest_table h n) (sym other))
 
 agrees_with_table : (h : HeapState) (p : Past) (name : Name) (slots : ℕ) → MayMake h p h.table name
     → Agrees (with_table h name slots) (past_with_table p name slots)
@@ -108,9 +112,9 @@ right_with_table : (h : HeapState) (p : Past) (line : ℕ) (name : Name) (slots 
 right_with_table h p line name slots few may =
     let w = world_of-parts h p (not_some h.table may.first) refl refl refl in
     let e = act_of_table (parts_by h p false (is_some h.point) (is_some h.pool) h.is_open) name (may.agrees.names name
-        ∙ not_taken h name may.free) slots (le-ltb most_slots (0 + slots) (omega arith)) in
+    ∙ not_taken h name may.free) slots (le-ltb most_slots (0 + slots) (omega arith)) in
     right_step (world_without_table h p) (step_of line (call.Table name slots) (reply_only reply.Ok)) (with_table h name slots)
-        (past_with_table p name slots)
+    (past_with_table p name slots)
     (record { answered = refl; moves_are_legal = tt; moves_are_due = refl; answer_is_due = sym (ap answer_from e); marked = tt })
     (ap (λ r. with_client_remembered (world_from (world_without_table h p) r)) e)
     (agrees_with_table h p name slots may)
@@ -119,7 +123,7 @@ right_with_table h p line name slots few may =
 table_where : (h : HeapState) (p : Past) (line : ℕ) (name : Name) (slots : ℕ) → slots ≤ most_slots → Agrees h p → (b : Bool)
     → may_make_first h h.table name ≡ b
     → IsRightStep (world_of h p) (step_of line (call.Table name slots) (accepted_if b h (with_table h name slots)).done)
-        (accepted_if b h (with_table h name slots)).state
+    (accepted_if b h (with_table h name slots)).state
 table_where h p line name slots few a false e = unsupported_step h p line (call.Table name slots) a
 table_where h p line name slots few a true e =
     let may = may_make_facts h p h.table name a e in
@@ -155,10 +159,10 @@ names_with_pool : (h : HeapState) (p : Past) (name : Name) → Agrees h p → h.
 names_with_pool h p name a none free =
     names_made p.names name (PoolThing 0) (thing_of h) (thing_of (with_pool h name)) a.names (not_taken h name free)
     (ap (λ b. if b then Some (TableThing 0) else (if same_name name name then Some (PoolThing 0) else if_point h name))
-        (table_free h name free)
+    (table_free h name free)
     ∙ ap (λ b. if b then Some (PoolThing 0) else if_point h name) (same_name_itself name))
     (λ n other. ap (λ t. if is_named h.table n then Some (TableThing 0)
-        else (if is_named t n then Some (PoolThing 0) else if_point h n)) none
+    else (if is_named t n then Some (PoolThing 0) else if_point h n)) none
     ∙ ap (λ b. if is_named h.table n then Some (TableThing 0) else (if b then Some (PoolThing 0) else if_point h n)) (sym other))
 
 agrees_with_pool : (h : HeapState) (p : Past) (name : Name) → MayMake h p h.pool name
@@ -188,41 +192,41 @@ right_with_pool : (h : HeapState) (p : Past) (line : ℕ) (name : Name) → MayM
 right_with_pool h p line name may =
     let w = world_of-parts h p refl refl (not_some h.pool may.first) refl in
     let e = act_of_pool (parts_by h p (is_some h.table) (is_some h.point) false h.is_open) name (may.agrees.names name
-        ∙ not_taken h name may.free) in
+    ∙ not_taken h name may.free) in
     right_step (world_without_pool h p) (step_of line (call.Pool name kind.Amc 1) (reply_only reply.Ok)) (with_pool h name)
-        (past_with_pool p name)
+    (past_with_pool p name)
     (record { answered = refl; moves_are_legal = tt; moves_are_due = refl; answer_is_due = sym (ap answer_from e); marked = tt })
     (ap (λ r. with_client_remembered (world_from (world_without_pool h p) r)) e)
     (agrees_with_pool h p name may)
     (λ pools. ap Some (ap live_blocks (sym w) ∙ live_blocks-world_of h p))
 
-pool_built : (h : HeapState) (p : Past) (line : ℕ) (name : Name) → MayMake h p h.pool name → (kind : Kind) (format : ℕ)
+right_pool_of_kind : (h : HeapState) (p : Past) (line : ℕ) (name : Name) → MayMake h p h.pool name → (kind : Kind) (format : ℕ)
     → is_amc kind ≡ true → format ≡ 1
     → IsRightStep (world_of h p) (step_of line (call.Pool name kind format) (reply_only reply.Ok)) (with_pool h name)
-pool_built h p line name may kind.Amc format k f =
+right_pool_of_kind h p line name may kind.Amc format k f =
     subst (λ (n : ℕ). IsRightStep (world_of h p) (step_of line (call.Pool name kind.Amc n) (reply_only reply.Ok)) (with_pool h name))
-        (sym f)
+    (sym f)
     (subst (λ (w : World). IsRightStep w (step_of line (call.Pool name kind.Amc 1) (reply_only reply.Ok)) (with_pool h name))
     (sym (world_of-parts h p refl refl (not_some h.pool may.first) refl))
     (right_with_pool h p line name may))
-pool_built h p line name may kind.Amcz format k f = absurd (false≢true k)
-pool_built h p line name may kind.Ams format k f = absurd (false≢true k)
-pool_built h p line name may kind.Awl format k f = absurd (false≢true k)
-pool_built h p line name may kind.Lo format k f = absurd (false≢true k)
+right_pool_of_kind h p line name may kind.Amcz format k f = absurd (false≢true k)
+right_pool_of_kind h p line name may kind.Ams format k f = absurd (false≢true k)
+right_pool_of_kind h p line name may kind.Awl format k f = absurd (false≢true k)
+right_pool_of_kind h p line name may kind.Lo format k f = absurd (false≢true k)
 
 pool_where : (h : HeapState) (p : Past) (line : ℕ) (name : Name) (kind : Kind) (format : ℕ) → Agrees h p → (b : Bool)
     → (is_implemented_pool kind format && may_make_first h h.pool name) ≡ b
     → IsRightStep (world_of h p) (step_of line (call.Pool name kind format) (pool_made_if b h (with_pool h name)).done)
-        (pool_made_if b h (with_pool h name)).state
+    (pool_made_if b h (with_pool h name)).state
 pool_where h p line name kind format a false e = unsupported_step h p line (call.Pool name kind format) a
 pool_where h p line name kind format a true e =
     let both = and_parts (is_implemented_pool kind format) (may_make_first h h.pool name) e in
-    let built = and_parts (is_amc kind) (format == 1) both.0 in
-    pool_built h p line name (may_make_facts h p h.pool name a both.1) kind format built.0 (eqb-true format 1 built.1)
+    let amc_front = and_parts (is_amc kind) (format == 1) both.0 in
+    right_pool_of_kind h p line name (may_make_facts h p h.pool name a both.1) kind format amc_front.0 (eqb-true format 1 amc_front.1)
 
 pub right_pool : (h : HeapState) (p : Past) (line : ℕ) (name : Name) (kind : Kind) (format : ℕ) → Agrees h p
     → IsRightStep (world_of h p) (step_of line (call.Pool name kind format) (after_pool h name kind format).done)
-        (after_pool h name kind format).state
+    (after_pool h name kind format).state
 right_pool h p line name kind format a =
     pool_where h p line name kind format a (is_implemented_pool kind format && may_make_first h h.pool name) refl
 
@@ -239,14 +243,14 @@ names_with_point : (h : HeapState) (p : Past) (name : Name) → Agrees h p → h
 names_with_point h p name a none free =
     names_made p.names name (PointThing 0) (thing_of h) (thing_of (with_point h name)) a.names (not_taken h name free)
     (ap (λ b. if b then Some (TableThing 0)
-        else (if is_named h.pool name then Some (PoolThing 0) else (if same_name name name then Some (PointThing 0) else None)))
-        (table_free h name free)
+    else (if is_named h.pool name then Some (PoolThing 0) else (if same_name name name then Some (PointThing 0) else None)))
+    (table_free h name free)
     ∙ ap (λ b. if b then Some (PoolThing 0) else (if same_name name name then Some (PointThing 0) else None)) (pool_free h name free)
     ∙ ap (λ b. if b then Some (PointThing 0) else None) (same_name_itself name))
     (λ n other. ap (λ t. if is_named h.table n then Some (TableThing 0)
-        else (if is_named h.pool n then Some (PoolThing 0) else (if is_named t n then Some (PointThing 0) else None))) none
+    else (if is_named h.pool n then Some (PoolThing 0) else (if is_named t n then Some (PointThing 0) else None))) none
     ∙ ap (λ b. if is_named h.table n then Some (TableThing 0)
-        else (if is_named h.pool n then Some (PoolThing 0) else (if b then Some (PointThing 0) else None))) (sym other))
+    else (if is_named h.pool n then Some (PoolThing 0) else (if b then Some (PointThing 0) else None))) (sym other))
 
 agrees_with_point : (h : HeapState) (p : Past) (name pool : Name) → MayMake h p h.point name → is_pool h pool ≡ true
     → Agrees (with_point h name) (past_with_point p name)
@@ -283,7 +287,7 @@ pub is_world_without_point : (h : HeapState) (p : Past) (pool : Name) → Agrees
     → world_of h p ≡ world_without_point h p
 is_world_without_point h p pool a none there =
     world_of-parts h p refl (not_some h.point none)
-        (is_named-some h.pool pool (and_parts (not (is_named h.table pool)) (is_named h.pool pool) there).1) (a.before_point none).not_open
+    (is_named-some h.pool pool (and_parts (not (is_named h.table pool)) (is_named h.pool pool) there).1) (a.before_point none).not_open
 
 abbrev pointed_with : HeapState → Past → Name → PointMemory → World
 pointed_with h p name memory =
@@ -294,50 +298,50 @@ memory_with reserved start end = record { reserved_at = bytes_of_word * reserved
 
 world_pointed : (h : HeapState) (p : Past) (name pool : Name) → Agrees h p → h.point ≡ None → is_pool h pool ≡ true
     → pointed_with h p name (record { reserved_at = 0; buffer = record { from = 0; count = 0 } })
-        ≡ world_of (with_point h name) (past_with_point p name)
+    ≡ world_of (with_point h name) (past_with_point p name)
 world_pointed h p name pool a none there =
     let u = a.before_point none in
     ap (λ n. pointed_with h p name (memory_with n 0 0)) (sym u.no_reserved)
     ∙ ap (λ n. pointed_with h p name (memory_with h.reserved n 0)) (sym u.no_start)
     ∙ ap (λ n. pointed_with h p name (memory_with h.reserved h.buffer_start n)) (sym u.no_end)
     ∙ sym (world_of-parts (with_point h name) (past_with_point p name) refl refl
-        (is_named-some h.pool pool (and_parts (not (is_named h.table pool)) (is_named h.pool pool) there).1) u.not_open)
+    (is_named-some h.pool pool (and_parts (not (is_named h.table pool)) (is_named h.pool pool) there).1) u.not_open)
 
 right_with_point : (h : HeapState) (p : Past) (line : ℕ) (name pool : Name) → MayMake h p h.point name → is_pool h pool ≡ true
     → IsRightStep (world_without_point h p) (step_of line (call.Point name pool rank.Exact) (reply_only reply.Ok)) (with_point h name)
 right_with_point h p line name pool may there =
     let w = is_world_without_point h p pool may.agrees may.first there in
     let e = act_of_point (parts_by h p (is_some h.table) false true false) name (may.agrees.names name
-        ∙ not_taken h name may.free) pool (pool_there h p pool may.agrees there) in
+    ∙ not_taken h name may.free) pool (pool_there h p pool may.agrees there) in
     right_step (world_without_point h p) (step_of line (call.Point name pool rank.Exact) (reply_only reply.Ok)) (with_point h name)
-        (past_with_point p name)
+    (past_with_point p name)
     (record { answered = refl; moves_are_legal = tt; moves_are_due = refl; answer_is_due = sym (ap answer_from e); marked = tt })
     (ap (λ r. with_client_remembered (world_from (world_without_point h p) r)) e ∙ world_pointed h p name pool may.agrees may.first there)
     (agrees_with_point h p name pool may there)
     (λ pools. ap Some (ap live_blocks (sym w) ∙ live_blocks-world_of h p))
 
-point_built : (h : HeapState) (p : Past) (line : ℕ) (name pool : Name) → MayMake h p h.point name → is_pool h pool ≡ true
+right_point_of_rank : (h : HeapState) (p : Past) (line : ℕ) (name pool : Name) → MayMake h p h.point name → is_pool h pool ≡ true
     → (at_rank : Rank) → is_exact at_rank ≡ true
     → IsRightStep (world_of h p) (step_of line (call.Point name pool at_rank) (reply_only reply.Ok)) (with_point h name)
-point_built h p line name pool may there rank.Exact e =
+right_point_of_rank h p line name pool may there rank.Exact e =
     subst (λ (w : World). IsRightStep w (step_of line (call.Point name pool rank.Exact) (reply_only reply.Ok)) (with_point h name))
-        (sym (is_world_without_point h p pool may.agrees may.first there))
+    (sym (is_world_without_point h p pool may.agrees may.first there))
     (right_with_point h p line name pool may there)
-point_built h p line name pool may there rank.Weak e = absurd (false≢true e)
+right_point_of_rank h p line name pool may there rank.Weak e = absurd (false≢true e)
 
 point_where : (h : HeapState) (p : Past) (line : ℕ) (name pool : Name) (at_rank : Rank) → Agrees h p → (b : Bool)
     → (is_exact at_rank && may_make_first h h.point name && is_pool h pool) ≡ b
     → IsRightStep (world_of h p) (step_of line (call.Point name pool at_rank) (accepted_if b h (with_point h name)).done)
-        (accepted_if b h (with_point h name)).state
+    (accepted_if b h (with_point h name)).state
 point_where h p line name pool at_rank a false e = unsupported_step h p line (call.Point name pool at_rank) a
 point_where h p line name pool at_rank a true e =
     let both = and_parts (is_exact at_rank && may_make_first h h.point name) (is_pool h pool) e in
     let first = and_parts (is_exact at_rank) (may_make_first h h.point name) both.0 in
-    point_built h p line name pool (may_make_facts h p h.point name a first.1) both.1 at_rank first.0
+    right_point_of_rank h p line name pool (may_make_facts h p h.point name a first.1) both.1 at_rank first.0
 
 pub right_point : (h : HeapState) (p : Past) (line : ℕ) (name pool : Name) (at_rank : Rank) → Agrees h p
     → IsRightStep (world_of h p) (step_of line (call.Point name pool at_rank) (after_point h name pool at_rank).done)
-        (after_point h name pool at_rank).state
+    (after_point h name pool at_rank).state
 right_point h p line name pool at_rank a =
     point_where h p line name pool at_rank a (is_exact at_rank && may_make_first h h.point name && is_pool h pool) refl
 
@@ -364,7 +368,7 @@ no_addresses_yet : (h : HeapState) (p : Past) → Agrees h p → h.point ≡ Non
 no_addresses_yet h p a none =
     let u = a.before_point none in
     no_addresses h.words (end_of_objects h) p.addresses (ap (λ b. if b then h.reserved else h.buffer_start) u.not_open
-        ∙ u.no_start) a.blocks
+    ∙ u.no_start) a.blocks
 
 zeros_read : (n k : ℕ) → slice_index (replicate n 0) k ≡ 0
 zeros_read zero k = refl
@@ -404,14 +408,14 @@ is_world_before_arena : (h : HeapState) (p : Past) → Agrees h p → h.grains �
 is_world_before_arena h p a z =
     let u = unmade h p a z in
     world_of-parts h p (not_some h.table u.table) (not_some h.point u.point) (not_some h.pool u.pool)
-        (a.before_point u.point).not_open
+    (a.before_point u.point).not_open
     ∙ ap (λ addresses. world_by h (record p { ids = []; addresses = addresses }) false false false false) (no_addresses_yet h p a u.point)
 
 right_made : (h : HeapState) (p : Past) (line : ℕ) (grains limit : ℕ) → Agrees h p → h.grains ≡ 0
     → IsRightStep (world_before_arena h p) (step_of line (call.Arena grains limit) (reply_only reply.Ok)) (arena_made grains limit)
 right_made h p line grains limit a z =
     right_step (world_before_arena h p) (step_of line (call.Arena grains limit) (reply_only reply.Ok))
-        (arena_made grains limit) (past_arena p)
+    (arena_made grains limit) (past_arena p)
     (record { answered = refl; moves_are_legal = tt; moves_are_due = refl; answer_is_due = refl; marked = tt })
     refl
     (agrees_arena h p grains limit a z)
@@ -419,15 +423,15 @@ right_made h p line grains limit a z =
 
 arena_where : (h : HeapState) (p : Past) (line : ℕ) (grains limit : ℕ) → Agrees h p → (b : Bool) → not (is_arena_made h) ≡ b
     → IsRightStep (world_of h p) (step_of line (call.Arena grains limit) (accepted_if b h (arena_made grains limit)).done)
-        (accepted_if b h (arena_made grains limit)).state
+    (accepted_if b h (arena_made grains limit)).state
 arena_where h p line grains limit a false e = unsupported_step h p line (call.Arena grains limit) a
 arena_where h p line grains limit a true e =
     let z : h.grains ≡ 0 = omega (arith, ltb-false 0 h.grains (not-true (is_arena_made h) e)) in
     subst (λ (w : World). IsRightStep w (step_of line (call.Arena grains limit) (reply_only reply.Ok)) (arena_made grains limit))
-        (sym (is_world_before_arena h p a z))
+    (sym (is_world_before_arena h p a z))
     (right_made h p line grains limit a z)
 
 pub right_arena : (h : HeapState) (p : Past) (line : ℕ) (grains limit : ℕ) → Agrees h p
     → IsRightStep (world_of h p) (step_of line (call.Arena grains limit) (after_arena h grains limit).done)
-        (after_arena h grains limit).state
+    (after_arena h grains limit).state
 right_arena h p line grains limit a = arena_where h p line grains limit a (not (is_arena_made h)) refl

@@ -15,7 +15,7 @@ same_name_equal these those e =
     let both = and_parts (these.len == those.len) (bytes_eq these.bytes those.bytes) e in
     let Name_of = λ (len : ℕ) (bytes : List ℕ). let n : Name = record { len = len; bytes = bytes } in n in
     ap (λ len. Name_of len these.bytes) (eqb-true these.len those.len both.0)
-        ∙ ap (λ bytes. Name_of those.len bytes) ((bytes_eq-Decides these.bytes those.bytes).0 both.1)
+    ∙ ap (λ bytes. Name_of those.len bytes) ((bytes_eq-Decides these.bytes those.bytes).0 both.1)
 
 pub same_name_itself : (name : Name) → same_name name name ≡ true
 same_name_itself name = and_from (name.len == name.len) (bytes_eq name.bytes name.bytes) (eq-eqb name.len name.len refl)
@@ -38,7 +38,7 @@ thing_in-push : (names : List NamedThing) (name : Name) (thing : Thing) (n : Nam
 thing_in-push [] name thing n = refl
 thing_in-push (m ∷ ms) name thing n =
     elim (same_name m.name n) as (λ b. (if b then Some m.thing else thing_in (ms ++ record { name = name; thing = thing } ∷ []) n)
-        ≡ or_else (if b then Some m.thing else thing_in ms n) (one_thing name thing n))
+    ≡ or_else (if b then Some m.thing else thing_in ms n) (one_thing name thing n))
     [ true ↦ refl | false ↦ thing_in-push ms name thing n ]
 
 -- what names stand for, once a free name stands for a thing
@@ -59,8 +59,8 @@ names_made names name thing before after was free is others n = thing_in-push na
 pub not_taken : (h : HeapState) (name : Name) → is_name_taken h name ≡ false → thing_of h name ≡ None
 not_taken h name e =
     let first = or_parts (is_named h.table name || is_named h.pool name) (is_named h.point name) e in
-    let two = or_parts (is_named h.table name) (is_named h.pool name) first.0 in
+    let table_pool = or_parts (is_named h.table name) (is_named h.pool name) first.0 in
     ap (λ b. if b then Some (TableThing 0)
-        else (if is_named h.pool name then Some (PoolThing 0) else (if is_named h.point name then Some (PointThing 0) else None))) two.0
-    ∙ ap (λ b. if b then Some (PoolThing 0) else (if is_named h.point name then Some (PointThing 0) else None)) two.1
+    else (if is_named h.pool name then Some (PoolThing 0) else (if is_named h.point name then Some (PointThing 0) else None))) table_pool.0
+    ∙ ap (λ b. if b then Some (PoolThing 0) else (if is_named h.point name then Some (PointThing 0) else None)) table_pool.1
     ∙ ap (λ b. if b then Some (PointThing 0) else None) first.1

@@ -82,7 +82,7 @@ module _ (h : HeapState) (p : Past) (slot : Slot) (cell : ℕ) where
 
   number_held : (line : ℕ) (held : Option ℕ) → HasSlot h p slot → slice_get p.ids slot.index ≡ Some held
       → IsRightStep (world_of h p)
-          (step_of line (call.Number slot cell) (reply_only (number_reply_at h (address_in_slot p.addresses held) cell))) h
+      (step_of line (call.Number slot cell) (reply_only (number_reply_at h (address_in_slot p.addresses held) cell))) h
   number_held line None s there =
       subst (λ (w : World). IsRightStep w (step_of line (call.Number slot cell) (reply_only (reply.Refused refusal.NullRef))) h)
       (sym (is_world_with_table h p s.table))
@@ -101,12 +101,12 @@ module _ (h : HeapState) (p : Past) (slot : Slot) (cell : ℕ) where
   number_in_table : (line : ℕ) → Agrees h p → (b : Bool) → has_slot h slot ≡ b
       → IsRightStep (world_of h p)
       (step_of line (call.Number slot cell)
-          (reply_only (if b then number_reply_at h (slice_index h.slots slot.index) cell else reply.Unsupported))) h
+      (reply_only (if b then number_reply_at h (slice_index h.slots slot.index) cell else reply.Unsupported))) h
   number_in_table line a false e = unsupported_step h p line (call.Number slot cell) a
   number_in_table line a true e =
       let s = slot_facts h p slot a e in
       subst (λ (address : ℕ). IsRightStep (world_of h p)
-          (step_of line (call.Number slot cell) (reply_only (number_reply_at h address cell))) h)
+      (step_of line (call.Number slot cell) (reply_only (number_reply_at h address cell))) h)
       (sym s.address)
       (number_held line s.held s s.there)
 

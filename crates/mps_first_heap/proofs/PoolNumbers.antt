@@ -91,7 +91,7 @@ counts_reserve : (h : HeapState) (name : Name) (head : ℕ) → CountsPools h (c
 counts_reserve h name head =
     counts_if h c (is_point h name && is_front head && not h.is_open) (reserve_placed h head) (unsupported h)
     (counts_if h c (nat_le (size_field head) (h.buffer_end - h.buffer_start)) (with_reply (reserved_in_buffer h head) reply.Ok)
-        (reserve_after h head (grains_needed (size_field head)))
+    (reserve_after h head (grains_needed (size_field head)))
     (counts_none h c (with_reply (reserved_in_buffer h head) reply.Ok) refl refl refl)
     (counts_reserve_after h name head (grains_needed (size_field head))))
     (counts_unsupported h c)
@@ -102,30 +102,32 @@ counts_reserve h name head =
 counts_commit : (h : HeapState) (name : Name) (slot : Slot) → CountsPools h (call.Commit name slot) (after_commit h name slot)
 counts_commit h name slot =
     counts_if h c (is_point h name && h.is_open && has_slot h slot) with_object (unsupported h)
-        (counts_none h c with_object refl refl refl) (counts_unsupported h c)
+    (counts_none h c with_object refl refl refl) (counts_unsupported h c)
   where
     c : Call
     c = call.Commit name slot
 
     with_object : Outcome
-    with_object = record { done = ok_with_move (commit_move h);
-        state = record h { slots = slice_set h.slots slot.index h.reserved; is_open = false } }
+    with_object = record {
+      done = ok_with_move (commit_move h);
+      state = record h { slots = slice_set h.slots slot.index h.reserved; is_open = false };
+    }
 
 -- each call
 pub counts_pools : (h : HeapState) (p : Past) (c : Call) → Agrees h p → CountsPools h c (outcome h c)
 counts_pools h p (call.Arena grains limit) a = counts_arena h p grains limit a
 counts_pools h p (call.Table table slots) a =
     counts_accepted h (record h { table = Some table; slots = replicate slots 0 }) (call.Table table slots)
-        (may_make_first h h.table table) refl (λ e. refl)
+    (may_make_first h h.table table) refl (λ e. refl)
 counts_pools h p (call.Pool pool kind format) a =
     counts_pool_where h p pool kind format a (is_implemented_pool kind format && may_make_first h h.pool pool) refl
 counts_pools h p (call.Point point pool at_rank) a =
     counts_accepted h (record h { point = Some point }) (call.Point point pool at_rank)
-        (is_exact at_rank && may_make_first h h.point point && is_pool h pool) refl (λ e. refl)
+    (is_exact at_rank && may_make_first h h.point point && is_pool h pool) refl (λ e. refl)
 counts_pools h p (call.Reserve point head) a = counts_reserve h point head
 counts_pools h p (call.InitNumber point cell value) a =
     counts_accepted h (record h { words = slice_set h.words (h.reserved + cell) value }) (call.InitNumber point cell value)
-        (may_init h point cell) refl (λ e. refl)
+    (may_init h point cell) refl (λ e. refl)
 counts_pools h p (call.Commit point target) a = counts_commit h point target
 counts_pools h p (call.Number slot cell) a = counts_none h (call.Number slot cell) (with_reply h (number_reply h slot cell)) refl refl refl
 counts_pools h p other a = counts_unsupported h other

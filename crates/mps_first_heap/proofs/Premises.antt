@@ -54,7 +54,7 @@ names_point h p name a e =
       named = a.names name
           ∙ ap (λ b. if b then Some (TableThing 0) else if_pool h name) (not-true (is_named h.table name) no.0)
           ∙ ap (λ b. if b then Some (PoolThing 0) else (if is_named h.point name then Some (PointThing 0) else None))
-              (not-true (is_named h.pool name) no.1)
+          (not-true (is_named h.pool name) no.1)
           ∙ ap (λ b. if b then Some (PointThing 0) else None) both.1;
       in_order = a.buffer.0;
       inside = buffer_is_inside h p a made;
@@ -65,8 +65,12 @@ pub may_init_facts : (h : HeapState) (p : Past) (name : Name) (cell : ℕ) → N
 may_init_facts h p name cell at o number =
     let head = head_at h h.reserved in
     let both = and_parts (nat_lt 0 cell && nat_lt cell (words_of_head head)) (not (front_layout.is_reference head cell)) number in
-    record { at = at; is_open = o; number = number;
-        positive = ltb-true 0 cell (and_parts (nat_lt 0 cell) (nat_lt cell (words_of_head head)) both.0).0 }
+    record {
+      at = at;
+      is_open = o;
+      number = number;
+      positive = ltb-true 0 cell (and_parts (nat_lt 0 cell) (nat_lt cell (words_of_head head)) both.0).0;
+    }
 
 -- ---- the table
 
@@ -85,7 +89,7 @@ slot_facts h p slot a e =
     let both = and_parts (is_named h.table slot.name) (nat_lt slot.index (length h.slots)) e in
     let table = is_named-some h.table slot.name both.0 in
     let below : slot.index < length (map (address_in_slot p.addresses) p.ids) =
-      subst (λ (slots : List ℕ). slot.index < length slots) a.slots (ltb-true slot.index (length h.slots) both.1) in
+    subst (λ (slots : List ℕ). slot.index < length slots) a.slots (ltb-true slot.index (length h.slots) both.1) in
     let at = slot_there p.addresses p.ids slot.index below in
     record {
       agrees = a;

@@ -1,6 +1,6 @@
 -- Which calls the model refuses, in the worlds for which the heap stands, with a refusal that the heap does not report.
 use Rattle.std.proofs.Common.{◌≡◌, ℕ, zero, suc, ◌+◌, ◌<◌, ◌≤◌, Bool, true, false, refl, sym, ◌∙◌, ap, subst, List, length, None, Some, Err, Option, arith, slice_index, inl, inr, take, drop, ◌⊎◌}
-use Rattle.std.specs.Prelude.{slice_get, nat_lt, is_some, not, ◌&&◌, ◌||◌, if◌then◌else◌}
+use Rattle.std.specs.Prelude.{slice_get, nat_lt, not, ◌&&◌, ◌||◌, if◌then◌else◌}
 use Rattle.std.proofs.lemmas.List.{length-map}
 use Rattle.std.proofs.lemmas.Option.{slice_get_past}
 use Rattle.std.proofs.lemmas.Bool.{false≢true, and_from, ltb-false, cases_lt, lt-ltb, not-false}
@@ -83,10 +83,10 @@ no_index h p slot a t i =
     let named = named_table h p slot.name a t in
     let le = ltb-false slot.index (length h.slots) i in
     let past : slice_get p.ids slot.index ≡ None =
-        slice_get_past p.ids slot.index (subst (λ (n : ℕ). n ≤ slot.index) (ap length a.slots
-        ∙ length-map p.ids (address_in_slot p.addresses)) le) in
+    slice_get_past p.ids slot.index (subst (λ (n : ℕ). n ≤ slot.index) (ap length a.slots
+    ∙ length-map p.ids (address_in_slot p.addresses)) le) in
     ap (λ w. slot_in w slot) (world_of-parts h p
-        (is_named-some h.table slot.name t) refl refl refl)
+    (is_named-some h.table slot.name t) refl refl refl)
     ∙ rw (named, past) refl
 
 -- a slot that isn't there
@@ -151,8 +151,8 @@ no_number_in head (suc k) word v lt e = (
     is_ref = not-false (front_layout.is_reference head (suc k))
         (sym (ap (λ b. b && not (front_layout.is_reference head (suc k)))
         (and_from (nat_lt 0 (suc k)) (nat_lt (suc k) (words_of_head head)) (lt-ltb 0 (suc k) (omega arith))
-            (lt-ltb (suc k) (words_of_head head)
-            (subst (λ (n : ℕ). suc k < n) (sym (ap (λ b. if b then size_field head else 0) v)) lt)))) ∙ e)
+        (lt-ltb (suc k) (words_of_head head)
+        (subst (λ (n : ℕ). suc k < n) (sym (ap (λ b. if b then size_field head else 0) v)) lt)))) ∙ e)
 
 -- a cell of a whole block that has no number
 pub no_number : (words : List ℕ) (bound address k : ℕ) → IsBlockAt words bound address → bound ≤ length words
@@ -175,6 +175,6 @@ no_number words bound address k b inside e = by_size (cases_lt k (size_field (sl
         let cell = no_number_in (slice_index words address) k (slice_index (take size (drop address words)) k) b.head lt e in
         let there = slice_get-cells_in (slice_index words address) 0 (take size (drop address words)) k (omega (arith, whole))
         ∙ ap (λ n. Some (cell_in (slice_index words address) n (slice_index (take size (drop address words)) k)))
-            (let z : 0 + k ≡ k = omega arith in z)
+        (let z : 0 + k ≡ k = omega arith in z)
         ∙ ap Some cell.1 in
         inr (ap (λ (o : Option Cell). required o refusal.BadIndex >>= number_of_cell) there ∙ cell.2)

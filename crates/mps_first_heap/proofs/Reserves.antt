@@ -76,7 +76,7 @@ agrees_reserved : (h : HeapState) (p : Past) (head : ℕ) → Agrees h p → is_
 agrees_reserved h p head a q o valid room pos =
     let made = made_with_pool h p a (pool_with_point h p a q) in
     let inside = buffer_is_inside h p a made in
-    let hand = a.buffer in
+    let buffer = a.buffer in
     let f = front_facts head valid in
     let bound : end_of_objects h ≡ h.buffer_start = ap (λ b. if b then h.reserved else h.buffer_start) o in
     let le : end_of_objects h ≤ h.buffer_start = omega (arith, bound) in
@@ -94,7 +94,7 @@ agrees_reserved h p head a q o valid room pos =
         head = ap is_front same ∙ valid;
         below = subst (λ (n : ℕ). h.buffer_start + size_field n ≤ h.buffer_start + size_field head) (sym same) (omega arith);
       };
-      buffer = (omega arith, hand.1);
+      buffer = (omega arith, buffer.1);
       not_null = λ z. absurd (omega (arith, z));
       fresh = λ k le. get_or-set_other h.words h.buffer_start k head 0 (λ e. omega arith) ∙ a.fresh k (omega arith);
       before_arena = a.before_arena;
@@ -115,33 +115,36 @@ reservation_made : (h : HeapState) (head : ℕ) → is_front head ≡ true → h
     → reservation_of_words (slice_set h.words h.buffer_start head) h.buffer_start ≡ taken_from h head
 reservation_made h head valid fits fresh =
     let f = front_facts head valid in
-    ap (λ (n : ℕ). record { head = n;
-        cells = cells_in n 0 (take (size_field n) (drop h.buffer_start (slice_set h.words h.buffer_start head))); is_doomed = false })
-        (slice_index-set_same h.words h.buffer_start head (omega arith))
+    ap (λ (n : ℕ). record {
+      head = n;
+      cells = cells_in n 0 (take (size_field n) (drop h.buffer_start (slice_set h.words h.buffer_start head)));
+      is_doomed = false;
+    })
+    (slice_index-set_same h.words h.buffer_start head (omega arith))
     ∙ ap (λ (cells : List Cell). record { head = head; cells = cells; is_doomed = false })
-        (new_cells_at h.words h.buffer_start head valid fits fresh)
+    (new_cells_at h.words h.buffer_start head valid fits fresh)
 
 world_reserved : (h : HeapState) (p : Past) (head : ℕ) → Agrees h p → is_some h.point ≡ true → h.is_open ≡ false → is_front head ≡ true
     → size_field head ≤ h.buffer_end - h.buffer_start
     → with_reserved (world_at_rest h p) at_rest (taken_from h head) (bytes_of_word * h.buffer_start)
-        ≡ world_of (reserved_in_buffer h head) p
+    ≡ world_of (reserved_in_buffer h head) p
 world_reserved h p head a q o valid room =
     let made = made_with_pool h p a (pool_with_point h p a q) in
     let inside = buffer_is_inside h p a made in
-    let hand = a.buffer in
+    let buffer = a.buffer in
     let f = front_facts head valid in
     let bound : end_of_objects h ≡ h.buffer_start = ap (λ b. if b then h.reserved else h.buffer_start) o in
     let le : end_of_objects h ≤ h.buffer_start = omega (arith, bound) in
     ap (λ n. reserved_with h p (map (object_of_words h.words) p.addresses) (taken_from h head) (h.buffer_start + n)
-        (h.buffer_end - h.buffer_start - n)) (length_new_cells head valid)
+    (h.buffer_end - h.buffer_start - n)) (length_new_cells head valid)
     ∙ ap (λ n. reserved_with h p (map (object_of_words h.words) p.addresses) (taken_from h head) (h.buffer_start + size_field head) n)
-        (let e : h.buffer_end - h.buffer_start - size_field head ≡ h.buffer_end - (h.buffer_start + size_field head) = omega arith in e)
+    (let e : h.buffer_end - h.buffer_start - size_field head ≡ h.buffer_end - (h.buffer_start + size_field head) = omega arith in e)
     ∙ ap (λ objects. reserved_with h p objects (taken_from h head) (h.buffer_start + size_field head)
-        (h.buffer_end - (h.buffer_start + size_field head)))
-        (sym (objects-set_after h.words (end_of_objects h) h.buffer_start head p.addresses le a.blocks))
+    (h.buffer_end - (h.buffer_start + size_field head)))
+    (sym (objects-set_after h.words (end_of_objects h) h.buffer_start head p.addresses le a.blocks))
     ∙ ap (λ r. reserved_with h p (map (object_of_words (slice_set h.words h.buffer_start head)) p.addresses) r
-        (h.buffer_start + size_field head) (h.buffer_end - (h.buffer_start + size_field head)))
-        (sym (reservation_made h head valid (omega arith) a.fresh))
+    (h.buffer_start + size_field head) (h.buffer_end - (h.buffer_start + size_field head)))
+    (sym (reservation_made h head valid (omega arith) a.fresh))
     ∙ sym (world_of-parts (reserved_in_buffer h head) p refl q (pool_with_point h p a q) refl)
 
 stored_reserved : (h : HeapState) (p : Past) (head : ℕ) → Agrees h p → h.is_open ≡ false
@@ -173,13 +176,13 @@ placing_done after placement head =
 abbrev pub reserve_at : (after : World) → (head : ℕ) → (cells : List Cell) → Numbered Point → Checked Act
 reserve_at after head cells point =
     done (with_reserved after point (record { head = head; cells = cells; is_doomed = false })
-        (address_of_placement (placement_of after (ForReserve point.number (length cells)))))
+    (address_of_placement (placement_of after (ForReserve point.number (length cells)))))
 
 -- what a reserve does once it was checked
 abbrev pub reserve_from : (judged after : World) → (name : Name) → (head : ℕ) → Reserving → Checked Act
 reserve_from judged after name head r =
     refuse_without_place (placement_of judged (ForReserve r.point.number (length r.cells)))
-        >> (point_named after name >>= reserve_at after head r.cells)
+    >> (point_named after name >>= reserve_at after head r.cells)
 
 found_again : (h : HeapState) (p : Past) (name : Name) → thing_in p.names name ≡ Some (PointThing 0)
     → point_named (world_at_rest h p) name ≡ Ok at_rest
@@ -189,14 +192,14 @@ pub act_placed : (h : HeapState) (p : Past) (h' : HeapState) (p' : Past) (name :
     → thing_in p.names name ≡ Some (PointThing 0) → thing_in p'.names name ≡ Some (PointThing 0) → is_front head ≡ true
     → refuse_without_place (placement_of (world_at_rest h p) (ForReserve 0 (length (new_cells front_layout head)))) ≡ Ok tt
     → act_reserve (world_at_rest h p) (world_at_rest h' p') name head ≡ placing_done (world_at_rest h' p')
-        (placement_of (world_at_rest h' p') (ForReserve 0 (length (new_cells front_layout head)))) head
+    (placement_of (world_at_rest h' p') (ForReserve 0 (length (new_cells front_layout head)))) head
 act_placed h p h' p' name head named named' valid placed =
     ap (λ (c : Checked Reserving). c >>= reserve_from (world_at_rest h p) (world_at_rest h' p') name head)
-        (check_there h p name head named valid)
+    (check_there h p name head named valid)
     ∙ ap (λ (c : Checked (Unit {0})). c
-        >> (point_named (world_at_rest h' p') name >>= reserve_at (world_at_rest h' p') head (new_cells front_layout head))) placed
+    >> (point_named (world_at_rest h' p') name >>= reserve_at (world_at_rest h' p') head (new_cells front_layout head))) placed
     ∙ ap (λ (c : Checked (Numbered Point)). c >>= reserve_at (world_at_rest h' p') head (new_cells front_layout head))
-        (found_again h' p' name named')
+    (found_again h' p' name named')
 
 pub act_refused : (h : HeapState) (p : Past) (name : Name) (head : ℕ) (why : Refusal)
     → thing_in p.names name ≡ Some (PointThing 0) → is_front head ≡ true
@@ -204,9 +207,9 @@ pub act_refused : (h : HeapState) (p : Past) (name : Name) (head : ℕ) (why : R
     → act_reserve (world_at_rest h p) (world_at_rest h p) name head ≡ Err why
 act_refused h p name head why named valid refused =
     ap (λ (c : Checked Reserving). c >>= reserve_from (world_at_rest h p) (world_at_rest h p) name head)
-        (check_there h p name head named valid)
+    (check_there h p name head named valid)
     ∙ ap (λ (c : Checked (Unit {0})). c
-        >> (point_named (world_at_rest h p) name >>= reserve_at (world_at_rest h p) head (new_cells front_layout head))) refused
+    >> (point_named (world_at_rest h p) name >>= reserve_at (world_at_rest h p) head (new_cells front_layout head))) refused
 
 -- the segment that a reserve takes, where its placement is known
 segment_due : (h : HeapState) (p : Past) (name : Name) (head : ℕ) (placement : Placement)
@@ -242,24 +245,30 @@ right_in_buffer h p line name head m fits =
     let room = leb-true (size_field head) (h.buffer_end - h.buffer_start) fits in
     let placed = placed_in_buffer h p head m.valid fits in
     let e = act_placed h p h p name head m.at.named m.at.named m.valid (ap refuse_without_place placed)
-        ∙ ap (λ placement. placing_done (world_at_rest h p) placement head) placed in
+    ∙ ap (λ placement. placing_done (world_at_rest h p) placement head) placed in
     right_step (world_at_rest h p) (step_in_buffer line name head) (reserved_in_buffer h head) p
-    (record { answered = refl; moves_are_legal = tt;
-        moves_are_due = record { poll = no_poll h p name head;
-        segment = segment_due h p name head (Place h.buffer_start) m.at.named m.valid placed };
-        answer_is_due = sym (ap answer_from e); marked = tt })
+    (record {
+      answered = refl;
+      moves_are_legal = tt;
+      moves_are_due = record {
+        poll = no_poll h p name head;
+        segment = segment_due h p name head (Place h.buffer_start) m.at.named m.valid placed;
+      };
+      answer_is_due = sym (ap answer_from e);
+      marked = tt;
+    })
     (ap (λ r. with_client_remembered (world_from (world_at_rest h p) r)) e
-        ∙ world_reserved h p head m.at.agrees m.at.point m.not_open m.valid room)
+    ∙ world_reserved h p head m.at.agrees m.at.point m.not_open m.valid room)
     (agrees_reserved h p head m.at.agrees m.at.point m.not_open m.valid room (front_not_null h p head m.at.agrees m.valid room))
     (λ pools. ap Some (ap live_blocks (sym (is_world_at_rest h p m.at.agrees m.at.point m.not_open)) ∙ live_blocks-world_of h p
-        ∙ stored_reserved h p head m.at.agrees m.not_open))
+    ∙ stored_reserved h p head m.at.agrees m.not_open))
 
 -- ---- a reservation that does not fit the buffer
 
 pub placed_after : (h : HeapState) (p : Past) (head : ℕ) → is_front head ≡ true
     → nat_le (size_field head) (h.buffer_end - h.buffer_start) ≡ false
     → placement_of (world_at_rest h p) (ForReserve 0 (length (new_cells front_layout head)))
-        ≡ run_placement h.grains h.limit (runs 1 p.segments) (grains_needed (size_field head))
+    ≡ run_placement h.grains h.limit (runs 1 p.segments) (grains_needed (size_field head))
 placed_after h p head valid fits =
     placement_there h p (length (new_cells front_layout head))
     ∙ ap (λ n. placed_where h p n (nat_le n (h.buffer_end - h.buffer_start))) (length_new_cells head valid)
@@ -280,10 +289,16 @@ right_refused h p line name head m fits over =
     let placed = placed_after h p head m.valid fits ∙ over_limit h.grains h.limit h.held p.segments need m.at.agrees.held over in
     let e = act_refused h p name head (refusal.CommitLimit h.held need h.limit) m.at.named m.valid (ap refuse_without_place placed) in
     right_step (world_at_rest h p) (step_refused h line name head need) h p
-    (record { answered = refl; moves_are_legal = tt;
-        moves_are_due = record { poll = no_poll h p name head;
-        segment = segment_due h p name head (OverLimit h.held need h.limit) m.at.named m.valid placed };
-        answer_is_due = sym (ap answer_from e); marked = tt })
+    (record {
+      answered = refl;
+      moves_are_legal = tt;
+      moves_are_due = record {
+        poll = no_poll h p name head;
+        segment = segment_due h p name head (OverLimit h.held need h.limit) m.at.named m.valid placed;
+      };
+      answer_is_due = sym (ap answer_from e);
+      marked = tt;
+    })
     (ap (λ r. with_client_remembered (world_from (world_at_rest h p) r)) e ∙ sym (is_world_at_rest h p m.at.agrees m.at.point m.not_open))
     m.at.agrees
     (λ pools. ap Some (ap live_blocks (sym (is_world_at_rest h p m.at.agrees m.at.point m.not_open)) ∙ live_blocks-world_of h p))
@@ -296,10 +311,10 @@ past_taken p need = record p { segments = p.segments ++ need ∷ [] }
 pub agrees_taken : (h : HeapState) (p : Past) (need : ℕ) → Agrees h p → is_some h.point ≡ true → h.is_open ≡ false
     → h.held + need ≤ h.grains → Agrees (with_segment_taken h need) (past_taken p need)
 agrees_taken h p need a q o fits =
-    let hand = a.buffer in
+    let buffer = a.buffer in
     let bound : end_of_objects h ≡ h.buffer_start = ap (λ b. if b then h.reserved else h.buffer_start) o in
     let bound' : end_of_objects (with_segment_taken h need) ≡ words_of_grain * (h.held + 1) =
-        ap (λ b. if b then h.reserved else words_of_grain * (h.held + 1)) o in
+    ap (λ b. if b then h.reserved else words_of_grain * (h.held + 1)) o in
     record {
       names = a.names;
       slots = a.slots;
@@ -328,16 +343,16 @@ taken_with h p segments from count =
 -- the world after the segment was taken
 pub world_taken : (h : HeapState) (p : Past) (name : Name) (head need : ℕ) → Agrees h p → thing_in p.names name ≡ Some (PointThing 0)
     → world_after_moves (call.Reserve name head) (world_at_rest h p) (segment_move h need ∷ [])
-        ≡ world_at_rest (with_segment_taken h need) (past_taken p need)
+    ≡ world_at_rest (with_segment_taken h need) (past_taken p need)
 world_taken h p name head need a named =
     let segment = segment_from (h.held + 1) need in
     ap (λ (t : Option Thing). after_segment_for (world_at_rest h p) segment (option_and_then as_point t)) named
     ∙ ap (λ segments. taken_with h p segments (bytes_of_grain * (h.held + 1) / 8) (words_of_grain * need))
-        (segments_push p.segments h.held need a.held)
+    (segments_push p.segments h.held need a.held)
     ∙ ap (λ from. taken_with h p (segments_from 1 (p.segments ++ need ∷ [])) from (words_of_grain * need))
-        (let e : bytes_of_grain * (h.held + 1) / 8 ≡ words_of_grain * (h.held + 1) = omega arith in e)
+    (let e : bytes_of_grain * (h.held + 1) / 8 ≡ words_of_grain * (h.held + 1) = omega arith in e)
     ∙ ap (λ count. taken_with h p (segments_from 1 (p.segments ++ need ∷ [])) (words_of_grain * (h.held + 1)) count)
-        (let e : words_of_grain * need ≡ words_of_grain * (h.held + 1 + need) - words_of_grain * (h.held + 1) = omega arith in e)
+    (let e : words_of_grain * need ≡ words_of_grain * (h.held + 1 + need) - words_of_grain * (h.held + 1) = omega arith in e)
 
 -- the segment that is taken is the reserve's own
 legal_segment : (h : HeapState) (p : Past) (name : Name) (head need : ℕ)
@@ -346,7 +361,7 @@ legal_segment : (h : HeapState) (p : Past) (name : Name) (head need : ℕ)
     → IsOwnSegment (call.Reserve name head) (world_at_rest h p) (bytes_of_grain * (h.held + 1)) need 0 0
 legal_segment h p name head need named valid placed =
     subst (λ (c : Checked Reserving). ForChecked c (IsSegmentForReserve (world_at_rest h p) (bytes_of_grain * (h.held + 1)) need 0 0))
-        (sym (check_there h p name head named valid))
+    (sym (check_there h p name head named valid))
     (record {
       placement = subst (λ (placement : Placement). IsNewSegmentAt placement (bytes_of_grain * (h.held + 1)) need)
           (sym placed) (refl, refl);
@@ -361,14 +376,14 @@ right_taken : (h : HeapState) (p : Past) (line : ℕ) (name : Name) (head : ℕ)
     → nat_le (size_field head) (h.buffer_end - h.buffer_start) ≡ false
     → nat_lt h.limit (h.held + grains_needed (size_field head)) ≡ false → h.held + grains_needed (size_field head) ≤ h.grains
     → IsRightStep (world_at_rest h p) (step_after h line name head (grains_needed (size_field head)))
-        (reserved_in_buffer (with_segment_taken h (grains_needed (size_field head))) head)
+    (reserved_in_buffer (with_segment_taken h (grains_needed (size_field head))) head)
 right_taken h p line name head m fits limit inside =
     let size = size_field head in
     let need = grains_needed size in
     let f = front_facts head m.valid in
     let some : 0 < need = omega arith in
     let placed = placed_after h p head m.valid fits
-        ∙ new_segment h.grains h.limit h.held p.segments need m.at.agrees.held limit inside some in
+    ∙ new_segment h.grains h.limit h.held p.segments need m.at.agrees.held limit inside some in
     let taken = with_segment_taken h need in
     let later = past_taken p need in
     let a' = agrees_taken h p need m.at.agrees m.at.point m.not_open inside in
@@ -376,22 +391,25 @@ right_taken h p line name head m fits limit inside =
     let placed' = placed_in_buffer taken later head m.valid (le-leb size (taken.buffer_end - taken.buffer_start) room) in
     let w = world_taken h p name head need m.at.agrees m.at.named in
     let e = ap (λ (v : World). act_reserve (world_at_rest h p) v name head) w
-        ∙ act_placed h p taken later name head m.at.named m.at.named m.valid (ap refuse_without_place placed)
-        ∙ ap (λ placement. placing_done (world_at_rest taken later) placement head) placed' in
+    ∙ act_placed h p taken later name head m.at.named m.at.named m.valid (ap refuse_without_place placed)
+    ∙ ap (λ placement. placing_done (world_at_rest taken later) placement head) placed' in
     right_step (world_at_rest h p) (step_after h line name head need) (reserved_in_buffer taken head) later
     (record {
-      answered = refl; moves_are_legal = (legal_segment h p name head need m.at.named m.valid placed, tt);
-      moves_are_due = record { poll = no_poll h p name head;
-          segment = segment_due h p name head (NewSegment (h.held + 1) need) m.at.named m.valid placed };
+      answered = refl;
+      moves_are_legal = (legal_segment h p name head need m.at.named m.valid placed, tt);
+      moves_are_due = record {
+        poll = no_poll h p name head;
+        segment = segment_due h p name head (NewSegment (h.held + 1) need) m.at.named m.valid placed;
+      };
       answer_is_due = sym (ap answer_from e);
       marked = tt;
     })
     (ap (λ r. with_client_remembered
-        (world_from (world_after_moves (call.Reserve name head) (world_at_rest h p) (segment_move h need ∷ [])) r)) e
-        ∙ world_reserved taken later head a' m.at.point m.not_open m.valid room)
+    (world_from (world_after_moves (call.Reserve name head) (world_at_rest h p) (segment_move h need ∷ [])) r)) e
+    ∙ world_reserved taken later head a' m.at.point m.not_open m.valid room)
     (agrees_reserved taken later head a' m.at.point m.not_open m.valid room (omega arith))
     (λ pools. ap Some (ap live_blocks (sym (is_world_at_rest h p m.at.agrees m.at.point m.not_open)) ∙ live_blocks-world_of h p
-        ∙ stored_reserved taken later head a' m.not_open))
+    ∙ stored_reserved taken later head a' m.not_open))
 
 -- ---- all cases
 
@@ -401,36 +419,40 @@ is_right h p line name head o = IsRightStep (world_of h p) (step_of line (call.R
 module _ (h : HeapState) (p : Past) (line : ℕ) (name : Name) (head : ℕ) (m : MayReserve h p name head) where
   right_in_arena : nat_le (size_field head) (h.buffer_end - h.buffer_start) ≡ false
       → nat_lt h.limit (h.held + grains_needed (size_field head)) ≡ false → (b : Bool)
-          → nat_lt h.grains (h.held + grains_needed (size_field head)) ≡ b
+      → nat_lt h.grains (h.held + grains_needed (size_field head)) ≡ b
       → is_right h p line name head
-          (if b then unsupported h else record { done = ok_with_move (segment_move h (grains_needed (size_field head)));
-          state = reserved_in_buffer (with_segment_taken h (grains_needed (size_field head))) head })
+      (if b then unsupported h else record {
+        done = ok_with_move (segment_move h (grains_needed (size_field head)));
+        state = reserved_in_buffer (with_segment_taken h (grains_needed (size_field head))) head;
+      })
   right_in_arena fits limit true e = unsupported_step h p line (call.Reserve name head) m.at.agrees
   right_in_arena fits limit false e =
       let need = grains_needed (size_field head) in
       subst (λ (w : World). IsRightStep w (step_after h line name head need) (reserved_in_buffer (with_segment_taken h need) head))
-          (sym (is_world_at_rest h p m.at.agrees m.at.point m.not_open))
+      (sym (is_world_at_rest h p m.at.agrees m.at.point m.not_open))
       (right_taken h p line name head m fits limit (ltb-false h.grains (h.held + need) e))
 
   right_in_limit : nat_le (size_field head) (h.buffer_end - h.buffer_start) ≡ false
       → (b : Bool) → nat_lt h.limit (h.held + grains_needed (size_field head)) ≡ b
       → is_right h p line name head (if b then with_reply h (over_limit_reply h (grains_needed (size_field head)))
-          else (if nat_lt h.grains (h.held + grains_needed (size_field head)) then unsupported h
-          else record { done = ok_with_move (segment_move h (grains_needed (size_field head)));
-          state = reserved_in_buffer (with_segment_taken h (grains_needed (size_field head))) head }))
+      else (if nat_lt h.grains (h.held + grains_needed (size_field head)) then unsupported h
+      else record {
+        done = ok_with_move (segment_move h (grains_needed (size_field head)));
+        state = reserved_in_buffer (with_segment_taken h (grains_needed (size_field head))) head;
+      }))
   right_in_limit fits true e =
       subst (λ (w : World). IsRightStep w (step_refused h line name head (grains_needed (size_field head))) h)
-          (sym (is_world_at_rest h p m.at.agrees m.at.point m.not_open))
+      (sym (is_world_at_rest h p m.at.agrees m.at.point m.not_open))
       (right_refused h p line name head m fits e)
   right_in_limit fits false e =
       right_in_arena fits e (nat_lt h.grains (h.held + grains_needed (size_field head))) refl
 
   right_placed : (b : Bool) → nat_le (size_field head) (h.buffer_end - h.buffer_start) ≡ b
       → is_right h p line name head (if b then with_reply (reserved_in_buffer h head) reply.Ok
-          else reserve_after h head (grains_needed (size_field head)))
+      else reserve_after h head (grains_needed (size_field head)))
   right_placed true e =
       subst (λ (w : World). IsRightStep w (step_in_buffer line name head) (reserved_in_buffer h head))
-          (sym (is_world_at_rest h p m.at.agrees m.at.point m.not_open))
+      (sym (is_world_at_rest h p m.at.agrees m.at.point m.not_open))
       (right_in_buffer h p line name head m e)
   right_placed false e =
       right_in_limit e (nat_lt h.limit (h.held + grains_needed (size_field head))) refl
@@ -443,8 +465,11 @@ reserve_where h p line name head a true e =
     let both = and_parts (is_point h name && is_front head) (not h.is_open) e in
     let first = and_parts (is_point h name) (is_front head) both.0 in
     right_placed h p line name head
-    (record { at = names_point h p name a first.0; not_open = not-true h.is_open both.1;
-        valid = first.1 }) (nat_le (size_field head) (h.buffer_end - h.buffer_start)) refl
+    (record {
+      at = names_point h p name a first.0;
+      not_open = not-true h.is_open both.1;
+      valid = first.1;
+    }) (nat_le (size_field head) (h.buffer_end - h.buffer_start)) refl
 
 pub right_reserve : (h : HeapState) (p : Past) (line : ℕ) (name : Name) (head : ℕ) → Agrees h p
     → IsRightStep (world_of h p) (step_of line (call.Reserve name head) (after_reserve h name head).done) (after_reserve h name head).state

@@ -22,7 +22,7 @@ segments_push_at grain at [] need e = ap (λ g. segment_from g need ∷ []) (e �
 segments_push_at grain at (s ∷ ss) need e =
     let f : at ≡ grain + s + sum ss = omega (arith, e, sum_cons s ss) in
     ap (λ t. if t then segment_from at need ∷ segment_from grain s ∷ segments_from (grain + s) ss
-        else segment_from grain s ∷ with_segment (segment_from at need) (segments_from (grain + s) ss))
+    else segment_from grain s ∷ with_segment (segment_from at need) (segments_from (grain + s) ss))
     (le-ltb (bytes_of_grain * at) (bytes_of_grain * grain) (omega arith))
     ∙ ap (λ rest. segment_from grain s ∷ rest) (segments_push_at (grain + s) at ss need f)
 
@@ -48,7 +48,7 @@ gaps_runs grain high at (s ∷ ss) e =
     let f : at ≡ grain + s + sum ss = omega (arith, e, sum_cons s ss) in
     ap (λ n. between grain n ++ gaps (n + s) high (runs (grain + s) ss)) g
     ∙ ap (λ t. (if t then record { from = grain; count = grain - grain } ∷ [] else []) ++ gaps (grain + s) high (runs (grain + s) ss))
-        (le-ltb grain grain (omega arith))
+    (le-ltb grain grain (omega arith))
     ∙ gaps_runs (grain + s) high at ss f
 
 -- where the lowest fitting run is known
@@ -71,7 +71,7 @@ pub over_limit : (grains limit held : ℕ) (sizes : List ℕ) (need : ℕ) → h
 over_limit grains limit held sizes need e h =
     placement_of_runs grains limit held sizes need e
     ∙ ap (λ b. if b then OverLimit held need limit
-        else fitting_in need (between (held + 1) (grains + 1)) (lowest_fitting need (between (held + 1) (grains + 1)))) h
+    else fitting_in need (between (held + 1) (grains + 1)) (lowest_fitting need (between (held + 1) (grains + 1)))) h
 
 within_limit : (grains limit held : ℕ) (sizes : List ℕ) (need : ℕ) → held ≡ sum sizes → nat_lt limit (held + need) ≡ false
     → run_placement grains limit (runs 1 sizes) need ≡ fitting_in need (between (held + 1) (grains + 1))
@@ -79,14 +79,14 @@ within_limit : (grains limit held : ℕ) (sizes : List ℕ) (need : ℕ) → hel
 within_limit grains limit held sizes need e h =
     placement_of_runs grains limit held sizes need e
     ∙ ap (λ b. if b then OverLimit held need limit
-        else fitting_in need (between (held + 1) (grains + 1)) (lowest_fitting need (between (held + 1) (grains + 1)))) h
+    else fitting_in need (between (held + 1) (grains + 1)) (lowest_fitting need (between (held + 1) (grains + 1)))) h
 
 pub new_segment : (grains limit held : ℕ) (sizes : List ℕ) (need : ℕ) → held ≡ sum sizes → nat_lt limit (held + need) ≡ false
     → held + need ≤ grains → 0 < need → run_placement grains limit (runs 1 sizes) need ≡ NewSegment (held + 1) need
 new_segment grains limit held sizes need e h fits some =
     within_limit grains limit held sizes need e h
     ∙ ap (λ t. fitting_in need (if t then one else []) (lowest_fitting need (if t then one else [])))
-        (lt-ltb (held + 1) (grains + 1) (omega arith))
+    (lt-ltb (held + 1) (grains + 1) (omega arith))
     ∙ ap (λ t. fitting_in need one (if t then Some (held + 1) else None)) (le-leb need (grains + 1 - (held + 1)) (omega arith))
   where
     one : List Run

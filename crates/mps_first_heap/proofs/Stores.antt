@@ -58,7 +58,7 @@ stored_below : (words : List ℕ) (bound : ℕ) (addresses : List ℕ) → AllBy
 stored_below words bound [] all = tt
 stored_below words bound (p ∷ ps) all =
     with_block_below (bytes_of_word * bound) (block_in words p) (stored words ps)
-        (let lt = address_below words bound p all.0 in omega arith) (stored_below words bound ps all.1)
+    (let lt = address_below words bound p all.0 in omega arith) (stored_below words bound ps all.1)
 
 stored_push : (words : List ℕ) (bound : ℕ) (addresses : List ℕ) → AllByRecursion (IsBlockAt words bound) addresses
     → stored words (addresses ++ bound ∷ []) ≡ stored words addresses ++ block_in words bound ∷ []
@@ -66,7 +66,7 @@ stored_push words bound [] all = refl
 stored_push words bound (p ∷ ps) all =
     ap (with_block (block_in words p)) (stored_push words bound ps all.1)
     ∙ with_block_before_last (block_in words p) (block_in words bound) (stored words ps)
-        (let lt = address_below words bound p all.0 in omega arith)
+    (let lt = address_below words bound p all.0 in omega arith)
 
 -- a block is made after all others
 pub making_a_block_last : (words : List ℕ) (bound size : ℕ) (addresses : List ℕ) → AllByRecursion (IsBlockAt words bound) addresses
@@ -84,4 +84,4 @@ stored-set_after words bound i value [] le all = refl
 stored-set_after words bound i value (p ∷ ps) le all =
     ap (with_block (block_in (slice_set words i value) p)) (stored-set_after words bound i value ps le all.1)
     ∙ ap (λ (o : Object). with_block (record { at = bytes_of_word * p; words = size_of o; pool = 0 }) (stored words ps))
-        (object_in-set_after words bound i value p le all.0)
+    (object_in-set_after words bound i value p le all.0)

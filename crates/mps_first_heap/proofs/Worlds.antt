@@ -5,6 +5,7 @@ use Rattle.std.specs.List.{list_all, AllByRecursion, flat_map}
 use Rattle.std.specs.Option.{option_map_or}
 use Rattle.std.proofs.lemmas.Option.{none-some, same_Some}
 use Rattle.std.proofs.lemmas.List.{get_or-take, get_or-drop}
+use Rattle.std.proofs.lemmas.List.Folds.{list_all-append}
 use Rattle.mps_base.specs.Address.{bytes_of_word}
 use Rattle.mps_base.specs.declared.names.Name.{Name}
 use Rattle.mps_format.specs.Front.{is_front, front_layout}
@@ -33,15 +34,14 @@ all_live live count (Some id ∷ ids) each h =
     let both = and_parts (nat_lt id count) (list_all (is_null_or_below count) ids) h in
     and_from (live id) (list_all live (entries ids)) (each id (ltb-true id count both.0)) (all_live live count ids each both.1)
 
-list_all-append : (p : ℕ → Bool) (xs ys : List ℕ) → list_all p xs ≡ true → list_all p ys ≡ true → list_all p (xs ++ ys) ≡ true
-list_all-append p [] ys h k = k
-list_all-append p (x ∷ xs) ys h k =
-    let both = and_parts (p x) (list_all p xs) h in and_from (p x) (list_all p (xs ++ ys)) both.0 (list_all-append p xs ys both.1 k)
+-- what all of two lists have, all of both have
+all_in_both : (p : ℕ → Bool) (xs ys : List ℕ) → list_all p xs ≡ true → list_all p ys ≡ true → list_all p (xs ++ ys) ≡ true
+all_in_both p xs ys h k = list_all-append p xs ys ∙ and_from (list_all p xs) (list_all p ys) h k
 
 slots_live : (live : ℕ → Bool) (count : ℕ) (ids : List (Option ℕ)) (there : Bool) → ((id : ℕ) → id < count → live id ≡ true)
     → list_all (is_null_or_below count) ids ≡ true → list_all live (flat_map slots_of (one_if there (Some ids))) ≡ true
 slots_live live count ids false each h = refl
-slots_live live count ids true each h = list_all-append live (entries ids) [] (all_live live count ids each h) refl
+slots_live live count ids true each h = all_in_both live (entries ids) [] (all_live live count ids each h) refl
 
 reservation_has_none : (words : List ℕ) (address : ℕ) (there is_open : Bool)
     → flat_map targets_of_point (one_if there (Some (point_with (some_if is_open (reservation_of_words words address))))) ≡ []
@@ -64,14 +64,14 @@ pub held_are_live : (h : HeapState) (p : Past) → Agrees h p → HeldAreLive (w
 held_are_live h p a =
     let live = λ (id : ℕ). is_some (entry_at (map some_address p.addresses) id) in
     record {
-      client = list_all-append live (((flat_map slots_of (one_if (is_some h.table) (Some p.ids)) ++ []) ++ []))
+      client = all_in_both live (((flat_map slots_of (one_if (is_some h.table) (Some p.ids)) ++ []) ++ []))
           (flat_map targets_of_point
           (one_if (is_some h.point) (Some (point_with (some_if h.is_open (reservation_of_words h.words h.reserved))))))
-          (list_all-append live (flat_map slots_of (one_if (is_some h.table) (Some p.ids)) ++ []) []
-              (list_all-append live (flat_map slots_of (one_if (is_some h.table) (Some p.ids))) []
-              (slots_live live (length p.addresses) p.ids (is_some h.table) (live_at p.addresses) a.ids) refl) refl)
+          (all_in_both live (flat_map slots_of (one_if (is_some h.table) (Some p.ids)) ++ []) []
+          (all_in_both live (flat_map slots_of (one_if (is_some h.table) (Some p.ids))) []
+          (slots_live live (length p.addresses) p.ids (is_some h.table) (live_at p.addresses) a.ids) refl) refl)
           (subst (λ (ids : List ℕ). list_all live ids ≡ true)
-              (sym (reservation_has_none h.words h.reserved (is_some h.point) h.is_open)) refl);
+          (sym (reservation_has_none h.words h.reserved (is_some h.point) h.is_open)) refl);
       blocks = refl;
       referred = subst (λ (ids : List ℕ). list_all live ids ≡ true)
           (sym (flat_map_nil (targets (world_of h p).graph) (live_ids (world_of h p)) (object_has_none h.words p.addresses))) refl;
@@ -120,10 +120,10 @@ blocks_there : (w : World) (words : List ℕ) (first : ℕ) (addresses : List �
 blocks_there w words first [] each = refl
 blocks_there w words first (p ∷ ps) each =
     ap (λ b. with_block b (blocks_of_ids w (numbers_of is_some (first + 1) (map some_address ps))))
-        (ap (block_of w) (sym (add-zero first)) ∙ each 0 (omega arith))
+    (ap (block_of w) (sym (add-zero first)) ∙ each 0 (omega arith))
     ∙ ap (with_block (block_in words p))
-        (blocks_there w words (first + 1) ps (λ i lt. ap (block_of w) (let e : first + 1 + i ≡ first + suc i = omega arith in e)
-        ∙ each (suc i) (omega (arith, lt))))
+    (blocks_there w words (first + 1) ps (λ i lt. ap (block_of w) (let e : first + 1 + i ≡ first + suc i = omega arith in e)
+    ∙ each (suc i) (omega (arith, lt))))
 
 pub live_blocks-world_of : (h : HeapState) (p : Past) → live_blocks (world_of h p) ≡ stored h.words p.addresses
 live_blocks-world_of h p =
@@ -206,7 +206,7 @@ pub id_there : (count : ℕ) (ids : List (Option ℕ)) (i id : ℕ) → list_all
 id_there count [] i id h e = absurd (none-some (Some id) e)
 id_there count (held ∷ ids) zero id h e =
     ltb-true id count (ap (is_null_or_below count) (sym (same_Some held (Some id) e))
-        ∙ (and_parts (is_null_or_below count held) (list_all (is_null_or_below count) ids) h).0)
+    ∙ (and_parts (is_null_or_below count held) (list_all (is_null_or_below count) ids) h).0)
 id_there count (held ∷ ids) (suc i) id h e =
     id_there count ids i id (and_parts (is_null_or_below count held) (list_all (is_null_or_below count) ids) h).1 e
 
@@ -234,8 +234,8 @@ number_cell_at words bound address k b inside number =
     let below = b.below in
     let lt : k < size = number_cell_below head k b.head number in
     let whole : length (take size (drop address words)) ≡ size = length-block_words words address size (omega arith) in
-    let lt' : k < length (take size (drop address words)) = omega arith in
-    slice_get-cells_in head 0 (take size (drop address words)) k lt'
+    let in_block : k < length (take size (drop address words)) = omega arith in
+    slice_get-cells_in head 0 (take size (drop address words)) k in_block
     ∙ ap (λ n. Some (cell_in head n (slice_index (take size (drop address words)) k))) (let e : 0 + k ≡ k = omega arith in e)
     ∙ ap Some (number_cell head k (slice_index (take size (drop address words)) k) number)
     ∙ ap (λ n. Some (NumberCell n)) (get_or-take size (drop address words) k 0 lt ∙ get_or-drop address words k 0)

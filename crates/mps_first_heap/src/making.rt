@@ -6,7 +6,7 @@ ghost use Rattle.mps_first_heap.specs.View.{state_of};
 
 use crate::arena::Arena;
 use crate::done::{Done, THE_POOL, reply_only};
-use crate::names::{is_pool, is_name_taken};
+use crate::names::{is_name_taken, is_pool};
 use mps_base::{Kind, Name, Rank, WORDS_OF_GRAIN};
 use mps_model::Reply;
 use std::alloc::{AllocError, Global};
@@ -77,7 +77,11 @@ pub fn make_pool(heap: &mut Arena, name: Name, kind: Kind, format: u64) -> Done
     ensures { HasOutcome (after_pool (state_of heap.old) name kind format) result (state_of heap.new) }
 {
     let is_copying_front = kind == Kind::Amc && format == FRONT_FORMAT;
-    if !is_copying_front || !is_arena_made(heap) || heap.pool.is_some() || is_name_taken(heap, name) {
+    if !is_copying_front
+        || !is_arena_made(heap)
+        || heap.pool.is_some()
+        || is_name_taken(heap, name)
+    {
         return reply_only(Reply::Unsupported);
     }
     heap.pool = Some(name);

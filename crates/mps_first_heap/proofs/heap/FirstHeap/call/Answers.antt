@@ -12,34 +12,34 @@ pub returns-clause-legal : goal.returns-clause-legal
 returns-clause-legal c =
     legal_call c.args.self.now (state_of c.answer.new.heap) c.args.call.now c.answer.result c.requires
     (subst (λ (k : HeapState). IfOk c.answer.result (λ done. HasOutcome (outcome k c.args.call.now) done (state_of c.answer.new.heap)))
-        c.self.view_is c.answer.ensures.ok)
+    c.self.view_is c.answer.ensures.ok)
 
 pub returns-clause-stands : goal.returns-clause-stands
 returns-clause-stands c =
     stands_after c.args.self.now (state_of c.answer.new.heap) c.args.call.now c.answer.result c.requires
     (subst (λ (k : HeapState). IfOk c.answer.result (λ done. HasOutcome (outcome k c.args.call.now) done (state_of c.answer.new.heap)))
-        c.self.view_is c.answer.ensures.ok)
+    c.self.view_is c.answer.ensures.ok)
 
 pub returns-clause-replayed : goal.returns-clause-replayed
 returns-clause-replayed c =
     replayed_call c.args.self.now (state_of c.answer.new.heap) c.args.call.now c.answer.result c.requires
     (subst (λ (k : HeapState). IfOk c.answer.result (λ done. HasOutcome (outcome k c.args.call.now) done (state_of c.answer.new.heap)))
-        c.self.view_is c.answer.ensures.ok)
+    c.self.view_is c.answer.ensures.ok)
 
 pub returns-clause-unsupported : goal.returns-clause-unsupported
 returns-clause-unsupported c =
     unsupported_exactly c.args.self.now (state_of c.answer.new.heap) c.args.call.now c.answer.result c.requires
     (subst (λ (k : HeapState). IfOk c.answer.result (λ done. HasOutcome (outcome k c.args.call.now) done (state_of c.answer.new.heap)))
-        c.self.view_is c.answer.ensures.ok)
+    c.self.view_is c.answer.ensures.ok)
 
 pub returns-clause-pool : goal.returns-clause-pool
 returns-clause-pool c =
     new_pool_number c.args.self.now (state_of c.answer.new.heap) c.args.call.now c.answer.result
     (subst (λ (k : HeapState). IfOk c.answer.result (λ done. HasOutcome (outcome k c.args.call.now) done (state_of c.answer.new.heap)))
-        c.self.view_is c.answer.ensures.ok)
+    c.self.view_is c.answer.ensures.ok)
 
 pub returns-clause-counted : goal.returns-clause-counted
 returns-clause-counted c =
     pools_counted c.args.self.now (state_of c.answer.new.heap) c.args.call.now c.answer.result c.requires
     (subst (λ (k : HeapState). IfOk c.answer.result (λ done. HasOutcome (outcome k c.args.call.now) done (state_of c.answer.new.heap)))
-        c.self.view_is c.answer.ensures.ok)
+    c.self.view_is c.answer.ensures.ok)

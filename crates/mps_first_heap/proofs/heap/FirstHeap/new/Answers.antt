@@ -9,5 +9,5 @@ use Rattle.mps_first_heap.proofs.heap.FirstHeap.new.Goals as goal
 pub returns : goal.returns
 returns c =
     subst (λ (words : List ℕ). StandsFor (record empty_heap { words = words; slots = c.new-2.result.items }) empty_world)
-        (sym c.new.ensures.items)
+    (sym c.new.ensures.items)
     (subst (λ (slots : List ℕ). StandsFor (record empty_heap { slots = slots }) empty_world) (sym c.new-2.ensures.items) empty_heap_stands)
