@@ -1,5 +1,6 @@
 -- What is known of the tables where words in a segment are covered, and where they are uncovered.
-use Rattle.std.proofs.Common.{ℕ, ◌+◌, ◌-◌, ◌*◌, ◌^◌, ◌<◌, ◌≤◌, ◌≡◌, List, length, get_or, set, Contains, sym, subst, arith}
+use Rattle.std.proofs.Common.{ℕ, ◌+◌, ◌-◌, ◌*◌, ◌^◌, ◌<◌, ◌≤◌, ◌≡◌, List, length, get_or, set, Contains, sym, ap, ◌∙◌, subst, arith}
+use Rattle.std.proofs.lemmas.List.{get_or_read}
 use Rattle.mps_base.specs.Run.{Run, IsAscending, with_run, without_run}
 use Rattle.mps_base.specs.Address.{words_of_grain, grain_of, word_of}
 use Rattle.mps_seg.specs.Segs.{SegsState, CanCover}
@@ -24,10 +25,23 @@ abbrev pub IsSoundInside : Inside → Type 0
 IsSoundInside s =
     IsHeld s.arena s.table.items s.extents × IsCounted s.arena.held (s.arena.grains + 1) s.firsts.items s.counts.items s.extents.covered
 
+-- what is read from the two tables
+module _ (s : Inside) (at : ℕ) (grain_within : grain_of at < length s.firsts.items)
+    (first_within : first_at s at < length s.counts.items) where
+  first_read : (x : ℕ) → x ≡ get_or s.firsts.items (grain_of at) x → x ≡ first_at s at
+  first_read x is = get_or_read s.firsts.items (grain_of at) x grain_within is 0
+
+  count_read : (x first : ℕ) → first ≡ first_at s at → x ≡ get_or s.counts.items first x → x ≡ count_at_first s at
+  count_read x first same is =
+      let within : first < length s.counts.items = omega arith in
+      get_or_read s.counts.items first x within is 0 ∙ ap (λ (k : ℕ). get_or s.counts.items k 0) same
+
 -- words that can be covered
 pub record Covering (s : Inside) (at words : ℕ) : Type 0 where
   pub grain_within : grain_of at < length s.firsts.items
   pub first_within : first_at s at < length s.counts.items
+  pub first_is : (x : ℕ) → x ≡ get_or s.firsts.items (grain_of at) x → x ≡ first_at s at
+  pub count_is : (x first : ℕ) → first ≡ first_at s at → x ≡ get_or s.counts.items first x → x ≡ count_at_first s at
   pub fits : count_at_first s at + words < 2 ^ 32
   pub free : IsAscending 0 s.extents.size (with_run (words_at at words) s.extents.covered)
   pub held : (blocks reservations : List Run)
@@ -53,9 +67,13 @@ covering s seen at words sound is nonzero free =
     let held = λ (blocks reservations : List Run).
     held_after_cover s.arena s.table.items s.extents sound.0 r blocks reservations nonzero ascending can.inside
     in
+    let grain_within : grain < length s.firsts.items = omega (arith, own.grain_within, sound.1.firsts_size) in
+    let first_within : first_at s at < length s.counts.items = omega (arith, own.first, own.first_within, sound.1.counts_size) in
     record {
-      grain_within = omega (arith, own.grain_within, sound.1.firsts_size);
-      first_within = omega (arith, own.first, own.first_within, sound.1.counts_size);
+      grain_within = grain_within;
+      first_within = first_within;
+      first_is = first_read s at grain_within first_within;
+      count_is = count_read s at grain_within first_within;
       fits =
           room_to_count s.arena s.table.items s.extents s.firsts.items s.counts.items grain r s.extents.blocks s.extents.reservations
           sound.1
@@ -71,6 +89,8 @@ covering s seen at words sound is nonzero free =
 pub record Uncovering (s : Inside) (at words : ℕ) : Type 0 where
   pub grain_within : grain_of at < length s.firsts.items
   pub first_within : first_at s at < length s.counts.items
+  pub first_is : (x : ℕ) → x ≡ get_or s.firsts.items (grain_of at) x → x ≡ first_at s at
+  pub count_is : (x first : ℕ) → first ≡ first_at s at → x ≡ get_or s.counts.items first x → x ≡ count_at_first s at
   pub at_most : words ≤ count_at_first s at
   pub held : (blocks reservations : List Run)
       → IsHeld s.arena s.table.items
@@ -93,9 +113,13 @@ uncovering s at words sound there =
     own_segment_of_covered s.arena s.table.items s.extents s.firsts.items s.counts.items sound.0 sound.1 grain r there (omega arith)
     (omega arith)
     in
+    let grain_within : grain < length s.firsts.items = omega (arith, own.grain_within, sound.1.firsts_size) in
+    let first_within : first_at s at < length s.counts.items = omega (arith, own.first, own.first_within, sound.1.counts_size) in
     record {
-      grain_within = omega (arith, own.grain_within, sound.1.firsts_size);
-      first_within = omega (arith, own.first, own.first_within, sound.1.counts_size);
+      grain_within = grain_within;
+      first_within = first_within;
+      first_is = first_read s at grain_within first_within;
+      count_is = count_read s at grain_within first_within;
       at_most =
           counted_before s.arena.held size s.firsts.items s.counts.items s.extents.covered sound.1 sound.0.ascending grain 0
           s.extents.size r sound.0.covered_ascending there own;

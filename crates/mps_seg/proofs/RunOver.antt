@@ -1,5 +1,5 @@
 -- The run over a number: where it begins, and what it is after a run is put or taken out.
-use Rattle.std.proofs.Common.{ℕ, ◌+◌, ◌<◌, ◌≡◌, Bool, true, false, List, [], ◌∷◌, length, set, Contains, refl, sym, ap, ◌∙◌, subst, inl, inr, arith, ◌≤◌, cond, ◌/◌, Option, Some, None, option_map}
+use Rattle.std.proofs.Common.{IsSome, ℕ, ◌+◌, ◌<◌, ◌≡◌, Bool, true, false, List, [], ◌∷◌, length, set, Contains, refl, sym, ap, ◌∙◌, subst, inl, inr, arith, ◌≤◌, cond, ◌/◌, Option, Some, None, option_map}
 use Rattle.std.proofs.lemmas.Bool.{cases_lt, both_ways, false_from_ne_true, cases_Bool, cond-true, cond-false, cases_eq}
 use Rattle.mps_base.proofs.Runs.{with_run_first, with_run_later, without_run_first, without_run_later, contains_cases, contains_first, contains_later, contained_bounds}
 use Rattle.mps_base.specs.Run.{Run, IsAscending, with_run, without_run, end_of}
@@ -7,9 +7,11 @@ use Rattle.mps_base.specs.declared.address.Addr.{Addr}
 use Rattle.mps_bits.proofs.Searches.{highest_below_is}
 use Rattle.mps_bits.specs.Table.{bit, previous_set}
 use Rattle.mps_seg.specs.Extents.{is_covered, has_word, run_over}
+use Rattle.mps_seg.specs.declared.extents.Extents.TheInside.{Inside}
 use Rattle.mps_seg.specs.Inside.{length_at, extents, AreSoundTables}
 use Rattle.mps_seg.specs.Segs.{at_word}
 use Rattle.mps_seg.proofs.Apart.{apart_each, has_word-true, has_word-parts, has_word-below, has_word-above, covered_by, covers_contained, uncovered_taken}
+use Rattle.mps_seg.proofs.BitFacts.{bit_within}
 use Rattle.mps_seg.proofs.ExtentBits.{extent_at, begin_of, among_all}
 use Rattle.mps_base.specs.Address.{word_of}
 
@@ -208,3 +210,29 @@ module _ (covered begins ends blocks : List Bool) (sound : AreSoundTables covere
                   (omega (arith, before, parts.1, mine.0))
             ]
       ]))
+
+-- the search by a covered word: it finds where the extent over the word begins, and whether that is a block
+pub record FoundExtent (t : Inside) (word start : ℕ) : Type 0 where
+  pub in_blocks : start < length t.blocks
+  pub is_block : bit t.blocks start ≡ true → Some start ≡ run_over (extents t.blocks t.ends) word
+  pub is_reservation : bit t.blocks start ≡ false → None ≡ run_over (extents t.blocks t.ends) word
+
+pub found_extent : (t : Inside) (word : ℕ) (o : Option ℕ) → AreSoundTables t.covered t.begins t.ends t.blocks → bit t.covered word ≡ true
+    → o ≡ previous_set t.begins word → IsSome o × ((start : ℕ) → o ≡ Some start → FoundExtent t word start)
+found_extent t word o sound set is =
+    let over = extent_over t.covered t.begins t.ends t.blocks sound word set in
+    let P : Option ℕ → Type 0 = λ x. IsSome x in
+    (subst P (sym (is ∙ over.1)) refl, found)
+  where
+    found : (start : ℕ) → o ≡ Some start → FoundExtent t word start
+    found start given =
+        let over = extent_over t.covered t.begins t.ends t.blocks sound word set in
+        let both : Some over.0 ≡ Some start = sym over.1 ∙ sym is ∙ given in
+        let same : over.0 ≡ start = cc in
+        let Q : ℕ → Type 0 = λ k. ExtentOver t.begins t.ends word k in
+        let extent = subst Q same over.2 in
+        record {
+          in_blocks = omega (arith, bit_within t.begins start extent.begin, sound.same_size.2);
+          is_block = λ block. sym (block_over_is t.covered t.begins t.ends t.blocks sound word start extent block);
+          is_reservation = λ none. sym (reservation_over t.covered t.begins t.ends t.blocks sound word start extent none);
+        }

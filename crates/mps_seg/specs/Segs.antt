@@ -86,5 +86,5 @@ pub record CanCover (state : SegsState) (r : Run) : Type 0 where
   pub inside : LiesIn (held_runs state) r
 
 -- the address at which a segment begins
-abbrev pub base_of : Segment → Addr
-base_of s = record { 0 = s.base }
+abbrev pub base_address : Segment → Addr
+base_address s = record { 0 = s.base }

@@ -9,7 +9,7 @@ ghost use Rattle.mps_base.specs.Trail.{with_move};
 ghost use Rattle.mps_arena.specs.Arena.{max_grains, answer_of_placement};
 ghost use Rattle.mps_seg.specs.Extents.{run_over, first_run, AreWhole};
 ghost use Rattle.mps_seg.specs.Table.{IsWholeAt, IsCountAt, gaps_at};
-ghost use Rattle.mps_seg.specs.Segs.{SegsState, max_block_words, new_segments, placement_for, segments_after, moves_after, held_runs, at_word, base_of, IsEmptyAt, IsUsed, CanCover};
+ghost use Rattle.mps_seg.specs.Segs.{SegsState, max_block_words, new_segments, placement_for, segments_after, moves_after, held_runs, at_word, base_address, IsEmptyAt, IsUsed, CanCover};
 ghost use Rattle.std.specs.Borrow.{sem};
 ghost use Rattle.mps_seg.specs.Lending.{LendsSegmentWords};
 
@@ -182,7 +182,7 @@ impl Segs {
 
     /// The base of the segment in which an address lies.
     pub fn segment_of(&self, at: Addr) -> Option<Addr>
-        ensures { result ≡ option_map base_of (segment_over self.now.segments at.0) }
+        ensures { result ≡ option_map base_address (segment_over self.now.segments at.0) }
     {
         let grain = (at.0 / BYTES_OF_GRAIN) as usize;
         if grain >= self.firsts.len() {
