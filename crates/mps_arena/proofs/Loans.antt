@@ -1,4 +1,4 @@
--- Words written over others.
+-- Words that are written over others.
 use Rattle.std.proofs.Common.{ℕ, ◌≤◌, ◌≡◌, List, ◌++◌, length, take, drop, ap, ◌∙◌, arith, length-append, length-drop}
 use Rattle.std.proofs.lemmas.List.{length-take, take-append-le, drop-drop}
 use Rattle.mps_arena.specs.Arena.{with_words}

@@ -15,7 +15,7 @@ use Rattle.mps_base.specs.Address.{words_of_grain}
 abbrev pub rest : List ℕ → ℕ → List Run
 rest table grain = runs_from grain (drop grain table)
 
--- the free grains from `low` up to `grain` are too few, and the runs from `grain` on decide
+-- the free grains from `low` up to `grain` are too few, so the answer depends on the runs from `grain` on
 pub record Scan (table : List ℕ) (need grain low most : ℕ) : Type 0 where
   pub begun : 0 < low
   pub ordered : low ≤ grain
@@ -229,7 +229,7 @@ sound_after_give words table committed limit r sound there =
       within_limit = omega (arith, sound.within_limit);
     }
 
--- what a client sees after a run was taken, and after one was given back
+-- what a caller sees after a run was taken, and after one was given back
 pub state_after_take : (words table : List ℕ) (limit grain need : ℕ) → grain < length table → get_or table grain 0 ≡ 0 → 0 < need
     → memory_of words (set table grain need) limit
     ≡ record (memory_of words table limit) { held = with_run (record { from = grain; count = need }) (runs_in table) }

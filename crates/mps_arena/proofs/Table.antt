@@ -1,4 +1,4 @@
--- A table of runs: one entry read, skipped, written or emptied.
+-- A table of runs, where one entry is read, skipped, written or set to 0.
 use Rattle.std.proofs.Common.{ℕ, zero, suc, ◌+◌, ◌<◌, ◌≤◌, ◌≡◌, ◌⊎◌, List, [], ◌∷◌, length, get_or, set, drop, Contains, refl, sym, ap, ◌∙◌, subst, inl, inr, arith}
 use Rattle.std.proofs.Math.Seq.{drop-cons}
 use Rattle.mps_base.specs.Run.{Run, IsAscending, with_run, without_run}
@@ -70,7 +70,7 @@ run_before_all grain (zero ∷ counts) r before = run_before_all (suc grain) cou
 run_before_all grain (suc n ∷ counts) r before =
     with_run_first r (record { from = grain; count = suc n }) (runs_from (suc grain) counts) before
 
--- an entry that was 0 written
+-- an entry that was 0 is written
 pub runs_from-set : (grain : ℕ) (counts : List ℕ) (i n : ℕ) → i < length counts → get_or counts i 0 ≡ 0 → 0 < n
     → runs_from grain (set counts i n) ≡ with_run (record { from = grain + i; count = n }) (runs_from grain counts)
 runs_from-set grain [] i n within none some = absurd (omega arith)
@@ -95,7 +95,7 @@ runs_from-set grain (suc c ∷ counts) (suc i) n within none some =
     ∙ sym (with_run_later put first (runs_from (suc grain) counts) (omega arith))
     ∙ ap (λ (rs : List Run). with_run put rs) (sym (runs_from-some grain counts (suc c) (omega arith)))
 
--- an entry that was a run emptied
+-- an entry that was a run becomes 0
 pub runs_from-empty : (grain : ℕ) (counts : List ℕ) (i : ℕ) → i < length counts → 0 < get_or counts i 0
     → runs_from grain (set counts i 0) ≡ without_run (grain + i) (runs_from grain counts)
 runs_from-empty grain [] i within some = absurd (omega arith)
@@ -118,7 +118,7 @@ runs_from-empty grain (suc c ∷ counts) (suc i) within some =
     ∙ sym (without_run_later (grain + suc i) first (runs_from (suc grain) counts) (λ e. omega arith))
     ∙ ap (λ (rs : List Run). without_run (grain + suc i) rs) (sym (runs_from-some grain counts (suc c) (omega arith)))
 
--- runs that ascend from somewhere ascend from any grain at or below their table's first
+-- runs that ascend from some number on ascend from any number at or below the first grain of their table
 pub IsAscending-from_lower : (grain low low' high : ℕ) (counts : List ℕ) → low' ≤ grain → low' ≤ high
     → IsAscending low high (runs_from grain counts) → IsAscending low' high (runs_from grain counts)
 unfolding runs_from

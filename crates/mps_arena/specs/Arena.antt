@@ -1,4 +1,4 @@
--- What a client sees of an arena, and the answers of its calls.
+-- What a caller sees of an arena, and the results of its calls.
 use Rattle.std.specs.Prelude.{ℕ, ◌+◌, ◌*◌, ◌≡◌, List, [], ◌∷◌, ◌++◌, Result, Ok, Err, take, drop, length, replicate, refl}
 use Rattle.mps_base.specs.Run.{Run, with_run}
 use Rattle.mps_base.specs.Placement.{Placement, Place, NewSegment, OverLimit, NoFreeRun, run_placement}
@@ -23,11 +23,11 @@ pub record ArenaMemory : Type 0 where
 abbrev pub new_arena : (grains limit : ℕ) → ArenaMemory
 new_arena grains limit = record { words = replicate (words_of_grain * (grains + 1)) 0; grains = grains; limit = limit; held = [] }
 
--- where a run of `need` grains would be taken
+-- where a new run of `need` grains is placed
 abbrev pub placement_in : ArenaMemory → (need : ℕ) → Placement
 placement_in arena need = run_placement arena.grains arena.limit arena.held need
 
--- the answer of a placement: an address, or the refusal with its numbers
+-- what a call returns for a placement: an address, or the refusal with its numbers
 abbrev pub answer_of_placement : Placement → Result Addr Refusal
 answer_of_placement (Place word) = Ok (record { 0 = address_of_word word })
 answer_of_placement (NewSegment grain grains) = Ok (record { 0 = address_of_grain grain })

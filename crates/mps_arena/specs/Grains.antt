@@ -1,8 +1,8 @@
--- The runs of held grains that a table stands for: an entry is the length of the run that begins there, or 0.
+-- The runs of held grains that a table represents: an entry is the length of the run that begins there, or 0.
 use Rattle.std.specs.Prelude.{ℕ, zero, suc, ◌≡◌, List, [], ◌∷◌, refl}
 use Rattle.mps_base.specs.Run.{Run}
 
--- the runs of the entries, the first of which is that of a grain
+-- the runs of the entries, where the first entry is that of a grain
 unfoldable pub runs_from : ℕ → List ℕ → List Run
 runs_from grain [] = []
 runs_from grain (zero ∷ counts) = runs_from (suc grain) counts

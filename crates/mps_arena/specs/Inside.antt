@@ -5,7 +5,7 @@ use Rattle.mps_arena.specs.Grains.{runs_in}
 use Rattle.mps_arena.specs.Arena.{ArenaMemory, max_grains}
 use Rattle.mps_base.specs.Address.{words_of_grain}
 
--- the state of an arena with these words, this table of runs and this limit
+-- what a caller sees of an arena with these words, this table of runs and this limit
 abbrev pub memory_of : List ℕ → List ℕ → ℕ → ArenaMemory
 memory_of words runs limit = record { words = words; grains = length runs - 1; limit = limit; held = runs_in runs }
 

@@ -1,4 +1,4 @@
-// The arena itself.
+// The arena.
 #![tactic(auto)]
 
 ghost use Rattle.std.specs.Prelude.{◌≡◌, ◌+◌, ◌*◌, ◌/◌, ◌%◌, ◌<◌, ◌≤◌, length, IfOk, IfErr, OnOk, Contains, slice_range, MatchResult};

@@ -117,7 +117,7 @@ with_clear_other word mask i fits within is =
     let turned = bit_at_not w64 mask i fits within in
     omega (arith, e, turned, is, bit_at-lt word i)
 
--- the bits from `low` on, at most `width` of them
+-- the `width` bits from `low` on
 pub low_bits_inside : (word low width ones i : ℕ) → ones ≡ 2 ^ width - 1 → i < width
     → bit_at (bit_and (word / 2 ^ low) ones) i ≡ bit_at word (low + i)
 low_bits_inside word low width ones i is within =

@@ -65,7 +65,7 @@ bit_in_write_inside words at width word i within in_row from to =
     ∙ bit_in_word (set words (at / 64) word) at (i - at) (omega arith)
     ∙ ap (λ (x : ℕ). bit_at x (at % 64 + (i - at))) (get_or-set_same words (at / 64) word 0 in_row)
 
--- the other bits stay where the word's other bits do
+-- the other bits stay where the other bits of the word stay
 pub bit_in_write_outside : (words : List ℕ) (at width word i : ℕ) → at % 64 + width ≤ 64 → at / 64 < length words
     → ((j : ℕ) → j < 64 → (j < at % 64) ⊎ (at % 64 + width ≤ j) → bit_at word j ≡ bit_at (get_or words (at / 64) 0) j)
     → (i < at) ⊎ (at + width ≤ i) → bit_in (set words (at / 64) word) i ≡ bit_in words i
@@ -137,7 +137,7 @@ sum_over_zero f from (suc n) none =
     in
     omega (arith, first, rest)
 
--- a number's ones are counted bit by bit
+-- the number of ones of a number is the sum of its bits
 pub sum_over-ones : (k n : ℕ) → n < 2 ^ k → sum_over (bit_at n) 0 k ≡ count_ones n
 unfolding sum_over
 sum_over-ones zero n small =
@@ -168,7 +168,7 @@ chunk_ones words at width bits chunk within fits =
     in
     omega (arith, sum_over-ones 64 bits fits, split, all, high, low)
 
--- a count up to `at`, and the chunk from there on
+-- a sum up to `at`, and over the chunk from there on
 pub sum_over_upto : (words : List ℕ) (from at width : ℕ) → from ≤ at
     → sum_over (bit_in words) from (at + width - from) ≡ sum_over (bit_in words) from (at - from) + sum_over (bit_in words) at width
 sum_over_upto words from at width after =

@@ -71,7 +71,7 @@ chunk_run words at width bits p count chunk within clear i from to =
     ap (λ (j : ℕ). bit_in words j) (sym same) ∙ sym (chunk.inside (i - at) (omega arith))
     ∙ ap (λ (j : ℕ). bit_at bits j) (sym inner) ∙ clear (i - at - p) (omega arith)
 
--- the runs that begin before the chunk end at its lowest set bit
+-- a run that begins before the chunk ends at the lowest set bit of the chunk, so it is too short
 pub no_run_more : (words : List ℕ) (from start at width bits l count bound : ℕ) → IsChunk words at width bits → bit_at bits l ≡ 1
     → at + l < start + count → HasNoRun words from start count
     → ((q : ℕ) → at + q < bound → ¬ IsClear words (at + q) (at + q + count)) → HasNoRun words from bound count
@@ -86,7 +86,7 @@ no_run_more words from start at width bits l count bound chunk set short none in
       ]
     ]
 
--- no run in the chunk's word, so none up to its highest set bit
+-- where the word of the chunk has no run, none begins up to its highest set bit
 pub no_run_upto_highest : (words : List ℕ) (at width bits h count : ℕ) → IsChunk words at width bits → bit_at bits h ≡ 1 → h < width
     → ((q : ℕ) → q + count ≤ width → ¬ IsClearIn bits q count)
     → (q : ℕ) → at + q < at + h + 1 → ¬ IsClear words (at + q) (at + q + count)

@@ -3,7 +3,7 @@ use Rattle.std.proofs.Common.{ℕ, zero, suc, ◌+◌, ◌<◌, ◌≤◌, ◌�
 use Rattle.std.proofs.lemmas.Bool.{cases_lt, cases_Bool, cond-true, cond-false}
 use Rattle.mps_bits.specs.Table.{lowest_from, highest_below}
 
--- what it is to be the lowest index from `from` on that passes a test
+-- the lowest index from `from` on that passes a test
 pub record IsLowest (p : ℕ → Bool) (from n index : ℕ) : Type 0 where
   pub above : from ≤ index
   pub below : index < from + n
@@ -72,7 +72,7 @@ lowest_cases p from (suc n) =
       ]
     ]
 
--- what it is to be the highest of the `n` lowest indexes that passes a test
+-- the highest of the `n` lowest indexes that passes a test
 pub record IsHighest (p : ℕ → Bool) (n index : ℕ) : Type 0 where
   pub below : index < n
   pub passes : p index ≡ true

@@ -27,7 +27,7 @@ set_bit words len i within is = bit-table_of words len i within ∙ eq-eqb (bit_
 clear_bit : (words : List ℕ) (len i : ℕ) → i < len → bit_in words i ≡ 0 → bit (table_of words len) i ≡ false
 clear_bit words len i within is = bit-table_of words len i within ∙ ne_eqb (bit_in words i) 1 (λ e. omega arith)
 
--- the test of a bit that was bit_written
+-- the test of a bit that was written
 bit_written : (word : ℕ) (value : Bool) → word ≡ cond value 1 0 → eqb word 1 ≡ value
 bit_written word true is = eq-eqb word 1 is
 bit_written word false is = ne_eqb word 1 (λ e. omega (arith, is))
@@ -181,6 +181,6 @@ count_set_is words len from to ordered within =
               ap (λ (b : Bool). cond b 1 0) (ne_eqb (bit_in words i) 1 other) ∙ sym none
         ]
 
--- how many bits a table has that stands for words
+-- how many bits the table of some words has
 pub length_of_table : (words : List ℕ) (len : ℕ) (bits : List Bool) → table_of words len ≡ bits → length bits ≡ len
 length_of_table words len bits is = ap length (sym is) ∙ length-table_of words len

@@ -1,4 +1,4 @@
-// The table itself.
+// The table of bits.
 #![tactic(auto)]
 
 ghost use Rattle.std.specs.Prelude.{◌≡◌, ◌+◌, ◌^◌, ◌<◌, ◌≤◌, Bool, true, false, length, replicate, IfOk, slice_set};

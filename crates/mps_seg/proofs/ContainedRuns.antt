@@ -41,7 +41,7 @@ contains_without from t (s ∷ rs) there =
       ]
     ]
 
--- another run is still there
+-- a run that begins elsewhere stays
 pub contains_still : (from : ℕ) (t : Run) (rs : List Run) → Contains rs t → t.from ≢ from → Contains (without_run from rs) t
 contains_still from t [] (k, within, is) other = absurd (omega arith)
 contains_still from t (s ∷ rs) there other =
@@ -146,7 +146,7 @@ put_apart low high (s ∷ rs) r ascending some above below apart =
           )
     ]
 
--- one side of a bound, for each of runs that are whole
+-- each run that is whole lies below the bounds, above them or between them
 pub side_of : (low high : ℕ) (rs : List Run) (t : Run) → AreWhole low high rs → Contains rs t
     → (end_of t ≤ low) ⊎ ((high ≤ t.from) ⊎ ((low ≤ t.from) × (t.from < high)))
 side_of low high [] t whole (k, within, is) = absurd (omega arith)

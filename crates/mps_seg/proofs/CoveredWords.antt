@@ -12,7 +12,7 @@ use Rattle.mps_seg.specs.Table.{segments_in, segs_state, IsHeld, IsCounted, IsCo
 use Rattle.mps_seg.specs.declared.entry.Entry.{Entry}
 use Rattle.mps_seg.specs.declared.entry.Entry.TheVariants.{Free, First}
 use Rattle.mps_seg.specs.declared.segs.Segs.TheInside.{Inside}
-use Rattle.mps_seg.proofs.Apart.{contains_put, apart_from_put, apart_each, has_word-true, has_word-below, has_word-above}
+use Rattle.mps_seg.proofs.ApartRuns.{contains_put, apart_from_put, apart_each, has_word-true, has_word-below, has_word-above}
 use Rattle.mps_seg.proofs.ContainedRuns.{contains_put_cases, contains_without, same_count}
 use Rattle.mps_seg.proofs.Entries.{entry_is_held, entry_at_base}
 use Rattle.mps_seg.proofs.HeldSegments.{whole_in}
@@ -229,7 +229,7 @@ module _
               ];
         }
 
-    -- what is taken out was counted
+    -- the words of a run that is taken out were counted
     pub counted_before : (grain a b : ℕ) (r : Run) → IsAscending a b covered → Contains covered r → OwnSegment held size firsts grain r
         → r.count ≤ get_or counts (get_or firsts grain 0) 0
     counted_before grain a b r ascending' listed own =
@@ -252,7 +252,7 @@ count_fits arena table ex grains held listed =
     let sum = total-le low high (runs_within low high ex.covered) ascending in
     omega (arith, sum)
 
--- there is room to count what is put, where the segments are held after it
+-- the count of a segment fits in 32 bits after a run is put
 pub room_to_count : (arena : ArenaMemory) (table : List Entry) (ex : ExtentLists) (firsts counts : List ℕ) (grain : ℕ) (r : Run)
     (blocks reservations : List Run) → IsCounted arena.held (arena.grains + 1) firsts counts ex.covered
     → IsHeld arena table (record ex { covered = with_run r ex.covered; blocks = blocks; reservations = reservations })
@@ -279,7 +279,7 @@ new_is_counted size = record {
   counts_are = λ t (k, within, is). absurd (omega arith);
 }
 
--- the table of first grains after n of them are written
+-- the table of first grains after those of a run are written
 pub record Noted (firsts firsts' : List ℕ) (r : Run) (first : ℕ) : Type 0 where
   pub size : length firsts' ≡ length firsts
   pub inside : (g : ℕ) → r.from ≤ g → g < end_of r → get_or firsts' g 0 ≡ first
@@ -369,7 +369,7 @@ count_at arena table ex firsts counts grain (First n p g k) held counted is =
     let end : words_of_grain * (grain + n) ≡ words_of_grain * grain + words_of_grain * n = omega arith in
     counted.counts_are mine listed ∙ ap (λ (high : ℕ). total (runs_within (words_of_grain * grain) high ex.covered)) end
 
--- where nothing is counted, no run is
+-- where no word is counted, there is no run
 none_counted : (low high : ℕ) (rs : List Run) → IsAscending low high rs → total rs ≡ 0 → rs ≡ []
 none_counted low high [] ascending none = refl
 none_counted low high (r ∷ rs) ascending none = absurd (omega (arith, total-cons r rs, none, ascending.1))

@@ -5,8 +5,8 @@ use Rattle.mps_base.specs.Run.{Run, with_run, without_run}
 use Rattle.mps_bits.specs.Table.{bit}
 use Rattle.mps_seg.specs.Extents.{ExtentLists}
 use Rattle.mps_seg.specs.Inside.{length_at, minus, extents}
-use Rattle.mps_seg.proofs.BitFacts.{bit_is, bit-set_same, bit-set_other, bit_within, minus_is_begin, length-minus, bit-minus}
-use Rattle.mps_seg.proofs.Decode.{runs_with-put, runs_with-taken, runs_with_same, run_of_bit, bit_of_run}
+use Rattle.mps_seg.proofs.WrittenBits.{bit_is, bit-set_same, bit-set_other, bit_within, minus_is_begin, length-minus, bit-minus}
+use Rattle.mps_seg.proofs.BitRuns.{runs_with-put, runs_with-taken, runs_with_same, run_of_bit, bit_of_run}
 
 -- the extent that begins at a bit
 pub extent_at : (bits ends : List Bool) (at : ℕ) → bit bits at ≡ true
@@ -66,7 +66,7 @@ extents_taken begins bits ends ends' at same within some part =
     ∙ runs_with-taken (length_at ends) 0 bits at within (sym (bit_is bits at) ∙ some)
     ∙ ap (λ (a : ℕ). without_run a (extents bits ends)) same_word
 
--- a reservation begins at a bit of the first table that is no block's
+-- a reservation begins at a bit of the first table that is not a bit of the blocks
 pub record IsReservation (begins ends blocks : List Bool) (r : Run) : Type 0 where
   pub there : Contains (extents begins ends) r
   pub reserved : bit (minus begins blocks) r.from ≡ true

@@ -6,7 +6,7 @@ use Rattle.mps_bits.proofs.Searches.{found, missing, lowest_cases}
 use Rattle.mps_bits.specs.Table.{bit, next_set_below}
 use Rattle.mps_seg.specs.Extents.{first_run}
 use Rattle.mps_seg.specs.Inside.{runs_with, length_at, extents}
-use Rattle.mps_seg.proofs.BitFacts.{bit_is}
+use Rattle.mps_seg.proofs.WrittenBits.{bit_is}
 
 first_run_here : (low high : ℕ) (r : Run) (rs : List Run) → low ≤ r.from → r.from < high → first_run low high (r ∷ rs) ≡ Some r.from
 first_run_here low high r rs above below =
@@ -22,7 +22,7 @@ first_run_later low high r rs (inr above) =
     cond-false (leb low r.from && ltb r.from high) (Some r.from) (first_run low high rs)
     (and_right (leb low r.from) (ltb r.from high) (le-ltb r.from high above))
 
--- the first run found begins below the bound
+-- the first run begins below the bound
 pub first_run-below : (low high : ℕ) (rs : List Run) (at : ℕ) → first_run low high rs ≡ Some at → at < high
 first_run-below low high [] at is = let never : None ≡ Some at = is in cc
 first_run-below low high (r ∷ rs) at is =

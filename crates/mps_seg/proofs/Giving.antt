@@ -15,7 +15,7 @@ use Rattle.mps_seg.proofs.Entries.{entry_at_base, entry_is_held, segments_after_
 use Rattle.mps_seg.proofs.HeldSegments.{held_after_give}
 use Rattle.mps_seg.proofs.Covering.{IsSoundInside}
 
--- an entry that is two segments' has the number of grains of both
+-- where an entry is that of two segments, both have as many grains
 pub grains_read : {e : Entry} {n n' p p' g g' : ℕ} {r r' : Rank} → e ≡ First n p g r → e ≡ First n' p' g' r' → n ≡ n'
 grains_read is is' = cc
 

@@ -1,4 +1,4 @@
--- The segments are the runs of grains that the arena holds, and each extent lies in one of them: how this lasts.
+-- The segments are the runs of grains that the arena holds, and each extent lies in one of them: this stays true through each call.
 use Rattle.std.proofs.Common.{ℕ, ◌+◌, ◌<◌, ◌≡◌, List, [], ◌∷◌, get_or, set, Contains, refl, sym, ap, ◌∙◌, subst, inl, inr, arith, replicate, ◌≤◌, ◌⊎◌, ◌*◌, ◌≢◌, ◌&&◌, eqb, Some, None, map, length-set}
 use Rattle.std.proofs.lemmas.Bool.{cases_Bool, cond-true, cond-false}
 use Rattle.std.proofs.lemmas.List.{length-replicate}
@@ -13,7 +13,7 @@ use Rattle.mps_seg.specs.Segs.{CanCover, LiesIn}
 use Rattle.mps_seg.specs.Table.{gaps_in_grains, segments_in, segs_state, IsHeld, segments_of_entries, gaps_at, IsWholeAt}
 use Rattle.mps_seg.specs.declared.entry.Entry.{Entry}
 use Rattle.mps_seg.specs.declared.entry.Entry.TheVariants.{Free, First}
-use Rattle.mps_seg.proofs.Apart.{contains_put, apart_from_put, apart_each}
+use Rattle.mps_seg.proofs.ApartRuns.{contains_put, apart_from_put, apart_each}
 use Rattle.mps_seg.proofs.ContainedRuns.{contains_put_cases, contains_put_other, contains_without, contains_still, taken_and_put, begins_within, same_count, put_apart, side_of}
 use Rattle.mps_seg.proofs.Entries.{held_from, segments_put, held_put, entry_is_held, new_segments_in, held_taken, entry_cases}
 use Rattle.mps_seg.proofs.LowestGap.{runs_within_ascending}

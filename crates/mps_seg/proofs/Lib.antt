@@ -1,17 +1,16 @@
-pub mod Apart
-pub mod BitFacts
+pub mod ApartRuns
+pub mod BitRuns
 pub mod ContainedRuns
 pub mod CoveredWords
 pub mod Covering
-pub mod Decode
 pub mod Entries
 pub mod ExtentBits
+pub mod ExtentLengths
 pub mod FirstRun
 pub mod Giving
 pub mod HeldSegments
-pub mod Lengths
 pub mod LowestGap
-pub mod New
+pub mod NewTables
 pub mod OpenGaps
 pub mod Placements
 pub mod PutExtent
@@ -19,3 +18,4 @@ pub mod RunOver
 pub mod SegmentOver
 pub mod TakenExtent
 pub mod Taking
+pub mod WrittenBits

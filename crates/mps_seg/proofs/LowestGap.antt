@@ -8,7 +8,7 @@ use Rattle.mps_bits.proofs.Searches.{lowest_from_is, lowest_from_none}
 use Rattle.mps_bits.specs.Table.{bit, is_clear_run, lowest_clear_run}
 use Rattle.mps_seg.specs.Extents.{is_covered, has_word, AreWhole}
 use Rattle.mps_seg.specs.Inside.{extents, AreSoundTables}
-use Rattle.mps_seg.proofs.Apart.{has_word-true, has_word-below, has_word-above, covered_first, covered_later, uncovered_below}
+use Rattle.mps_seg.proofs.ApartRuns.{has_word-true, has_word-below, has_word-above, covered_first, covered_later, uncovered_below}
 
 runs_within_here : (low high : ℕ) (r : Run) (rs : List Run) → low ≤ r.from → r.from < high
     → runs_within low high (r ∷ rs) ≡ r ∷ runs_within low high rs

@@ -9,7 +9,7 @@ use Rattle.mps_base.specs.declared.refusal.Refusal.{Refusal}
 use Rattle.mps_base.specs.declared.refusal.Refusal.TheVariants.{CommitLimit, NoRun}
 use Rattle.mps_arena.specs.Arena.{ArenaMemory, answer_of_placement, placement_in, held_after}
 
--- what a placement of a run is
+-- a new run is placed at a grain, or refused
 pub data PlacementCases (grains limit : ℕ) (held : List Run) (need : ℕ) : Type 0 where
   placed : (grain : ℕ) → run_placement grains limit held need ≡ NewSegment grain need
       → lowest_fitting need (gaps 1 (grains + 1) held) ≡ Some grain → PlacementCases grains limit held need
@@ -53,7 +53,7 @@ taken_at arena need base answer =
           cc
     ]
 
--- where nothing was taken
+-- where the arena refuses, it holds the same runs
 pub refused_held : (p : Placement) (why : Refusal) (held : List Run) → Err why ≡ answer_of_placement p → held_after p held ≡ held
 refused_held (Place word) why held is =
     let left : Result Addr Refusal = Err why in let never : left ≡ Ok (record { 0 = 8 * word }) = is in cc

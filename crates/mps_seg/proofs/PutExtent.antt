@@ -8,10 +8,10 @@ use Rattle.mps_bits.proofs.Ranges.{length-with_range}
 use Rattle.mps_seg.specs.Extents.{ExtentLists, has_word, is_covered}
 use Rattle.mps_seg.specs.declared.extents.Extents.TheInside.{Inside}
 use Rattle.mps_seg.specs.Inside.{length_at, minus, extents, lists_of, AreSoundTables}
-use Rattle.mps_seg.proofs.BitFacts.{bit-set_same, bit-set_other, bit_within, bit-with_range_inside, bit-with_range_outside, minus_is_begin, length-minus, minus-set_first, minus_less}
+use Rattle.mps_seg.proofs.WrittenBits.{bit-set_same, bit-set_other, bit_within, bit-with_range_inside, bit-with_range_outside, minus_is_begin, length-minus, minus-set_first, minus_less}
 use Rattle.mps_seg.proofs.ExtentBits.{extent_at, begin_of, SameLengths, extents_kept, extents_put, extents_taken, others_stay, IsReservation, is_reservation, lists}
-use Rattle.mps_seg.proofs.Lengths.{IsLast, length_at_is, length_kept}
-use Rattle.mps_seg.proofs.Apart.{has_word-true, has_word-below, has_word-above, contains_put, apart_from_put, covers_contained, uncovered_by_put, covered_put_has, covered_put_other}
+use Rattle.mps_seg.proofs.ExtentLengths.{IsLast, length_at_is, length_kept}
+use Rattle.mps_seg.proofs.ApartRuns.{has_word-true, has_word-below, has_word-above, contains_put, apart_from_put, covers_contained, uncovered_by_put, covered_put_has, covered_put_other}
 
 pub record Put (covered begins ends blocks : List Bool) (at words : ℕ) : Type 0 where
   pub sound : AreSoundTables covered begins ends blocks
@@ -72,7 +72,7 @@ module _
           ];
         }
 
--- a run put among others where none begins, and taken out again
+-- a run that is put among others and taken out again, where no other begins there
 put_and_taken : (r : Run) (rs : List Run) → ((s : Run) → Contains rs s → s.from ≢ r.from) → without_run r.from (with_run r rs) ≡ rs
 put_and_taken r [] other = without_run_first r.from r [] refl
 put_and_taken r (s ∷ rs) other =
@@ -277,7 +277,7 @@ module _ (covered begins ends blocks : List Bool) (at words : ℕ) (put : Put co
       ∙ ap (λ (rs : List Run). lists (length begins) (with_run new old) (with_run new (extents blocks ends)) rs)
       (put_and_taken new (extents (minus begins blocks) ends) other)
 
--- what the tables have to allow, so that an extent can be put into them
+-- what is known of the tables where an extent can be put into them
 pub record PutFits (t : Inside) (at words : ℕ) : Type 0 where
   pub put : Put t.covered t.begins t.ends t.blocks at words
   pub nonzero : 0 < words

@@ -10,8 +10,8 @@ use Rattle.mps_seg.specs.Extents.{is_covered, has_word, run_over}
 use Rattle.mps_seg.specs.declared.extents.Extents.TheInside.{Inside}
 use Rattle.mps_seg.specs.Inside.{length_at, extents, AreSoundTables}
 use Rattle.mps_seg.specs.Segs.{at_word}
-use Rattle.mps_seg.proofs.Apart.{apart_each, has_word-true, has_word-parts, has_word-below, has_word-above, covered_by, covers_contained, uncovered_taken}
-use Rattle.mps_seg.proofs.BitFacts.{bit_within}
+use Rattle.mps_seg.proofs.ApartRuns.{apart_each, has_word-true, has_word-parts, has_word-below, has_word-above, covered_by, covers_contained, uncovered_taken}
+use Rattle.mps_seg.proofs.WrittenBits.{bit_within}
 use Rattle.mps_seg.proofs.ExtentBits.{extent_at, begin_of, among_all}
 use Rattle.mps_base.specs.Address.{word_of}
 
@@ -121,7 +121,7 @@ run_over_taken_has low high rs r n ascending there has =
     both_ways (is_covered (without_run r.from rs) n) (uncovered_taken low high rs r n ascending there has)
     (covers_contained (without_run r.from rs) s n there' has')))
 
--- the block that a search by an address found
+-- the block that a search by an address finds
 pub block_found : (rs : List Run) (word : ℕ) (at : Addr) → Some at ≡ option_map at_word (run_over rs word)
     → (n : ℕ) × Contains rs (record { from = word_of at.0; count = n })
 block_found rs word at is = go (run_over rs word) refl is

@@ -12,7 +12,7 @@ use Rattle.mps_seg.specs.Segs.{SegsState, base_address}
 use Rattle.mps_seg.specs.Table.{segs_state, segments_in, IsHeld, segments_of_entries, first_over, or_zero}
 use Rattle.mps_seg.specs.declared.entry.Entry.{Entry}
 use Rattle.mps_seg.specs.declared.entry.Entry.TheVariants.{Free, First}
-use Rattle.mps_seg.proofs.Apart.{has_word-true, has_word-below, has_word-above}
+use Rattle.mps_seg.proofs.ApartRuns.{has_word-true, has_word-below, has_word-above}
 use Rattle.mps_seg.proofs.RunOver.{run_over_none, run_over-contains}
 use Rattle.mps_seg.specs.declared.segs.Segs.TheInside.{Inside}
 use Rattle.mps_seg.proofs.Covering.{IsSoundInside}
@@ -83,7 +83,7 @@ run_from_first size held grain first ascending is = go (run_over held grain) ref
         let bounds = contained_bounds 1 size held (record { from = from; count = run.0 }) ascending run.1 in
         ((λ e. absurd (omega (arith, bounds.0, same, e))), (λ other. over ∙ ap (λ (n : ℕ). Some n) (sym same)))
 
--- a segment that was found by an address
+-- the segment that a search by an address finds
 pub segment_found : (ss : List Segment) (n : ℕ) (base : Addr) → Some base ≡ option_map base_address (segment_over ss n)
     → (s : Segment) × Contains ss s × (s.base ≡ base.0)
 segment_found [] n base is = let never : Some base ≡ None = is in cc

@@ -8,10 +8,10 @@ use Rattle.mps_bits.proofs.Ranges.{length-with_range}
 use Rattle.mps_seg.specs.Extents.{ExtentLists, has_word, is_covered}
 use Rattle.mps_seg.specs.declared.extents.Extents.TheInside.{Inside}
 use Rattle.mps_seg.specs.Inside.{length_at, minus, extents, lists_of, AreSoundTables}
-use Rattle.mps_seg.proofs.BitFacts.{bit-set_same, bit-set_other, bit_within, bit-with_range_inside, bit-with_range_outside, minus_is_begin, length-minus, bit-minus, minus_less, minus_same}
+use Rattle.mps_seg.proofs.WrittenBits.{bit-set_same, bit-set_other, bit_within, bit-with_range_inside, bit-with_range_outside, minus_is_begin, length-minus, bit-minus, minus_less, minus_same}
 use Rattle.mps_seg.proofs.ExtentBits.{extent_at, begin_of, among_all, SameLengths, extents_kept, extents_taken, others_stay, IsReservation, is_reservation, lists}
-use Rattle.mps_seg.proofs.Lengths.{IsLast, next_last, last_of, length_kept}
-use Rattle.mps_seg.proofs.Apart.{has_word-true, has_word-below, has_word-above, apart_each, uncovered_taken, covered_taken_other}
+use Rattle.mps_seg.proofs.ExtentLengths.{IsLast, next_last, last_of, length_kept}
+use Rattle.mps_seg.proofs.ApartRuns.{has_word-true, has_word-below, has_word-above, apart_each, uncovered_taken, covered_taken_other}
 
 pub record Taken (covered begins ends blocks : List Bool) (r : Run) : Type 0 where
   pub sound : AreSoundTables covered begins ends blocks
@@ -209,7 +209,7 @@ module _ (covered begins ends blocks : List Bool) (r : Run) (taken : Taken cover
       ∙ ap (λ (rs : List Run). lists (length begins) (without_run r.from old) rs (extents (minus begins' blocks') ends')) gone
       ∙ ap (λ (rs : List Run). lists (length begins) (without_run r.from old) (without_run r.from (extents blocks ends)) rs) kept
 
--- ---- what the tables allow, so that an extent can be taken out of them
+-- ---- what is known of the tables where an extent is taken out of them
 
 pub record TakenFits (t : Inside) (at words : ℕ) : Type 0 where
   pub taken : Taken t.covered t.begins t.ends t.blocks (record { from = at; count = words })

@@ -2,7 +2,7 @@
 use Rattle.std.specs.Prelude.{ℕ, ◌≤◌, ◌<◌, ◌≡◌, ◌&&◌, Bool, true, false, nat_le, nat_lt, if◌then◌else◌, Option, Some, None, List, [], ◌∷◌, refl}
 use Rattle.mps_base.specs.Run.{Run, end_of}
 
--- what is covered among n words: by blocks, and by reservations
+-- which of n words are covered, by blocks and by reservations
 pub record ExtentLists : Type 0 where
   pub size : ℕ
   -- blocks and reservations together
@@ -32,7 +32,7 @@ abbrev pub first_run : ℕ → ℕ → List Run → Option ℕ
 first_run low high [] = None
 first_run low high (r ∷ rs) = if nat_le low r.from && nat_lt r.from high then Some r.from else first_run low high rs
 
--- no run has words on both sides of either bound
+-- no run has words on both sides of one of the two bounds
 abbrev pub AreWhole : ℕ → ℕ → List Run → Type 0
 AreWhole low high [] = Unit {0}
 AreWhole low high (r ∷ rs) = IsWhole low high r × AreWhole low high rs

@@ -1,20 +1,20 @@
--- How tables of bits stand for extents.
+-- How tables of bits represent extents.
 use Rattle.std.specs.Prelude.{ℕ, suc, ◌+◌, ◌-◌, ◌<◌, ◌^◌, ◌≡◌, Bool, true, false, not, ◌&&◌, Option, Some, None, List, [], ◌∷◌, length, map}
 use Rattle.std.specs.List.{range_with_len}
 use Rattle.mps_base.specs.Run.{Run, IsAscending}
 use Rattle.mps_bits.specs.Table.{bit, next_set}
 use Rattle.mps_seg.specs.Extents.{ExtentLists, is_covered}
 
--- the words from a first one up to a last one
+-- how many words there are from a first one up to a last one
 abbrev pub words_upto : ℕ → Option ℕ → ℕ
 words_upto from None = 0
 words_upto from (Some last) = last - from + 1
 
--- how long the extent is that begins at a word: up to the next word that ends one
+-- how long the extent is that begins at a word: it goes up to the next word that ends an extent
 unfoldable pub length_at : List Bool → ℕ → ℕ
 length_at ends from = words_upto from (next_set ends from)
 
--- the runs that begin where a table has a bit, the first bit of which is that of a word
+-- the runs that begin where a table has a bit, where its first bit is that of a word
 unfoldable pub runs_with : (ℕ → ℕ) → ℕ → List Bool → List Run
 runs_with count at [] = []
 runs_with count at (false ∷ bits) = runs_with count (suc at) bits

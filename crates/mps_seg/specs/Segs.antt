@@ -1,4 +1,4 @@
--- What a client sees of the segments, and the answers of their calls.
+-- What a caller sees of the segments, and the results of their calls.
 use Rattle.std.specs.Prelude.{ℕ, ◌+◌, ◌*◌, ◌≤◌, ◌≡◌, ◌≢◌, List, [], map, replicate, Contains}
 use Rattle.mps_base.specs.Run.{Run, end_of, IsAscending, with_run, runs_within}
 use Rattle.mps_base.specs.Address.{words_of_grain, word_of, grains_needed, address_of_grain, address_of_word}
@@ -40,7 +40,7 @@ new_segments grains limit = record {
 abbrev pub held_runs : SegsState → List Run
 held_runs s = map grains_of_segment s.segments
 
--- where a new segment for n words would be taken
+-- where a new segment for n words is placed
 abbrev pub placement_for : SegsState → ℕ → Placement
 placement_for s words = run_placement s.grains s.limit (held_runs s) (grains_needed words)
 
@@ -73,7 +73,7 @@ pub record IsEmptyAt (state : SegsState) (base : ℕ) (s : Segment) : Type 0 whe
 abbrev pub IsUsed : SegsState → Segment → Type 0
 IsUsed state s = runs_within (word_of s.base) (word_of (end_of_segment s)) state.covered ≢ []
 
--- a run of words lies in one of the runs of grains
+-- a run of words that lies in one of the runs of grains
 pub record LiesIn (held : List Run) (r : Run) : Type 0 where
   pub grains : Run
   pub there : Contains held grains

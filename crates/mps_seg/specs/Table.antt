@@ -10,7 +10,7 @@ use Rattle.mps_seg.specs.declared.entry.Entry.TheVariants.{Free, First}
 use Rattle.mps_seg.specs.Segs.{SegsState, LiesIn}
 use Rattle.mps_seg.specs.Extents.{ExtentLists, run_over, AreWhole}
 
--- the segments of the entries, the first of which is that of a grain
+-- the segments of the entries, where the first entry is that of a grain
 unfoldable pub segments_of_entries : ℕ → List Entry → List Segment
 segments_of_entries grain [] = []
 segments_of_entries grain (Free ∷ entries) = segments_of_entries (suc grain) entries
@@ -21,7 +21,7 @@ segments_of_entries grain (First grains pool generation rank ∷ entries) =
 unfoldable pub segments_in : List Entry → List Segment
 segments_in table = segments_of_entries 0 table
 
--- the state of an arena with this table and these extents
+-- what a caller sees of an arena with this table and these extents
 abbrev pub segs_state : ArenaMemory → List Entry → ExtentLists → SegsState
 segs_state arena table extents = record {
   words = arena.words;
@@ -52,11 +52,11 @@ or_zero (Some n) = n
 abbrev pub first_over : List Run → ℕ → ℕ
 first_over held grain = or_zero (run_over held grain)
 
--- how many of the covered words are those of a run of grains
+-- how many words of a run of grains are covered
 abbrev pub covered_words_in : Run → List Run → ℕ
 covered_words_in grains covered = total (runs_within (words_of_grain * grains.from) (words_of_grain * end_of grains) covered)
 
--- the tables by grain say in which run of grains each lies, and of each run how many of its words are covered
+-- the tables by grain have, for each grain, the first grain of the run in which it lies, and for each run how many of its words are covered
 pub record IsCounted (held : List Run) (size : ℕ) (firsts counts : List ℕ) (covered : List Run) : Type 0 where
   pub firsts_size : length firsts ≡ size
   pub counts_size : length counts ≡ size

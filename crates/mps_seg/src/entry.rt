@@ -1,9 +1,9 @@
-// What the table of segments knows of a grain.
+// The entries of the table of segments.
 #![tactic(auto)]
 
 use mps_base::Rank;
 
-/// An entry of the table by grain.
+/// What the table of segments has for a grain.
 #[derive(Clone, Copy)]
 pub(crate) enum Entry {
     /// No segment begins at this grain.

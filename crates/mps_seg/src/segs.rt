@@ -60,7 +60,7 @@ impl Segs {
         })
     }
 
-    /// Takes a new segment for `words` words and answers its base. Refuses `CommitLimit` and `NoRun` as the arena does.
+    /// Takes a new segment for `words` words and returns its base. Refuses `CommitLimit` and `NoRun` as the arena does.
     pub fn take(
         &mut self,
         trail: &mut Trail,
@@ -196,7 +196,7 @@ impl Segs {
         }
     }
 
-    /// The block whose words cover byte `n`.
+    /// The block that covers the byte at address `n`.
     pub fn block_at(&self, n: u64) -> Option<Addr>
         ensures { result ≡ option_map at_word (run_over self.now.blocks (word_of n)) }
     {
@@ -234,7 +234,7 @@ impl Segs {
         self.counts[first] += words;
     }
 
-    /// Takes away the block of `words` words that begins at `at`. Its words stay as they are, and may be covered again.
+    /// Removes the block of `words` words that begins at `at`. Its words stay as they are, and may be covered again.
     pub fn drop_block(&mut self, at: Addr, words: u32)
         requires { Contains self.old.blocks (record { from = word_of at.0; count = words }) }
         ensures state { self.new ≡ record self.old {
@@ -257,7 +257,7 @@ impl Segs {
         self.extents.block_words((at.0 / BYTES_OF_WORD) as usize) as u32
     }
 
-    /// Sets the commit limit, in grains. Refuses `BelowCommitted` where more grains are held.
+    /// Sets the commit limit, in grains. Refuses `BelowCommitted` where more grains than that are held.
     pub fn set_limit(&mut self, limit: u32) -> Result<(), Refusal>
         ensures state { MatchResult result (λ _. self.new ≡ record self.old { limit = limit }) (λ _. self.new ≡ self.old) }
         ensures sound { OnOk result (total (held_runs self.old) ≤ limit) }
@@ -300,7 +300,7 @@ impl Segs {
     }
 }
 
-/// Whether two ranks are one.
+/// Whether two ranks are the same.
 fn is_same_rank(a: Rank, b: Rank) -> bool
     ensures { result ≡ same_rank a b }
 {
@@ -310,8 +310,8 @@ fn is_same_rank(a: Rank, b: Rank) -> bool
     }
 }
 
-/// Where the lowest gap of at least `words` words begins between two bounds, between which `covered` words are covered. There is
-/// none where fewer words are left, and this is seen without a search.
+/// Where the lowest gap of at least `words` words begins between two bounds, where `covered` words between them are covered. Where
+/// fewer words than that are free there is none, which the numbers show without a search.
 fn gap_between(
     extents: &Extents,
     low: usize,

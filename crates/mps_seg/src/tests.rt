@@ -1,4 +1,4 @@
-// Placements at the edges, and many pseudo-random ones beside a plain table of owners.
+// Placements at the edges, and many pseudo-random ones that are compared with a plain table of owners.
 ghost use Rattle.std.specs.Prelude.{◌<◌, ◌≤◌};
 ghost use Rattle.mps_seg.specs.Segs.{max_block_words};
 
@@ -21,7 +21,7 @@ fn fill(segs: &mut Segs, trail: &mut Trail, pool: u32, words: u32) -> Result<Add
     Ok(at)
 }
 
-/// Frees the block over a byte, and says where it began.
+/// Frees the block over a byte, and returns where it began.
 fn free_over(segs: &mut Segs, n: u64) -> Option<Addr> {
     let at = segs.block_at(n)?;
     let words = segs.block_words(at);
@@ -29,7 +29,7 @@ fn free_over(segs: &mut Segs, n: u64) -> Option<Addr> {
     Some(at)
 }
 
-/// Gives back the segment over an address, where there is one that is empty, and says whether it did.
+/// Gives back the segment over an address if there is one and it is empty, and returns whether it did.
 fn give_over(segs: &mut Segs, trail: &mut Trail, at: Addr) -> bool
     requires { 0 < trail.old.spare }
 {
@@ -139,7 +139,7 @@ fn places_blocks_at_the_lowest_gap(rt: HostRuntime) -> Result<(), AllocError> {
     Ok(())
 }
 
-/// The first of the words from `low` on, below `high`, that begins `words` words without an owner.
+/// The first word from `low` on and below `high` from which on `words` words have no owner.
 fn plain_gap(owners: &[u64], low: usize, high: usize, words: usize) -> Option<usize> {
     let mut free = 0usize;
     for word in low..high {

@@ -1,7 +1,7 @@
 use Rattle.std.proofs.Common.{◌/◌, Contains, sym, subst}
 use Rattle.mps_base.specs.Run.{Run}
 use Rattle.mps_seg.specs.Segs.{SegsState}
-use Rattle.mps_seg.proofs.Apart.{contains_put}
+use Rattle.mps_seg.proofs.ApartRuns.{contains_put}
 use Rattle.mps_seg.proofs.tests.reserve_and_commit.Goals as goal
 use Rattle.mps_base.specs.Address.{word_of}
 

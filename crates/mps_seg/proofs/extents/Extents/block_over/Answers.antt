@@ -1,6 +1,6 @@
 use Rattle.std.proofs.Common.{sym, ap, ◌∙◌, arith}
 use Rattle.mps_seg.specs.Extents.{ExtentLists, run_over}
-use Rattle.mps_seg.proofs.BitFacts.{bit_past}
+use Rattle.mps_seg.proofs.WrittenBits.{bit_past}
 use Rattle.mps_seg.proofs.RunOver.{no_block_over, found_extent}
 use Rattle.mps_seg.proofs.extents.Extents.block_over.Goals as goal
 

@@ -1,6 +1,6 @@
 use Rattle.std.proofs.Common.{Bool, false, List, replicate, sym, ap, ◌∙◌, subst}
 use Rattle.mps_seg.specs.Inside.{lists_of, AreSoundTables}
-use Rattle.mps_seg.proofs.New.{new_is_sound, new_lists}
+use Rattle.mps_seg.proofs.NewTables.{new_is_sound, new_lists}
 use Rattle.mps_seg.proofs.extents.Extents.new.Goals as goal
 
 pub invariant_of-result : goal.invariant_of-result

@@ -3,7 +3,7 @@ use Rattle.mps_base.specs.Run.{lowest_fitting}
 use Rattle.mps_seg.proofs.OpenGaps.{later_gaps}
 use Rattle.mps_seg.proofs.segs.Segs.lowest_gap.Given as goal
 
--- the segments from the grain on decide
+-- the lowest gap that fits lies in the segments from the grain on
 abbrev pub invariant-loop-grain : goal.invariant-loop-grain
 invariant-loop-grain l =
     lowest_fitting l.words (later_gaps l.self-inside.extents.covered l.pool l.rank l.grain (drop l.grain l.self-inside.table.items))

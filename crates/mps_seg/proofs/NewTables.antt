@@ -6,7 +6,7 @@ use Rattle.mps_base.specs.Run.{Run, IsAscending}
 use Rattle.mps_bits.specs.Table.{bit}
 use Rattle.mps_seg.specs.Extents.{is_covered, nothing_covered}
 use Rattle.mps_seg.specs.Inside.{length_at, runs_with, minus, extents, lists_of, AreSoundTables}
-use Rattle.mps_seg.proofs.BitFacts.{bit_is, bit_past, length-minus, minus_is_begin, same_bits}
+use Rattle.mps_seg.proofs.WrittenBits.{bit_is, bit_past, length-minus, minus_is_begin, same_bits}
 
 no_bit : (n i : ℕ) → bit (replicate n false) i ≡ false
 no_bit n i =

@@ -60,7 +60,7 @@ minus_is_begin xs ys i is =
     let within : i < length xs = omega (arith, bit_within (minus xs ys) i is, length-minus xs ys) in
     (and_parts (bit xs i) (not (bit ys i)) (sym (bit-minus xs ys i within) ∙ is)).0
 
--- one more in the first
+-- the first table has one bit more
 pub minus-set_first : (xs ys : List Bool) (i : ℕ) → i < length xs → bit ys i ≡ false → minus (set xs i true) ys ≡ set (minus xs ys) i true
 minus-set_first xs ys i within none =
     same_bits (minus (set xs i true) ys) (set (minus xs ys) i true)
@@ -79,7 +79,7 @@ minus-set_first xs ys i within none =
           ∙ sym (bit-set_other (minus xs ys) i k true other)
     ])
 
--- one fewer, where it is taken from the first or put into the second
+-- one bit fewer is left, where it is cleared in the first table or set in the second
 pub minus_less : (xs xs' ys ys' : List Bool) (i : ℕ) → i < length xs → length xs' ≡ length xs → ((j : ℕ) → j ≢ i → bit xs' j ≡ bit xs j)
     → ((j : ℕ) → j ≢ i → bit ys' j ≡ bit ys j)
     → (bit xs' i && not (bit ys' i)) ≡ false → minus xs' ys' ≡ set (minus xs ys) i false
@@ -98,7 +98,7 @@ minus_less xs xs' ys ys' i within size others others' none =
           ∙ sym (bit-minus xs ys k short) ∙ sym (bit-set_other (minus xs ys) i k false other)
     ])
 
--- the same, where the bit was in the second
+-- the same bits are left, where the bit was set in the second table too
 pub minus_same : (xs xs' ys ys' : List Bool) (i : ℕ) → length xs' ≡ length xs → ((j : ℕ) → j ≢ i → bit xs' j ≡ bit xs j)
     → ((j : ℕ) → j ≢ i → bit ys' j ≡ bit ys j)
     → (bit xs' i && not (bit ys' i)) ≡ (bit xs i && not (bit ys i)) → minus xs' ys' ≡ minus xs ys
