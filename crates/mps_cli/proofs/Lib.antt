@@ -1,5 +1,5 @@
-pub mod Outsides
 pub mod Between
+pub mod RecordsOfDone
 pub mod LogFile
 pub mod NextLine
 pub mod RecordBytes
@@ -7,5 +7,5 @@ pub mod LineByLine
 pub mod InRange
 pub mod Steps
 pub mod SoFar
-pub mod Fronts
 pub mod Leaving
+pub mod Reported

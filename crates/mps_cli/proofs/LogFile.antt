@@ -1,55 +1,24 @@
--- The file of the log: one piece after another.
-use Rattle.std.proofs.Common.{◌≡◌, ◌⊎◌, ℕ, Option, Some, None, List, [], ◌∷◌, ◌++◌, refl, sym, ◌∙◌, ap, arith, append_assoc, append-nil, true, inl, inr}
+-- The file of the log.
+use Rattle.std.proofs.Common.{◌≡◌, ◌⊎◌, ℕ, Option, Some, None, Err, List, [], ◌∷◌, ◌++◌, refl, sym, ◌∙◌, ap, arith, true, inl, inr}
 use Rattle.std.specs.Option.{option_map}
 use Rattle.std.proofs.lemmas.List.{append_cancel_left}
 use Rattle.std.proofs.lemmas.Slice.Eq.{bytes_eq-Decides}
-use Rattle.mps_base.specs.Desk.{Outside, File, Files, OnlyReads, OnlyReports, file_named, with_file, with_more, with_logged, made_for_log, after_log}
+use Rattle.mps_base.specs.Desk.{Outside, File, Files, OnlyReports, file_named, with_file, with_more, made_for_log, after_log}
 use Rattle.mps_base.proofs.Files.{file_named-with_file_other}
 use Rattle.mps_model.specs.Log.{log_bytes}
 use Rattle.mps_log_reader.specs.Ending.{is_input_verdict, IsUnopened}
-use Rattle.mps_cli.specs.Write.{appended, LogTakes}
-use Rattle.mps_cli.specs.Ending.{status_of}
-use Rattle.mps_cli.specs.Asked.{RunsScript}
+use Rattle.mps_report.specs.declared.stop.Stop.TheVariants as stop
+use Rattle.mps_report.specs.Reports.{status_of_ending}
+use Rattle.mps_cli.specs.Ending.{Ending}
 use Rattle.mps_cli.specs.Leaving.{IsUnbegun}
 use Rattle.mps_cli.specs.LogFile.{IsInFile, IsUnlogged, LogsInto, HoldsLog, with_log}
-use Rattle.mps_cli.specs.declared.ending.Ending.{Ending}
-use Rattle.mps_cli.specs.declared.ending.Ending.TheVariants as ending
-use Rattle.mps_cli.proofs.Outsides.{appended_empty, appended_twice}
-
-with_more-nothing : (fs : List File) (name : List ℕ) → with_more fs name [] ≡ fs
-with_more-nothing [] name = refl
-with_more-nothing (f ∷ fs) name = grind (arith, append-nil f.bytes, with_more-nothing fs name)
-
-with_more-twice : (fs : List File) (name first second : List ℕ)
-    → with_more (with_more fs name first) name second ≡ with_more fs name (first ++ second)
-with_more-twice [] name first second = refl
-with_more-twice (f ∷ fs) name first second = grind (arith, append_assoc f.bytes first second, with_more-twice fs name first second)
+use Rattle.mps_cli.specs.Run.{RunsScript}
+use Rattle.mps_report.specs.Streams.{appended, LogTakes}
 
 with_more-with_file : (fs : List File) (name first second : List ℕ)
     → with_more (with_file fs name first) name second ≡ with_file fs name (first ++ second)
 with_more-with_file [] name first second = grind (arith, bytes_eq-Decides name name)
 with_more-with_file (f ∷ fs) name first second = grind (arith, with_more-with_file fs name first second)
-
-with_logged-nothing : (fs : List File) (log : Option (List ℕ)) → with_logged fs log [] ≡ fs
-with_logged-nothing fs None = refl
-with_logged-nothing fs (Some name) = with_more-nothing fs name
-
-with_logged-twice : (fs : List File) (log : Option (List ℕ)) (first second : List ℕ)
-    → with_logged (with_logged fs log first) log second ≡ with_logged fs log (first ++ second)
-with_logged-twice fs None first second = refl
-with_logged-twice fs (Some name) first second = with_more-twice fs name first second
-
--- nothing after what the log's file holds
-filed_nothing : (known : Option Files) → known ≡ option_map (after_log []) known
-filed_nothing None = refl
-filed_nothing (Some files) = ap (λ (all : List File). Some (record files { all = all })) (sym (with_logged-nothing files.all files.log))
-
--- a piece after another
-filed_twice : (known : Option Files) (first second : List ℕ)
-    → option_map (after_log second) (option_map (after_log first) known) ≡ option_map (after_log (first ++ second)) known
-filed_twice None first second = refl
-filed_twice (Some files) first second =
-    ap (λ (all : List File). Some (record files { all = all })) (with_logged-twice files.all files.log first second)
 
 -- what is logged after a file that was made for the log
 filed_after_made : (known : Option Files) (name bytes : List ℕ)
@@ -57,28 +26,6 @@ filed_after_made : (known : Option Files) (name bytes : List ℕ)
 filed_after_made None name bytes = refl
 filed_after_made (Some files) name bytes =
     ap (λ (all : List File). Some (record { all = all; log = Some name })) (with_more-with_file files.all name [] bytes)
-
--- neither the log nor the files changed
-pub takes_nothing : (old new : Outside) → new.logged ≡ old.logged → new.files ≡ old.files → LogTakes old new
-takes_nothing old new logged files = record {
-  bytes = [];
-  logged = logged ∙ appended_empty old.logged;
-  filed = files ∙ filed_nothing old.files;
-}
-
-pub takes_self : (a : Outside) → LogTakes a a
-takes_self a = takes_nothing a a refl refl
-
-pub takes_then : (a b c : Outside) → LogTakes a b → LogTakes b c → LogTakes a c
-takes_then a b c f g = record {
-  bytes = f.bytes ++ g.bytes;
-  logged = g.logged ∙ (ap (λ known. appended known g.bytes) f.logged ∙ appended_twice a.logged f.bytes g.bytes);
-  filed = g.filed ∙ (ap (λ known. option_map (after_log g.bytes) known) f.filed ∙ filed_twice a.files f.bytes g.bytes);
-}
-
--- a line was read, and then the log took some bytes
-pub takes_after_reading : (a b c d : Outside) → LogTakes a b → OnlyReads b c → LogTakes c d → LogTakes a d
-takes_after_reading a b c d f reads g = takes_then a b d f (takes_then b c d (takes_nothing b c reads.logged reads.files) g)
 
 -- all that was logged after a file that was made for the log
 pub in_file : (name : List ℕ) (old made new : Outside) → made.logged ≡ old.logged → made.files ≡ option_map (made_for_log name) old.files
@@ -98,11 +45,11 @@ logs_into_then_reported name old mid new (inl r) o = inl (in_file_then_reported 
 logs_into_then_reported name old mid new (inr r) o = inr (record { logged = o.logged ∙ r.logged; files = o.files ∙ r.files })
 
 -- a script that is not there
-missing_status : (status : ℕ) (ends : Ending) → status ≡ status_of ends → (ends ≡ ending.ReadFailed) ⊎ (ends ≡ ending.OutOfMemory) → (status ≡ 3) ⊎ (status ≡ 8)
-missing_status status ends is (inl read) = inl (is ∙ ap status_of read)
-missing_status status ends is (inr memory) = inr (is ∙ ap status_of memory)
+missing_status : (status : ℕ) (ends : Ending) → status ≡ status_of_ending ends → (ends ≡ Err stop.ReadFailed) ⊎ (ends ≡ Err stop.OutOfMemory) → (status ≡ 3) ⊎ (status ≡ 8)
+missing_status status ends is (inl read) = inl (is ∙ ap status_of_ending read)
+missing_status status ends is (inr memory) = inr (is ∙ ap status_of_ending memory)
 
-pub missing_then_reported : (status : ℕ) (ends : Ending) (old mid new : Outside) → status ≡ status_of ends → (ends ≡ ending.ReadFailed) ⊎ (ends ≡ ending.OutOfMemory)
+pub missing_then_reported : (status : ℕ) (ends : Ending) (old mid new : Outside) → status ≡ status_of_ending ends → (ends ≡ Err stop.ReadFailed) ⊎ (ends ≡ Err stop.OutOfMemory)
     → IsUnbegun old mid → mid.files ≡ old.files → OnlyReports mid new → IsUnopened status old new × IsUnlogged old new
 missing_then_reported status ends old mid new is why unbegun files o = (
   (missing_status status ends is why, o.printed ∙ unbegun.printed),
@@ -117,12 +64,12 @@ file_named-with_file (f ∷ fs) name bytes = grind (arith, file_named-with_file 
 same_piece : (before first second : List ℕ) → appended (Some before) first ≡ appended (Some before) second → first ≡ second
 same_piece before first second e = append_cancel_left before first second (let same : before ++ first ≡ before ++ second = cc in same)
 
--- what a whole run leaves in the file of the log, where the files and what was logged are told
+-- what a whole run leaves in the file of the log, where the files and what was logged are known
 pub log_in_its_file : (log script : List ℕ) (status : ℕ) (old new : Outside) → RunsScript log script status old new
     → is_input_verdict status ≡ true → (files : Files) → old.files ≡ Some files → (before : List ℕ) → old.logged ≡ Some before
     → (bytes : List ℕ) → old.text script ≡ Some bytes → HoldsLog log bytes files new
 log_in_its_file log script status old new r whole files known before logged bytes e =
-    let ran = (r.ran whole bytes e).ran in
+    let ran = (r.ran whole bytes e).ran.whole in
     let filed = r.in_file whole in
     let same : filed.bytes ≡ log_bytes ran.history = same_piece before filed.bytes (log_bytes ran.history)
     (ap (λ o. appended o filed.bytes) (sym logged) ∙ (sym filed.logged ∙ (ran.logged ∙ ap (λ o. appended o (log_bytes ran.history)) logged))) in

@@ -1,95 +1,75 @@
 -- What the program does, by what its words ask for. In the files of the outside a script, a log to read and a text are
 -- found by their names; `-` is standard input.
 use Rattle.std.specs.Prelude.{ℕ, ◌≡◌, ◌≢◌, ◌⊎◌, true, codes, Option, Some, None, List, [], ◌∷◌, refl}
-use Rattle.mps_base.specs.Desk.{Outside, OnlyReports}
+use Rattle.mps_base.specs.Desk.{Outside}
 use Rattle.mps_report.specs.declared.stop.Stop.TheVariants as stop
-use Rattle.mps_report.specs.Reports.{report_of}
-use Rattle.mps_report.specs.Streams.{Prints, Reports as ReportsText}
+use Rattle.mps_report.specs.Reports.{report_of, ReportsStatus}
+use Rattle.mps_report.specs.Streams.{Prints, Reports}
+use Rattle.mps_log_reader.specs.BadLog.{text_of_bad_log}
 use Rattle.mps_log_reader.specs.Causes.{StatusIsJustified}
-use Rattle.mps_report.specs.Reports.{ReportsStatus}
 use Rattle.mps_log_reader.specs.Ending.{IsUnopened, is_input_verdict}
 use Rattle.mps_log_reader.specs.Opening.{OpensNothing}
-use Rattle.mps_blocks.specs.Listed.{ListedWith, IsOnly as IsOnlyList, ListsPart}
+use Rattle.mps_blocks.specs.BadReplay.{text_of_bad_replay}
+use Rattle.mps_blocks.specs.Listed.{ListedWith, IsUnique as IsUniqueList, ListsPart}
+use Rattle.mps_txt.specs.BadTextLine.{text_of_bad_line as text_of_bad_text_line}
 use Rattle.mps_txt.specs.Text.{ReadWith, IsCutShort as IsCutShortText, IsUnique as IsUniqueReading}
 use Rattle.mps_cnv.specs.Converted.{ConvertedWith, ConvertsUntilReadFault, ConvertsUntilWriteFault, IsUnique as IsUniqueConversion}
 use Rattle.mps_workload.specs.Ending.{FailsWithin}
 use Rattle.mps_workload.specs.Script.{script as generated_script}
 use Rattle.mps_args.specs.Meaning.{Meaning, Runs, Converts, Reads, Lists, Generates}
 use Rattle.mps_args.specs.Words.{meaning}
-use Rattle.mps_cli.specs.Ending.{IsReported, Reports}
-use Rattle.mps_cli.specs.Leaving.{LeavesWith}
-use Rattle.mps_cli.specs.LogFile.{IsInFile, IsUnlogged, LogsInto}
-use Rattle.mps_cli.specs.Script.{Answered, RanWith}
-use Rattle.mps_cli.specs.declared.ending.Ending.TheVariants.{NoMeaning}
+use Rattle.mps_cli.specs.Ending.{usage}
+use Rattle.mps_cli.specs.LogFile.{IsInFile}
+use Rattle.mps_cli.specs.Run.{RunsScript}
+use Rattle.mps_cli.specs.Script.{RanWith}
 
 -- only the line of the usage was reported, and nothing else happened
-pub record TellsUsage (old new : Outside) : Type 0 where
-  pub reported : Reports NoMeaning old new
-  pub others : OnlyReports old new
-
--- `run`
-pub record RunsScript (log script : List ℕ) (status : ℕ) (old new : Outside) : Type 0 where
-  -- one line is reported, which tells of the ending that has this status; where the status is 0, none
-  pub reported : IsReported status old new
-  -- A whole run of a script that the desk tells: there is a history of its commands, each with its line, up to the end or
-  -- to the line that is reported. It is legal, and a command is `unsupported` exactly where it isn't built. What
-  -- was printed is the answer line of each step and nothing else; what was logged is the header and the records of that
-  -- history, and replaying them gives the live blocks of the world after it.
-  pub ran : is_input_verdict status ≡ true → (bytes : List ℕ) → old.text script ≡ Some bytes → RanWith status bytes old new
-  -- Where printing didn't fail, what was printed is in any case the answer line of each step of a history of the first
-  -- lines, and nothing else.
-  pub answered : status ≢ 4 → (bytes : List ℕ) → old.text script ≡ Some bytes → Answered bytes old new
-  -- With any status: what was printed and logged is that of the first lines, whose commands were answered. Where the log or
-  -- printing failed, there may be a part of the next command after them: a prefix of its records, or all of them and the
-  -- front of its answer.
-  pub leaves : (bytes : List ℕ) → old.text script ≡ Some bytes → LeavesWith status bytes old new
-  -- what was logged is exactly what the log's file holds, and no other file has changed
-  pub in_file : is_input_verdict status ≡ true → IsInFile log old new
-  -- that holds with any status, unless nothing was logged and no file has changed
-  pub filed : LogsInto log old new
-  -- a script that is not there is not run: nothing is printed or logged, and no file changes
-  pub missing : OpensNothing old script → IsUnopened status old new × IsUnlogged old new
+abbrev pub ReportsUsage : (old new : Outside) → Type 0
+ReportsUsage old new = Reports old new usage
 
 -- `cnv`
 pub record ConvertsLog (log : List ℕ) (kinds : ℕ) (status : ℕ) (old new : Outside) : Type 0 where
-  pub answers : StatusIsJustified old new status
-  -- a log that the desk tells: the portable text of its records of these kinds was printed, up to the end or to the fault
+  -- the status is one of a reader, and blames a side only where the count of its faults rose; the log and the files stay
+  pub justified : StatusIsJustified old new status
+  -- a log that the desk knows: the portable text of its records of these kinds was printed, up to the end or to the fault
   -- that is reported
   pub converted : is_input_verdict status ≡ true → (bytes : List ℕ) → old.text log ≡ Some bytes → ConvertedWith kinds bytes status old new
   -- and nothing else
-  pub only : is_input_verdict status ≡ true → (bytes : List ℕ) → old.text log ≡ Some bytes → IsUniqueConversion kinds bytes status old new
+  pub unique : is_input_verdict status ≡ true → (bytes : List ℕ) → old.text log ≡ Some bytes → IsUniqueConversion kinds bytes status old new
   -- where a read failed, the text of the whole records that had come was printed; a prefix of that, where a write failed too
   pub broken : status ≡ 3 → (bytes : List ℕ) → old.text log ≡ Some bytes → ConvertsUntilReadFault kinds bytes old new
   -- a log that is not there is not read, and nothing is printed
   pub missing : OpensNothing old log → IsUnopened status old new
-  -- memory runs out only before anything else happens
-  pub no_memory : status ≡ 8 → ReportsText old new (report_of stop.OutOfMemory)
-  -- where a write failed, a front of the text was printed
+  -- out of memory comes only before anything else happens
+  pub no_memory : status ≡ 8 → Reports old new (report_of text_of_bad_log stop.OutOfMemory)
+  -- where a write failed, a prefix of the text was printed
   pub cut : status ≡ 4 → (bytes : List ℕ) → old.text log ≡ Some bytes → ConvertsUntilWriteFault kinds bytes old new
   -- just the ending that has this status is reported
-  pub reported : ReportsStatus status old new
+  pub reported : ReportsStatus text_of_bad_log status old new
 
 -- `txt`
 pub record ReadsText (text : List ℕ) (status : ℕ) (old new : Outside) : Type 0 where
-  pub answers : StatusIsJustified old new status
-  -- a text that the desk tells: its readable text was printed, line by line, up to the end or to the line that is reported
-  pub readable : (bytes : List ℕ) → old.text text ≡ Some bytes → ReadWith bytes status old new
+  -- the status is one of a reader, and blames a side only where the count of its faults rose; the log and the files stay
+  pub justified : StatusIsJustified old new status
+  -- a text that the desk knows: its readable text was printed, line by line, up to the end or to the line that is reported
+  pub sound : (bytes : List ℕ) → old.text text ≡ Some bytes → ReadWith bytes status old new
   -- and nothing else
-  pub only : is_input_verdict status ≡ true → (bytes : List ℕ) → old.text text ≡ Some bytes → IsUniqueReading bytes status old new
-  -- where a write failed, a prefix of the readable text of some lines at a prefix of the text was printed
+  pub unique : is_input_verdict status ≡ true → (bytes : List ℕ) → old.text text ≡ Some bytes → IsUniqueReading bytes status old new
+  -- where a write failed, a prefix of the readable text of the first lines was printed
   pub cut : status ≡ 4 → (bytes : List ℕ) → old.text text ≡ Some bytes → IsCutShortText bytes old new
   -- a text that is not there is not read, and nothing is printed
   pub missing : OpensNothing old text → IsUnopened status old new
   -- just the ending that has this status is reported
-  pub reported : ReportsStatus status old new
+  pub reported : ReportsStatus text_of_bad_text_line status old new
 
 -- `blocks`
 pub record ListsBlocks (log : List ℕ) (status : ℕ) (old new : Outside) : Type 0 where
-  pub answers : StatusIsJustified old new status
-  -- a log that the desk tells: the blocks that its replay leaves live were printed, or nothing and the fault is reported
+  -- the status is one of a reader, and blames a side only where the count of its faults rose; the log and the files stay
+  pub justified : StatusIsJustified old new status
+  -- a log that the desk knows: the blocks that its replay leaves live were printed, or nothing and the fault is reported
   pub listed : is_input_verdict status ≡ true → (bytes : List ℕ) → old.text log ≡ Some bytes → ListedWith bytes status old new
   -- and nothing else
-  pub only : is_input_verdict status ≡ true → (bytes : List ℕ) → old.text log ≡ Some bytes → IsOnlyList bytes status old new
+  pub unique : is_input_verdict status ≡ true → (bytes : List ℕ) → old.text log ≡ Some bytes → IsUniqueList bytes status old new
   -- nothing is printed before all was read and replayed
   pub silent : status ≢ 0 → status ≢ 4 → new.printed ≡ old.printed
   -- where a write failed, a prefix of the list was printed
@@ -97,21 +77,21 @@ pub record ListsBlocks (log : List ℕ) (status : ℕ) (old new : Outside) : Typ
   -- a log that is not there is not read, and nothing is printed
   pub missing : OpensNothing old log → IsUnopened status old new
   -- just the ending that has this status is reported
-  pub reported : ReportsStatus status old new
+  pub reported : ReportsStatus text_of_bad_replay status old new
 
 -- `gen`
 pub record GeneratesScript (seed count : ℕ) (status : ℕ) (old new : Outside) : Type 0 where
-  pub known : (status ≡ 0) ⊎ (status ≡ 4) ⊎ (status ≡ 8)
+  pub statuses : (status ≡ 0) ⊎ (status ≡ 4) ⊎ (status ≡ 8)
   -- all of the script was printed, and nothing else happened
   pub whole : status ≡ 0 → Prints old new (generated_script seed count)
   -- a prefix of the script was printed, a write failed, and that was reported
-  pub failed : status ≡ 4 → FailsWithin old new (generated_script seed count)
-  -- only the out of memory was reported
-  pub no_memory : status ≡ 8 → ReportsText old new (report_of stop.OutOfMemory)
+  pub cut : status ≡ 4 → FailsWithin old new (generated_script seed count)
+  -- only that there is no memory was reported
+  pub no_memory : status ≡ 8 → Reports old new (codes "mps: out of memory\n")
 
 -- what is done with a status, by what the words ask for
 abbrev pub DoesAsAsked : Option Meaning → (status : ℕ) → (old new : Outside) → Type 0
-DoesAsAsked None status old new = TellsUsage old new
+DoesAsAsked None status old new = ReportsUsage old new
 DoesAsAsked (Some (Runs log script)) status old new = RunsScript log script status old new
 DoesAsAsked (Some (Converts log kinds)) status old new = ConvertsLog log kinds status old new
 DoesAsAsked (Some (Reads text)) status old new = ReadsText text status old new

@@ -1,43 +1,33 @@
--- How a run ends: its status, what is reported of it, and the fault that is its cause.
-use Rattle.std.specs.Prelude.{ℕ, ◌≡◌, ◌≤◌, codes, decimal, List, [], ◌++◌, refl}
+-- How a run ends, what is reported of it, and the fault that is its cause.
+use Rattle.std.specs.Prelude.{ℕ, ◌≡◌, ◌≤◌, Bool, codes, decimal, Result, Ok, Err, List, ◌++◌, refl}
 use Rattle.std.specs.Fmt.{digits}
-use Rattle.mps_base.specs.Desk.{Outside, HasRisen}
-use Rattle.mps_cli.specs.Write.{appended}
-use Rattle.mps_cli.specs.declared.ending.Ending.{Ending}
-use Rattle.mps_cli.specs.declared.ending.Ending.TheVariants.{Done, NoMeaning, ReadFailed, WriteFailed, LogFailed, BadLine, TooLong, OutOfMemory}
+use Rattle.mps_base.specs.Desk.{Outside}
+use Rattle.mps_report.specs.declared.stop.Stop.{Stop}
+use Rattle.mps_report.specs.Causes.{CauseOf}
+use Rattle.mps_report.specs.Reports.{status_of_ending}
+use Rattle.mps_log_reader.specs.Ending.{is_input_verdict}
+use Rattle.mps_cli.specs.declared.bad_script_line.BadScriptLine.{BadScriptLine}
 
--- the status of the process
-abbrev pub status_of : Ending → ℕ
-status_of Done = 0
-status_of NoMeaning = 2
-status_of ReadFailed = 3
-status_of WriteFailed = 4
-status_of LogFailed = 5
-status_of (BadLine line) = 6
-status_of TooLong = 7
-status_of OutOfMemory = 8
+-- a run was done, or it stopped
+abbrev pub Ending : Type 0
+Ending = Result (Unit {0}) (Stop BadScriptLine)
 
--- the line that is reported
-abbrev pub report_of : Ending → List ℕ
-report_of Done = []
-report_of NoMeaning = codes "mps: usage: run, cnv, txt, blocks or gen\n"
-report_of ReadFailed = codes "mps: read failed\n"
-report_of WriteFailed = codes "mps: write failed\n"
-report_of LogFailed = codes "mps: log failed\n"
-report_of (BadLine line) = codes "mps: script line " ++ (decimal line ++ codes ": bad line\n")
-report_of TooLong = codes "mps: too long\n"
-report_of OutOfMemory = codes "mps: out of memory\n"
+-- what is reported of a bad line
+abbrev pub text_of_bad_line : BadScriptLine → List ℕ
+text_of_bad_line bad = codes "mps: script line " ++ (decimal bad.line ++ codes ": bad line\n")
 
--- where an ending tells of a fault, the count of that side rose
-abbrev pub HasCause : Ending → Outside → Outside → Type 0
-HasCause Done old new = Unit {0}
-HasCause NoMeaning old new = Unit {0}
-HasCause ReadFailed old new = HasRisen old.in_faults new.in_faults
-HasCause WriteFailed old new = HasRisen old.out_faults new.out_faults
-HasCause LogFailed old new = HasRisen old.log_faults new.log_faults
-HasCause (BadLine line) old new = Unit {0}
-HasCause TooLong old new = Unit {0}
-HasCause OutOfMemory old new = Unit {0}
+-- what is reported of words without a meaning
+abbrev pub usage : List ℕ
+usage = codes "mps: usage: run, cnv, txt, blocks or gen\n"
+
+-- where an ending blames a side of the outside, the count of the faults of that side rose
+abbrev pub HasCause : Ending → (old new : Outside) → Type 0
+HasCause (Ok done) old new = Unit {0}
+HasCause (Err why) old new = CauseOf old new why
+
+-- no call of the desk failed and there was memory: the input was read to its end, or to a line at which a run ends
+abbrev pub is_verdict : Ending → Bool
+is_verdict ending = is_input_verdict (status_of_ending ending)
 
 -- no count of faults fell
 pub record CountsGrow (old new : Outside) : Type 0 where
@@ -46,21 +36,12 @@ pub record CountsGrow (old new : Outside) : Type 0 where
   pub out_faults : old.out_faults ≤ new.out_faults
   pub err_faults : old.err_faults ≤ new.err_faults
 
--- nothing was reported
-pub record IsQuiet (old new : Outside) : Type 0 where
+-- a part of a run: no count of faults fell, and nothing was reported
+pub record RunsOn (old new : Outside) : Type 0 where
+  pub counts : CountsGrow old new
   pub reported : new.reported ≡ old.reported
   pub err_faults : new.err_faults ≡ old.err_faults
 
--- what was reported is what stood there before and then the line of this ending, where no call of reporting failed
-abbrev pub Reports : Ending → Outside → Outside → Type 0
-Reports ends old new = ¬ HasRisen old.err_faults new.err_faults → new.reported ≡ appended old.reported (report_of ends)
-
--- the status is that of an ending, and its line is reported
-pub record IsReported (status : ℕ) (old new : Outside) : Type 0 where
-  pub ends : Ending
-  pub status_is : status ≡ status_of ends
-  pub reported : Reports ends old new
-
-pub a_bad_line_is_known : report_of (BadLine 12) ≡ codes "mps: script line 12: bad line\n"
+pub a_bad_line_is_known : text_of_bad_line (record { line = 12 }) ≡ codes "mps: script line 12: bad line\n"
 unfolding digits
 a_bad_line_is_known = refl

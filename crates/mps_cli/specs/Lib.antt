@@ -1,8 +1,8 @@
 pub mod Asked
 pub mod Ending
-pub mod Write
 pub mod LogFile
 pub mod Buffer
 pub mod Records
+pub mod Run
 pub mod Script
 pub mod Leaving

@@ -5,7 +5,7 @@ use Rattle.mps_base.specs.Desk.{Outside, Files, file_named, with_file}
 use Rattle.mps_model.specs.Step.{History}
 use Rattle.mps_model.specs.Log.{log_bytes}
 use Rattle.mps_cli.specs.Script.{HasRun}
-use Rattle.mps_cli.specs.Write.{appended}
+use Rattle.mps_report.specs.Streams.{appended}
 
 -- the files, with exactly these bytes in the file of this name, to which the log goes
 abbrev pub with_log : (name bytes : List ℕ) → Files → Files

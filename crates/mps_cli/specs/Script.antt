@@ -2,13 +2,14 @@
 use Rattle.std.specs.Prelude.{ℕ, ◌≡◌, ◌↔◌, ◌+◌, ◌<◌, IsTrue, Bool, true, false, Option, Some, None, Result, Ok, Err, List, [], ◌∷◌, ◌++◌, map, length, take, drop, codes, refl}
 use Rattle.std.specs.List.{flat_map, list_all}
 use Rattle.mps_base.specs.Desk.{Outside, HasRisen}
-use Rattle.mps_base.specs.Record.{records_bytes}
+use Rattle.mps_base.specs.Record.{records_bytes, header_bytes}
+use Rattle.mps_base.specs.Address.{last_u32}
 use Rattle.mps_model.specs.declared.call.Call.{Call}
 use Rattle.mps_model.specs.declared.call.Call.TheVariants as call
 use Rattle.mps_model.specs.declared.reply.Reply.TheVariants as reply
-use Rattle.mps_model.specs.Answer.{Answer, Replied, Dumped}
+use Rattle.mps_model.specs.Answer.{Replied}
 use Rattle.mps_model.specs.Step.{Step, History}
-use Rattle.mps_model.specs.Log.{log_of, log_from, log_bytes, pools_made}
+use Rattle.mps_model.specs.Log.{log_of, log_from, pools_made}
 use Rattle.mps_model.specs.World.{World, empty_world}
 use Rattle.mps_model.specs.Replay.{replay, replay_from}
 use Rattle.mps_model.specs.History.{IsLegalFrom, IsLegalHistory, world_after, world_after_steps, world_after_history, live_blocks}
@@ -18,25 +19,24 @@ use Rattle.mps_first_heap.specs.Unsupported.{is_unsupported_call}
 use Rattle.mps_model.specs.Text.{line_of_answer}
 use Rattle.mps_script.specs.declared.line.BadLine.{BadLine}
 use Rattle.mps_script.specs.Line.{call_of_line, lines_of}
-use Rattle.mps_script.specs.Text.{text_of}
-use Rattle.mps_cli.specs.Write.{appended}
-use Rattle.mps_cli.specs.Ending.{status_of, Reports}
-use Rattle.mps_cli.specs.declared.ending.Ending.{Ending}
-use Rattle.mps_cli.specs.declared.ending.Ending.TheVariants as ending
+use Rattle.mps_report.specs.Streams.{appended}
+use Rattle.mps_report.specs.declared.stop.Stop.TheVariants as stop
+use Rattle.mps_report.specs.Reports.{status_of_ending, HasReportedEnding}
+use Rattle.mps_cli.specs.Ending.{Ending, text_of_bad_line}
 
 -- a command: its line in the script, counted from 1, and its call
-pub record Command : Type 0 where
+pub record ScriptCommand : Type 0 where
   pub line : ℕ
   pub call : Call
 
 -- the command of one line, where it has one
-abbrev pub commands_of_call : (line : ℕ) → Result (Option Call) BadLine → List Command
+abbrev pub commands_of_call : (line : ℕ) → Result (Option Call) BadLine → List ScriptCommand
 commands_of_call line (Ok (Some c)) = record { line = line; call = c } ∷ []
 commands_of_call line (Ok None) = []
 commands_of_call line (Err bad) = []
 
 -- the commands of lines, of which the first has this number
-abbrev pub commands_from : (line : ℕ) → List (List ℕ) → List Command
+abbrev pub commands_from : (line : ℕ) → List (List ℕ) → List ScriptCommand
 commands_from line [] = []
 commands_from line (l ∷ ls) = commands_of_call line (call_of_line l) ++ commands_from (line + 1) ls
 
@@ -49,51 +49,35 @@ abbrev pub is_good : List ℕ → Bool
 is_good line = is_grammatical (call_of_line line)
 
 -- the commands that a history answers
-abbrev pub command_of_step : Step → Command
+abbrev pub command_of_step : Step → ScriptCommand
 command_of_step s = record { line = s.line; call = s.call }
 
-abbrev pub commands_of : History → List Command
+abbrev pub commands_of : History → List ScriptCommand
 commands_of history = map command_of_step history
-
--- what is printed for an answer
-abbrev pub text_of_answer : Answer → List ℕ
-text_of_answer (Replied r) = text_of r
-text_of_answer (Dumped words) = line_of_answer (Dumped words)
 
 -- what is printed for a history: the answer line of each step, in order
 abbrev pub answers_of : History → List ℕ
-answers_of history = flat_map (λ (s : Step). text_of_answer s.answer) history
+answers_of history = flat_map (λ (s : Step). line_of_answer s.answer) history
 
 -- a command is answered `unsupported` exactly where that is said of it, in the world before it
-abbrev pub IsUnsupportedWhereDue : World → Step → Type 0
-IsUnsupportedWhereDue w s = (s.answer ≡ Replied reply.Unsupported) ↔ IsTrue (is_unsupported_call w s.call)
+abbrev pub IsStepUnsupportedWhereDue : World → Step → Type 0
+IsStepUnsupportedWhereDue w s = (s.answer ≡ Replied reply.Unsupported) ↔ IsTrue (is_unsupported_call w s.call)
 
 -- so are all commands of a history, from a world on
 abbrev pub AreUnsupportedWhereDue : World → History → Type 0
 AreUnsupportedWhereDue w [] = Unit {0}
-AreUnsupportedWhereDue w (s ∷ ss) = IsUnsupportedWhereDue w s × AreUnsupportedWhereDue (world_after w s) ss
+AreUnsupportedWhereDue w (s ∷ ss) = IsStepUnsupportedWhereDue w s × AreUnsupportedWhereDue (world_after w s) ss
+
+-- the most lines of a script that a run answers
+abbrev pub max_lines : ℕ
+max_lines = last_u32
 
 -- where the run ends, after n lines and with these after them
-abbrev pub EndsAt : Ending → (lines : ℕ) → (later : List (List ℕ)) → Type 0
-EndsAt ending.Done lines later = later ≡ []
-EndsAt (ending.BadLine line) lines later = (line ≡ lines + 1) × (list_all is_good (take 1 later) ≡ false)
-EndsAt ending.TooLong lines later = (lines ≡ 4294967295) × (0 < length later)
-EndsAt ending.NoMeaning lines later = ⊥
-EndsAt ending.ReadFailed lines later = ⊥
-EndsAt ending.WriteFailed lines later = ⊥
-EndsAt ending.LogFailed lines later = ⊥
-EndsAt ending.OutOfMemory lines later = ⊥
-
--- no call of the desk failed and memory wasn't wanting: the input was read to its end, or to a line at which a run ends
-abbrev pub is_whole : Ending → Bool
-is_whole ending.Done = true
-is_whole (ending.BadLine line) = true
-is_whole ending.TooLong = true
-is_whole ending.NoMeaning = false
-is_whole ending.ReadFailed = false
-is_whole ending.WriteFailed = false
-is_whole ending.LogFailed = false
-is_whole ending.OutOfMemory = false
+abbrev pub RunEndsAt : Ending → (lines : ℕ) → (later : List (List ℕ)) → Type 0
+RunEndsAt (Ok done) lines later = later ≡ []
+RunEndsAt (Err (stop.Bad bad)) lines later = (bad.line ≡ lines + 1) × (list_all is_good (take 1 later) ≡ false)
+RunEndsAt (Err stop.TooLong) lines later = (lines ≡ max_lines) × (0 < length later)
+RunEndsAt ending lines later = ⊥
 
 -- the lines up to some line were read and answered
 pub record HasRun (script : List ℕ) (lines : ℕ) (history : History) : Type 0 where
@@ -110,25 +94,26 @@ pub record HasRun (script : List ℕ) (lines : ℕ) (history : History) : Type 0
 
 -- steps were made that answer these commands: what was printed is the answer line of each and nothing else, and what was
 -- logged is their records and nothing else
-pub record StepsRan (commands : List Command) (before after : HeapState) (pools_before pools_after : ℕ) (old new : Outside) : Type 0 where
+pub record StepsRan (commands : List ScriptCommand) (before after : HeapState) (old new : Outside) : Type 0 where
   pub steps : History
   -- in each world for which the heap stood they are legal and `unsupported` where that is due, the heap stands for the world
-  -- after them, and their records tell which blocks are live
+  -- after them, and their records give the live blocks and number the pools
   pub legal : (w : World) → StandsFor before w → IsLegalFrom w steps
   pub unsupported : (w : World) → StandsFor before w → AreUnsupportedWhereDue w steps
   pub stands : (w : World) → StandsFor before w → StandsFor after (world_after_steps w steps)
   pub replayed : (w : World) (pools : ℕ) → StandsFor before w
       → replay_from (live_blocks w) (log_from pools steps) ≡ Some (live_blocks (world_after_steps w steps))
+  pub pools : (w : World) → StandsFor before w → length (world_after_steps w steps).pools ≡ length w.pools + pools_made steps
+  pub logged : (w : World) → StandsFor before w
+      → new.logged ≡ appended old.logged (records_bytes (log_from (length w.pools) steps))
   pub answers : commands_of steps ≡ commands
   pub printed : new.printed ≡ appended old.printed (answers_of steps)
-  pub logged : new.logged ≡ appended old.logged (records_bytes (log_from pools_before steps))
-  pub pools : pools_after ≡ pools_before + pools_made steps
   pub input : new.input ≡ old.input
 
 -- nothing was printed or logged, and the line is bad
 pub record IsBadHere (bytes : List ℕ) (line : ℕ) (ends : Ending) (old new : Outside) : Type 0 where
   pub bad : is_good bytes ≡ false
-  pub is_end : ends ≡ ending.BadLine line
+  pub is_end : ends ≡ Err (stop.Bad (record { line = line }))
   pub printed : new.printed ≡ old.printed
   pub logged : new.logged ≡ old.logged
 
@@ -140,24 +125,47 @@ pub record Answered (script : List ℕ) (old new : Outside) : Type 0 where
   pub run : HasRun script lines history
   pub printed : new.printed ≡ appended old.printed (answers_of history)
 
--- the lines of a script were run to their end, or to the line at which the run ended
-pub record RanLines (ends : Ending) (script : List ℕ) (old new : Outside) : Type 0 where
-  pub history : History
-  pub lines : ℕ
-  pub run : HasRun script lines history
-  pub printed : new.printed ≡ appended old.printed (answers_of history)
-  pub logged : new.logged ≡ appended old.logged (records_bytes (log_of history))
-  pub ends_at : EndsAt ends lines (drop lines (lines_of script))
+-- the header of a log of version 1
+abbrev pub log_header : List ℕ
+log_header = header_bytes 1
 
--- the same of a whole run, whose log has its header in front: what was printed is what stood printed before and then the
--- answer of each step, and nothing else
-pub record RanTo (ends : Ending) (script : List ℕ) (old new : Outside) : Type 0 where
+-- the commands of the first lines were answered, and of others nothing was printed or logged; this stands in the log before
+-- their records
+pub record LeavesWhole (header script : List ℕ) (old new : Outside) : Type 0 where
   pub history : History
   pub lines : ℕ
   pub run : HasRun script lines history
   pub printed : new.printed ≡ appended old.printed (answers_of history)
-  pub logged : new.logged ≡ appended old.logged (log_bytes history)
-  pub ends_at : EndsAt ends lines (drop lines (lines_of script))
+  pub logged : new.logged ≡ appended old.logged (header ++ records_bytes (log_of history))
+
+-- the lines of a script were run to their end, or to the line at which the run ended
+pub record RanTo (ends : Ending) (header script : List ℕ) (old new : Outside) : Type 0 where
+  pub whole : LeavesWhole header script old new
+  pub ends_at : RunEndsAt ends whole.lines (drop whole.lines (lines_of script))
+
+-- what was to be logged was logged, and the answer was printed
+pub record LogsAndPrints (records answer : List ℕ) (old new : Outside) : Type 0 where
+  pub logged : new.logged ≡ appended old.logged records
+  pub printed : new.printed ≡ appended old.printed answer
+
+-- a prefix of what was to be logged was logged, and nothing was printed
+pub record LogsNotAll (records : List ℕ) (old new : Outside) : Type 0 where
+  pub printed : new.printed ≡ old.printed
+  pub count : ℕ
+  pub logged : new.logged ≡ appended old.logged (take count records)
+
+-- all that was to be logged was logged, and a prefix of the answer was printed
+pub record PrintsNotAll (records answer : List ℕ) (old new : Outside) : Type 0 where
+  pub logged : new.logged ≡ appended old.logged records
+  pub count : ℕ
+  pub printed : new.printed ≡ appended old.printed (take count answer)
+
+-- records are logged, and then an answer is printed
+abbrev pub LogsThenPrints : (records answer : List ℕ) → Ending → (old new : Outside) → Type 0
+LogsThenPrints records answer (Ok done) old new = LogsAndPrints records answer old new
+LogsThenPrints records answer (Err stop.LogFailed) old new = LogsNotAll records old new
+LogsThenPrints records answer (Err stop.WriteFailed) old new = PrintsNotAll records answer old new
+LogsThenPrints records answer ending old new = ⊥
 
 pub a_comment_has_no_command : commands_from 1 (codes "# x" ∷ codes "foo" ∷ []) ≡ record { line = 2; call = call.Other } ∷ []
 a_comment_has_no_command = refl
@@ -166,9 +174,9 @@ a_comment_has_no_command = refl
 -- reported tells where it ended
 pub record RanWith (status : ℕ) (script : List ℕ) (old new : Outside) : Type 0 where
   pub ends : Ending
-  pub status_is : status ≡ status_of ends
-  pub ran : RanTo ends script old new
-  pub reported : Reports ends old new
+  pub status_is : status ≡ status_of_ending ends
+  pub ran : RanTo ends (log_header) script old new
+  pub reported : HasReportedEnding text_of_bad_line ends old new
 
 -- no count of faults rose: of reading, of printing, of the log
 pub record NoFaultRose (old new : Outside) : Type 0 where

@@ -1,67 +1,57 @@
 // The records of a command.
-ghost use Rattle.std.specs.Prelude.{◌≡◌, ◌≤◌, ◌<◌, length, take, OnOk, OnErr};
-ghost use Rattle.mps_base.specs.Desk.{HasRisen, OnlyLogs};
-ghost use Rattle.mps_base.specs.Record.{record_bytes, records_bytes, header_bytes};
+ghost use Rattle.std.specs.Prelude.{◌≡◌, ◌≤◌, length, take, OnOk, OnErr};
+ghost use Rattle.mps_base.specs.Record.{record_bytes, records_bytes};
 ghost use Rattle.mps_event.specs.Grammar.{AreFields};
 ghost use Rattle.mps_event.specs.Event.{code_of};
 ghost use Rattle.mps_event.specs.declared.version.Version.TheVariants.{One};
 ghost use Rattle.mps_model.specs.Log.{record_of, records_of_accepted, records_of_command};
 ghost use Rattle.mps_model.specs.Answer.{Replied};
-ghost use Rattle.mps_log_reader.specs.PutOut.{PutsPart};
-ghost use Rattle.mps_cli.specs.Write.{appended, LogTakes};
-ghost use Rattle.mps_cli.specs.Records.{records_of_done};
+ghost use Rattle.mps_cli.specs.Records.{pool_number as number_of_pool, records_of_done};
+ghost use Rattle.mps_cli.specs.Script.{log_header as header_of_log};
+ghost use Rattle.mps_report.specs.Streams.{Logs, LogsPart};
 
-use crate::write::log_all;
-use mps_base::{Desk, Failed, Move};
-use mps_event::{Event, MFS_NUMBER, MVFF_NUMBER, Version, header_of, kind_number, put};
+use mps_base::{Desk, Failed, Kind, Move};
+use mps_event::{Event, Version, header_of, put};
 use mps_first_heap::Done;
 use mps_model::{Call, Reply};
+use mps_report::log_all;
+
+/// The most bytes of a record with four fields, and room to spare.
+const MAX_RECORD_BYTES: usize = 64;
 
 /// Writes the header of a log.
 pub fn log_header<D: Desk>(desk: &mut D) -> Result<(), Failed>
-    ensures logged { OnOk result ((D.outside desk.new).logged ≡ appended (D.outside desk.old).logged (header_bytes 1)) }
-    ensures part { OnErr result (PutsPart (D.outside desk.old).logged (D.outside desk.new).logged
-        (header_bytes 1)) }
-    ensures takes { LogTakes (D.outside desk.old) (D.outside desk.new) }
-    ensures counted { (D.outside desk.old).log_faults ≤ (D.outside desk.new).log_faults }
-    ensures cause { OnErr result (HasRisen (D.outside desk.old).log_faults (D.outside desk.new).log_faults) }
-    ensures others { OnlyLogs (D.outside desk.old) (D.outside desk.new) }
+    ensures logged { OnOk result (Logs (D.outside desk.old) (D.outside desk.new) header_of_log) }
+    ensures failed { OnErr result (LogsPart (D.outside desk.old) (D.outside desk.new) header_of_log) }
 {
-    log_all(desk, &header_of(Version::One))
+    log_all(&header_of(Version::One), desk)
 }
 
-/// Writes the records of a command: that of its move, then its own. `pools` pools were made before it.
-pub fn log_records<D: Desk>(
-    desk: &mut D,
-    line: u32,
-    pools: u64,
-    call: &Call,
-    done: &Done,
-) -> Result<(), Failed>
-    ensures logged { OnOk result ((D.outside desk.new).logged
-        ≡ appended (D.outside desk.old).logged (records_bytes (records_of_done line pools call.now done.now))) }
-    ensures part { OnErr result (PutsPart (D.outside desk.old).logged (D.outside desk.new).logged
-        (records_bytes (records_of_done line pools call.now done.now))) }
-    ensures takes { LogTakes (D.outside desk.old) (D.outside desk.new) }
-    ensures counted { (D.outside desk.old).log_faults ≤ (D.outside desk.new).log_faults }
-    ensures cause { OnErr result (HasRisen (D.outside desk.old).log_faults (D.outside desk.new).log_faults) }
-    ensures others { OnlyLogs (D.outside desk.old) (D.outside desk.new) }
+/// Writes the records of a command: that of its move, then its own.
+pub fn log_records<D: Desk>(desk: &mut D, line: u32, call: &Call, done: &Done) -> Result<(), Failed>
+    ensures logged { OnOk result (Logs (D.outside desk.old) (D.outside desk.new) (records_bytes (records_of_done line call.now done.now))) }
+    ensures failed { OnErr result (LogsPart (D.outside desk.old) (D.outside desk.new) (records_bytes (records_of_done line call.now done.now))) }
 {
     if let Some(moved) = &done.moved {
         log_move(desk, line, moved)?;
     }
-    log_command(desk, line, pools, call, &done.reply)
+    log_command(desk, line, pool_number(done.pool), call, &done.reply)
 }
 
+/// The number of the pool that was made, 0 where none was.
+fn pool_number(pool: Option<u32>) -> u64
+    ensures { result ≡ number_of_pool pool }
+{
+    match pool {
+        Some(number) => u64::from(number),
+        None => 0,
+    }
+}
+
+/// Writes the record of a move.
 fn log_move<D: Desk>(desk: &mut D, line: u32, moved: &Move) -> Result<(), Failed>
-    ensures logged { OnOk result ((D.outside desk.new).logged
-        ≡ appended (D.outside desk.old).logged (record_bytes (record_of moved.now line))) }
-    ensures part { OnErr result (PutsPart (D.outside desk.old).logged (D.outside desk.new).logged
-        (record_bytes (record_of moved.now line))) }
-    ensures takes { LogTakes (D.outside desk.old) (D.outside desk.new) }
-    ensures counted { (D.outside desk.old).log_faults ≤ (D.outside desk.new).log_faults }
-    ensures cause { OnErr result (HasRisen (D.outside desk.old).log_faults (D.outside desk.new).log_faults) }
-    ensures others { OnlyLogs (D.outside desk.old) (D.outside desk.new) }
+    ensures logged { OnOk result (Logs (D.outside desk.old) (D.outside desk.new) (record_bytes (record_of moved.now line))) }
+    ensures failed { OnErr result (LogsPart (D.outside desk.old) (D.outside desk.new) (record_bytes (record_of moved.now line))) }
 {
     match *moved {
         Move::Seg {
@@ -109,37 +99,27 @@ fn log_move<D: Desk>(desk: &mut D, line: u32, moved: &Move) -> Result<(), Failed
     }
 }
 
+/// Writes the record that a command has by its reply. The number is that of the pool that it made.
 fn log_command<D: Desk>(
     desk: &mut D,
     line: u32,
-    pools: u64,
+    pool: u64,
     call: &Call,
     reply: &Reply,
 ) -> Result<(), Failed>
-    ensures logged { OnOk result ((D.outside desk.new).logged
-        ≡ appended (D.outside desk.old).logged (records_bytes (records_of_command pools call.now (Replied reply.now) line))) }
-    ensures part { OnErr result (PutsPart (D.outside desk.old).logged (D.outside desk.new).logged
-        (records_bytes (records_of_command pools call.now (Replied reply.now) line))) }
-    ensures takes { LogTakes (D.outside desk.old) (D.outside desk.new) }
-    ensures counted { (D.outside desk.old).log_faults ≤ (D.outside desk.new).log_faults }
-    ensures cause { OnErr result (HasRisen (D.outside desk.old).log_faults (D.outside desk.new).log_faults) }
-    ensures others { OnlyLogs (D.outside desk.old) (D.outside desk.new) }
+    ensures logged { OnOk result (Logs (D.outside desk.old) (D.outside desk.new) (records_bytes (records_of_command pool call.now (Replied reply.now) line))) }
+    ensures failed { OnErr result (LogsPart (D.outside desk.old) (D.outside desk.new) (records_bytes (records_of_command pool call.now (Replied reply.now) line))) }
 {
     match *reply {
-        Reply::Ok => log_accepted(desk, line, pools, call),
+        Reply::Ok => log_accepted(desk, line, pool, call),
         _ => Ok(()),
     }
 }
 
-fn log_accepted<D: Desk>(desk: &mut D, line: u32, pools: u64, call: &Call) -> Result<(), Failed>
-    ensures logged { OnOk result ((D.outside desk.new).logged
-        ≡ appended (D.outside desk.old).logged (records_bytes (records_of_accepted pools call.now line))) }
-    ensures part { OnErr result (PutsPart (D.outside desk.old).logged (D.outside desk.new).logged
-        (records_bytes (records_of_accepted pools call.now line))) }
-    ensures takes { LogTakes (D.outside desk.old) (D.outside desk.new) }
-    ensures counted { (D.outside desk.old).log_faults ≤ (D.outside desk.new).log_faults }
-    ensures cause { OnErr result (HasRisen (D.outside desk.old).log_faults (D.outside desk.new).log_faults) }
-    ensures others { OnlyLogs (D.outside desk.old) (D.outside desk.new) }
+/// Writes the record of an accepted command, where it has one.
+fn log_accepted<D: Desk>(desk: &mut D, line: u32, pool: u64, call: &Call) -> Result<(), Failed>
+    ensures logged { OnOk result (Logs (D.outside desk.old) (D.outside desk.new) (records_bytes (records_of_accepted pool call.now line))) }
+    ensures failed { OnErr result (LogsPart (D.outside desk.old) (D.outside desk.new) (records_bytes (records_of_accepted pool call.now line))) }
 {
     match *call {
         Call::Arena { grains, limit } => log_record(
@@ -154,7 +134,7 @@ fn log_accepted<D: Desk>(desk: &mut D, line: u32, pools: u64, call: &Call) -> Re
                 desk,
                 line,
                 Event::PoolCreate,
-                &[pools, kind_number(kind), format],
+                &[pool, kind_number(kind), format],
             )
         }
         Call::PoolOnChain { kind, format, .. } => {
@@ -162,49 +142,47 @@ fn log_accepted<D: Desk>(desk: &mut D, line: u32, pools: u64, call: &Call) -> Re
                 desk,
                 line,
                 Event::PoolCreate,
-                &[pools, kind_number(kind), format],
+                &[pool, kind_number(kind), format],
             )
         }
-        Call::PoolMfs { words, .. } => log_record(
-            desk,
-            line,
-            Event::PoolCreate,
-            &[pools, MFS_NUMBER, words],
-        ),
-        Call::PoolMvff { .. } => log_record(
-            desk,
-            line,
-            Event::PoolCreate,
-            &[pools, MVFF_NUMBER, 0],
-        ),
+        Call::PoolMfs { words, .. } => log_record(desk, line, Event::PoolCreate, &[pool, 6, words]),
+        Call::PoolMvff { .. } => log_record(desk, line, Event::PoolCreate, &[pool, 7, 0]),
         _ => Ok(()),
     }
 }
 
-fn log_record<D: Desk>(desk: &mut D, line: u32, event: Event, fields: &[u64]) -> Result<(), Failed>
-    requires known { AreFields One (code_of event) fields.now }
-    requires few { length fields.now ≤ 4 }
-    ensures logged { OnOk result ((D.outside desk.new).logged
-        ≡ appended (D.outside desk.old).logged (record_bytes (record { line = line; code = code_of event; fields = fields.now }))) }
-    ensures part { OnErr result (PutsPart (D.outside desk.old).logged (D.outside desk.new).logged
-        (record_bytes (record { line = line; code = code_of event; fields = fields.now }))) }
-    ensures takes { LogTakes (D.outside desk.old) (D.outside desk.new) }
-    ensures counted { (D.outside desk.old).log_faults ≤ (D.outside desk.new).log_faults }
-    ensures cause { OnErr result (HasRisen (D.outside desk.old).log_faults (D.outside desk.new).log_faults) }
-    ensures others { OnlyLogs (D.outside desk.old) (D.outside desk.new) }
+/// The number of a kind of pool in the log.
+fn kind_number(kind: Kind) -> u64
+    ensures { result ≡ number_of_kind kind }
 {
-    let mut bytes = [0u8; 64];
-    let length = put_record(&mut bytes, line, event, fields);
-    log_all(desk, &bytes[..length])
+    match kind {
+        Kind::Amc => 1,
+        Kind::Amcz => 2,
+        Kind::Ams => 3,
+        Kind::Awl => 4,
+        Kind::Lo => 5,
+    }
 }
 
-/// Writes a record at a prefix of the bytes, and answers its length.
+/// Writes one record.
+fn log_record<D: Desk>(desk: &mut D, line: u32, event: Event, fields: &[u64]) -> Result<(), Failed>
+    requires known { AreFields One (code_of event) fields.now }
+    requires at_most { length fields.now ≤ 4 }
+    ensures logged { OnOk result (Logs (D.outside desk.old) (D.outside desk.new) (record_bytes (record { line = line; code = code_of event; fields = fields.now }))) }
+    ensures failed { OnErr result (LogsPart (D.outside desk.old) (D.outside desk.new) (record_bytes (record { line = line; code = code_of event; fields = fields.now }))) }
+{
+    let mut bytes = [0u8; MAX_RECORD_BYTES];
+    let length = put_record(&mut bytes, line, event, fields);
+    log_all(&bytes[..length], desk)
+}
+
+/// Puts a record at the beginning of the bytes, and returns its length.
 fn put_record(bytes: &mut [u8], line: u32, event: Event, fields: &[u64]) -> usize
     requires known { AreFields One (code_of event) fields.now }
-    requires few { length fields.now ≤ 4 }
-    requires room { 64 ≤ length bytes.old }
+    requires at_most { length fields.now ≤ 4 }
+    requires fits { 64 ≤ length bytes.old }
     ensures written { take result bytes.new ≡ record_bytes (record { line = line; code = code_of event; fields = fields.now }) }
-    ensures within { result ≤ 64 }
+    ensures at_most { result ≤ 64 }
 {
     put(bytes, line, event.code(), fields, Version::One)
 }

@@ -2,18 +2,16 @@
 //! happened; `mps cnv`, `mps txt` and `mps blocks` read logs; `mps gen` prints a generated script.
 #![tactic(auto)]
 
-mod ending;
+mod bad_script_line;
 mod laws;
 mod lines;
 mod log;
 mod mps;
 mod next;
-mod pools;
 mod print;
 mod run;
 #[cfg(test)]
 mod tests;
-mod write;
 
 use mps_base::HostDesk;
 use std::alloc::AllocError;

@@ -5,26 +5,26 @@ ghost use Rattle.mps_log_reader.specs.Ending.{is_input_verdict};
 ghost use Rattle.mps_args.specs.Runnable.{IsRunnable};
 ghost use Rattle.mps_args.specs.Seen.{meaning_of, texts};
 ghost use Rattle.mps_args.specs.Words.{meaning};
-ghost use Rattle.mps_cli.specs.Asked.{DoesAsAsked, RunsScript};
+ghost use Rattle.mps_cli.specs.Asked.{DoesAsAsked};
 ghost use Rattle.mps_cli.specs.Ending.{CountsGrow};
 ghost use Rattle.mps_cli.specs.Script.{NoFaultRose};
 
-use crate::ending::{Ending, report, status_of};
-use crate::run::run;
-use mps_base::Desk;
-use mps_tools::{blocks, cnv, generate, txt};
+use crate::run::run_script;
 use mps_args::{Command, command_of};
+use mps_base::Desk;
+use mps_report::Notice;
+use mps_tools::{blocks, cnv, generate, txt};
 use std::alloc::Global;
 
-/// Does what the words of the command line ask for, and answers the status of the process. Where that is not 0, a line
-/// on standard error tells why.
+/// Does what the words of the command line ask for, and returns the status of the process. Where that is not 0, a line
+/// on standard error says why.
 pub fn mps<D: Desk>(alloc: Global, words: &[String], desk: &mut D) -> u8
     ensures usage { (result ≡ 2) ↔ (meaning (texts words.now) ≡ None) }
 
     // What each command does; words without a meaning do nothing but report the usage.
     ensures asked { DoesAsAsked (meaning (texts words.now)) result (D.outside desk.old) (D.outside desk.new) }
 
-    // A fault is told only where the count of its side rose.
+    // A side is blamed only where the count of its faults rose.
     ensures read_failed { result ≡ 3 → HasRisen (D.outside desk.old).in_faults (D.outside desk.new).in_faults }
     ensures write_failed { result ≡ 4 → HasRisen (D.outside desk.old).out_faults (D.outside desk.new).out_faults }
     ensures log_failed { result ≡ 5 → HasRisen (D.outside desk.old).log_faults (D.outside desk.new).log_faults }
@@ -36,18 +36,21 @@ pub fn mps<D: Desk>(alloc: Global, words: &[String], desk: &mut D) -> u8
 {
     match command_of(words) {
         Some(command) => run_command(alloc, command, desk),
-        None => tell_usage(desk),
+        None => report_usage(desk),
     }
 }
 
+/// The status where the words have no meaning.
+const USAGE_STATUS: u8 = 2;
+
 /// Reports that the words have no meaning.
-fn tell_usage<D: Desk>(desk: &mut D) -> u8
+fn report_usage<D: Desk>(desk: &mut D) -> u8
     ensures status { result ≡ 2 }
-    ensures known { DoesAsAsked None result (D.outside desk.old) (D.outside desk.new) }
+    ensures asked { DoesAsAsked None result (D.outside desk.old) (D.outside desk.new) }
     ensures counts { CountsGrow (D.outside desk.old) (D.outside desk.new) }
 {
-    report(desk, Ending::NoMeaning);
-    status_of(Ending::NoMeaning)
+    Notice::plain(b"mps: usage: run, cnv, txt, blocks or gen\n").report(desk);
+    USAGE_STATUS
 }
 
 /// Does what a command asks for.
@@ -68,19 +71,4 @@ fn run_command<D: Desk>(alloc: Global, command: Command<'_>, desk: &mut D) -> u8
         Command::Blocks { log } => blocks(alloc, log, desk),
         Command::Generate { seed, count } => generate(alloc, seed, count, desk),
     }
-}
-
-/// Runs a script, and reports how the run ended.
-fn run_script<D: Desk>(alloc: Global, log: &str, script: &str, desk: &mut D) -> u8
-    ensures meaning { result ≢ 2 }
-    ensures runs { RunsScript log.now script.now result (D.outside desk.old) (D.outside desk.new) }
-    ensures read_failed { result ≡ 3 → HasRisen (D.outside desk.old).in_faults (D.outside desk.new).in_faults }
-    ensures write_failed { result ≡ 4 → HasRisen (D.outside desk.old).out_faults (D.outside desk.new).out_faults }
-    ensures log_failed { result ≡ 5 → HasRisen (D.outside desk.old).log_faults (D.outside desk.new).log_faults }
-    ensures counts { CountsGrow (D.outside desk.old) (D.outside desk.new) }
-    ensures complete { NoFaultRose (D.outside desk.old) (D.outside desk.new) → result ≢ 8 → is_input_verdict result ≡ true }
-{
-    let ending = run(alloc, log, script, desk);
-    report(desk, ending);
-    status_of(ending)
 }

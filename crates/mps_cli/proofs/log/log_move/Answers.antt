@@ -30,32 +30,32 @@ returns-in-Alloc-clause-logged g c = rw c.in-Alloc.is c.log_record-in-Alloc.ensu
 pub returns-in-Free-clause-logged : goal.returns-in-Free-clause-logged
 returns-in-Free-clause-logged g c = rw c.in-Free.is c.log_record-in-Free.ensures.logged
 
-pub returns-in-Seg-clause-part : goal.returns-in-Seg-clause-part
-returns-in-Seg-clause-part g c = rw c.in-Seg.is c.log_record.ensures.part
+pub returns-in-Seg-clause-failed : goal.returns-in-Seg-clause-failed
+returns-in-Seg-clause-failed g c = rw c.in-Seg.is c.log_record.ensures.failed
 
-pub returns-in-Unseg-clause-part : goal.returns-in-Unseg-clause-part
-returns-in-Unseg-clause-part g c = rw c.in-Unseg.is c.log_record-in-Unseg.ensures.part
+pub returns-in-Unseg-clause-failed : goal.returns-in-Unseg-clause-failed
+returns-in-Unseg-clause-failed g c = rw c.in-Unseg.is c.log_record-in-Unseg.ensures.failed
 
-pub returns-in-Flip-clause-part : goal.returns-in-Flip-clause-part
-returns-in-Flip-clause-part g c = rw c.in-Flip.is c.log_record-in-Flip.ensures.part
+pub returns-in-Flip-clause-failed : goal.returns-in-Flip-clause-failed
+returns-in-Flip-clause-failed g c = rw c.in-Flip.is c.log_record-in-Flip.ensures.failed
 
-pub returns-in-Moved-clause-part : goal.returns-in-Moved-clause-part
-returns-in-Moved-clause-part g c = rw c.in-Moved.is c.log_record-in-Moved.ensures.part
+pub returns-in-Moved-clause-failed : goal.returns-in-Moved-clause-failed
+returns-in-Moved-clause-failed g c = rw c.in-Moved.is c.log_record-in-Moved.ensures.failed
 
-pub returns-in-Stay-clause-part : goal.returns-in-Stay-clause-part
-returns-in-Stay-clause-part g c = rw c.in-Stay.is c.log_record-in-Stay.ensures.part
+pub returns-in-Stay-clause-failed : goal.returns-in-Stay-clause-failed
+returns-in-Stay-clause-failed g c = rw c.in-Stay.is c.log_record-in-Stay.ensures.failed
 
-pub returns-in-Splat-clause-part : goal.returns-in-Splat-clause-part
-returns-in-Splat-clause-part g c = rw c.in-Splat.is c.log_record-in-Splat.ensures.part
+pub returns-in-Splat-clause-failed : goal.returns-in-Splat-clause-failed
+returns-in-Splat-clause-failed g c = rw c.in-Splat.is c.log_record-in-Splat.ensures.failed
 
-pub returns-in-Post-clause-part : goal.returns-in-Post-clause-part
-returns-in-Post-clause-part g c = rw c.in-Post.is c.log_record-in-Post.ensures.part
+pub returns-in-Post-clause-failed : goal.returns-in-Post-clause-failed
+returns-in-Post-clause-failed g c = rw c.in-Post.is c.log_record-in-Post.ensures.failed
 
-pub returns-in-Commit-clause-part : goal.returns-in-Commit-clause-part
-returns-in-Commit-clause-part g c = rw c.in-Commit.is c.log_record-in-Commit.ensures.part
+pub returns-in-Commit-clause-failed : goal.returns-in-Commit-clause-failed
+returns-in-Commit-clause-failed g c = rw c.in-Commit.is c.log_record-in-Commit.ensures.failed
 
-pub returns-in-Alloc-clause-part : goal.returns-in-Alloc-clause-part
-returns-in-Alloc-clause-part g c = rw c.in-Alloc.is c.log_record-in-Alloc.ensures.part
+pub returns-in-Alloc-clause-failed : goal.returns-in-Alloc-clause-failed
+returns-in-Alloc-clause-failed g c = rw c.in-Alloc.is c.log_record-in-Alloc.ensures.failed
 
-pub returns-in-Free-clause-part : goal.returns-in-Free-clause-part
-returns-in-Free-clause-part g c = rw c.in-Free.is c.log_record-in-Free.ensures.part
+pub returns-in-Free-clause-failed : goal.returns-in-Free-clause-failed
+returns-in-Free-clause-failed g c = rw c.in-Free.is c.log_record-in-Free.ensures.failed

@@ -2,9 +2,9 @@ use Rattle.mps_cli.proofs.mps.run_command.Goals as goal
 
 pub returns-in-Convert-clause-asked : goal.returns-in-Convert-clause-asked
 returns-in-Convert-clause-asked g c = rw c.in-Convert.is (record {
-  answers = c.cnv.ensures.status;
+  justified = c.cnv.ensures.status;
   converted = c.cnv.ensures.converted;
-  only = c.cnv.ensures.unique;
+  unique = c.cnv.ensures.unique;
   broken = c.cnv.ensures.broken;
   missing = c.cnv.ensures.missing;
   no_memory = c.cnv.ensures.no_memory;
@@ -14,17 +14,17 @@ returns-in-Convert-clause-asked g c = rw c.in-Convert.is (record {
 
 pub returns-in-Generate-clause-asked : goal.returns-in-Generate-clause-asked
 returns-in-Generate-clause-asked g c = rw c.in-Generate.is (record {
-  known = c.generate.ensures.known;
+  statuses = c.generate.ensures.statuses;
   whole = c.generate.ensures.whole;
-  failed = c.generate.ensures.failed;
+  cut = c.generate.ensures.cut;
   no_memory = c.generate.ensures.no_memory;
 })
 
 pub returns-in-Read-clause-asked : goal.returns-in-Read-clause-asked
 returns-in-Read-clause-asked g c = rw c.in-Read.is (record {
-  answers = c.txt.ensures.status;
-  readable = c.txt.ensures.sound;
-  only = c.txt.ensures.unique;
+  justified = c.txt.ensures.status;
+  sound = c.txt.ensures.sound;
+  unique = c.txt.ensures.unique;
   cut = c.txt.ensures.cut;
   missing = c.txt.ensures.missing;
   reported = c.txt.ensures.reported;
@@ -32,9 +32,9 @@ returns-in-Read-clause-asked g c = rw c.in-Read.is (record {
 
 pub returns-in-Blocks-clause-asked : goal.returns-in-Blocks-clause-asked
 returns-in-Blocks-clause-asked g c = rw c.in-Blocks.is (record {
-  answers = c.blocks-in-Blocks.ensures.answers;
+  justified = c.blocks-in-Blocks.ensures.status;
   listed = c.blocks-in-Blocks.ensures.listed;
-  only = c.blocks-in-Blocks.ensures.only;
+  unique = c.blocks-in-Blocks.ensures.unique;
   silent = c.blocks-in-Blocks.ensures.silent;
   cut = c.blocks-in-Blocks.ensures.cut;
   missing = c.blocks-in-Blocks.ensures.missing;

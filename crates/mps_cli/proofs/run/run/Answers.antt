@@ -1,83 +1,84 @@
 use Rattle.std.proofs.Common.{◌≡◌, Some, ◌∙◌, ap, refl, inl, inr}
-use Rattle.mps_base.specs.Record.{header_bytes}
 use Rattle.mps_cli.specs.Buffer.{Waiting, left_of}
-use Rattle.mps_cli.specs.Write.{appended}
-use Rattle.mps_cli.proofs.SoFar.{answered_between, answered_nothing, ran_after_header}
-use Rattle.mps_cli.proofs.LogFile.{in_file, takes_then}
-use Rattle.mps_cli.proofs.Leaving.{leaves_after_header, leaves_unbegun}
+use Rattle.mps_cli.specs.Script.{log_header}
+use Rattle.mps_report.specs.Streams.{appended}
+use Rattle.mps_cli.proofs.SoFar.{answered_between, answered_nothing}
+use Rattle.mps_report.proofs.Logging.{takes_then, takes_of_logs, takes_of_part}
+use Rattle.mps_cli.proofs.LogFile.{in_file}
+use Rattle.mps_cli.proofs.Leaving.{leaves_after_header, leaves_unbegun, ran_after_header}
 use Rattle.mps_cli.proofs.run.run.Goals as goal
 
 pub returns-clause-ran : goal.returns-clause-ran
 returns-clause-ran g c whole bytes e =
     let input : (g.D.Desk.outside c.log_header.new.desk).input ≡ Some bytes =
-    c.in-Ok-log_header.ensures.others.input ∙ (c.in-Ok-open_files.ensures.input ∙ e) in
+    c.in-Ok-log_header.ensures.logged.others.input ∙ (c.in-Ok-open_files.ensures.input ∙ e) in
     let left : left_of c.in-Ok.lines (g.D.Desk.outside c.log_header.new.desk).input ≡ Some bytes =
     ap (left_of c.in-Ok.lines) input ∙ ap (λ (w : Waiting). left_of w (Some bytes)) c.in-Ok.ensures in
-    ran_after_header c.run_lines.result bytes (g.D.Desk.outside c.args.desk.now) (g.D.Desk.outside c.log_header.new.desk)
-    (g.D.Desk.outside c.run_lines.new.desk) (header_bytes 1) refl
-    (c.in-Ok-log_header.ensures.others.printed ∙ c.in-Ok-open_files.ensures.printed)
-    (c.in-Ok-log_header.ensures.logged ∙ ap (λ known. appended known (header_bytes 1)) c.in-Ok-open_files.ensures.logged)
-    (c.run_lines.ensures.ran whole bytes left)
+    ran_after_header log_header bytes (g.D.Desk.outside c.args.desk.now) (g.D.Desk.outside c.log_header.new.desk)
+    (g.D.Desk.outside c.run_lines.new.desk)
+    (c.in-Ok-log_header.ensures.logged.others.printed ∙ c.open_files.ensures.unbegun.printed)
+    (c.in-Ok-log_header.ensures.logged.logged ∙ ap (λ known. appended known log_header) c.open_files.ensures.unbegun.logged)
+    c.run_lines.result (c.run_lines.ensures.ran whole bytes left)
 
 pub returns-in_default-clause-answered : goal.returns-in_default-clause-answered
 returns-in_default-clause-answered g c other bytes e = answered_nothing bytes (g.D.Desk.outside c.args.desk.now) (g.D.Desk.outside c.args.desk.now) refl
 
 pub returns-in-Err-clause-answered : goal.returns-in-Err-clause-answered
 returns-in-Err-clause-answered g c other bytes e =
-    answered_nothing bytes (g.D.Desk.outside c.args.desk.now) (g.D.Desk.outside c.open_files.new.desk) c.in-Err.ensures.printed
+    answered_nothing bytes (g.D.Desk.outside c.args.desk.now) (g.D.Desk.outside c.open_files.new.desk) c.open_files.ensures.unbegun.printed
 
 pub returns-in_default-log_header-clause-answered : goal.returns-in_default-log_header-clause-answered
 returns-in_default-log_header-clause-answered g c other bytes e =
     answered_nothing bytes (g.D.Desk.outside c.args.desk.now) (g.D.Desk.outside c.log_header.new.desk)
-    (c.in_default-log_header.ensures.others.printed ∙ c.in-Ok-open_files.ensures.printed)
+    (c.in_default-log_header.ensures.failed.part.others.printed ∙ c.open_files.ensures.unbegun.printed)
 
 pub returns-clause-answered : goal.returns-clause-answered
 returns-clause-answered g c other bytes e =
     let input : (g.D.Desk.outside c.log_header.new.desk).input ≡ Some bytes =
-    c.in-Ok-log_header.ensures.others.input ∙ (c.in-Ok-open_files.ensures.input ∙ e) in
+    c.in-Ok-log_header.ensures.logged.others.input ∙ (c.in-Ok-open_files.ensures.input ∙ e) in
     let left : left_of c.in-Ok.lines (g.D.Desk.outside c.log_header.new.desk).input ≡ Some bytes =
     ap (left_of c.in-Ok.lines) input ∙ ap (λ (w : Waiting). left_of w (Some bytes)) c.in-Ok.ensures in
     answered_between bytes (g.D.Desk.outside c.args.desk.now) (g.D.Desk.outside c.log_header.new.desk) (g.D.Desk.outside c.run_lines.new.desk)
     (g.D.Desk.outside c.run_lines.new.desk)
-    (c.in-Ok-log_header.ensures.others.printed ∙ c.in-Ok-open_files.ensures.printed)
+    (c.in-Ok-log_header.ensures.logged.others.printed ∙ c.open_files.ensures.unbegun.printed)
     (c.run_lines.ensures.answered other bytes left) refl
 
 pub returns-clause-filed : goal.returns-clause-filed
 returns-clause-filed g c =
     inl (in_file c.args.log.now (g.D.Desk.outside c.args.desk.now) (g.D.Desk.outside c.open_files.new.desk) (g.D.Desk.outside c.run_lines.new.desk)
-    c.in-Ok-open_files.ensures.logged c.in-Ok-open_files.ensures.made
-    (takes_then _ _ _ c.in-Ok-log_header.ensures.takes c.run_lines.ensures.takes))
+    c.open_files.ensures.unbegun.logged c.in-Ok-open_files.ensures.made
+    (takes_then _ _ _ (takes_of_logs _ _ _ c.in-Ok-log_header.ensures.logged) c.run_lines.ensures.takes))
 
 pub returns-clause-whole_log : goal.returns-clause-whole_log
 returns-clause-whole_log g c whole =
     in_file c.args.log.now (g.D.Desk.outside c.args.desk.now) (g.D.Desk.outside c.open_files.new.desk) (g.D.Desk.outside c.run_lines.new.desk)
-    c.in-Ok-open_files.ensures.logged c.in-Ok-open_files.ensures.made
-    (takes_then _ _ _ c.in-Ok-log_header.ensures.takes c.run_lines.ensures.takes)
+    c.open_files.ensures.unbegun.logged c.in-Ok-open_files.ensures.made
+    (takes_then _ _ _ (takes_of_logs _ _ _ c.in-Ok-log_header.ensures.logged) c.run_lines.ensures.takes)
 
 pub returns-in_default-log_header-clause-filed : goal.returns-in_default-log_header-clause-filed
 returns-in_default-log_header-clause-filed g c =
     inl (in_file c.args.log.now (g.D.Desk.outside c.args.desk.now) (g.D.Desk.outside c.open_files.new.desk) (g.D.Desk.outside c.log_header.new.desk)
-    c.in-Ok-open_files.ensures.logged c.in-Ok-open_files.ensures.made c.in_default-log_header.ensures.takes)
+    c.open_files.ensures.unbegun.logged c.in-Ok-open_files.ensures.made (takes_of_part _ _ _ c.in_default-log_header.ensures.failed))
 
 pub returns-in_default-clause-filed : goal.returns-in_default-clause-filed
 returns-in_default-clause-filed g c = inr (record { logged = refl; files = refl })
 
 pub returns-in-Err-clause-filed : goal.returns-in-Err-clause-filed
-returns-in-Err-clause-filed g c = inr (record { logged = c.in-Err.ensures.logged; files = c.in-Err.ensures.unmade })
+returns-in-Err-clause-filed g c = inr (record { logged = c.open_files.ensures.unbegun.logged; files = c.in-Err.ensures.unmade })
 
 pub returns-clause-leaves : goal.returns-clause-leaves
 returns-clause-leaves g c bytes e =
     let input : (g.D.Desk.outside c.log_header.new.desk).input ≡ Some bytes =
-    c.in-Ok-log_header.ensures.others.input ∙ (c.in-Ok-open_files.ensures.input ∙ e) in
+    c.in-Ok-log_header.ensures.logged.others.input ∙ (c.in-Ok-open_files.ensures.input ∙ e) in
     let left : left_of c.in-Ok.lines (g.D.Desk.outside c.log_header.new.desk).input ≡ Some bytes =
     ap (left_of c.in-Ok.lines) input ∙ ap (λ (w : Waiting). left_of w (Some bytes)) c.in-Ok.ensures in
-    leaves_after_header c.run_lines.result bytes (g.D.Desk.outside c.args.desk.now) (g.D.Desk.outside c.log_header.new.desk)
+    leaves_after_header bytes (g.D.Desk.outside c.args.desk.now) (g.D.Desk.outside c.log_header.new.desk)
     (g.D.Desk.outside c.run_lines.new.desk)
-    (c.in-Ok-log_header.ensures.others.printed ∙ c.in-Ok-open_files.ensures.printed)
-    (c.in-Ok-log_header.ensures.logged ∙ ap (λ known. appended known (header_bytes 1)) c.in-Ok-open_files.ensures.logged)
-    (c.run_lines.ensures.leaves bytes left)
+    (c.in-Ok-log_header.ensures.logged.others.printed ∙ c.open_files.ensures.unbegun.printed)
+    (c.in-Ok-log_header.ensures.logged.logged ∙ ap (λ known. appended known log_header) c.open_files.ensures.unbegun.logged)
+    c.run_lines.result (c.run_lines.ensures.leaves bytes left)
 
 pub returns-in-Err-clause-leaves : goal.returns-in-Err-clause-leaves
 returns-in-Err-clause-leaves g c bytes e =
-    leaves_unbegun c.in-Err.ending bytes (g.D.Desk.outside c.args.desk.now) (g.D.Desk.outside c.open_files.new.desk)
-    c.in-Err.ensures.failed c.in-Err.ensures.printed c.in-Err.ensures.logged
+    leaves_unbegun c.in-Err.stop bytes (g.D.Desk.outside c.args.desk.now) (g.D.Desk.outside c.open_files.new.desk)
+    c.in-Err.ensures.failed c.open_files.ensures.unbegun

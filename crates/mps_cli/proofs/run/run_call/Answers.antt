@@ -1,26 +1,39 @@
-use Rattle.mps_cli.proofs.Steps.{one_step}
-use Rattle.mps_cli.proofs.LogFile.{takes_self}
-use Rattle.std.proofs.Common.{Err, refl, ap, ◌∙◌}
-use Rattle.mps_cli.proofs.Leaving.{stops_in}
+use Rattle.std.proofs.Common.{refl}
+use Rattle.mps_base.specs.Record.{records_bytes}
+use Rattle.mps_script.specs.Text.{text_of}
+use Rattle.mps_cli.specs.Records.{records_of_done}
+use Rattle.mps_report.proofs.Logging.{takes_self}
+use Rattle.mps_cli.proofs.Steps.{IsDone, steps_of, stops_of, no_verdict_of, records_first_of}
 use Rattle.mps_cli.proofs.run.run_call.Goals as goal
 
 pub returns-clause-steps : goal.returns-clause-steps
 returns-clause-steps g c =
-    one_step c.args.line c.args.pools.now c.pools_made.result c.args.call.now c.in-Ok.done c.args.heap.now c.call.new.self
-    (g.D.Desk.outside c.args.desk.now) (g.D.Desk.outside c.log_then_print.new.desk)
-    c.in-Ok.ensures.legal c.in-Ok.ensures.stands c.in-Ok.ensures.replayed c.in-Ok.ensures.unsupported
-    c.in-Ok-log_then_print.ensures.logged c.in-Ok-log_then_print.ensures.printed c.log_then_print.ensures.input c.pools_made.ensures.count
+    let e = c.in-Ok.ensures in
+    let is : IsDone c.args.heap.now c.call.new.self c.args.call.now c.in-Ok.done =
+    record { legal = e.legal; stands = e.stands; replayed = e.replayed; unsupported = e.unsupported; number = e.pool; counted = e.counted } in
+    steps_of c.args.line c.args.call.now c.in-Ok.done c.args.heap.now c.call.new.self is c.log_then_print.result
+    (g.D.Desk.outside c.args.desk.now) (g.D.Desk.outside c.log_then_print.new.desk) c.log_then_print.ensures.input c.log_then_print.ensures.does
+
+pub returns-clause-stops : goal.returns-clause-stops
+returns-clause-stops g c =
+    let e = c.in-Ok.ensures in
+    let is : IsDone c.args.heap.now c.call.new.self c.args.call.now c.in-Ok.done =
+    record { legal = e.legal; stands = e.stands; replayed = e.replayed; unsupported = e.unsupported; number = e.pool; counted = e.counted } in
+    stops_of c.args.line c.args.call.now c.in-Ok.done c.args.heap.now c.call.new.self is c.log_then_print.result
+    (g.D.Desk.outside c.args.desk.now) (g.D.Desk.outside c.log_then_print.new.desk) c.log_then_print.ensures.does
+
+pub returns-clause-no_verdict : goal.returns-clause-no_verdict
+returns-clause-no_verdict g c =
+    no_verdict_of (records_bytes (records_of_done c.args.line c.args.call.now c.in-Ok.done)) (text_of c.in-Ok.done.reply)
+    (g.D.Desk.outside c.args.desk.now) (g.D.Desk.outside c.log_then_print.new.desk) c.log_then_print.result c.log_then_print.ensures.does
+
+pub returns-clause-records_first : goal.returns-clause-records_first
+returns-clause-records_first g c =
+    records_first_of (records_bytes (records_of_done c.args.line c.args.call.now c.in-Ok.done)) (text_of c.in-Ok.done.reply)
+    (g.D.Desk.outside c.args.desk.now) (g.D.Desk.outside c.log_then_print.new.desk) c.log_then_print.result c.log_then_print.ensures.does
 
 pub returns-in_default-clause-takes : goal.returns-in_default-clause-takes
 returns-in_default-clause-takes g c = takes_self (g.D.Desk.outside c.args.desk.now)
-
-pub returns-in-Err-clause-stops : goal.returns-in-Err-clause-stops
-returns-in-Err-clause-stops g c =
-    stops_in c.in-Err.ending c.args.line c.args.pools.now c.args.call.now c.in-Ok.done c.args.heap.now
-    (g.D.Desk.outside c.args.desk.now) (g.D.Desk.outside c.log_then_print.new.desk)
-    c.in-Err.ensures.failed c.in-Ok.ensures.legal c.in-Ok.ensures.unsupported
-    (λ e. c.log_then_print.ensures.log_cut (c.in-Err.is ∙ ap Err e)) (λ e. c.log_then_print.ensures.all_logged (c.in-Err.is ∙ ap Err e))
-    (λ e. c.log_then_print.ensures.answer_cut (c.in-Err.is ∙ ap Err e)) c.in-Err.ensures.records_first
 
 pub returns-in_default-clause-stops : goal.returns-in_default-clause-stops
 returns-in_default-clause-stops g c = (

@@ -1,81 +1,86 @@
-use Rattle.std.proofs.Common.{◌≡◌, ◌+◌, true, refl, ◌∙◌, subst, sym, ap, arith}
+use Rattle.std.proofs.Common.{◌≡◌, ◌+◌, true, Err, refl, ◌∙◌, subst, sym, ap, arith}
 use Rattle.mps_script.specs.Line.{call_of_line}
 use Rattle.mps_cli.specs.Buffer.{ComesNextOf, left_of}
-use Rattle.mps_cli.specs.Script.{IsBadHere, StepsRan, commands_of_call, is_good}
-use Rattle.mps_cli.specs.declared.next.Next.TheVariants.{Line, TooLong}
-use Rattle.mps_cli.proofs.SoFar.{SoFar, at_start, answered_so_far, one_line_more, ends_long_line, ends_too_long, ends_bad_line, counts_line, quiet_line}
-use Rattle.mps_cli.proofs.LogFile.{takes_self, takes_after_reading}
 use Rattle.mps_cli.specs.Leaving.{Stops}
+use Rattle.mps_cli.specs.Script.{IsBadHere, StepsRan, commands_of_call, is_good}
+use Rattle.mps_cli.proofs.SoFar.{SoFar, next_read, at_start, answered_so_far, one_line_more, ends_done, ends_long_line, ends_too_long, ends_bad_line, runs_on_self, runs_on_line}
+use Rattle.mps_report.proofs.Logging.{takes_self, takes_after_reading}
 use Rattle.mps_cli.proofs.Leaving.{leaves_line}
 use Rattle.mps_cli.proofs.run.run_lines.Goals as goal
 
+pub returns-in-End-clause-ran : goal.returns-in-End-clause-ran
+returns-in-End-clause-ran g c whole script e =
+    ends_done
+    (next_read c.next.new.self.line (left_of c.next.new.self (g.D.Desk.outside c.next.new.desk).input) c.loop-next.invariant.so_far e
+    c.in-Ok.ensures.others c.in-Ok.ensures.next c.in-End.is)
+
 pub returns-in-TooLong-clause-ran : goal.returns-in-TooLong-clause-ran
 returns-in-TooLong-clause-ran g c whole script e =
-    ends_long_line c.loop-next.heap c.loop-next.line c.loop-next.pools (g.D.Desk.outside c.args.desk.now) (g.D.Desk.outside c.loop-next.desk) (g.D.Desk.outside c.next.new.desk) script (left_of c.loop-next.lines (g.D.Desk.outside c.loop-next.desk).input) (left_of c.next.new.self (g.D.Desk.outside c.next.new.desk).input) c.next.new.self.line
-    (subst (λ s. SoFar c.loop-next.heap c.loop-next.line c.loop-next.pools (g.D.Desk.outside c.args.desk.now) (g.D.Desk.outside c.loop-next.desk) s (left_of c.loop-next.lines (g.D.Desk.outside c.loop-next.desk).input)) e c.loop-next.invariant.so_far)
-    c.in-Ok.ensures.others (subst (λ n. ComesNextOf n (left_of c.loop-next.lines (g.D.Desk.outside c.loop-next.desk).input) c.next.new.self.line (left_of c.next.new.self (g.D.Desk.outside c.next.new.desk).input)) c.in-TooLong.is c.in-Ok.ensures.next)
+    ends_long_line
+    (next_read c.next.new.self.line (left_of c.next.new.self (g.D.Desk.outside c.next.new.desk).input) c.loop-next.invariant.so_far e
+    c.in-Ok.ensures.others c.in-Ok.ensures.next c.in-TooLong.is)
 
 pub returns-in-TooLong-2-clause-ran : goal.returns-in-TooLong-2-clause-ran
 returns-in-TooLong-2-clause-ran g c whole script e =
-    ends_too_long c.loop-next.heap c.loop-next.line c.loop-next.pools (g.D.Desk.outside c.args.desk.now) (g.D.Desk.outside c.loop-next.desk) (g.D.Desk.outside c.next.new.desk) script (left_of c.loop-next.lines (g.D.Desk.outside c.loop-next.desk).input) (left_of c.next.new.self (g.D.Desk.outside c.next.new.desk).input) c.next.new.self.line TooLong
-    (subst (λ s. SoFar c.loop-next.heap c.loop-next.line c.loop-next.pools (g.D.Desk.outside c.args.desk.now) (g.D.Desk.outside c.loop-next.desk) s (left_of c.loop-next.lines (g.D.Desk.outside c.loop-next.desk).input)) e c.loop-next.invariant.so_far)
-    c.in-Ok.ensures.others (subst (λ n. ComesNextOf n (left_of c.loop-next.lines (g.D.Desk.outside c.loop-next.desk).input) c.next.new.self.line (left_of c.next.new.self (g.D.Desk.outside c.next.new.desk).input)) c.in-TooLong-2.is c.in-Ok.ensures.next) (λ x. cc) (omega arith)
+    ends_too_long
+    (next_read c.next.new.self.line (left_of c.next.new.self (g.D.Desk.outside c.next.new.desk).input) c.loop-next.invariant.so_far e
+    c.in-Ok.ensures.others c.in-Ok.ensures.next c.in-TooLong-2.is)
+    (λ x. cc) (omega arith)
 
 pub returns-then-line-clause-ran : goal.returns-then-line-clause-ran
 returns-then-line-clause-ran g c whole script e =
-    ends_too_long c.loop-next.heap c.loop-next.line c.loop-next.pools (g.D.Desk.outside c.args.desk.now) (g.D.Desk.outside c.loop-next.desk) (g.D.Desk.outside c.next.new.desk) script (left_of c.loop-next.lines (g.D.Desk.outside c.loop-next.desk).input) (left_of c.next.new.self (g.D.Desk.outside c.next.new.desk).input) c.next.new.self.line Line
-    (subst (λ s. SoFar c.loop-next.heap c.loop-next.line c.loop-next.pools (g.D.Desk.outside c.args.desk.now) (g.D.Desk.outside c.loop-next.desk) s (left_of c.loop-next.lines (g.D.Desk.outside c.loop-next.desk).input)) e c.loop-next.invariant.so_far)
-    c.in-Ok.ensures.others (subst (λ n. ComesNextOf n (left_of c.loop-next.lines (g.D.Desk.outside c.loop-next.desk).input) c.next.new.self.line (left_of c.next.new.self (g.D.Desk.outside c.next.new.desk).input)) c.in-Line.is c.in-Ok.ensures.next) (λ x. cc) (omega arith)
+    ends_too_long
+    (next_read c.next.new.self.line (left_of c.next.new.self (g.D.Desk.outside c.next.new.desk).input) c.loop-next.invariant.so_far e
+    c.in-Ok.ensures.others c.in-Ok.ensures.next c.in-Line.is)
+    (λ x. cc) (omega arith)
 
-pub returns-in-Some-clause-ran : goal.returns-in-Some-clause-ran
-returns-in-Some-clause-ran g c whole script e =
-    ends_bad_line c.loop-next.heap c.loop-next.line c.loop-next.pools (g.D.Desk.outside c.args.desk.now) (g.D.Desk.outside c.loop-next.desk) (g.D.Desk.outside c.next.new.desk) (g.D.Desk.outside c.run_line.new.desk) script (left_of c.loop-next.lines (g.D.Desk.outside c.loop-next.desk).input) (left_of c.next.new.self (g.D.Desk.outside c.next.new.desk).input) c.next.new.self.line c.in-Some.ending
-    (subst (λ s. SoFar c.loop-next.heap c.loop-next.line c.loop-next.pools (g.D.Desk.outside c.args.desk.now) (g.D.Desk.outside c.loop-next.desk) s (left_of c.loop-next.lines (g.D.Desk.outside c.loop-next.desk).input)) e c.loop-next.invariant.so_far)
-    c.in-Ok.ensures.others (subst (λ n. ComesNextOf n (left_of c.loop-next.lines (g.D.Desk.outside c.loop-next.desk).input) c.next.new.self.line (left_of c.next.new.self (g.D.Desk.outside c.next.new.desk).input)) c.in-Line.is c.in-Ok.ensures.next)
-    (subst (λ bytes. IsBadHere bytes (c.loop-next.line + 1) c.in-Some.ending (g.D.Desk.outside c.next.new.desk) (g.D.Desk.outside c.run_line.new.desk)) c.line.ensures (c.in-Some.ensures.whole whole))
+pub returns-in-Err-clause-ran : goal.returns-in-Err-clause-ran
+returns-in-Err-clause-ran g c whole script e =
+    ends_bad_line
+    (next_read c.next.new.self.line (left_of c.next.new.self (g.D.Desk.outside c.next.new.desk).input) c.loop-next.invariant.so_far e
+    c.in-Ok.ensures.others c.in-Ok.ensures.next c.in-Line.is)
+    (subst (λ bytes. IsBadHere bytes (c.loop-next.line + 1) (Err c.in-Err.stop) (g.D.Desk.outside c.next.new.desk) (g.D.Desk.outside c.run_line.new.desk)) c.line.ensures (c.in-Err.ensures.bad whole))
 
 pub loop-next-preserved : goal.loop-next-preserved
-loop-next-preserved g c = record {
-  few = omega (arith, c.in-None.ensures.few, c.loop-next.invariant.few);
-  counts = counts_line (g.D.Desk.outside c.args.desk.now) (g.D.Desk.outside c.loop-next.desk) (g.D.Desk.outside c.next.new.desk) (g.D.Desk.outside c.run_line.new.desk) c.loop-next.invariant.counts c.in-Ok.ensures.counted c.in-Ok.ensures.others c.in-None.ensures.counts;
-  quiet = quiet_line (g.D.Desk.outside c.args.desk.now) (g.D.Desk.outside c.loop-next.desk) (g.D.Desk.outside c.next.new.desk) (g.D.Desk.outside c.run_line.new.desk) c.loop-next.invariant.quiet c.in-Ok.ensures.others c.in-None.ensures.quiet;
-  takes = takes_after_reading (g.D.Desk.outside c.args.desk.now) (g.D.Desk.outside c.loop-next.desk) (g.D.Desk.outside c.next.new.desk) (g.D.Desk.outside c.run_line.new.desk) c.loop-next.invariant.takes c.in-Ok.ensures.others c.in-None.ensures.takes;
-  so_far = subst (λ left. SoFar c.run_line.new.heap (c.loop-next.line + 1) c.run_line.new.pools (g.D.Desk.outside c.args.desk.now) (g.D.Desk.outside c.run_line.new.desk) (left_of c.args.lines.now (g.D.Desk.outside c.args.desk.now).input) left)
-      (sym (ap (left_of c.next.new.self) c.in-None.ensures.steps.input))
-      (one_line_more c.loop-next.heap c.run_line.new.heap c.loop-next.line c.loop-next.pools c.run_line.new.pools (g.D.Desk.outside c.args.desk.now) (g.D.Desk.outside c.loop-next.desk) (g.D.Desk.outside c.next.new.desk) (g.D.Desk.outside c.run_line.new.desk) (left_of c.args.lines.now (g.D.Desk.outside c.args.desk.now).input) (left_of c.loop-next.lines (g.D.Desk.outside c.loop-next.desk).input) (left_of c.next.new.self (g.D.Desk.outside c.next.new.desk).input) c.next.new.self.line
-      c.loop-next.invariant.so_far c.in-Ok.ensures.others (subst (λ n. ComesNextOf n (left_of c.loop-next.lines (g.D.Desk.outside c.loop-next.desk).input) c.next.new.self.line (left_of c.next.new.self (g.D.Desk.outside c.next.new.desk).input)) c.in-Line.is c.in-Ok.ensures.next)
-      (subst (λ bytes. is_good bytes ≡ true) c.line.ensures c.in-None.ensures.good)
-      (subst (λ bytes. StepsRan (commands_of_call (c.loop-next.line + 1) (call_of_line bytes)) c.loop-next.heap c.run_line.new.heap c.loop-next.pools c.run_line.new.pools (g.D.Desk.outside c.next.new.desk) (g.D.Desk.outside c.run_line.new.desk))
-      c.line.ensures c.in-None.ensures.steps));
-}
+loop-next-preserved g c =
+    let old = g.D.Desk.outside c.args.desk.now in
+    let before = g.D.Desk.outside c.loop-next.desk in
+    let read = g.D.Desk.outside c.next.new.desk in
+    let ran = g.D.Desk.outside c.run_line.new.desk in
+    let i = c.loop-next.invariant in
+    record {
+      runs = runs_on_line old before read ran i.runs c.in-Ok.ensures.counted c.in-Ok.ensures.others c.run_line.ensures.runs;
+      takes = takes_after_reading old before read ran i.takes c.in-Ok.ensures.others c.run_line.ensures.takes;
+      so_far = subst (λ left. SoFar c.run_line.new.heap (c.loop-next.line + 1) old ran (left_of c.args.lines.now old.input) left)
+          (sym (ap (left_of c.next.new.self) c.in-Ok-run_line.ensures.steps.input))
+          (one_line_more (left_of c.next.new.self read.input) c.next.new.self.line i.so_far c.in-Ok.ensures.others
+          (subst (λ n. ComesNextOf n (left_of c.loop-next.lines before.input) c.next.new.self.line (left_of c.next.new.self read.input)) c.in-Line.is c.in-Ok.ensures.next)
+          (subst (λ bytes. is_good bytes ≡ true) c.line.ensures c.in-Ok-run_line.ensures.good)
+          (subst (λ bytes. StepsRan (commands_of_call (c.loop-next.line + 1) (call_of_line bytes)) c.loop-next.heap c.run_line.new.heap read ran)
+          c.line.ensures c.in-Ok-run_line.ensures.steps));
+    }
 
 pub loop-next-init : goal.loop-next-init
 loop-next-init g c = record {
-  few = omega arith;
-  counts = record { in_faults = omega arith; log_faults = omega arith; out_faults = omega arith; err_faults = omega arith };
-  quiet = record { reported = refl; err_faults = refl };
+  runs = runs_on_self (g.D.Desk.outside c.args.desk.now);
   takes = takes_self (g.D.Desk.outside c.args.desk.now);
   so_far = at_start c.new-heap.result (g.D.Desk.outside c.args.desk.now) (left_of c.args.lines.now (g.D.Desk.outside c.args.desk.now).input) c.new-heap.ensures;
 }
 
-pub returns-in-Some-clause-takes : goal.returns-in-Some-clause-takes
-returns-in-Some-clause-takes g c =
+pub returns-in-Err-clause-takes : goal.returns-in-Err-clause-takes
+returns-in-Err-clause-takes g c =
     takes_after_reading (g.D.Desk.outside c.args.desk.now) (g.D.Desk.outside c.loop-next.desk) (g.D.Desk.outside c.next.new.desk)
-    (g.D.Desk.outside c.run_line.new.desk) c.loop-next.invariant.takes c.in-Ok.ensures.others c.in-Some.ensures.takes
+    (g.D.Desk.outside c.run_line.new.desk) c.loop-next.invariant.takes c.in-Ok.ensures.others c.run_line.ensures.takes
 
-pub returns-in-Some-clause-leaves : goal.returns-in-Some-clause-leaves
-returns-in-Some-clause-leaves g c script e =
-    leaves_line c.in-Some.ending c.loop-next.heap c.loop-next.line c.loop-next.pools (g.D.Desk.outside c.args.desk.now) (g.D.Desk.outside c.loop-next.desk)
-    (g.D.Desk.outside c.next.new.desk) (g.D.Desk.outside c.run_line.new.desk) script (left_of c.loop-next.lines (g.D.Desk.outside c.loop-next.desk).input)
-    c.next.new.self.line (left_of c.next.new.self (g.D.Desk.outside c.next.new.desk).input)
-    (subst (λ s. SoFar c.loop-next.heap c.loop-next.line c.loop-next.pools (g.D.Desk.outside c.args.desk.now) (g.D.Desk.outside c.loop-next.desk) s (left_of c.loop-next.lines (g.D.Desk.outside c.loop-next.desk).input)) e c.loop-next.invariant.so_far)
-    c.in-Ok.ensures.others (subst (λ n. ComesNextOf n (left_of c.loop-next.lines (g.D.Desk.outside c.loop-next.desk).input) c.next.new.self.line (left_of c.next.new.self (g.D.Desk.outside c.next.new.desk).input)) c.in-Line.is c.in-Ok.ensures.next)
-    (subst (λ bytes. Stops c.in-Some.ending (commands_of_call (c.loop-next.line + 1) (call_of_line bytes)) c.loop-next.heap c.loop-next.pools (g.D.Desk.outside c.next.new.desk) (g.D.Desk.outside c.run_line.new.desk))
-    c.line.ensures c.in-Some.ensures.stops)
+pub returns-in-Err-clause-leaves : goal.returns-in-Err-clause-leaves
+returns-in-Err-clause-leaves g c script e =
+    leaves_line c.in-Err.stop (g.D.Desk.outside c.run_line.new.desk)
+    (next_read c.next.new.self.line (left_of c.next.new.self (g.D.Desk.outside c.next.new.desk).input) c.loop-next.invariant.so_far e
+    c.in-Ok.ensures.others c.in-Ok.ensures.next c.in-Line.is)
+    (subst (λ bytes. Stops c.in-Err.stop (commands_of_call (c.loop-next.line + 1) (call_of_line bytes)) c.loop-next.heap (g.D.Desk.outside c.next.new.desk) (g.D.Desk.outside c.run_line.new.desk))
+    c.line.ensures c.in-Err.ensures.stops)
 
-pub returns-in-Some-clause-answered : goal.returns-in-Some-clause-answered
-returns-in-Some-clause-answered g c other script e =
-    answered_so_far c.loop-next.heap c.loop-next.line c.loop-next.pools (g.D.Desk.outside c.args.desk.now) (g.D.Desk.outside c.loop-next.desk)
-    (g.D.Desk.outside c.run_line.new.desk) script (left_of c.loop-next.lines (g.D.Desk.outside c.loop-next.desk).input)
-    (subst (λ s. SoFar c.loop-next.heap c.loop-next.line c.loop-next.pools (g.D.Desk.outside c.args.desk.now) (g.D.Desk.outside c.loop-next.desk) s (left_of c.loop-next.lines (g.D.Desk.outside c.loop-next.desk).input)) e c.loop-next.invariant.so_far)
-    (c.in-Some.ensures.records_first other ∙ c.in-Ok.ensures.others.printed)
+pub returns-in-Err-clause-answered : goal.returns-in-Err-clause-answered
+returns-in-Err-clause-answered g c other script e =
+    answered_so_far script (g.D.Desk.outside c.run_line.new.desk) c.loop-next.invariant.so_far e
+    (c.in-Err.ensures.records_first other ∙ c.in-Ok.ensures.others.printed)

@@ -1,17 +1,15 @@
-use Rattle.std.proofs.Common.{◌≤◌, ◌-◌}
-use Rattle.mps_cli.specs.Ending.{CountsGrow, IsQuiet}
-use Rattle.mps_cli.specs.Write.{LogTakes}
+use Rattle.std.proofs.Common.{◌-◌}
 use Rattle.mps_cli.specs.Buffer.{left_of}
+use Rattle.mps_cli.specs.Ending.{RunsOn}
+use Rattle.mps_report.specs.Streams.{LogTakes}
 use Rattle.mps_cli.proofs.SoFar.{SoFar}
 use Rattle.mps_cli.proofs.run.run_lines.Given as goal
 
 abbrev pub invariant-loop-next : goal.invariant-loop-next
 invariant-loop-next g l = record {
-  few : l.pools ≤ l.line;
-  counts : CountsGrow (g.D.Desk.outside l.initial.desk) (g.D.Desk.outside l.desk);
-  quiet : IsQuiet (g.D.Desk.outside l.initial.desk) (g.D.Desk.outside l.desk);
+  runs : RunsOn (g.D.Desk.outside l.initial.desk) (g.D.Desk.outside l.desk);
   takes : LogTakes (g.D.Desk.outside l.initial.desk) (g.D.Desk.outside l.desk);
-  so_far : SoFar l.heap l.line l.pools (g.D.Desk.outside l.initial.desk) (g.D.Desk.outside l.desk)
+  so_far : SoFar l.heap l.line (g.D.Desk.outside l.initial.desk) (g.D.Desk.outside l.desk)
       (left_of l.initial.lines (g.D.Desk.outside l.initial.desk).input) (left_of l.lines (g.D.Desk.outside l.desk).input);
 }
 
