@@ -9,7 +9,7 @@ use Rattle.mps_base.specs.Record.{Record, header_bytes, record_bytes, records_by
 use Rattle.mps_event.specs.declared.version.Version.{Version}
 use Rattle.mps_event.specs.Event.{number_of_version}
 use Rattle.mps_event.specs.Grammar.{IsRecord, log_bytes}
-use Rattle.mps_event.proofs.Records.{one_front}
+use Rattle.mps_event.proofs.Records.{one_beginning}
 use Rattle.mps_report.specs.declared.stop.Stop.{Stop}
 use Rattle.mps_report.specs.declared.stop.Stop.TheVariants as stop
 use Rattle.mps_report.specs.Reports.{ProgramEnds}
@@ -76,7 +76,7 @@ no_first : (version : Version) (state later : State) (ending : Ending) (count of
 no_first version state later ending count offset r rs y h (inl b) replay few =
     let front : record_bytes r ++ (records_bytes rs ++ y) ≡ record_bytes b.bad.bad ++ b.bad.others =
     sym (append_assoc (record_bytes r) (records_bytes rs) y) ∙ b.bad.front in
-    let same = one_front version r b.bad.bad (records_bytes rs ++ y) b.bad.others h b.bad.grammar front in
+    let same = one_beginning version r b.bad.bad (records_bytes rs ++ y) b.bad.others h b.bad.grammar front in
     refused_first (replayed_after state r) (λ after. replayed_from after rs) later (ap (replayed_after state) same.0 ∙ b.bad.refused) replay
 no_first version state later ending count offset r rs y h (inr e) replay few = no_record version e.log count offset r rs y h e.ends few
 

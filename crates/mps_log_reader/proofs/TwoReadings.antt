@@ -10,7 +10,7 @@ use Rattle.mps_event.specs.declared.fault.LogFault.{LogFault}
 use Rattle.mps_event.specs.Event.{number_of_version}
 use Rattle.mps_event.specs.Grammar.{IsRecord, log_bytes}
 use Rattle.mps_event.specs.Reading.{first_of}
-use Rattle.mps_event.proofs.Records.{one_front, read_again}
+use Rattle.mps_event.proofs.Records.{one_beginning, read_again}
 use Rattle.mps_report.specs.declared.stop.Stop.{Stop}
 use Rattle.mps_report.specs.declared.stop.Stop.TheVariants as stop
 use Rattle.mps_log_reader.specs.declared.bad_log.BadLog.{BadLog}
@@ -51,7 +51,7 @@ split version (a ∷ first) [] x y f s e = inr (record { more = a ∷ first; eac
 split version (a ∷ first) (b ∷ second) x y f s e =
     let fronts : record_bytes a ++ (records_bytes first ++ x) ≡ record_bytes b ++ (records_bytes second ++ y) =
     sym (append_assoc (record_bytes a) (records_bytes first) x) ∙ e ∙ append_assoc (record_bytes b) (records_bytes second) y in
-    let same = one_front version a b (records_bytes first ++ x) (records_bytes second ++ y) f.0 s.0 fronts in
+    let same = one_beginning version a b (records_bytes first ++ x) (records_bytes second ++ y) f.0 s.0 fronts in
     both_one_more version a b first second x y same.0 (split version first second x y f.1 s.1 same.1)
 
 -- ---- where a reading ends no record begins
