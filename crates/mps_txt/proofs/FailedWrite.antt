@@ -28,7 +28,8 @@ use Rattle.mps_txt.proofs.WholeText.{FirstLinePut}
 -- ---- a prefix of what was put out
 
 -- between these what was put out went from `out`, gathered first, to `gathered`, and then a prefix of that was printed
-module _ (version : Version) (bytes out gathered : List ℕ) (a b c : Outside) (grown : Grows a.printed b.printed) (part : PutsPart b.printed c.printed gathered) where
+module _ (version : Version) (bytes out gathered : List ℕ) (a b c : Outside) (grown : Grows a.printed b.printed)
+    (part : PutsPart b.printed c.printed gathered) where
   part_of_shown : ShowsLines version bytes (put_out a out) (put_out b gathered) → ShowsPart version bytes out a.printed c.printed
   part_of_shown h = record {
     records = h.records;
@@ -42,7 +43,8 @@ module _ (version : Version) (bytes out gathered : List ℕ) (a b c : Outside) (
   }
 
   -- a write failed before a line
-  pub lines_cut : (count : ℕ) (s t : Naming) (x y : Buffered) → LinesSoFar version count (progress s a x out) (progress t b y gathered) → left_of a x ≡ Some bytes → count < max_lines
+  pub lines_cut : (count : ℕ) (s t : Naming) (x y : Buffered) → LinesSoFar version count (progress s a x out) (progress t b y gathered)
+      → left_of a x ≡ Some bytes → count < max_lines
       → ShowsPart version bytes out a.printed c.printed
   lines_cut count s t x y so_far known at_most =
       part_of_shown (lines_shown version count (progress s a x out) (progress t b y gathered) so_far bytes known at_most)
@@ -50,7 +52,8 @@ module _ (version : Version) (bytes out gathered : List ℕ) (a b c : Outside) (
 -- ---- the ending
 
 -- the lines that were put out before an ending other than a failed write
-shown_of : (version : Version) (bytes : List ℕ) (unread before after : Option (List ℕ)) (ending : Ending) → (ending ≡ Err stop.WriteFailed → ⊥)
+shown_of : (version : Version) (bytes : List ℕ) (unread before after : Option (List ℕ)) (ending : Ending)
+    → (ending ≡ Err stop.WriteFailed → ⊥)
     → AllGives version bytes unread before after ending → ShowsLines version bytes before after
 shown_of version bytes unread before after (Err stop.WriteFailed) other all = absurd (other refl)
 shown_of version bytes unread before after (Err stop.LogFailed) other all = absurd all
@@ -72,13 +75,17 @@ pub record FlushesAfterLines (ending : Ending) (gathered : List ℕ) (b c d : Ou
   pub no_more : ending ≡ Err stop.WriteFailed → d ≡ c
   pub part : (ending ≡ Err stop.WriteFailed → ⊥) → PrintsPart c d gathered
 
-module _ (version : Version) (bytes left out gathered : List ℕ) (a b c d : Outside) (first : FirstLinePut version bytes left out a b) (ending : Ending) (flushes : FlushesAfterLines ending gathered b c d) where
+module _ (version : Version) (bytes left out gathered : List ℕ) (a b c d : Outside) (first : FirstLinePut version bytes left out a b)
+    (ending : Ending) (flushes : FlushesAfterLines ending gathered b c d) where
   -- a write failed before a line, or at the flush after any other ending
-  cut_at : (ending ≡ Err stop.WriteFailed) ⊎ (ending ≡ Err stop.WriteFailed → ⊥) → (ending ≡ Err stop.WriteFailed → ShowsPart version left out b.printed c.printed)
+  cut_at : (ending ≡ Err stop.WriteFailed) ⊎ (ending ≡ Err stop.WriteFailed → ⊥)
+      → (ending ≡ Err stop.WriteFailed → ShowsPart version left out b.printed c.printed)
       → AllGives version left c.input (put_out b out) (put_out c gathered) ending → ShowsPart version left out b.printed d.printed
-  cut_at (inl failed) cut all = subst (λ (o : Outside). ShowsPart version left out b.printed o.printed) (sym (flushes.no_more failed)) (cut failed)
+  cut_at (inl failed) cut all =
+      subst (λ (o : Outside). ShowsPart version left out b.printed o.printed) (sym (flushes.no_more failed)) (cut failed)
   cut_at (inr other) cut all =
-      part_of_shown version left out gathered b c d flushes.grown (puts_part c c d gathered refl (flushes.part other)) (shown_of version left c.input (put_out b out) (put_out c gathered) ending other all)
+      part_of_shown version left out gathered b c d flushes.grown (puts_part c c d gathered refl (flushes.part other))
+      (shown_of version left c.input (put_out b out) (put_out c gathered) ending other all)
 
   with_first_line : ShowsPart version left out b.printed d.printed → IsCutShort bytes a d
   with_first_line p = record {
@@ -90,15 +97,18 @@ module _ (version : Version) (bytes left out gathered : List ℕ) (a b c d : Out
       each = p.each;
       meaning = p.meaning;
       at_most = p.at_most;
-      spelled = first.spelled ∙ ap (λ (x : List ℕ). first_line version ++ x) p.spelled ∙ sym (append_assoc (first_line version) (flat_map record_line p.records) (terminated p.left));
+      spelled = first.spelled ∙ ap (λ (x : List ℕ). first_line version ++ x) p.spelled
+          ∙ sym (append_assoc (first_line version) (flat_map record_line p.records) (terminated p.left));
     };
     count = p.part.0;
     printed = p.part.1
         ∙ ap (λ (x : List ℕ). option_map (λ (t : List ℕ). t ++ take p.part.0 (x ++ readable version p.records)) b.printed) first.line
-        ∙ ap (λ (o : Option (List ℕ)). option_map (λ (t : List ℕ). t ++ take p.part.0 (first_line version ++ readable version p.records)) o) first.same;
+        ∙ ap (λ (o : Option (List ℕ)). option_map
+        (λ (t : List ℕ). t ++ take p.part.0 (first_line version ++ readable version p.records)) o) first.same;
   }
 
-  pub text_cut_short : (ending ≡ Err stop.WriteFailed → ShowsPart version left out b.printed c.printed) → AllGives version left c.input (put_out b out) (put_out c gathered) ending
+  pub text_cut_short : (ending ≡ Err stop.WriteFailed → ShowsPart version left out b.printed c.printed)
+      → AllGives version left c.input (put_out b out) (put_out c gathered) ending
       → IsCutShort bytes a d
   text_cut_short cut all = with_first_line (cut_at (did_write_fail ending) cut all)
 
@@ -115,8 +125,10 @@ cut_later bytes a b c h e = record {
   printed = e ∙ h.printed;
 }
 
-pub cut_with_status : (status : ℕ) (bytes : List ℕ) (ending : Ending) (a b c : Outside) → status ≡ 4 → (ending ≡ Err stop.WriteFailed → IsCutShort bytes a b)
-    → OnOk ending (status ≡ 0) → IfErr ending (λ why. status ≡ status_of why) → IfErr ending (λ why. Reports b c (report_of text_of_bad_line why)) → IsCutShort bytes a c
+pub cut_with_status : (status : ℕ) (bytes : List ℕ) (ending : Ending) (a b c : Outside) → status ≡ 4
+    → (ending ≡ Err stop.WriteFailed → IsCutShort bytes a b)
+    → OnOk ending (status ≡ 0) → IfErr ending (λ why. status ≡ status_of why)
+    → IfErr ending (λ why. Reports b c (report_of text_of_bad_line why)) → IsCutShort bytes a c
 cut_with_status status bytes (Ok value) a b c e h zero is reports = absurd (omega (arith, e, zero))
 cut_with_status status bytes (Err why) a b c e h zero is reports =
     cut_later bytes a b c (h (ap (λ (w : Stop BadTextLine). Err w) (is_write_failed why (sym is ∙ e)))) reports.others.printed

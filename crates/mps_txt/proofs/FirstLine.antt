@@ -30,8 +30,13 @@ line_of_version Two more = refl
 
 front_lacks : (last : ℕ) → last ≢ 10 → AllByRecursion (λ byte. byte ≢ 10) (109 ∷ 112 ∷ 115 ∷ 108 ∷ 111 ∷ 103 ∷ 32 ∷ last ∷ [])
 front_lacks last other =
-    let no : (byte : ℕ) → 10 < byte → byte ≢ 10 = λ byte more e. omega (arith, more, e) in
-    (no 109 (omega arith), (no 112 (omega arith), (no 115 (omega arith), (no 108 (omega arith), (no 111 (omega arith), (no 103 (omega arith), (no 32 (omega arith), (other, tt))))))))
+    let no : (byte : ℕ) → 10 < byte → byte ≢ 10 = λ byte more e. omega (arith, more, e) in (
+      no 109 (omega arith),
+      (
+        no 112 (omega arith),
+        (no 115 (omega arith), (no 108 (omega arith), (no 111 (omega arith), (no 103 (omega arith), (no 32 (omega arith), (other, tt)))))),
+      ),
+    )
 
 first_lacks : (version : Version) → Lacks 10 (first_text version)
 first_lacks One = All-from_recursion (λ byte. byte ≢ 10) (first_text One) (front_lacks 49 (λ e. omega (arith, e)))
@@ -45,26 +50,33 @@ first_text_length Two = refl
 
 nothing_first : (bytes : List ℕ) → bytes ≡ [] → HasNoFirstLine bytes
 nothing_first bytes none = λ version rest e.
-    let h : 0 ≡ length (first_text version ++ 10 ∷ rest) = ap (λ (x : List ℕ). length x) (sym (ap terminated none) ∙ e ∙ line_of_version version rest) in
+    let h : 0 ≡ length (first_text version ++ 10 ∷ rest) = ap (λ (x : List ℕ). length x) (sym (ap terminated none) ∙ e
+    ∙ line_of_version version rest) in
     absurd (omega (arith, h, length-append (first_text version) (10 ∷ rest)))
 
-other_first : (line rest bytes : List ℕ) → Lacks 10 line → terminated bytes ≡ line ++ 10 ∷ rest → ((version : Version) → line ≢ first_text version) → HasNoFirstLine bytes
+other_first : (line rest bytes : List ℕ) → Lacks 10 line → terminated bytes ≡ line ++ 10 ∷ rest
+    → ((version : Version) → line ≢ first_text version) → HasNoFirstLine bytes
 other_first line rest bytes lacks is other = λ version more e.
     other version (one_line line (first_text version) rest more lacks (first_lacks version) (sym is ∙ e ∙ line_of_version version more))
 
-long_first : (front rest bytes : List ℕ) → Lacks 10 front → max_line_bytes < length front → terminated bytes ≡ front ++ rest → HasNoFirstLine bytes
+long_first : (front rest bytes : List ℕ) → Lacks 10 front → max_line_bytes < length front
+    → terminated bytes ≡ front ++ rest → HasNoFirstLine bytes
 long_first front rest bytes lacks long is = λ version more e.
-    too_long front (first_text version) rest more (recursion_from_All (λ byte. byte ≢ 10) front lacks) (omega (arith, long, first_text_length version)) (sym is ∙ e ∙ line_of_version version more)
+    too_long front (first_text version) rest more (recursion_from_All (λ byte. byte ≢ 10) front lacks)
+    (omega (arith, long, first_text_length version)) (sym is ∙ e ∙ line_of_version version more)
 
-no_more : (ended failed : Bool) (pending more : List ℕ) → pending ≡ [] → failed ≡ false → (ended ≡ true → more ≡ []) → (ended ≡ false → failed ≡ false → 4097 ≤ length pending) → pending ++ more ≡ []
+no_more : (ended failed : Bool) (pending more : List ℕ) → pending ≡ [] → failed ≡ false → (ended ≡ true → more ≡ [])
+    → (ended ≡ false → failed ≡ false → 4097 ≤ length pending) → pending ++ more ≡ []
 no_more true failed pending more none whole end enough = ap (λ (x : List ℕ). pending ++ x) (end refl) ∙ append-nil pending ∙ none
 no_more false failed pending more none whole end enough =
-    absurd (let h : 4097 ≤ length pending = enough refl whole in let g : length pending ≡ 0 = ap (λ (x : List ℕ). length x) none in omega (arith, h, g))
+    absurd (let h : 4097 ≤ length pending = enough refl whole in let g : length pending
+    ≡ 0 = ap (λ (x : List ℕ). length x) none in omega (arith, h, g))
 
 no_first : (b : Buffered) (more : List ℕ) → (b.ended ≡ true → more ≡ []) → HoldsLine b → HasOtherLine b → HasNoFirstLine (b.pending ++ more)
 no_first b more end enough (inl h) = nothing_first (b.pending ++ more) (no_more b.ended b.failed b.pending more h.0 h.1 end enough)
 no_first b more end enough (inr (inl h)) =
-    other_first h.0 (terminated (drop h.1 b.pending ++ more)) (b.pending ++ more) (lacks_of_pending b h.0 h.1 h.2) (pending_terminated b more end enough h.0 h.1 h.2) h.3
+    other_first h.0 (terminated (drop h.1 b.pending ++ more)) (b.pending ++ more) (lacks_of_pending b h.0 h.1 h.2)
+    (pending_terminated b more end enough h.0 h.1 h.2) h.3
 no_first b more end enough (inr (inr h)) =
     let g = long_terminated h.front h.others b.pending more h.pending in
     long_first h.front g.0 (b.pending ++ more) h.lacks h.long g.1
@@ -78,7 +90,8 @@ module _ (y : Buffered) (input : Option (List ℕ)) (bytes : List ℕ) (known : 
       → Some (terminated bytes) ≡ option_map (λ rest. first_line version ++ terminated rest) (option_map (λ rest. z.pending ++ rest) input)
   first_left version size z front following = left_in input known end
     where
-      left_in : (i : Option (List ℕ)) → option_map (λ rest. y.pending ++ rest) i ≡ Some bytes → (y.ended ≡ true → IfSome i (λ left. left ≡ []))
+      left_in : (i : Option (List ℕ)) → option_map (λ rest. y.pending ++ rest) i ≡ Some bytes
+          → (y.ended ≡ true → IfSome i (λ left. left ≡ []))
           → Some (terminated bytes) ≡ option_map (λ rest. first_line version ++ terminated rest) (option_map (λ rest. z.pending ++ rest) i)
       left_in None known end = absurd (let e : None ≡ Some bytes = known in cc)
       left_in (Some more) known end =
@@ -90,7 +103,8 @@ module _ (y : Buffered) (input : Option (List ℕ)) (bytes : List ℕ) (known : 
   none_left : HasOtherLine y → HasNoFirstLine bytes
   none_left other = none_in input known end
     where
-      none_in : (i : Option (List ℕ)) → option_map (λ rest. y.pending ++ rest) i ≡ Some bytes → (y.ended ≡ true → IfSome i (λ left. left ≡ [])) → HasNoFirstLine bytes
+      none_in : (i : Option (List ℕ)) → option_map (λ rest. y.pending ++ rest) i ≡ Some bytes
+          → (y.ended ≡ true → IfSome i (λ left. left ≡ [])) → HasNoFirstLine bytes
       none_in None known end = absurd (let e : None ≡ Some bytes = known in cc)
       none_in (Some more) known end =
           let is : y.pending ++ more ≡ bytes = (let e : Some (y.pending ++ more) ≡ Some bytes = known in cc) in
@@ -116,7 +130,8 @@ module _ (a b : Outside) (x y : Buffered) (bytes : List ℕ) (opened : IsOpened 
   at_end : IsAtEnd b y
   at_end = opened.reads.end (untouched_end a x opened.start)
 
-  pub opens_text : (z : Buffered) (input : Option (List ℕ)) (result : Result Version (Stop BadTextLine)) → TakesFirstLine y z result → OpensText bytes (left_of b z) input b.input result
+  pub opens_text : (z : Buffered) (input : Option (List ℕ)) (result : Result Version (Stop BadTextLine)) → TakesFirstLine y z result
+      → OpensText bytes (left_of b z) input b.input result
   opens_text z input (Ok version) takes =
       first_left y b.input bytes left at_end opened.enough version takes.size z takes.front (ap (λ (b : Buffered). b.pending) takes.state)
   opens_text z input (Err (stop.Bad bad)) takes = (takes.0.0, none_left y b.input bytes left at_end opened.enough takes.0.1)
@@ -125,7 +140,8 @@ module _ (a b : Outside) (x y : Buffered) (bytes : List ℕ) (opened : IsOpened 
   opens_text z input (Err why) takes = absurd takes.0
 
   -- the first line is taken with its line feed, or it is the last one
-  pub opens_whole_line : (z : Buffered) (result : Result Version (Stop BadTextLine)) → TakesFirstLine y z result → OpensWholeLine bytes (left_of b z) z result
+  pub opens_whole_line : (z : Buffered) (result : Result Version (Stop BadTextLine)) → TakesFirstLine y z result
+      → OpensWholeLine bytes (left_of b z) z result
   opens_whole_line z (Ok version) takes =
       subst (λ (o : Option (List ℕ)). IsWholeOrLast (first_line version) o (left_of b z) z) left
       (subst (λ (after : Buffered). IsWholeOrLast (first_line version) (left_of b y) (left_of b after) after) (sym takes.state)

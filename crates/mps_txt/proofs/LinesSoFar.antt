@@ -30,19 +30,24 @@ pub naming_is : (x y : Naming) → Some x ≡ Some y → x ≡ y
 naming_is x y e = cc
 
 module _ (version : Version) (r : Record) (named t : Naming) (f : after_record version named r ≡ Some t) where
-  then_one : (first : Option Naming) (rs : List Record) → ((n : Naming) → after_records version n rs ≡ Some named → after_records version n (rs ++ r ∷ []) ≡ Some t)
-      → option_and_then (λ n. after_records version n rs) first ≡ Some named → option_and_then (λ n. after_records version n (rs ++ r ∷ [])) first ≡ Some t
+  then_one : (first : Option Naming) (rs : List Record)
+      → ((n : Naming) → after_records version n rs ≡ Some named → after_records version n (rs ++ r ∷ []) ≡ Some t)
+      → option_and_then (λ n. after_records version n rs) first ≡ Some named
+      → option_and_then (λ n. after_records version n (rs ++ r ∷ [])) first ≡ Some t
   then_one None rs step e = absurd (let f : None ≡ Some named = e in cc)
   then_one (Some n) rs step e = step n e
 
   -- what records and one more do
-  pub after_one : (s : Naming) (rs : List Record) → after_records version s rs ≡ Some named → after_records version s (rs ++ r ∷ []) ≡ Some t
+  pub after_one : (s : Naming) (rs : List Record) → after_records version s rs ≡ Some named
+      → after_records version s (rs ++ r ∷ []) ≡ Some t
   after_one s [] e =
       let is : s ≡ named = naming_is s named e in
-      ap (λ (n : Naming). option_and_then (λ next. Some next) (after_record version n r)) is ∙ ap (λ (o : Option Naming). option_and_then (λ next. Some next) o) f
+      ap (λ (n : Naming). option_and_then (λ next. Some next) (after_record version n r)) is
+      ∙ ap (λ (o : Option Naming). option_and_then (λ next. Some next) o) f
   after_one s (x ∷ rs) e = then_one (after_record version s x) rs (λ n g. after_one n rs g) e
 
-pub first_step : (version : Version) (first : Option Naming) (rs : List Record) (named : Naming) → option_and_then (λ n. after_records version n rs) first ≡ Some named
+pub first_step : (version : Version) (first : Option Naming) (rs : List Record) (named : Naming)
+    → option_and_then (λ n. after_records version n rs) first ≡ Some named
     → (n : Naming) × (first ≡ Some n) × (after_records version n rs ≡ Some named)
 first_step version None rs named e = absurd (let f : None ≡ Some named = e in cc)
 first_step version (Some n) rs named e = (n, refl, e)
@@ -57,13 +62,15 @@ module _ (version : Version) (r : Record) (named t : Naming) (f : after_record v
       ∙ ap (λ (n : Naming). readable_line version n t r) is
 
   -- the text of records and one more
-  pub readable_one : (s : Naming) (rs : List Record) → after_records version s rs ≡ Some named → readable_from version s (rs ++ r ∷ []) ≡ readable_from version s rs ++ readable_line version named t r
+  pub readable_one : (s : Naming) (rs : List Record) → after_records version s rs ≡ Some named
+      → readable_from version s (rs ++ r ∷ []) ≡ readable_from version s rs ++ readable_line version named t r
   readable_one s [] e = line_at s (naming_is s named e)
   readable_one s (x ∷ rs) e =
       let g = first_step version (after_record version s x) rs named e in
       let next = unwrap_or (after_record version s x) s in
       let is : next ≡ g.0 = ap (λ (o : Option Naming). unwrap_or o s) g.1 in
-      let then : after_records version next rs ≡ Some named = subst (λ (n : Naming). after_records version n rs ≡ Some named) (sym is) g.2 in
+      let then : after_records version next rs ≡ Some named =
+      subst (λ (n : Naming). after_records version n rs ≡ Some named) (sym is) g.2 in
       ap (λ (z : List ℕ). readable_line version s next x ++ z) (readable_one next rs then)
       ∙ sym (append_assoc (readable_line version s next x) (readable_from version next rs) (readable_line version named t r))
 
@@ -94,7 +101,8 @@ at_start version start is = record {
   put = nothing_put start.put;
 }
 
-both_terminated : (x y : List ℕ) (a b c : Option (List ℕ)) → option_map terminated a ≡ option_map (λ rest. x ++ terminated rest) b → option_map terminated b ≡ option_map (λ rest. y ++ terminated rest) c
+both_terminated : (x y : List ℕ) (a b c : Option (List ℕ)) → option_map terminated a ≡ option_map (λ rest. x ++ terminated rest) b
+    → option_map terminated b ≡ option_map (λ rest. y ++ terminated rest) c
     → option_map terminated a ≡ option_map (λ rest. (x ++ y) ++ terminated rest) c
 both_terminated x y a None None e f = e
 both_terminated x y a None (Some rest) e f = absurd (let g : None ≡ Some (y ++ terminated rest) = f in cc)
@@ -103,13 +111,15 @@ both_terminated x y a (Some left) (Some rest) e f =
     let g : terminated left ≡ y ++ terminated rest = (let h : Some (terminated left) ≡ Some (y ++ terminated rest) = f in cc) in
     e ∙ ap (λ (z : List ℕ). Some (x ++ z)) g ∙ ap Some (sym (append_assoc x y (terminated rest)))
 
-whole_and_one : (text line : List ℕ) (a b c : Option (List ℕ)) (x y : Buffered) → (IsComplete x → IsComplete y) → IsWholeOrLast text a b x → IsWholeOrLast line b c y → IsWholeOrLast (text ++ line) a c y
+whole_and_one : (text line : List ℕ) (a b c : Option (List ℕ)) (x y : Buffered) → (IsComplete x → IsComplete y)
+    → IsWholeOrLast text a b x → IsWholeOrLast line b c y → IsWholeOrLast (text ++ line) a c y
 whole_and_one text line a b c x y stays (inl e) (inl f) = inl (one_in_front text line a b c e f)
 whole_and_one text line a b c x y stays (inl e) (inr h) = inr h
 whole_and_one text line a b c x y stays (inr h) f = inr (stays h)
 
 -- all of them are whole, where a read may still fail
-pub whole_known : (x bytes rest : List ℕ) (left left_after : Option (List ℕ)) (b : Buffered) → IsWholeOrLast x left left_after b → (IsComplete b → ⊥)
+pub whole_known : (x bytes rest : List ℕ) (left left_after : Option (List ℕ)) (b : Buffered)
+    → IsWholeOrLast x left left_after b → (IsComplete b → ⊥)
     → left ≡ Some bytes → left_after ≡ Some rest → bytes ≡ x ++ rest
 whole_known x bytes rest left left_after b (inl h) may_fail e f =
     let g : Some bytes ≡ Some (x ++ rest) = sym e ∙ h ∙ ap (λ (o : Option (List ℕ)). option_map (λ rest. x ++ rest) o) f in
@@ -117,19 +127,27 @@ whole_known x bytes rest left left_after b (inl h) may_fail e f =
 whole_known x bytes rest left left_after b (inr h) may_fail e f = absurd (may_fail h)
 
 -- what is left after a text, where all that was left is known
-left_known : (x bytes : List ℕ) (left left_after : Option (List ℕ)) → option_map terminated left ≡ option_map (λ rest. x ++ terminated rest) left_after → left ≡ Some bytes
+left_known : (x bytes : List ℕ) (left left_after : Option (List ℕ))
+    → option_map terminated left ≡ option_map (λ rest. x ++ terminated rest) left_after → left ≡ Some bytes
     → (rest : List ℕ) × (left_after ≡ Some rest) × (terminated bytes ≡ x ++ terminated rest)
 left_known x bytes left None e f =
     absurd (let g : Some (terminated bytes) ≡ None = sym (ap (λ (o : Option (List ℕ)). option_map terminated o) f) ∙ e in cc)
-left_known x bytes left (Some rest) e f =
-    (rest, refl, (let g : Some (terminated bytes) ≡ Some (x ++ terminated rest) = sym (ap (λ (o : Option (List ℕ)). option_map terminated o) f) ∙ e in cc))
+left_known x bytes left (Some rest) e f = (
+  rest,
+  refl,
+  (let g : Some (terminated bytes) ≡ Some (x ++ terminated rest) = sym
+      (ap (λ (o : Option (List ℕ)). option_map terminated o) f) ∙ e in cc),
+)
 
 module _ (version : Version) (count : ℕ) (start now : Progress) (so_far : LinesSoFar version count start now) where
-  pub one_more : (number : ℕ) (next : Progress) (unread : Option (List ℕ)) → NextGives version number now next unread (Ok true) → (IsComplete now.buffer → IsComplete next.buffer)
+  pub one_more : (number : ℕ) (next : Progress) (unread : Option (List ℕ)) → NextGives version number now next unread (Ok true)
+      → (IsComplete now.buffer → IsComplete next.buffer)
       → LinesSoFar version (count + 1) start next
   one_more number next unread n stays =
-      let lines : flat_map record_line (so_far.records ++ n.read ∷ []) ≡ flat_map record_line so_far.records ++ record_line n.read = flat_one record_line so_far.records n.read in
-      let shown : readable version (so_far.records ++ n.read ∷ []) ≡ readable version so_far.records ++ readable_line version now.labels next.labels n.read =
+      let lines : flat_map record_line (so_far.records ++ n.read ∷ []) ≡ flat_map record_line so_far.records ++ record_line n.read =
+      flat_one record_line so_far.records n.read in
+      let shown : readable version (so_far.records ++ n.read ∷ []) ≡ readable version so_far.records
+      ++ readable_line version now.labels next.labels n.read =
       readable_one version n.read now.labels next.labels n.meaning no_names so_far.records so_far.meaning in
       record {
         records = so_far.records ++ n.read ∷ [];
@@ -139,9 +157,11 @@ module _ (version : Version) (count : ℕ) (start now : Progress) (so_far : Line
         front = subst (λ (x : List ℕ). option_map terminated start.left ≡ option_map (λ rest. x ++ terminated rest) next.left) (sym lines)
             (both_terminated (flat_map record_line so_far.records) (record_line n.read) start.left now.left next.left so_far.front n.front);
         whole = subst (λ (x : List ℕ). IsWholeOrLast x start.left next.left next.buffer) (sym lines)
-            (whole_and_one (flat_map record_line so_far.records) (record_line n.read) start.left now.left next.left now.buffer next.buffer stays so_far.whole n.whole);
+            (whole_and_one (flat_map record_line so_far.records)
+            (record_line n.read) start.left now.left next.left now.buffer next.buffer stays so_far.whole n.whole);
         put = subst (λ (x : List ℕ). next.put ≡ option_map (λ all. all ++ x) start.put) (sym shown)
-            (one_put (readable version so_far.records) (readable_line version now.labels next.labels n.read) start.put now.put next.put so_far.put n.put);
+            (one_put (readable version so_far.records)
+            (readable_line version now.labels next.labels n.read) start.put now.put next.put so_far.put n.put);
       }
 
   -- ---- where the bytes are known
@@ -155,7 +175,8 @@ module _ (version : Version) (count : ℕ) (start now : Progress) (so_far : Line
     of_rest P h = subst (λ (o : Option (List ℕ)). IfSome o P) rest.1 h
 
     whole_rest : (IsComplete now.buffer → ⊥) → bytes ≡ flat_map record_line so_far.records ++ rest.0
-    whole_rest may_fail = whole_known (flat_map record_line so_far.records) bytes rest.0 start.left now.left now.buffer so_far.whole may_fail known rest.1
+    whole_rest may_fail = whole_known
+        (flat_map record_line so_far.records) bytes rest.0 start.left now.left now.buffer so_far.whole may_fail known rest.1
 
     -- the lines so far, where nothing more was put out
     abbrev shown_so_far : (put : Option (List ℕ)) → put ≡ now.put → count < max_lines → ShowsLines version bytes start.put put
@@ -173,15 +194,18 @@ module _ (version : Version) (count : ℕ) (start now : Progress) (so_far : Line
     pub lines_shown : count < max_lines → ShowsLines version bytes start.put now.put
     lines_shown at_most = shown_so_far now.put refl at_most
 
-    pub all_read : (number : ℕ) (next : Progress) (unread : Option (List ℕ)) → count < max_record_lines → NextGives version number now next unread (Ok false)
+    pub all_read : (number : ℕ) (next : Progress) (unread : Option (List ℕ)) → count < max_record_lines
+        → NextGives version number now next unread (Ok false)
         → AllGives {T = Unit {0}} version bytes unread start.put next.put (Ok tt)
     all_read number next unread at_most n = record {
       shown = shown_so_far next.put n.1 (omega (arith, at_most));
       ends_at = ap terminated (of_rest (λ bytes. bytes ≡ []) n.0);
     }
 
-    pub all_stop : (number : ℕ) (next : Progress) (unread : Option (List ℕ)) (why : Stop BadTextLine) → count < max_record_lines → number ≡ count + 2
-        → NextGives version number now next unread (Err why) → (IsComplete now.buffer → why ≡ stop.ReadFailed → ⊥) → AllGives {T = Unit {0}} version bytes unread start.put next.put (Err why)
+    pub all_stop : (number : ℕ) (next : Progress) (unread : Option (List ℕ)) (why : Stop BadTextLine)
+        → count < max_record_lines → number ≡ count + 2
+        → NextGives version number now next unread (Err why) → (IsComplete now.buffer → why ≡ stop.ReadFailed → ⊥)
+        → AllGives {T = Unit {0}} version bytes unread start.put next.put (Err why)
     all_stop number next unread (stop.Bad bad) at_most is n may_fail =
         let wrong = of_rest (λ bytes. (0 < length (terminated bytes)) × IsWrongNext version now.labels (terminated bytes)) n.1 in
         record {
@@ -201,8 +225,10 @@ module _ (version : Version) (count : ℕ) (start now : Progress) (so_far : Line
     all_stop number next unread why at_most is n may_fail = absurd n
 
     -- as many lines were read as 32 bits count
-    pub all_counted : (unread put : Option (List ℕ)) (result : Ending) → count ≡ max_record_lines → LastGives now.left result → (IsComplete now.buffer → result ≡ Err stop.ReadFailed → ⊥)
-        → (result ≡ Err stop.ReadFailed → unread ≡ now.left) → put ≡ now.put → AllGives {T = Unit {0}} version bytes unread start.put put result
+    pub all_counted : (unread put : Option (List ℕ)) (result : Ending) → count ≡ max_record_lines → LastGives now.left result
+        → (IsComplete now.buffer → result ≡ Err stop.ReadFailed → ⊥)
+        → (result ≡ Err stop.ReadFailed → unread ≡ now.left) → put ≡ now.put
+        → AllGives {T = Unit {0}} version bytes unread start.put put result
     all_counted unread put (Ok value) full n may_fail still same = record {
       shown = shown_so_far put same (omega (arith, full));
       ends_at = ap terminated (of_rest (λ bytes. bytes ≡ []) n);
@@ -214,6 +240,13 @@ module _ (version : Version) (count : ℕ) (start now : Progress) (so_far : Line
     all_counted unread put (Err stop.ReadFailed) full n may_fail still same = record {
       shown = shown_so_far put same (omega (arith, full));
       whole = whole_rest (λ complete. may_fail complete refl);
-      breaks = record { part = []; others = rest.0; split = refl; lacks = All-nil (λ byte. byte ≢ 10); at_most = omega arith; still = still refl ∙ rest.1 };
+      breaks = record {
+        part = [];
+        others = rest.0;
+        split = refl;
+        lacks = All-nil (λ byte. byte ≢ 10);
+        at_most = omega arith;
+        still = still refl ∙ rest.1;
+      };
     }
     all_counted unread put (Err why) full n may_fail still same = absurd n

@@ -25,7 +25,8 @@ onto_high : (fuel n : ℕ) (front : List ℕ) → All IsHigh front → All IsHig
 onto_high zero n front h = h
 onto_high (suc fuel) n front h =
     let next = All-cons IsHigh (digit_glyph false (n % 16)) front (high_digit (ltb (n % 16) 10) (n % 16)) h in
-    either_high (eqb (n / 16) 0) (digit_glyph false (n % 16) ∷ front) (digits_onto fuel 16 false (n / 16) (digit_glyph false (n % 16) ∷ front)) next
+    either_high (eqb (n / 16) 0) (digit_glyph false (n % 16) ∷ front)
+    (digits_onto fuel 16 false (n / 16) (digit_glyph false (n % 16) ∷ front)) next
     (onto_high fuel (n / 16) (digit_glyph false (n % 16) ∷ front) next)
 
 high_decimal : (n : ℕ) → n < 2 ^ 64 → All IsHigh (decimal n)
@@ -38,10 +39,12 @@ unfolding digits
 high_hexadecimal n = onto_high 64 n [] (All-nil IsHigh)
 
 pub decimal_lacks : (byte n : ℕ) → byte < 48 → n < 2 ^ 64 → Lacks byte (decimal n)
-decimal_lacks byte n low fits = All-weaker IsHigh (λ other. other ≢ byte) (λ other h e. omega (arith, h, e)) (decimal n) (high_decimal n fits)
+decimal_lacks byte n low fits =
+    All-weaker IsHigh (λ other. other ≢ byte) (λ other h e. omega (arith, h, e)) (decimal n) (high_decimal n fits)
 
 pub hexadecimal_lacks : (byte n : ℕ) → byte < 48 → Lacks byte (hexadecimal n)
-hexadecimal_lacks byte n low = All-weaker IsHigh (λ other. other ≢ byte) (λ other h e. omega (arith, h, e)) (hexadecimal n) (high_hexadecimal n)
+hexadecimal_lacks byte n low =
+    All-weaker IsHigh (λ other. other ≢ byte) (λ other h e. omega (arith, h, e)) (hexadecimal n) (high_hexadecimal n)
 
 -- ---- a number at a prefix of a text
 
@@ -49,13 +52,16 @@ pub if_none : {A : Type 0} (answer : Option A) (P : Type 0) → P → IfNone ans
 if_none None P p = p
 if_none (Some x) P p = tt
 
-pub none_in_front : (spelled : ℕ → List ℕ) → ((n : ℕ) → n < 2 ^ 64 → Lacks 32 (spelled n)) → (text word : List ℕ) (after : Option (List ℕ)) → text ≡ word ++ separated 32 after → Lacks 32 word
-    → ((n : ℕ) → n < 2 ^ 64 → word ≡ spelled n → None ≡ Some n) → (n : ℕ) (rest : Option (List ℕ)) → n < 2 ^ 64 → text ≢ spelled n ++ separated 32 rest
+pub none_in_front : (spelled : ℕ → List ℕ) → ((n : ℕ) → n < 2 ^ 64 → Lacks 32 (spelled n))
+    → (text word : List ℕ) (after : Option (List ℕ)) → text ≡ word ++ separated 32 after → Lacks 32 word
+    → ((n : ℕ) → n < 2 ^ 64 → word ≡ spelled n → None ≡ Some n) → (n : ℕ) (rest : Option (List ℕ)) → n < 2 ^ 64
+    → text ≢ spelled n ++ separated 32 rest
 none_in_front spelled lacks text word after whole lack exact n rest fits e =
     none-some n (exact n fits (one_split 32 word (spelled n) after rest lack (lacks n fits) (sym whole ∙ e)).0)
 
 -- a number in front, and what stands after it, are the only ones
-pub same_number : (m n : ℕ) (a b : Option (List ℕ)) → m < 2 ^ 64 → n < 2 ^ 64 → decimal m ++ separated 32 a ≡ decimal n ++ separated 32 b → (m ≡ n) × (a ≡ b)
+pub same_number : (m n : ℕ) (a b : Option (List ℕ)) → m < 2 ^ 64 → n < 2 ^ 64
+    → decimal m ++ separated 32 a ≡ decimal n ++ separated 32 b → (m ≡ n) × (a ≡ b)
 same_number m n a b few fits e =
     let same = one_split 32 (decimal m) (decimal n) a b (decimal_lacks 32 m (omega arith) few) (decimal_lacks 32 n (omega arith) fits) e in
     (decimal_injective m n few fits same.0, same.1)
@@ -66,7 +72,9 @@ value_of_hexadecimal n fits = (digits_is_IsNumeral 16 false (omega arith) (omega
 hexadecimal_injective : (m n : ℕ) → m < 2 ^ 64 → n < 2 ^ 64 → hexadecimal m ≡ hexadecimal n → m ≡ n
 hexadecimal_injective m n few fits e = sym (value_of_hexadecimal m few) ∙ ap (digits_value 16) e ∙ value_of_hexadecimal n fits
 
-pub same_field : (m n : ℕ) (a b : Option (List ℕ)) → m < 2 ^ 64 → n < 2 ^ 64 → hexadecimal m ++ separated 32 a ≡ hexadecimal n ++ separated 32 b → (m ≡ n) × (a ≡ b)
+pub same_field : (m n : ℕ) (a b : Option (List ℕ)) → m < 2 ^ 64 → n < 2 ^ 64
+    → hexadecimal m ++ separated 32 a ≡ hexadecimal n ++ separated 32 b → (m ≡ n) × (a ≡ b)
 same_field m n a b few fits e =
-    let same = one_split 32 (hexadecimal m) (hexadecimal n) a b (hexadecimal_lacks 32 m (omega arith)) (hexadecimal_lacks 32 n (omega arith)) e in
+    let same = one_split 32 (hexadecimal m) (hexadecimal n) a b (hexadecimal_lacks 32 m (omega arith))
+    (hexadecimal_lacks 32 n (omega arith)) e in
     (hexadecimal_injective m n few fits same.0, same.1)

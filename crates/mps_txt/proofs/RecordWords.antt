@@ -35,7 +35,8 @@ pub text_of_fields : (fields : List ℕ) → flat_map field_text fields ≡ sepa
 text_of_fields [] = refl
 text_of_fields (field ∷ fields) = refl
 
-field_in_front : (field : ℕ) (fields : List ℕ) → fields_after (field ∷ fields) ≡ Some (hexadecimal field ++ separated 32 (fields_after fields))
+field_in_front : (field : ℕ) (fields : List ℕ)
+    → fields_after (field ∷ fields) ≡ Some (hexadecimal field ++ separated 32 (fields_after fields))
 field_in_front field fields = ap (λ (x : List ℕ). Some (hexadecimal field ++ x)) (text_of_fields fields)
 
 same_rest : (a b : Option (List ℕ)) → separated 32 a ≡ separated 32 b → a ≡ b
@@ -44,12 +45,14 @@ same_rest None (Some y) e = absurd (let h : 0 ≡ length (32 ∷ y) = ap (λ (x 
 same_rest (Some x) None e = absurd (let h : length (32 ∷ x) ≡ 0 = ap (λ (x : List ℕ). length x) e in omega (arith, h))
 same_rest (Some x) (Some y) e = ap Some (ap (λ (x : List ℕ). drop 1 x) e)
 
-pub same_fields : (first second : List ℕ) → AllByRecursion (λ field. field < 2 ^ 64) first → AllByRecursion (λ field. field < 2 ^ 64) second → fields_after first ≡ fields_after second → first ≡ second
+pub same_fields : (first second : List ℕ) → AllByRecursion (λ field. field < 2 ^ 64) first
+    → AllByRecursion (λ field. field < 2 ^ 64) second → fields_after first ≡ fields_after second → first ≡ second
 same_fields [] [] h k e = refl
 same_fields [] (y ∷ second) h k e = absurd (none-some _ e)
 same_fields (x ∷ first) [] h k e = absurd (none-some _ (sym e))
 same_fields (x ∷ first) (y ∷ second) h k e =
-    let texts : Some (hexadecimal x ++ separated 32 (fields_after first)) ≡ Some (hexadecimal y ++ separated 32 (fields_after second)) = sym (field_in_front x first) ∙ e ∙ field_in_front y second in
+    let texts : Some (hexadecimal x ++ separated 32 (fields_after first)) ≡ Some (hexadecimal y ++ separated 32 (fields_after second)) =
+    sym (field_in_front x first) ∙ e ∙ field_in_front y second in
     let same = same_field x y (fields_after first) (fields_after second) h.0 k.0 (cc) in
     ap (λ (z : ℕ). z ∷ first) same.0 ∙ ap (λ (z : List ℕ). y ∷ z) (same_fields first second h.1 k.1 same.1)
 
@@ -57,13 +60,16 @@ same_fields (x ∷ first) (y ∷ second) h k e =
 pub first_left : (i : ℕ) (all : List ℕ) (text : List ℕ) → i < length all → 32 ∷ text ≡ flat_map field_text (drop i all)
     → text ≡ hexadecimal (get_or all i 0) ++ separated 32 (fields_after (drop (i + 1) all))
 first_left i all text within e =
-    let split : 32 ∷ text ≡ 32 ∷ (hexadecimal (get_or all i 0) ++ flat_map field_text (drop (i + 1) all)) = e ∙ ap (λ (x : List ℕ). flat_map field_text x) (drop_more all i 0 within) in
+    let split : 32 ∷ text ≡ 32 ∷ (hexadecimal (get_or all i 0) ++ flat_map field_text (drop (i + 1) all)) = e
+    ∙ ap (λ (x : List ℕ). flat_map field_text x) (drop_more all i 0 within) in
     ap (λ (x : List ℕ). drop 1 x) split ∙ ap (λ (x : List ℕ). hexadecimal (get_or all i 0) ++ x) (text_of_fields (drop (i + 1) all))
 
 pub no_field_left : (i : ℕ) (all : List ℕ) → i < length all → [] ≡ flat_map field_text (drop i all) → ⊥
 no_field_left i all within e =
-    let split : [] ≡ 32 ∷ (hexadecimal (get_or all i 0) ++ flat_map field_text (drop (i + 1) all)) = e ∙ ap (λ (x : List ℕ). flat_map field_text x) (drop_more all i 0 within) in
-    let h : 0 ≡ length (32 ∷ (hexadecimal (get_or all i 0) ++ flat_map field_text (drop (i + 1) all))) = ap (λ (x : List ℕ). length x) split in
+    let split : [] ≡ 32 ∷ (hexadecimal (get_or all i 0) ++ flat_map field_text (drop (i + 1) all)) = e
+    ∙ ap (λ (x : List ℕ). flat_map field_text x) (drop_more all i 0 within) in
+    let h : 0 ≡ length (32 ∷ (hexadecimal (get_or all i 0) ++ flat_map field_text (drop (i + 1) all))) =
+    ap (λ (x : List ℕ). length x) split in
     omega (arith, h)
 
 pub all_fields_left : (count : ℕ) (all text : List ℕ) → length all ≡ count → 32 ∷ text ≡ flat_map field_text (drop count all) → ⊥
@@ -73,27 +79,33 @@ all_fields_left count all text full e =
     omega (arith, h)
 
 -- one field more
-pub spelled_more : (i field : ℕ) (fields text front_rest : List ℕ) (rest : Option (List ℕ)) → i < length fields → text ≡ flat_map field_text (take i fields) ++ 32 ∷ front_rest
-    → front_rest ≡ hexadecimal field ++ separated 32 rest → text ≡ flat_map field_text (take (i + 1) (set fields i field)) ++ separated 32 rest
+pub spelled_more : (i field : ℕ) (fields text front_rest : List ℕ) (rest : Option (List ℕ)) → i < length fields
+    → text ≡ flat_map field_text (take i fields) ++ 32 ∷ front_rest
+    → front_rest ≡ hexadecimal field ++ separated 32 rest
+    → text ≡ flat_map field_text (take (i + 1) (set fields i field)) ++ separated 32 rest
 spelled_more i field fields text front_rest rest within e front =
     let more : take (i + 1) (set fields i field) ≡ take i fields ++ field ∷ [] = take_more_set fields i field within in
     let texts : flat_map field_text (take (i + 1) (set fields i field)) ≡ flat_map field_text (take i fields) ++ field_text field =
-    ap (λ (x : List ℕ). flat_map field_text x) more ∙ flat_map-append field_text (take i fields) (field ∷ []) ∙ ap (λ (x : List ℕ). flat_map field_text (take i fields) ++ x) (append-nil (field_text field)) in
+    ap (λ (x : List ℕ). flat_map field_text x) more ∙ flat_map-append field_text (take i fields) (field ∷ [])
+    ∙ ap (λ (x : List ℕ). flat_map field_text (take i fields) ++ x) (append-nil (field_text field)) in
     e ∙ ap (λ (x : List ℕ). flat_map field_text (take i fields) ++ 32 ∷ x) front
     ∙ sym (append_assoc (flat_map field_text (take i fields)) (field_text field) (separated 32 rest))
     ∙ ap (λ (x : List ℕ). x ++ separated 32 rest) (sym texts)
 
-pub others_more : (i field : ℕ) (all front_rest : List ℕ) (rest : Option (List ℕ)) → i < length all → Fits all → field < 2 ^ 64 → 32 ∷ front_rest ≡ flat_map field_text (drop i all)
+pub others_more : (i field : ℕ) (all front_rest : List ℕ) (rest : Option (List ℕ)) → i < length all → Fits all → field < 2 ^ 64
+    → 32 ∷ front_rest ≡ flat_map field_text (drop i all)
     → front_rest ≡ hexadecimal field ++ separated 32 rest → separated 32 rest ≡ flat_map field_text (drop (i + 1) all)
 others_more i field all front_rest rest within fits small e front =
     let next = first_left i all front_rest within e in
-    let same = same_field field (get_or all i 0) rest (fields_after (drop (i + 1) all)) small (All-get_or (λ field. field < 2 ^ 64) all i 0 within fits) (sym front ∙ next) in
+    let same = same_field field (get_or all i 0) rest (fields_after (drop (i + 1) all)) small
+    (All-get_or (λ field. field < 2 ^ 64) all i 0 within fits) (sym front ∙ next) in
     ap (separated 32) same.1 ∙ sym (text_of_fields (drop (i + 1) all))
 
 pub no_field_in_front : (i : ℕ) (all text : List ℕ) → i < length all → Fits all → 32 ∷ text ≡ flat_map field_text (drop i all)
     → ((number : ℕ) (rest : Option (List ℕ)) → number < 2 ^ 64 → text ≢ hexadecimal number ++ separated 32 rest) → ⊥
 no_field_in_front i all text within fits e none =
-    none (get_or all i 0) (fields_after (drop (i + 1) all)) (All-get_or (λ field. field < 2 ^ 64) all i 0 within fits) (first_left i all text within e)
+    none (get_or all i 0) (fields_after (drop (i + 1) all)) (All-get_or (λ field. field < 2 ^ 64) all i 0 within fits)
+    (first_left i all text within e)
 
 -- ---- the line number and the code
 
@@ -103,7 +115,8 @@ not_ok (Err why) P value h e p = h p
 
 -- no line has this form
 abbrev pub NoHeading : List ℕ → Type 0
-NoHeading text = (line code : ℕ) (rest : Option (List ℕ)) → line < 2 ^ 32 → code < 2 ^ 16 → text ≢ decimal line ++ separated 32 (Some (decimal code ++ separated 32 rest))
+NoHeading text = (line code : ℕ) (rest : Option (List ℕ)) → line < 2 ^ 32 → code < 2 ^ 16
+    → text ≢ decimal line ++ separated 32 (Some (decimal code ++ separated 32 rest))
 
 abbrev NoNumber : List ℕ → Type 0
 NoNumber text = (number : ℕ) (rest : Option (List ℕ)) → number < 2 ^ 64 → text ≢ decimal number ++ separated 32 rest
@@ -111,7 +124,8 @@ NoNumber text = (number : ℕ) (rest : Option (List ℕ)) → number < 2 ^ 64 �
 pub without_line : (text : List ℕ) → NoNumber text → NoHeading text
 without_line text none line code rest few small e = none line (Some (decimal code ++ separated 32 rest)) (omega arith) e
 
-pub large_line : (text : List ℕ) (number : ℕ) (after : Option (List ℕ)) → text ≡ decimal number ++ separated 32 after → number < 2 ^ 64 → (number < 2 ^ 32 → ⊥) → NoHeading text
+pub large_line : (text : List ℕ) (number : ℕ) (after : Option (List ℕ)) → text ≡ decimal number ++ separated 32 after → number < 2 ^ 64
+    → (number < 2 ^ 32 → ⊥) → NoHeading text
 large_line text number after whole fits large line code rest few small e =
     let same = same_number number line after (Some (decimal code ++ separated 32 rest)) fits (omega arith) (sym whole ∙ e) in
     large (omega (arith, same.0))
@@ -121,12 +135,14 @@ without_rest text number whole fits line code rest few small e =
     let same = same_number number line None (Some (decimal code ++ separated 32 rest)) fits (omega arith) (sym whole ∙ e) in
     none-some (decimal code ++ separated 32 rest) same.1
 
-pub without_code : (text others : List ℕ) (number : ℕ) → text ≡ decimal number ++ separated 32 (Some others) → number < 2 ^ 64 → NoNumber others → NoHeading text
+pub without_code : (text others : List ℕ) (number : ℕ) → text ≡ decimal number ++ separated 32 (Some others) → number < 2 ^ 64
+    → NoNumber others → NoHeading text
 without_code text others number whole fits none line code rest few small e =
     let same = same_number number line (Some others) (Some (decimal code ++ separated 32 rest)) fits (omega arith) (sym whole ∙ e) in
     none code rest (omega arith) (cc)
 
-pub large_code : (text others : List ℕ) (number second : ℕ) (after : Option (List ℕ)) → text ≡ decimal number ++ separated 32 (Some others) → number < 2 ^ 64
+pub large_code : (text others : List ℕ) (number second : ℕ) (after : Option (List ℕ))
+    → text ≡ decimal number ++ separated 32 (Some others) → number < 2 ^ 64
     → others ≡ decimal second ++ separated 32 after → second < 2 ^ 64 → (second < 2 ^ 16 → ⊥) → NoHeading text
 large_code text others number second after whole fits found fits_too large line code rest few small e =
     let same = same_number number line (Some others) (Some (decimal code ++ separated 32 rest)) fits (omega arith) (sym whole ∙ e) in
@@ -136,14 +152,16 @@ large_code text others number second after whole fits found fits_too large line 
 
 -- ---- the whole line
 
-pub text_of_record : (r : Record) → record_text r ≡ decimal r.line ++ separated 32 (Some (decimal r.code ++ separated 32 (fields_after r.fields)))
+pub text_of_record : (r : Record)
+    → record_text r ≡ decimal r.line ++ separated 32 (Some (decimal r.code ++ separated 32 (fields_after r.fields)))
 text_of_record r =
     ap (λ (x : List ℕ). decimal r.line ++ codes " " ++ decimal r.code ++ x) (text_of_fields r.fields)
     ∙ append_assoc (decimal r.line ++ codes " ") (decimal r.code) (separated 32 (fields_after r.fields))
     ∙ append_assoc (decimal r.line) (codes " ") (decimal r.code ++ separated 32 (fields_after r.fields))
 
 pub small_code : (version : Version) (r : Record) → IsRecord version r → r.code < 2 ^ 16
-small_code version r h = let event = event_of_fields version r.code r.fields h.fields in rw (← code-is version r.code event.event event.known) (code-lt event.event)
+small_code version r h = let event = event_of_fields version r.code r.fields h.fields in
+    rw (← code-is version r.code event.event event.known) (code-lt event.event)
 
 pub no_record_without_heading : (version : Version) (text : List ℕ) (r : Record) → NoHeading text → Spells version text r → ⊥
 no_record_without_heading version text r none h =
@@ -155,12 +173,14 @@ record Headed (version : Version) (line code : ℕ) (after : Option (List ℕ)) 
   code_is : code ≡ r.code
   after_is : after ≡ fields_after r.fields
 
-headed : (version : Version) (text : List ℕ) (line code : ℕ) (after : Option (List ℕ)) (r : Record) → text ≡ decimal line ++ separated 32 (Some (decimal code ++ separated 32 after))
+headed : (version : Version) (text : List ℕ) (line code : ℕ) (after : Option (List ℕ)) (r : Record)
+    → text ≡ decimal line ++ separated 32 (Some (decimal code ++ separated 32 after))
     → line < 2 ^ 32 → code < 2 ^ 16 → Spells version text r → Headed version line code after r
 headed version text line code after r whole few small h =
     let few_too : r.line < 2 ^ 64 = omega (arith, h.grammar.line_fits) in
     let small_too : r.code < 2 ^ 64 = omega (arith, small_code version r h.grammar) in
-    let same = same_number line r.line (Some (decimal code ++ separated 32 after)) (Some (decimal r.code ++ separated 32 (fields_after r.fields))) (omega arith) few_too (sym whole ∙ h.text ∙ text_of_record r) in
+    let same = same_number line r.line (Some (decimal code ++ separated 32 after))
+    (Some (decimal r.code ++ separated 32 (fields_after r.fields))) (omega arith) few_too (sym whole ∙ h.text ∙ text_of_record r) in
     let is : decimal code ++ separated 32 after ≡ decimal r.code ++ separated 32 (fields_after r.fields) = some_is _ _ same.1 in
     let second = same_number code r.code after (fields_after r.fields) (omega arith) small_too is in
     record { line_is = same.0; code_is = second.0; after_is = second.1 }
@@ -177,32 +197,40 @@ event_is version code e f h k = some_event e f (sym h ∙ k)
     some_event : (e f : Event) → an_event e ≡ an_event f → e ≡ f
     some_event e f h = cc
 
-pub no_record_without_event : (version : Version) (text : List ℕ) (line code : ℕ) (after : Option (List ℕ)) (r : Record) → text ≡ decimal line ++ separated 32 (Some (decimal code ++ separated 32 after))
+pub no_record_without_event : (version : Version) (text : List ℕ) (line code : ℕ) (after : Option (List ℕ)) (r : Record)
+    → text ≡ decimal line ++ separated 32 (Some (decimal code ++ separated 32 after))
     → line < 2 ^ 32 → code < 2 ^ 16 → event_of version code ≡ None → Spells version text r → ⊥
 no_record_without_event version text line code after r whole few small none h =
     let is = headed version text line code after r whole few small h in
     let event = event_of_fields version r.code r.fields h.grammar.fields in
     none-some event.event (sym none ∙ ap (event_of version) is.code_is ∙ event.known)
 
-pub no_record_without_fields : (version : Version) (text : List ℕ) (line code : ℕ) (after : Option (List ℕ)) (event : Event) (r : Record) → text ≡ decimal line ++ separated 32 (Some (decimal code ++ separated 32 after))
+pub no_record_without_fields : (version : Version) (text : List ℕ) (line code : ℕ) (after : Option (List ℕ)) (event : Event) (r : Record)
+    → text ≡ decimal line ++ separated 32 (Some (decimal code ++ separated 32 after))
     → line < 2 ^ 32 → code < 2 ^ 16 → event_of version code ≡ Some event
-    → ((fields : List ℕ) → length fields ≡ field_count_of event → Fits fields → separated 32 after ≢ flat_map field_text fields) → Spells version text r → ⊥
+    → ((fields : List ℕ) → length fields ≡ field_count_of event → Fits fields → separated 32 after ≢ flat_map field_text fields)
+    → Spells version text r → ⊥
 no_record_without_fields version text line code after event r whole few small known none h =
     let is = headed version text line code after r whole few small h in
     let own = event_of_fields version r.code r.fields h.grammar.fields in
     let same : event ≡ own.event = event_is version code event own.event known (ap (event_of version) is.code_is ∙ own.known) in
-    none r.fields (own.count ∙ ap field_count_of (sym same)) h.grammar.fields_fit (ap (separated 32) is.after_is ∙ sym (text_of_fields r.fields))
+    none r.fields (own.count ∙ ap field_count_of (sym same)) h.grammar.fields_fit (ap (separated 32) is.after_is
+    ∙ sym (text_of_fields r.fields))
 
-pub no_record_without_name : (version : Version) (text : List ℕ) (line code : ℕ) (after : Option (List ℕ)) (event : Event) (fields : List ℕ) (r : Record)
-    → text ≡ decimal line ++ separated 32 (Some (decimal code ++ separated 32 after)) → line < 2 ^ 32 → code < 2 ^ 16 → event_of version code ≡ Some event
+pub no_record_without_name : (version : Version) (text : List ℕ) (line code : ℕ) (after : Option (List ℕ)) (event : Event)
+    (fields : List ℕ) (r : Record)
+    → text ≡ decimal line ++ separated 32 (Some (decimal code ++ separated 32 after)) → line < 2 ^ 32 → code < 2 ^ 16
+    → event_of version code ≡ Some event
     → separated 32 after ≡ flat_map field_text fields → Fits fields → interns_a_name event fields ≡ false → Spells version text r → ⊥
 no_record_without_name version text line code after event fields r whole few small known found fits unnamed h =
     let is = headed version text line code after r whole few small h in
     let own = event_of_fields version r.code r.fields h.grammar.fields in
     let same : event ≡ own.event = event_is version code event own.event known (ap (event_of version) is.code_is ∙ own.known) in
-    let texts : separated 32 (fields_after fields) ≡ separated 32 (fields_after r.fields) = sym (text_of_fields fields) ∙ sym found ∙ ap (separated 32) is.after_is in
+    let texts : separated 32 (fields_after fields) ≡ separated 32 (fields_after r.fields) = sym (text_of_fields fields) ∙ sym found
+    ∙ ap (separated 32) is.after_is in
     let equal : fields ≡ r.fields =
-    same_fields fields r.fields (recursion_from_All (λ field. field < 2 ^ 64) fields fits) (recursion_from_All (λ field. field < 2 ^ 64) r.fields h.grammar.fields_fit)
+    same_fields fields r.fields (recursion_from_All (λ field. field < 2 ^ 64) fields fits)
+    (recursion_from_All (λ field. field < 2 ^ 64) r.fields h.grammar.fields_fit)
     (same_rest (fields_after fields) (fields_after r.fields) texts) in
     named_or_not _ (sym unnamed ∙ ap (λ (e : Event). interns_a_name e fields) same ∙ ap (interns_a_name own.event) equal) own.named
   where
@@ -210,18 +238,26 @@ no_record_without_name version text line code after event fields r whole few sma
     named_or_not true e f = absurd cc
     named_or_not false e f = absurd cc
 
-pub known_by_code : (version : Version) (code : ℕ) (event : Event) → event_of version code ≡ Some event → event_of version (code_of event) ≡ Some event
+pub known_by_code : (version : Version) (code : ℕ) (event : Event) → event_of version code ≡ Some event
+    → event_of version (code_of event) ≡ Some event
 known_by_code version code event known = ap (event_of version) (code-is version code event known) ∙ known
 
 pub spells_record : (version : Version) (text : List ℕ) (line code : ℕ) (after : Option (List ℕ)) (event : Event) (fields : List ℕ)
-    → text ≡ decimal line ++ separated 32 (Some (decimal code ++ separated 32 after)) → line < 2 ^ 32 → event_of version code ≡ Some event → length fields ≡ field_count_of event
+    → text ≡ decimal line ++ separated 32 (Some (decimal code ++ separated 32 after)) → line < 2 ^ 32
+    → event_of version code ≡ Some event → length fields ≡ field_count_of event
     → separated 32 after ≡ flat_map field_text fields → Fits fields → interns_a_name event fields ≡ true
     → Spells version text (record { line = line; code = code_of event; fields = fields })
 spells_record version text line code after event fields whole few known count found fits named =
     let code_is : code_of event ≡ code = code-is version code event known in
     record {
       grammar = record {
-        fields = fields_of_event version (code_of event) fields (record { event = event; known = ap (event_of version) code_is ∙ known; count = count; named = named });
+        fields = fields_of_event version (code_of event) fields (record {
+          event = event;
+          known = ap (event_of version) code_is
+              ∙ known;
+          count = count;
+          named = named;
+        });
         fields_fit = fits;
         line_fits = few;
       };
@@ -241,7 +277,9 @@ front_three (a ∷ []) size = absurd (omega arith)
 front_three (a ∷ b ∷ []) size = absurd (omega arith)
 front_three (a ∷ b ∷ c ∷ fields) size = refl
 
-pub name_tested : (event : Event) (fields : List ℕ) (named : Bool) → event ≡ Intern → length fields ≡ 4 → named ≡ is_padded_name (interned_bytes fields)
+pub name_tested : (event : Event) (fields : List ℕ) (named : Bool) → event ≡ Intern → length fields ≡ 4
+    → named ≡ is_padded_name (interned_bytes fields)
     → named ≡ interns_a_name event (take (field_count_of event) fields)
 name_tested event fields named is size named_is =
-    named_is ∙ ap is_padded_name (sym (front_three fields size)) ∙ ap (λ (e : Event). interns_a_name e (take (field_count_of e) fields)) (sym is)
+    named_is ∙ ap is_padded_name (sym (front_three fields size))
+    ∙ ap (λ (e : Event). interns_a_name e (take (field_count_of e) fields)) (sym is)

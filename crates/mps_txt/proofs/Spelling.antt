@@ -24,7 +24,8 @@ IsNoFeed byte = byte ≢ 10
 fields_lack : (fields : List ℕ) → Lacks 10 (flat_map field_text fields)
 fields_lack [] = All-nil IsNoFeed
 fields_lack (field ∷ fields) =
-    All-append IsNoFeed (field_text field) (flat_map field_text fields) (All-cons IsNoFeed 32 (hexadecimal field) (λ e. omega (arith, e)) (hexadecimal_lacks 10 field (omega arith))) (fields_lack fields)
+    All-append IsNoFeed (field_text field) (flat_map field_text fields)
+    (All-cons IsNoFeed 32 (hexadecimal field) (λ e. omega (arith, e)) (hexadecimal_lacks 10 field (omega arith))) (fields_lack fields)
 
 space_lacks : Lacks 10 (codes " ")
 space_lacks = All-cons IsNoFeed 32 [] (λ e. omega (arith, e)) (All-nil IsNoFeed)
@@ -52,7 +53,8 @@ onto_at_most : (fuel base n : ℕ) (front : List ℕ) → length (digits_onto fu
 onto_at_most zero base n front = omega arith
 onto_at_most (suc fuel) base n front =
     let next = digit_glyph false (n % base) ∷ front in
-    longest_of (eqb (n / base) 0) next (digits_onto fuel base false (n / base) next) (suc fuel + length front) (omega arith) (omega (arith, onto_at_most fuel base (n / base) next))
+    longest_of (eqb (n / base) 0) next (digits_onto fuel base false (n / base) next) (suc fuel + length front) (omega arith)
+    (omega (arith, onto_at_most fuel base (n / base) next))
 
 digits_at_most : (base n : ℕ) → length (digits base false n) ≤ 64
 unfolding digits
@@ -60,7 +62,8 @@ digits_at_most base n = omega (arith, onto_at_most 64 base n [])
 
 fields_at_most : (fields : List ℕ) → length (flat_map field_text fields) ≤ 65 * length fields
 fields_at_most [] = omega arith
-fields_at_most (field ∷ fields) = omega (arith, length-append (field_text field) (flat_map field_text fields), digits_at_most 16 field, fields_at_most fields)
+fields_at_most (field ∷ fields) =
+    omega (arith, length-append (field_text field) (flat_map field_text fields), digits_at_most 16 field, fields_at_most fields)
 
 pub record_text_at_most : (version : Version) (r : Record) → IsRecord version r → length (record_text r) ≤ 4096
 record_text_at_most version r h =
@@ -91,10 +94,12 @@ one_text version line r s h k =
     let code_fits : r.code < 2 ^ 64 = omega (arith, small_code version r h.grammar) in
     let other_line : s.line < 2 ^ 64 = omega (arith, k.grammar.line_fits) in
     let other_code : s.code < 2 ^ 64 = omega (arith, small_code version s k.grammar) in
-    let same = same_number r.line s.line (Some (decimal r.code ++ separated 32 (fields_after r.fields))) (Some (decimal s.code ++ separated 32 (fields_after s.fields))) line_fits other_line
+    let same = same_number r.line s.line (Some (decimal r.code ++ separated 32 (fields_after r.fields)))
+    (Some (decimal s.code ++ separated 32 (fields_after s.fields))) line_fits other_line
     (sym (text_of_record r) ∙ sym h.text ∙ k.text ∙ text_of_record s) in
     let codes_same = same_number r.code s.code (fields_after r.fields) (fields_after s.fields) code_fits other_code (some_is _ _ same.1) in
-    let fields_same = same_fields r.fields s.fields (recursion_from_All (λ field. field < 2 ^ 64) r.fields h.grammar.fields_fit) (recursion_from_All (λ field. field < 2 ^ 64) s.fields k.grammar.fields_fit) codes_same.1 in
+    let fields_same = same_fields r.fields s.fields (recursion_from_All (λ field. field < 2 ^ 64) r.fields h.grammar.fields_fit)
+    (recursion_from_All (λ field. field < 2 ^ 64) s.fields k.grammar.fields_fit) codes_same.1 in
     same_parts r.line s.line r.code s.code r.fields s.fields same.0 codes_same.0 fields_same
   where
     some_is : (x y : List ℕ) → Some x ≡ Some y → x ≡ y

@@ -16,10 +16,12 @@ same_after separator (Some x) None e = absurd (let h : length (separator ∷ x) 
 same_after separator (Some x) (Some y) e = ap Some (ap (λ (x : List ℕ). drop 1 x) e)
 
 not_after : (separator byte : ℕ) (bytes : List ℕ) (a : Option (List ℕ)) → byte ≢ separator → byte ∷ bytes ≡ separated separator a → ⊥
-not_after separator byte bytes None other e = absurd (let h : length (byte ∷ bytes) ≡ 0 = ap (λ (x : List ℕ). length x) e in omega (arith, h))
+not_after separator byte bytes None other e =
+    absurd (let h : length (byte ∷ bytes) ≡ 0 = ap (λ (x : List ℕ). length x) e in omega (arith, h))
 not_after separator byte bytes (Some x) other e = other (ap (λ (x : List ℕ). get_or x 0 0) e)
 
-cut : (separator : ℕ) (w v : List ℕ) (a b : Option (List ℕ)) → AllByRecursion (λ byte. byte ≢ separator) w → AllByRecursion (λ byte. byte ≢ separator) v
+cut : (separator : ℕ) (w v : List ℕ) (a b : Option (List ℕ)) → AllByRecursion (λ byte. byte ≢ separator) w
+    → AllByRecursion (λ byte. byte ≢ separator) v
     → w ++ separated separator a ≡ v ++ separated separator b → (w ≡ v) × (a ≡ b)
 cut separator [] [] a b h k e = (refl, same_after separator a b e)
 cut separator [] (y ∷ v) a b h k e = absurd (not_after separator y (v ++ separated separator b) a k.0 (sym e))
@@ -29,7 +31,8 @@ cut separator (x ∷ w) (y ∷ v) a b h k e =
     let others = cut separator w v a b h.1 k.1 (ap (λ (x : List ℕ). drop 1 x) e) in
     (ap (λ (z : ℕ). z ∷ w) first ∙ ap (λ (z : List ℕ). y ∷ z) others.0, others.1)
 
-pub one_split : (separator : ℕ) (w v : List ℕ) (a b : Option (List ℕ)) → Lacks separator w → Lacks separator v → w ++ separated separator a ≡ v ++ separated separator b → (w ≡ v) × (a ≡ b)
+pub one_split : (separator : ℕ) (w v : List ℕ) (a b : Option (List ℕ)) → Lacks separator w → Lacks separator v
+    → w ++ separated separator a ≡ v ++ separated separator b → (w ≡ v) × (a ≡ b)
 one_split separator w v a b h k e =
     cut separator w v a b (recursion_from_All (λ byte. byte ≢ separator) w h) (recursion_from_All (λ byte. byte ≢ separator) v k) e
 
@@ -49,13 +52,15 @@ module _ (byte : ℕ) (text : List ℕ) where
       let is : get_or (take index text) i 0 ≡ get_or text i 0 = get_or-take index text i 0 low in
       λ e. eqb-false (get_or text i 0) byte (before i low) (sym is ∙ e))
 
-  pub splits_there : (answer : Option ℕ) → answer ≡ position (λ other. other == byte) text → IfSome answer (λ index. text ≡ take index text ++ byte ∷ drop (index + 1) text)
+  pub splits_there : (answer : Option ℕ) → answer ≡ position (λ other. other == byte) text
+      → IfSome answer (λ index. text ≡ take index text ++ byte ∷ drop (index + 1) text)
   splits_there None e = tt
   splits_there (Some index) e =
       let at = position-Some (λ other. other == byte) text index 0 (sym e) in
       stands_at index at.0 (eqb-true (get_or text index 0) byte at.1)
 
-  pub lacks_up_to_there : (answer : Option ℕ) → answer ≡ position (λ other. other == byte) text → IfSome answer (λ index. Lacks byte (take index text))
+  pub lacks_up_to_there : (answer : Option ℕ) → answer ≡ position (λ other. other == byte) text
+      → IfSome answer (λ index. Lacks byte (take index text))
   lacks_up_to_there None e = tt
   lacks_up_to_there (Some index) e = lacks_before index (position-Some (λ other. other == byte) text index 0 (sym e)).2
 

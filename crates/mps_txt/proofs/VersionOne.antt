@@ -20,7 +20,8 @@ record KeepsNone (fields : List ℕ) (event : Event) : Type 0 where
 all_keep_none : (fields : List ℕ) → AllByRecursion (KeepsNone fields) common_events
 all_keep_none fields = search rules
 
-first_or_later : {X : Type 0} (P : X → Type 0) (passes : Bool) (x : X) (later : Option X) → P x → IfSome later P → IfSome (cond passes (Some x) later) P
+first_or_later : {X : Type 0} (P : X → Type 0) (passes : Bool) (x : X) (later : Option X) → P x → IfSome later P
+    → IfSome (cond passes (Some x) later) P
 first_or_later P true x later here following = here
 first_or_later P false x later here following = following
 
@@ -34,7 +35,8 @@ keeps_none code fields = found_among (KeepsNone fields) (λ e. code_of e == code
 
 -- ---- the records of a text of version 1
 
-event_after : (o : Option Event) (fields : List ℕ) (t : Naming) → IfSome o (KeepsNone fields) → option_and_then (λ event. after_event event fields no_names) o ≡ Some t → t ≡ no_names
+event_after : (o : Option Event) (fields : List ℕ) (t : Naming) → IfSome o (KeepsNone fields)
+    → option_and_then (λ event. after_event event fields no_names) o ≡ Some t → t ≡ no_names
 event_after None fields t h e = absurd (let f : None ≡ Some t = e in cc)
 event_after (Some event) fields t h e = naming_is t no_names (sym e ∙ h.after)
 
@@ -48,22 +50,26 @@ none_after (r ∷ rs) s named none e =
     let g = first_step One (after_record One s r) rs named e in
     none_after rs g.0 named (record_after r s g.0 none g.1) g.2
 
-event_takes : (version : Version) (s : Naming) (r : Record) (o : Option Event) → event_of version r.code ≡ o → IfSome o (λ event. takes_memory event r.fields s ≡ false)
+event_takes : (version : Version) (s : Naming) (r : Record) (o : Option Event) → event_of version r.code ≡ o
+    → IfSome o (λ event. takes_memory event r.fields s ≡ false)
     → record_takes_memory version s r ≡ false
 event_takes version s r None e h = rw e refl
 event_takes version s r (Some event) e h = rw e h
 
-takes_none : (o : Option Event) (fields : List ℕ) → IfSome o (KeepsNone fields) → IfSome o (λ event. takes_memory event fields no_names ≡ false)
+takes_none : (o : Option Event) (fields : List ℕ) → IfSome o (KeepsNone fields)
+    → IfSome o (λ event. takes_memory event fields no_names ≡ false)
 takes_none None fields h = tt
 takes_none (Some event) fields h = h.takes
 
-none_taken : (records : List Record) (named : Naming) (r : Record) → after_records One no_names records ≡ Some named → record_takes_memory One named r ≡ false
+none_taken : (records : List Record) (named : Naming) (r : Record) → after_records One no_names records ≡ Some named
+    → record_takes_memory One named r ≡ false
 none_taken records named r e =
     subst (λ (n : Naming). record_takes_memory One n r ≡ false) (sym (none_after records no_names named refl e))
     (event_takes One no_names r (event_of One r.code) refl (takes_none (event_of One r.code) r.fields (keeps_none r.code r.fields)))
 
 -- only a text of version 2 has records that take memory
-pub is_second : (version : Version) (records : List Record) (named : Naming) (r : Record) → after_records version no_names records ≡ Some named
+pub is_second : (version : Version) (records : List Record) (named : Naming) (r : Record)
+    → after_records version no_names records ≡ Some named
     → record_takes_memory version named r ≡ true → version ≡ Two
 is_second One records named r e takes = absurd (let f : false ≡ true = sym (none_taken records named r e) ∙ takes in cc)
 is_second Two records named r e takes = refl

@@ -25,7 +25,8 @@ use Rattle.mps_txt.specs.TextSteps.{ShowsLines, ShowsAll, ShowsWholeLines, Shows
 use Rattle.mps_txt.proofs.LinesSoFar.{whole_known}
 use Rattle.mps_txt.proofs.VersionOne.{is_second}
 
-printed_all : (line text : List ℕ) (o : Option (List ℕ)) → option_map (λ all. all ++ text) (option_map (λ printed. printed ++ line) o) ≡ option_map (λ before. before ++ (line ++ text)) o
+printed_all : (line text : List ℕ) (o : Option (List ℕ)) → option_map (λ all. all ++ text) (option_map (λ printed. printed ++ line) o)
+    ≡ option_map (λ before. before ++ (line ++ text)) o
 printed_all line text None = refl
 printed_all line text (Some before) = ap Some (append_assoc before line text)
 
@@ -45,23 +46,28 @@ pub record LinesFlushed (version : Version) (bytes left gathered : List ℕ) (en
   pub far : ending ≡ Err stop.ReadFailed → PrintsAsFar c d gathered
 
 module _ (version : Version) (bytes left out : List ℕ) (a b : Outside) (first : FirstLinePut version bytes left out a b) where
-  begins : (before after : Option (List ℕ)) (h : ShowsLines version left before after) → BeginsWith version h.records h.named (terminated h.left) bytes
+  begins : (before after : Option (List ℕ)) (h : ShowsLines version left before after)
+      → BeginsWith version h.records h.named (terminated h.left) bytes
   begins before after h = record {
     each = h.each;
     meaning = h.meaning;
     at_most = h.at_most;
-    spelled = first.spelled ∙ ap (λ (x : List ℕ). first_line version ++ x) h.spelled ∙ sym (append_assoc (first_line version) (flat_map record_line h.records) (terminated h.left));
+    spelled = first.spelled ∙ ap (λ (x : List ℕ). first_line version ++ x) h.spelled
+        ∙ sym (append_assoc (first_line version) (flat_map record_line h.records) (terminated h.left));
   }
 
   -- what was put out after the first line
-  put_all : (text : List ℕ) (after : Option (List ℕ)) → PutsOut (put_out b out) after text → after ≡ option_map (λ before. before ++ (first_line version ++ text)) a.printed
+  put_all : (text : List ℕ) (after : Option (List ℕ)) → PutsOut (put_out b out) after text
+      → after ≡ option_map (λ before. before ++ (first_line version ++ text)) a.printed
   put_all text after put =
       put
       ∙ ap (λ (x : List ℕ). option_map (λ (t : List ℕ). t ++ text) (option_map (λ printed. printed ++ x) b.printed)) first.line
-      ∙ ap (λ (o : Option (List ℕ)). option_map (λ (t : List ℕ). t ++ text) (option_map (λ printed. printed ++ first_line version) o)) first.same
+      ∙ ap (λ (o : Option (List ℕ)). option_map (λ (t : List ℕ). t ++ text)
+      (option_map (λ printed. printed ++ first_line version) o)) first.same
       ∙ printed_all (first_line version) text a.printed
 
-  reads : (T : Type 0) (d : Outside) (after : Option (List ℕ)) (ending : Result T (Stop BadTextLine)) → d.printed ≡ after → ShowsAll version left (put_out b out) after ending → Reads bytes ending a d
+  reads : (T : Type 0) (d : Outside) (after : Option (List ℕ)) (ending : Result T (Stop BadTextLine)) → d.printed ≡ after
+      → ShowsAll version left (put_out b out) after ending → Reads bytes ending a d
   reads T d after ending printed all =
       let h = all.shown in
       record {
@@ -84,7 +90,8 @@ module _ (version : Version) (bytes left out : List ℕ) (a b : Outside) (first 
     begins = begins before after h;
   }
 
-  runs_out_of_memory : (d : Outside) (after : Option (List ℕ)) → d.printed ≡ after → ShowsBeforeMemory version left (put_out b out) after → RunsOutOfMemory bytes a d
+  runs_out_of_memory : (d : Outside) (after : Option (List ℕ)) → d.printed ≡ after → ShowsBeforeMemory version left (put_out b out) after
+      → RunsOutOfMemory bytes a d
   runs_out_of_memory d after printed h = record {
     lines = first_lines (put_out b out) after h.shown;
     labelled = is_second version h.shown.records h.shown.named h.next.next h.shown.meaning h.next.takes;
@@ -95,15 +102,19 @@ module _ (version : Version) (bytes left out : List ℕ) (a b : Outside) (first 
   -- ---- every ending
 
   module _ (gathered : List ℕ) (c d : Outside) where
-    fails_after_lines : LinesFlushed version bytes left gathered (Err stop.ReadFailed) a b c d → ShowsWholeLines version left c.input (put_out b out) (put_out c gathered) → FailsAfterLines bytes a d
+    fails_after_lines : LinesFlushed version bytes left gathered (Err stop.ReadFailed) a b c d
+        → ShowsWholeLines version left c.input (put_out b out) (put_out c gathered) → FailsAfterLines bytes a d
     fails_after_lines f h = record {
       lines = first_lines (put_out b out) (put_out c gathered) h.shown;
-      whole = f.whole refl ∙ ap (λ (x : List ℕ). first_line version ++ x) h.whole ∙ sym (append_assoc (first_line version) (flat_map record_line h.shown.records) h.shown.left);
+      whole = f.whole refl ∙ ap (λ (x : List ℕ). first_line version ++ x) h.whole
+          ∙ sym (append_assoc (first_line version) (flat_map record_line h.shown.records) h.shown.left);
       breaks = subst (λ (o : Option (List ℕ)). BreaksOff h.shown.left o) (sym f.unread) h.breaks;
-      printed = as_far_of_text out (first_line version) (readable version h.shown.records) gathered a b c d first.same first.line h.shown.put f.grown f.counted (f.far refl);
+      printed = as_far_of_text out (first_line version)
+          (readable version h.shown.records) gathered a b c d first.same first.line h.shown.put f.grown f.counted (f.far refl);
     }
 
-    pub reads_ending : (ending : Ending) → LinesFlushed version bytes left gathered ending a b c d → AllGives version left c.input (put_out b out) (put_out c gathered) ending → HasRead bytes ending a d
+    pub reads_ending : (ending : Ending) → LinesFlushed version bytes left gathered ending a b c d
+        → AllGives version left c.input (put_out b out) (put_out c gathered) ending → HasRead bytes ending a d
     reads_ending (Ok value) f all = reads (Unit {0}) d (put_out c gathered) (Ok value) (f.printed tt) all
     reads_ending (Err (stop.Bad bad)) f all = inr (reads (Unit {0}) d (put_out c gathered) (Err (stop.Bad bad)) (f.printed tt) all)
     reads_ending (Err stop.TooLong) f all = reads (Unit {0}) d (put_out c gathered) (Err stop.TooLong) (f.printed tt) all
@@ -114,25 +125,32 @@ module _ (version : Version) (bytes left out : List ℕ) (a b : Outside) (first 
 
 -- ---- where the first line was taken
 
-pub left_known : (version : Version) (bytes : List ℕ) (left : Option (List ℕ)) → Some (terminated bytes) ≡ option_map (λ rest. first_line version ++ terminated rest) left
+pub left_known : (version : Version) (bytes : List ℕ) (left : Option (List ℕ))
+    → Some (terminated bytes) ≡ option_map (λ rest. first_line version ++ terminated rest) left
     → (rest : List ℕ) × (left ≡ Some rest) × (terminated bytes ≡ first_line version ++ terminated rest)
 left_known version bytes None e = absurd (let f : Some (terminated bytes) ≡ None = e in cc)
-left_known version bytes (Some rest) e = (rest, refl, (let f : Some (terminated bytes) ≡ Some (first_line version ++ terminated rest) = e in cc))
+left_known version bytes (Some rest) e =
+    (rest, refl, (let f : Some (terminated bytes) ≡ Some (first_line version ++ terminated rest) = e in cc))
 
 -- all of it was taken, where a read may still fail
-pub whole_first_line : (version : Version) (bytes rest : List ℕ) (left : Option (List ℕ)) (b : Buffered) (ending : Ending) → IsWholeOrLast (first_line version) (Some bytes) left b
-    → (IsComplete b → ending ≡ Err stop.ReadFailed → ⊥) → left ≡ Some rest → ending ≡ Err stop.ReadFailed → bytes ≡ first_line version ++ rest
-whole_first_line version bytes rest left b ending whole may_fail known failed = whole_known (first_line version) bytes rest (Some bytes) left b whole (λ complete. may_fail complete failed) refl known
+pub whole_first_line : (version : Version) (bytes rest : List ℕ) (left : Option (List ℕ)) (b : Buffered) (ending : Ending)
+    → IsWholeOrLast (first_line version) (Some bytes) left b
+    → (IsComplete b → ending ≡ Err stop.ReadFailed → ⊥) → left ≡ Some rest → ending ≡ Err stop.ReadFailed
+    → bytes ≡ first_line version ++ rest
+whole_first_line version bytes rest left b ending whole may_fail known failed =
+    whole_known (first_line version) bytes rest (Some bytes) left b whole (λ complete. may_fail complete failed) refl known
 
 -- the flush may fail after any ending
-pub flushed : (R : Type 0) (bytes : List ℕ) (a d : Outside) (ending result : Ending) → (result ≡ ending) ⊎ ((result ≡ Err stop.WriteFailed) × R) → (result ≡ ending → HasRead bytes ending a d)
+pub flushed : (R : Type 0) (bytes : List ℕ) (a d : Outside) (ending result : Ending)
+    → (result ≡ ending) ⊎ ((result ≡ Err stop.WriteFailed) × R) → (result ≡ ending → HasRead bytes ending a d)
     → HasRead bytes result a d
 flushed R bytes a d ending result (inl e) h = subst (λ (r : Ending). HasRead bytes r a d) (sym e) (h e)
 flushed R bytes a d ending result (inr e) h = rw e.0 tt
 
 -- ---- the report changes nothing of what was printed
 
-reads_later : (T : Type 0) (bytes : List ℕ) (ending : Result T (Stop BadTextLine)) (a b c : Outside) → Reads bytes ending a b → c.printed ≡ b.printed → Reads bytes ending a c
+reads_later : (T : Type 0) (bytes : List ℕ) (ending : Result T (Stop BadTextLine)) (a b c : Outside) → Reads bytes ending a b
+    → c.printed ≡ b.printed → Reads bytes ending a c
 reads_later T bytes ending a b c h e = record {
   version = h.version;
   records = h.records;
@@ -180,7 +198,8 @@ pub record EndingReported (status : ℕ) (ending : Ending) (a b c : Outside) : T
   pub status_is : IfErr ending (λ why. status ≡ status_of why)
   pub reports : IfErr ending (λ why. Reports b c (report_of text_of_bad_line why))
 
-pub read_with : (status : ℕ) (bytes : List ℕ) (ending : Ending) (a b c : Outside) → EndingReported status ending a b c → HasRead bytes ending a b → ReadWith bytes status a c
+pub read_with : (status : ℕ) (bytes : List ℕ) (ending : Ending) (a b c : Outside) → EndingReported status ending a b c
+    → HasRead bytes ending a b → ReadWith bytes status a c
 read_with status bytes (Ok value) a b c e h = record {
   ending = Ok value;
   status_is = e.zero;
@@ -196,7 +215,8 @@ read_with status bytes (Err why) a b c e h = record {
 
 -- ---- what may come before
 
-pub opening_stops : (bytes : List ℕ) (left : Option (List ℕ)) (a b : Outside) (why : Stop BadTextLine) → OpensText bytes left a.input b.input (Err why) → b.printed ≡ a.printed
+pub opening_stops : (bytes : List ℕ) (left : Option (List ℕ)) (a b : Outside) (why : Stop BadTextLine)
+    → OpensText bytes left a.input b.input (Err why) → b.printed ≡ a.printed
     → HasRead {T = Unit {0}} bytes (Err why) a b
 opening_stops bytes left a b (stop.Bad bad) h same = inl (record { first = h.0; none = h.1; printed = same })
 opening_stops bytes left a b stop.ReadFailed h same = inl (record { breaks = h; printed = same })

@@ -204,7 +204,11 @@ the_labels_of_a_text = refl
 
 -- a move to the same address: the label is gone after it
 pub a_move_to_itself :
-    readable_from Two ring_before (record { line = 1; code = 82; fields = 0x1000 ∷ 0x1000 ∷ [] } ∷ record { line = 2; code = 83; fields = 0x1000 ∷ [] } ∷ [])
+    readable_from Two ring_before (record { line = 1; code = 82; fields = 0x1000 ∷ 0x1000 ∷ [] } ∷ record {
+      line = 2;
+      code = 83;
+      fields = 0x1000 ∷ [];
+    } ∷ [])
     ≡ codes "1 Move from=0x1000[ring] to=0x1000\n2 Stay at=0x1000\n"
 unfolding digits
 a_move_to_itself = refl

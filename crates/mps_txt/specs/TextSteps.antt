@@ -29,7 +29,8 @@ IsWrongLine version before line = (r : Record) → Spells version line r → aft
 
 -- the pending line is wrong
 abbrev pub IsWrongPending : Version → (before : Naming) → Buffered → Type 0
-IsWrongPending version before b = ((line : List ℕ) × (size : ℕ) × IsPendingLine b line size × IsWrongLine version before line) ⊎ IsLongLine b
+IsWrongPending version before b =
+    ((line : List ℕ) × (size : ℕ) × IsPendingLine b line size × IsWrongLine version before line) ⊎ IsLongLine b
 
 -- the pending line is that of a record that takes memory
 pub record IsPendingToTakeMemory (version : Version) (before : Naming) (b : Buffered) : Type 0 where
@@ -48,7 +49,8 @@ pub record ShowsPending (version : Version) (s t : Naming) (size : ℕ) (b : Buf
   pub put : after ≡ before ++ readable_line version s t read
 
 -- what the pending line gave
-abbrev pub PendingGives : Version → (number : ℕ) → (s t : Naming) → Buffered → (before after : List ℕ) → Result (Option ℕ) (Stop BadTextLine) → Type 0
+abbrev pub PendingGives : Version → (number : ℕ) → (s t : Naming) → Buffered → (before after : List ℕ)
+    → Result (Option ℕ) (Stop BadTextLine) → Type 0
 PendingGives version number s t b before after (Ok (Some size)) = ShowsPending version s t size b before after
 PendingGives version number s t b before after (Ok None) = (b.pending ≡ []) × (b.failed ≡ false) × (after ≡ before)
 PendingGives version number s t b before after (Err (stop.Bad bad)) = (bad.line ≡ number) × IsWrongPending version s b × (after ≡ before)
@@ -83,13 +85,16 @@ pub record ShowsNext (version : Version) (before after : Progress) : Type 0 wher
   pub put : PutsOut before.put after.put (readable_line version before.labels after.labels read)
 
 -- what the next line gave, where this is unread then; false at the end
-abbrev pub NextGives : Version → (number : ℕ) → (before after : Progress) → (unread : Option (List ℕ)) → Result Bool (Stop BadTextLine) → Type 0
+abbrev pub NextGives : Version → (number : ℕ) → (before after : Progress) → (unread : Option (List ℕ))
+    → Result Bool (Stop BadTextLine) → Type 0
 NextGives version number before after unread (Ok true) = ShowsNext version before after
 NextGives version number before after unread (Ok false) = IfSome before.left (λ bytes. bytes ≡ []) × (after.put ≡ before.put)
 NextGives version number before after unread (Err (stop.Bad bad)) =
-    (bad.line ≡ number) × IfSome before.left (λ bytes. (0 < length (terminated bytes)) × IsWrongNext version before.labels (terminated bytes))
+    (bad.line ≡ number) × IfSome before.left (λ bytes. (0 < length (terminated bytes))
+    × IsWrongNext version before.labels (terminated bytes))
     × (after.put ≡ before.put)
-NextGives version number before after unread (Err stop.ReadFailed) = IfSome before.left (λ bytes. BreaksOff bytes unread) × (after.put ≡ before.put)
+NextGives version number before after unread (Err stop.ReadFailed) = IfSome before.left (λ bytes. BreaksOff bytes unread)
+    × (after.put ≡ before.put)
 NextGives version number before after unread (Err stop.WriteFailed) = Unit {0}
 NextGives version number before after unread (Err stop.OutOfMemory) =
     IfSome before.left (λ bytes. IsNextToTakeMemory version before.labels (terminated bytes)) × (after.put ≡ before.put)
@@ -109,7 +114,8 @@ pub record ShowsLines (version : Version) (bytes : List ℕ) (before after : Opt
   pub put : PutsOut before after (readable version records)
 
 -- the lines were read and put out up to a rest at which the reading ends
-pub record ShowsAll {T : Type 0} (version : Version) (bytes : List ℕ) (before after : Option (List ℕ)) (ending : Result T (Stop BadTextLine)) : Type 0 where
+pub record ShowsAll {T : Type 0} (version : Version) (bytes : List ℕ) (before after : Option (List ℕ))
+    (ending : Result T (Stop BadTextLine)) : Type 0 where
   pub shown : ShowsLines version bytes before after
   pub ends_at : TextEndsAt version shown.named ending (length shown.records) (terminated shown.left)
 
@@ -125,7 +131,8 @@ pub record ShowsBeforeMemory (version : Version) (bytes : List ℕ) (before afte
   pub next : IsNextToTakeMemory version shown.named (terminated shown.left)
 
 -- the same of every ending
-abbrev pub AllGives : {T : Type 0} → Version → (bytes : List ℕ) → (unread before after : Option (List ℕ)) → Result T (Stop BadTextLine) → Type 0
+abbrev pub AllGives : {T : Type 0} → Version → (bytes : List ℕ) → (unread before after : Option (List ℕ))
+    → Result T (Stop BadTextLine) → Type 0
 AllGives version bytes unread before after (Err stop.ReadFailed) = ShowsWholeLines version bytes unread before after
 AllGives version bytes unread before after (Err stop.OutOfMemory) = ShowsBeforeMemory version bytes before after
 AllGives version bytes unread before after (Err stop.WriteFailed) = Unit {0}

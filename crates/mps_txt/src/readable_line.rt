@@ -100,7 +100,8 @@ fn name_of_event(event: Event) -> &'static [u8]
 /// The fields of `ArenaCreate`.
 fn put_arena(fields: &[u64; 4], output: &mut Output)
     requires { length output.old + 128 ≤ 65536 }
-    ensures text { (before after : Naming) → output.new ≡ output.old ++ columns_text before after fields.now 0 (columns_of Event.ArenaCreate) }
+    ensures text { (before after : Naming)
+        → output.new ≡ output.old ++ columns_text before after fields.now 0 (columns_of Event.ArenaCreate) }
     ensures at_most { length output.new ≤ length output.old + 128 }
 {
     put_decimal(b" grains=", fields[0], output);
@@ -110,7 +111,8 @@ fn put_arena(fields: &[u64; 4], output: &mut Output)
 /// The fields of `PoolCreate`.
 fn put_pool(fields: &[u64; 4], output: &mut Output)
     requires { length output.old + 128 ≤ 65536 }
-    ensures text { (before after : Naming) → output.new ≡ output.old ++ columns_text before after fields.now 0 (columns_of Event.PoolCreate) }
+    ensures text { (before after : Naming)
+        → output.new ≡ output.old ++ columns_text before after fields.now 0 (columns_of Event.PoolCreate) }
     ensures at_most { length output.new ≤ length output.old + 128 }
 {
     put_decimal(b" pool=", fields[0], output);
@@ -121,7 +123,8 @@ fn put_pool(fields: &[u64; 4], output: &mut Output)
 /// The fields of `Flip`.
 fn put_flip(fields: &[u64; 4], output: &mut Output)
     requires { length output.old + 128 ≤ 65536 }
-    ensures text { (before after : Naming) → output.new ≡ output.old ++ columns_text before after fields.now 0 (columns_of Event.Flip) }
+    ensures text { (before after : Naming)
+        → output.new ≡ output.old ++ columns_text before after fields.now 0 (columns_of Event.Flip) }
     ensures at_most { length output.new ≤ length output.old + 128 }
 {
     put_hexadecimal(b" zones=", fields[0], output);
@@ -132,7 +135,8 @@ fn put_flip(fields: &[u64; 4], output: &mut Output)
 /// The fields of `SegAlloc`.
 fn put_segment(fields: &[u64; 4], output: &mut Output)
     requires { length output.old + 128 ≤ 65536 }
-    ensures text { (before after : Naming) → output.new ≡ output.old ++ columns_text before after fields.now 0 (columns_of Event.SegAlloc) }
+    ensures text { (before after : Naming)
+        → output.new ≡ output.old ++ columns_text before after fields.now 0 (columns_of Event.SegAlloc) }
     ensures at_most { length output.new ≤ length output.old + 128 }
 {
     put_hexadecimal(b" base=", fields[0], output);
@@ -179,7 +183,8 @@ fn put_move(fields: &[u64; 4], label: Option<[u8; 16]>, labels: &Labels, output:
 /// The fields of `Intern`.
 fn put_intern(fields: &[u64; 4], output: &mut Output)
     requires { length output.old + 128 ≤ 65536 }
-    ensures text { (before after : Naming) → output.new ≡ output.old ++ columns_text before after fields.now 0 (columns_of Event.Intern) }
+    ensures text { (before after : Naming)
+        → output.new ≡ output.old ++ columns_text before after fields.now 0 (columns_of Event.Intern) }
     ensures at_most { length output.new ≤ length output.old + 128 }
 {
     put_decimal(b" id=", fields[0], output);
@@ -190,7 +195,8 @@ fn put_intern(fields: &[u64; 4], output: &mut Output)
 /// The fields of `Label`.
 fn put_label(fields: &[u64; 4], labels: &Labels, output: &mut Output)
     requires { length output.old + 128 ≤ 65536 }
-    ensures text { (before : Naming) → output.new ≡ output.old ++ columns_text before labels.now fields.now 0 (columns_of Event.Label) }
+    ensures text { (before : Naming)
+        → output.new ≡ output.old ++ columns_text before labels.now fields.now 0 (columns_of Event.Label) }
     ensures at_most { length output.new ≤ length output.old + 128 }
 {
     let new = labels.name_at(fields[0]);
@@ -237,7 +243,8 @@ pub(crate) fn put_readable_line(
 )
     requires { length output.old + 512 ≤ 65536 }
     ensures { (before : Naming) → label_at before (slice_index entry.now.fields 0) ≡ option_map name_in label
-        → output.new ≡ output.old ++ (decimal entry.now.line ++ event_text before labels.now entry.now.event entry.now.fields ++ codes "\n") }
+        → output.new ≡ output.old
+        ++ (decimal entry.now.line ++ event_text before labels.now entry.now.event entry.now.fields ++ codes "\n") }
 {
     output.decimal(u64::from(entry.line));
     output.text(b" ");

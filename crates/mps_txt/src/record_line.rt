@@ -28,7 +28,8 @@ pub(crate) struct RecordLine {
 fn leading_number(text: &[u8]) -> Option<(u64, Option<&[u8]>)>
     ensures sound { IfSome result (λ leading. text.now ≡ decimal leading.0 ++ separated 32 (option_copied leading.1)) }
     ensures at_most { IfSome result (λ leading. leading.0 < 2 ^ 64) }
-    ensures complete { IfNone result ((number : ℕ) (rest : Option (List ℕ)) → number < 2 ^ 64 → text.now ≢ decimal number ++ separated 32 rest) }
+    ensures complete { IfNone result ((number : ℕ) (rest : Option (List ℕ)) → number < 2 ^ 64
+        → text.now ≢ decimal number ++ separated 32 rest) }
 {
     let (word, rest) = split_word(text);
     let number = decimal_number(word)?;
@@ -39,7 +40,8 @@ fn leading_number(text: &[u8]) -> Option<(u64, Option<&[u8]>)>
 fn leading_field(text: &[u8]) -> Option<(u64, Option<&[u8]>)>
     ensures sound { IfSome result (λ leading. text.now ≡ hexadecimal leading.0 ++ separated 32 (option_copied leading.1)) }
     ensures at_most { IfSome result (λ leading. leading.0 < 2 ^ 64) }
-    ensures complete { IfNone result ((number : ℕ) (rest : Option (List ℕ)) → number < 2 ^ 64 → text.now ≢ hexadecimal number ++ separated 32 rest) }
+    ensures complete { IfNone result ((number : ℕ) (rest : Option (List ℕ)) → number < 2 ^ 64
+        → text.now ≢ hexadecimal number ++ separated 32 rest) }
 {
     let (word, rest) = split_word(text);
     let number = hexadecimal_number(word)?;
@@ -70,7 +72,8 @@ fn fields_of(text: Option<&[u8]>, count: u16) -> Option<[u64; 4]>
 
 /// The line number and the code that a line begins with, and what stands after the space that follows them.
 fn heading(text: &[u8]) -> Option<(u32, u16, Option<&[u8]>)>
-    ensures sound { IfSome result (λ head. text.now ≡ decimal head.0 ++ separated 32 (Some (decimal head.1 ++ separated 32 (option_copied head.2)))) }
+    ensures sound { IfSome result (λ head. text.now
+        ≡ decimal head.0 ++ separated 32 (Some (decimal head.1 ++ separated 32 (option_copied head.2)))) }
     ensures line_at_most { IfSome result (λ head. head.0 < 2 ^ 32) }
     ensures code_at_most { IfSome result (λ head. head.1 < 2 ^ 16) }
     ensures complete { IfNone result ((line code : ℕ) (rest : Option (List ℕ)) → line < 2 ^ 32 → code < 2 ^ 16

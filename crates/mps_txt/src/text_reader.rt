@@ -70,7 +70,8 @@ fn read_text<D: Desk>(alloc: Global, text: &str, desk: &mut D) -> Result<(), Sto
     ensures cut { result ≡ Err Stop.WriteFailed → (bytes : List ℕ) → (D.outside desk.old).text text.now ≡ Some bytes
         → IsCutShort bytes (D.outside desk.old) (D.outside desk.new) }
     ensures missing { OpensNothing (D.outside desk.old) text.now
-        → ((result ≡ Err Stop.ReadFailed) ⊎ (result ≡ Err Stop.OutOfMemory)) × ((D.outside desk.new).printed ≡ (D.outside desk.old).printed) }
+        → ((result ≡ Err Stop.ReadFailed) ⊎ (result ≡ Err Stop.OutOfMemory))
+        × ((D.outside desk.new).printed ≡ (D.outside desk.old).printed) }
 {
     let mut input = match Input::new(alloc) {
         Ok(input) => input,
@@ -94,8 +95,8 @@ fn open_text<D: Desk>(
     desk: &mut D,
 ) -> Result<Version, Stop<BadTextLine>>
     requires { input.old ≡ record { pending = []; ended = false; failed = false } }
-    ensures opened { (bytes : List ℕ) → (D.outside desk.old).text text.now ≡ Some bytes → OpensText bytes (left_of (D.outside desk.new) input.new)
-        (D.outside desk.old).input (D.outside desk.new).input result }
+    ensures opened { (bytes : List ℕ) → (D.outside desk.old).text text.now ≡ Some bytes
+        → OpensText bytes (left_of (D.outside desk.new) input.new) (D.outside desk.old).input (D.outside desk.new).input result }
     ensures whole { (bytes : List ℕ) → (D.outside desk.old).text text.now ≡ Some bytes
         → OpensWholeLine bytes (left_of (D.outside desk.new) input.new) input.new result }
     ensures reported { (D.outside desk.new).reported ≡ (D.outside desk.old).reported }
@@ -192,7 +193,8 @@ fn read_lines<D: Desk>(
     ensures reported { (D.outside desk.new).reported ≡ (D.outside desk.old).reported }
     ensures err_faults { (D.outside desk.new).err_faults ≡ (D.outside desk.old).err_faults }
     ensures gives { (bytes : List ℕ) → left_of (D.outside desk.old) input.old ≡ Some bytes
-        → AllGives version bytes (D.outside desk.new).input (put_out (D.outside desk.old) output.old) (put_out (D.outside desk.new) output.new) result }
+        → AllGives version bytes (D.outside desk.new).input (put_out (D.outside desk.old) output.old)
+        (put_out (D.outside desk.new) output.new) result }
     // Where all had been read, no read fails.
     ensures no_fault { IsComplete input.old → result ≢ Err Stop.ReadFailed }
     ensures grows { Grows (D.outside desk.old).printed (D.outside desk.new).printed }
@@ -269,8 +271,10 @@ fn put_line(
 ) -> Result<(), LabelFault>
     requires { length output.old + 512 ≤ 65536 }
     ensures put { OnOk result (PutsLine version line.now labels.old labels.new output.old output.new) }
-    ensures bad { result ≡ Err LabelFault.BadLine → (r : Record) → Spells version line.now r → after_record version labels.old r ≡ None }
-    ensures memory { result ≡ Err LabelFault.OutOfMemory → (r : Record) × Spells version line.now r × (record_takes_memory version labels.old r ≡ true) }
+    ensures bad { result ≡ Err LabelFault.BadLine
+        → (r : Record) → Spells version line.now r → after_record version labels.old r ≡ None }
+    ensures memory { result ≡ Err LabelFault.OutOfMemory
+        → (r : Record) × Spells version line.now r × (record_takes_memory version labels.old r ≡ true) }
     ensures unchanged { OnErr result (output.new ≡ output.old) }
 {
     let entry = match record_of_line(line, version) {

@@ -29,9 +29,11 @@ loop-i-preserved c =
       size = rw length-set c.loop-i.invariant.size;
       fits = All-set (λ field. field < 2 ^ 64) c.loop-i.fields i c.in_ok-field.field c.in_ok-field.ensures.at_most c.loop-i.invariant.fits;
       spelled =
-          spelled_more i c.in_ok-field.field c.loop-i.fields (separated 32 (option_copied c.args.text)) text (option_copied c.in_ok-field.others) (omega (arith, c.loop-i.invariant.size, c.requires))
+          spelled_more i c.in_ok-field.field c.loop-i.fields (separated 32 (option_copied c.args.text)) text
+          (option_copied c.in_ok-field.others) (omega (arith, c.loop-i.invariant.size, c.requires))
           (rw c.in_ok-rest.was at c.loop-i.invariant.spelled) found;
       others = λ all full fits e.
-          others_more i c.in_ok-field.field all text (option_copied c.in_ok-field.others) (omega (arith, full)) fits c.in_ok-field.ensures.at_most
+          others_more i c.in_ok-field.field all text (option_copied c.in_ok-field.others)
+          (omega (arith, full)) fits c.in_ok-field.ensures.at_most
           (rw c.in_ok-rest.was at (c.loop-i.invariant.others all full fits e)) found;
     }

@@ -10,6 +10,7 @@ invariant-loop-i l = record {
   size : length l.fields ≡ 4;
   fits : All (λ field. field < 2 ^ 64) l.fields;
   spelled : separated 32 (option_copied l.text) ≡ flat_map field_text (take l.i l.fields) ++ separated 32 (option_copied l.rest);
-  others : (all : List ℕ) → length all ≡ l.count → All (λ field. field < 2 ^ 64) all → separated 32 (option_copied l.text) ≡ flat_map field_text all
+  others : (all : List ℕ) → length all ≡ l.count → All (λ field. field < 2 ^ 64) all
+      → separated 32 (option_copied l.text) ≡ flat_map field_text all
       → separated 32 (option_copied l.rest) ≡ flat_map field_text (drop l.i all);
 }

@@ -9,20 +9,23 @@ use Rattle.mps_txt.proofs.record_line.record_of_line.Goals as goal
 
 pub returns-in_err-line-clause-complete : goal.returns-in_err-line-clause-complete
 returns-in_err-line-clause-complete c =
-    if_none c.from_residual.result _ (λ r spells. no_record_without_heading c.args.version c.args.text.now r c.in_err-line.ensures.complete spells)
+    if_none c.from_residual.result _
+    (λ r spells. no_record_without_heading c.args.version c.args.text.now r c.in_err-line.ensures.complete spells)
 
 pub returns-in_err-event-clause-complete : goal.returns-in_err-event-clause-complete
 returns-in_err-event-clause-complete c =
     let head = c.in_ok-line.ensures in
     if_none c.from_residual-in_err-event.result _ (λ r spells.
-    no_record_without_event c.args.version c.args.text.now c.in_ok-line.line c.in_ok-line.code (option_copied c.in_ok-line.rest) r head.sound head.line_at_most head.code_at_most (sym c.in_err-event.ensures) spells)
+    no_record_without_event c.args.version c.args.text.now c.in_ok-line.line c.in_ok-line.code
+    (option_copied c.in_ok-line.rest) r head.sound head.line_at_most head.code_at_most (sym c.in_err-event.ensures) spells)
 
 pub returns-in_err-fields-clause-complete : goal.returns-in_err-fields-clause-complete
 returns-in_err-fields-clause-complete c =
     let head = c.in_ok-line.ensures in
     let none = rw c.field_count.ensures at c.in_err-fields.ensures.complete in
     if_none c.from_residual-in_err-fields.result _ (λ r spells.
-    no_record_without_fields c.args.version c.args.text.now c.in_ok-line.line c.in_ok-line.code (option_copied c.in_ok-line.rest) c.in_ok-event.event r head.sound head.line_at_most head.code_at_most (sym c.in_ok-event.ensures)
+    no_record_without_fields c.args.version c.args.text.now c.in_ok-line.line c.in_ok-line.code
+    (option_copied c.in_ok-line.rest) c.in_ok-event.event r head.sound head.line_at_most head.code_at_most (sym c.in_ok-event.ensures)
     none spells)
 
 pub returns-then-interns_a_name-clause-sound : goal.returns-then-interns_a_name-clause-sound
@@ -31,9 +34,13 @@ returns-then-interns_a_name-clause-sound c =
     let count = field_count_of c.in_ok-event.event in
     let fields = c.in_ok-fields.fields in
     let found = rw c.field_count.ensures at c.in_ok-fields.ensures.sound in
-    let size : length (take count fields) ≡ count = omega (arith, length-take count fields, c.in_ok-fields.ensures.size, count-le c.in_ok-event.event) in
-    spells_record c.args.version c.args.text.now c.in_ok-line.line c.in_ok-line.code (option_copied c.in_ok-line.rest) c.in_ok-event.event (take count fields)
-    head.sound head.line_at_most (sym c.in_ok-event.ensures) size found (All-take (λ field. field < 2 ^ 64) count fields c.in_ok-fields.ensures.at_most) (sym c.interns_a_name.ensures ∙ c.if-interns_a_name.true)
+    let size : length (take count fields) ≡ count =
+    omega (arith, length-take count fields, c.in_ok-fields.ensures.size, count-le c.in_ok-event.event) in
+    spells_record c.args.version c.args.text.now c.in_ok-line.line c.in_ok-line.code
+    (option_copied c.in_ok-line.rest) c.in_ok-event.event (take count fields)
+    head.sound head.line_at_most (sym c.in_ok-event.ensures) size found
+    (All-take (λ field. field < 2 ^ 64) count fields c.in_ok-fields.ensures.at_most) (sym c.interns_a_name.ensures
+    ∙ c.if-interns_a_name.true)
 
 pub returns-then-interns_a_name-clause-event : goal.returns-then-interns_a_name-clause-event
 returns-then-interns_a_name-clause-event c =
@@ -48,5 +55,8 @@ returns-else-interns_a_name-clause-complete c = λ r spells.
     let count = field_count_of c.in_ok-event.event in
     let fields = c.in_ok-fields.fields in
     let found = rw c.field_count.ensures at c.in_ok-fields.ensures.sound in
-    no_record_without_name c.args.version c.args.text.now c.in_ok-line.line c.in_ok-line.code (option_copied c.in_ok-line.rest) c.in_ok-event.event (take count fields) r
-    head.sound head.line_at_most head.code_at_most (sym c.in_ok-event.ensures) found (All-take (λ field. field < 2 ^ 64) count fields c.in_ok-fields.ensures.at_most) (sym c.interns_a_name.ensures ∙ c.if-interns_a_name.false) spells
+    no_record_without_name c.args.version c.args.text.now c.in_ok-line.line c.in_ok-line.code
+    (option_copied c.in_ok-line.rest) c.in_ok-event.event (take count fields) r
+    head.sound head.line_at_most head.code_at_most (sym c.in_ok-event.ensures) found
+    (All-take (λ field. field < 2 ^ 64) count fields c.in_ok-fields.ensures.at_most) (sym c.interns_a_name.ensures
+    ∙ c.if-interns_a_name.false) spells

@@ -9,7 +9,8 @@ use Rattle.mps_txt.proofs.text_reader.read_lines.Given as goal
 
 abbrev pub invariant-loop-lines : goal.invariant-loop-lines
 invariant-loop-lines g l = record {
-  works : WorksOnInput {T = Unit {0}} {E = BadTextLine} (g.D.Desk.outside l.initial.desk) (g.D.Desk.outside l.desk) l.initial.input l.input (Ok tt);
+  works : WorksOnInput {T = Unit {0}} {E = BadTextLine} (g.D.Desk.outside l.initial.desk)
+      (g.D.Desk.outside l.desk) l.initial.input l.input (Ok tt);
   reported : (g.D.Desk.outside l.desk).reported ≡ (g.D.Desk.outside l.initial.desk).reported;
   err_faults : (g.D.Desk.outside l.desk).err_faults ≡ (g.D.Desk.outside l.initial.desk).err_faults;
   at_end : IsAtEnd (g.D.Desk.outside l.desk) l.input;

@@ -25,7 +25,8 @@ returns-clause-read g c bytes known =
     })
     c.read_lines-ending.new.output ended last ending
     (record {
-      whole = whole_first_line version bytes left.0 (left_of opened c.open_text.new.input) c.open_text.new.input ending (c.in_ok-version.ensures.whole bytes known)
+      whole = whole_first_line version bytes left.0 (left_of opened c.open_text.new.input) c.open_text.new.input ending
+          (c.in_ok-version.ensures.whole bytes known)
           c.read_lines-ending.ensures.no_fault left.1;
       unread = c.flush_after.ensures.input;
       grown = c.read_lines-ending.ensures.grows;
@@ -48,5 +49,9 @@ returns-clause-cut g c failed bytes known =
       line = c.put_first_line.ensures ∙ ap (λ (x : List ℕ). x ++ first_line version) c.in-Ok-new.ensures;
     })
     c.read_lines-ending.result
-    (record { grown = c.read_lines-ending.ensures.grows; no_more = c.flush_after.ensures.no_more; part = c.flush_after.ensures.part failed })
+    (record {
+      grown = c.read_lines-ending.ensures.grows;
+      no_more = c.flush_after.ensures.no_more;
+      part = c.flush_after.ensures.part failed;
+    })
     (λ e. c.read_lines-ending.ensures.cut e left.0 left.1) (c.read_lines-ending.ensures.gives left.0 left.1)
