@@ -1,4 +1,4 @@
--- The fields of a record, where they stand in front of an array of four.
+-- The fields of a record, as a prefix of an array of four.
 use Rattle.std.proofs.Common.{◌≡◌, ℕ, List, [], ◌∷◌, length, take, arith, refl}
 use Rattle.mps_event.specs.declared.event.Event.{Event}
 use Rattle.mps_event.specs.declared.event.Event.TheVariants.{ArenaCreate, LimitSet, PoolCreate, Flip, End, SegAlloc, SegFree, Splat, Commit, Alloc, Move, Stay, Post, Free, Intern, Label}

@@ -27,7 +27,7 @@ use Rattle.mps_txt.proofs.WholeText.{FirstLinePut}
 
 -- ---- a prefix of what was put out
 
--- between these what was put out went from `out`, gathered first, to `gathered`, and then a prefix of that was printed
+-- from `a` to `b` lines were put out after `out`, which leaves `gathered`, and up to `c` a prefix of that was printed
 module _ (version : Version) (bytes out gathered : List ℕ) (a b c : Outside) (grown : Grows a.printed b.printed)
     (part : PutsPart b.printed c.printed gathered) where
   part_of_shown : ShowsLines version bytes (put_out a out) (put_out b gathered) → ShowsPart version bytes out a.printed c.printed

@@ -76,7 +76,7 @@ module _ (version : Version) (r : Record) (named t : Naming) (f : after_record v
 
 -- ---- the lines so far
 
--- from here to there the lines of some records, so many, were read and put out
+-- the lines of `count` records were read and put out between two states of a reading
 pub record LinesSoFar (version : Version) (count : ℕ) (start now : Progress) : Type 0 where
   pub records : List Record
   pub each : All (IsRecord version) records

@@ -5,8 +5,9 @@ use Rattle.std.specs.Fmt.{digit_glyph, digits, digits_onto}
 use Rattle.std.specs.Str.Parse.{digits_value}
 use Rattle.std.proofs.lemmas.List.Elements.{All-nil, All-cons, All-push, All-weaker}
 use Rattle.std.proofs.lemmas.Option.{none-some}
-use Rattle.std.proofs.lemmas.Fmt.{digits_is_IsNumeral, decimal_by_steps, decimal_injective}
+use Rattle.std.proofs.lemmas.Fmt.{decimal_by_steps, decimal_injective}
 use Rattle.mps_numerals.specs.Hexadecimal.{hexadecimal}
+use Rattle.mps_numerals.proofs.Hexadecimals.{value_of_hexadecimal}
 use Rattle.mps_txt.specs.Separators.{Lacks, separated}
 use Rattle.mps_txt.proofs.SplitAtByte.{one_split}
 
@@ -46,7 +47,7 @@ pub hexadecimal_lacks : (byte n : ℕ) → byte < 48 → Lacks byte (hexadecimal
 hexadecimal_lacks byte n low =
     All-weaker IsHigh (λ other. other ≢ byte) (λ other h e. omega (arith, h, e)) (hexadecimal n) (high_hexadecimal n)
 
--- ---- a number at a prefix of a text
+-- ---- the number that a text begins with
 
 pub if_none : {A : Type 0} (answer : Option A) (P : Type 0) → P → IfNone answer P
 if_none None P p = p
@@ -59,15 +60,12 @@ pub none_in_front : (spelled : ℕ → List ℕ) → ((n : ℕ) → n < 2 ^ 64 �
 none_in_front spelled lacks text word after whole lack exact n rest fits e =
     none-some n (exact n fits (one_split 32 word (spelled n) after rest lack (lacks n fits) (sym whole ∙ e)).0)
 
--- a number in front, and what stands after it, are the only ones
+-- a text begins with one number only, and one text follows it
 pub same_number : (m n : ℕ) (a b : Option (List ℕ)) → m < 2 ^ 64 → n < 2 ^ 64
     → decimal m ++ separated 32 a ≡ decimal n ++ separated 32 b → (m ≡ n) × (a ≡ b)
 same_number m n a b few fits e =
     let same = one_split 32 (decimal m) (decimal n) a b (decimal_lacks 32 m (omega arith) few) (decimal_lacks 32 n (omega arith) fits) e in
     (decimal_injective m n few fits same.0, same.1)
-
-value_of_hexadecimal : (n : ℕ) → n < 2 ^ 64 → digits_value 16 (hexadecimal n) ≡ n
-value_of_hexadecimal n fits = (digits_is_IsNumeral 16 false (omega arith) (omega arith) n (omega arith)).1
 
 hexadecimal_injective : (m n : ℕ) → m < 2 ^ 64 → n < 2 ^ 64 → hexadecimal m ≡ hexadecimal n → m ≡ n
 hexadecimal_injective m n few fits e = sym (value_of_hexadecimal m few) ∙ ap (digits_value 16) e ∙ value_of_hexadecimal n fits

@@ -16,45 +16,42 @@ use Rattle.mps_txt.specs.PendingLine.{PutsLine}
 use Rattle.mps_txt.proofs.EventFields.{after_event-take, event_text-take}
 use Rattle.mps_txt.proofs.Spelling.{one_text}
 
--- the record of an entry does what its event does
-after_entry : (version : Version) (entry : RecordLine) (s : Naming) → event_of version (code_of entry.event) ≡ Some entry.event
-    → length entry.fields ≡ 4
-    → after_record version s (record_of entry) ≡ after_event entry.event entry.fields s
-after_entry version entry s known size =
-    ap (λ (o : Option Event). option_and_then (λ event. after_event event (take (field_count_of entry.event) entry.fields) s) o) known
-    ∙ after_event-take entry.event entry.fields s size
+-- a line was read as this entry
+pub record IsReadAs (version : Version) (line : List ℕ) (entry : RecordLine) : Type 0 where
+  pub spells : Spells version line (record_of entry)
+  pub known : event_of version (code_of entry.event) ≡ Some entry.event
+  pub size : length entry.fields ≡ 4
 
-line_of_entry : (version : Version) (entry : RecordLine) (before after : Naming)
-    → event_of version (code_of entry.event) ≡ Some entry.event → length entry.fields ≡ 4
-    → readable_line version before after (record_of entry) ≡ decimal entry.line
-    ++ event_text before after entry.event entry.fields ++ codes "\n"
-line_of_entry version entry before after known size =
-    ap (λ (o : Option Event). decimal entry.line
-    ++ option_map_or (λ event. event_text before after event (take (field_count_of entry.event) entry.fields)) o [] ++ codes "\n") known
-    ∙ ap (λ (text : List ℕ). decimal entry.line ++ text ++ codes "\n") (event_text-take before after entry.event entry.fields size)
+module _ (version : Version) (line : List ℕ) (entry : RecordLine) (is : IsReadAs version line entry) (before : Naming) where
+  -- its record does what its event does
+  after_entry : after_record version before (record_of entry) ≡ after_event entry.event entry.fields before
+  after_entry =
+      ap (λ (o : Option Event). option_and_then (λ event. after_event event (take (field_count_of entry.event) entry.fields) before) o) is.known
+      ∙ after_event-take entry.event entry.fields before is.size
 
-pub puts_line : (version : Version) (line : List ℕ) (entry : RecordLine) (before after : Naming) (label : Option (List ℕ))
-    (old new : List ℕ) → Spells version line (record_of entry)
-    → event_of version (code_of entry.event) ≡ Some entry.event → length entry.fields ≡ 4
-    → after_event entry.event entry.fields before ≡ Some after
-    → option_map name_in label ≡ label_at before (slice_index entry.fields 0)
-    → ((s : Naming) → label_at s (slice_index entry.fields 0) ≡ option_map name_in label
-    → new ≡ old ++ (decimal entry.line ++ event_text s after entry.event entry.fields ++ codes "\n"))
-    → PutsLine version line before after old new
-puts_line version line entry before after label old new spells known size taken labelled put = record {
-  read = record_of entry;
-  spells = spells;
-  taken = after_entry version entry before known size ∙ taken;
-  put = put before (sym labelled) ∙ ap (λ (text : List ℕ). old ++ text) (sym (line_of_entry version entry before after known size));
-}
+  line_of_entry : (after : Naming)
+      → readable_line version before after (record_of entry) ≡ decimal entry.line ++ event_text before after entry.event entry.fields ++ codes "\n"
+  line_of_entry after =
+      ap (λ (o : Option Event). decimal entry.line
+      ++ option_map_or (λ event. event_text before after event (take (field_count_of entry.event) entry.fields)) o [] ++ codes "\n") is.known
+      ∙ ap (λ (text : List ℕ). decimal entry.line ++ text ++ codes "\n") (event_text-take before after entry.event entry.fields is.size)
 
-pub is_refused : (version : Version) (line : List ℕ) (entry : RecordLine) (before : Naming) (r : Record)
-    → Spells version line (record_of entry) → Spells version line r
-    → event_of version (code_of entry.event) ≡ Some entry.event → length entry.fields ≡ 4
-    → after_event entry.event entry.fields before ≡ None → after_record version before r ≡ None
-is_refused version line entry before r spells other known size none =
-    ap (after_record version before) (one_text version line r (record_of entry) other spells)
-    ∙ after_entry version entry before known size ∙ none
+  pub puts_line : (after : Naming) (label : Option (List ℕ)) (old new : List ℕ) → after_event entry.event entry.fields before ≡ Some after
+      → option_map name_in label ≡ label_at before (slice_index entry.fields 0)
+      → ((s : Naming) → label_at s (slice_index entry.fields 0) ≡ option_map name_in label
+      → new ≡ old ++ (decimal entry.line ++ event_text s after entry.event entry.fields ++ codes "\n"))
+      → PutsLine version line before after old new
+  puts_line after label old new taken labelled put = record {
+    read = record_of entry;
+    spells = is.spells;
+    taken = after_entry ∙ taken;
+    put = put before (sym labelled) ∙ ap (λ (text : List ℕ). old ++ text) (sym (line_of_entry after));
+  }
+
+  pub is_refused : after_event entry.event entry.fields before ≡ None → (r : Record) → Spells version line r
+      → after_record version before r ≡ None
+  is_refused none r other =
+      ap (after_record version before) (one_text version line r (record_of entry) other is.spells) ∙ after_entry ∙ none
 
 -- the fault that is passed on
 abbrev pub failed : LabelFault → Result (Unit {0}) LabelFault

@@ -35,9 +35,9 @@ pub text_of_fields : (fields : List ℕ) → flat_map field_text fields ≡ sepa
 text_of_fields [] = refl
 text_of_fields (field ∷ fields) = refl
 
-field_in_front : (field : ℕ) (fields : List ℕ)
+field_first : (field : ℕ) (fields : List ℕ)
     → fields_after (field ∷ fields) ≡ Some (hexadecimal field ++ separated 32 (fields_after fields))
-field_in_front field fields = ap (λ (x : List ℕ). Some (hexadecimal field ++ x)) (text_of_fields fields)
+field_first field fields = ap (λ (x : List ℕ). Some (hexadecimal field ++ x)) (text_of_fields fields)
 
 same_rest : (a b : Option (List ℕ)) → separated 32 a ≡ separated 32 b → a ≡ b
 same_rest None None e = refl
@@ -52,7 +52,7 @@ same_fields [] (y ∷ second) h k e = absurd (none-some _ e)
 same_fields (x ∷ first) [] h k e = absurd (none-some _ (sym e))
 same_fields (x ∷ first) (y ∷ second) h k e =
     let texts : Some (hexadecimal x ++ separated 32 (fields_after first)) ≡ Some (hexadecimal y ++ separated 32 (fields_after second)) =
-    sym (field_in_front x first) ∙ e ∙ field_in_front y second in
+    sym (field_first x first) ∙ e ∙ field_first y second in
     let same = same_field x y (fields_after first) (fields_after second) h.0 k.0 (cc) in
     ap (λ (z : ℕ). z ∷ first) same.0 ∙ ap (λ (z : List ℕ). y ∷ z) (same_fields first second h.1 k.1 same.1)
 
@@ -79,11 +79,11 @@ all_fields_left count all text full e =
     omega (arith, h)
 
 -- one field more
-pub spelled_more : (i field : ℕ) (fields text front_rest : List ℕ) (rest : Option (List ℕ)) → i < length fields
-    → text ≡ flat_map field_text (take i fields) ++ 32 ∷ front_rest
-    → front_rest ≡ hexadecimal field ++ separated 32 rest
+pub spelled_more : (i field : ℕ) (fields text text_after : List ℕ) (rest : Option (List ℕ)) → i < length fields
+    → text ≡ flat_map field_text (take i fields) ++ 32 ∷ text_after
+    → text_after ≡ hexadecimal field ++ separated 32 rest
     → text ≡ flat_map field_text (take (i + 1) (set fields i field)) ++ separated 32 rest
-spelled_more i field fields text front_rest rest within e front =
+spelled_more i field fields text text_after rest within e front =
     let more : take (i + 1) (set fields i field) ≡ take i fields ++ field ∷ [] = take_more_set fields i field within in
     let texts : flat_map field_text (take (i + 1) (set fields i field)) ≡ flat_map field_text (take i fields) ++ field_text field =
     ap (λ (x : List ℕ). flat_map field_text x) more ∙ flat_map-append field_text (take i fields) (field ∷ [])
@@ -92,18 +92,18 @@ spelled_more i field fields text front_rest rest within e front =
     ∙ sym (append_assoc (flat_map field_text (take i fields)) (field_text field) (separated 32 rest))
     ∙ ap (λ (x : List ℕ). x ++ separated 32 rest) (sym texts)
 
-pub others_more : (i field : ℕ) (all front_rest : List ℕ) (rest : Option (List ℕ)) → i < length all → Fits all → field < 2 ^ 64
-    → 32 ∷ front_rest ≡ flat_map field_text (drop i all)
-    → front_rest ≡ hexadecimal field ++ separated 32 rest → separated 32 rest ≡ flat_map field_text (drop (i + 1) all)
-others_more i field all front_rest rest within fits small e front =
-    let next = first_left i all front_rest within e in
+pub others_more : (i field : ℕ) (all text_after : List ℕ) (rest : Option (List ℕ)) → i < length all → Fits all → field < 2 ^ 64
+    → 32 ∷ text_after ≡ flat_map field_text (drop i all)
+    → text_after ≡ hexadecimal field ++ separated 32 rest → separated 32 rest ≡ flat_map field_text (drop (i + 1) all)
+others_more i field all text_after rest within fits small e front =
+    let next = first_left i all text_after within e in
     let same = same_field field (get_or all i 0) rest (fields_after (drop (i + 1) all)) small
     (All-get_or (λ field. field < 2 ^ 64) all i 0 within fits) (sym front ∙ next) in
     ap (separated 32) same.1 ∙ sym (text_of_fields (drop (i + 1) all))
 
-pub no_field_in_front : (i : ℕ) (all text : List ℕ) → i < length all → Fits all → 32 ∷ text ≡ flat_map field_text (drop i all)
+pub no_field_leads : (i : ℕ) (all text : List ℕ) → i < length all → Fits all → 32 ∷ text ≡ flat_map field_text (drop i all)
     → ((number : ℕ) (rest : Option (List ℕ)) → number < 2 ^ 64 → text ≢ hexadecimal number ++ separated 32 rest) → ⊥
-no_field_in_front i all text within fits e none =
+no_field_leads i all text within fits e none =
     none (get_or all i 0) (fields_after (drop (i + 1) all)) (All-get_or (λ field. field < 2 ^ 64) all i 0 within fits)
     (first_left i all text within e)
 
@@ -167,26 +167,20 @@ pub no_record_without_heading : (version : Version) (text : List ℕ) (r : Recor
 no_record_without_heading version text r none h =
     none r.line r.code (fields_after r.fields) h.grammar.line_fits (small_code version r h.grammar) (h.text ∙ text_of_record r)
 
--- what a line with this heading spells
-record Headed (version : Version) (line code : ℕ) (after : Option (List ℕ)) (r : Record) : Type 0 where
+-- a text begins with this line number and this code, and this stands after the space that follows them
+pub record HasHeading (text : List ℕ) (line code : ℕ) (after : Option (List ℕ)) : Type 0 where
+  pub spelled : text ≡ decimal line ++ separated 32 (Some (decimal code ++ separated 32 after))
+  pub line_fits : line < 2 ^ 32
+  pub code_fits : code < 2 ^ 16
+
+-- so does the line of a record
+record IsHeadingOf (line code : ℕ) (after : Option (List ℕ)) (r : Record) : Type 0 where
   line_is : line ≡ r.line
   code_is : code ≡ r.code
   after_is : after ≡ fields_after r.fields
 
-headed : (version : Version) (text : List ℕ) (line code : ℕ) (after : Option (List ℕ)) (r : Record)
-    → text ≡ decimal line ++ separated 32 (Some (decimal code ++ separated 32 after))
-    → line < 2 ^ 32 → code < 2 ^ 16 → Spells version text r → Headed version line code after r
-headed version text line code after r whole few small h =
-    let few_too : r.line < 2 ^ 64 = omega (arith, h.grammar.line_fits) in
-    let small_too : r.code < 2 ^ 64 = omega (arith, small_code version r h.grammar) in
-    let same = same_number line r.line (Some (decimal code ++ separated 32 after))
-    (Some (decimal r.code ++ separated 32 (fields_after r.fields))) (omega arith) few_too (sym whole ∙ h.text ∙ text_of_record r) in
-    let is : decimal code ++ separated 32 after ≡ decimal r.code ++ separated 32 (fields_after r.fields) = some_is _ _ same.1 in
-    let second = same_number code r.code after (fields_after r.fields) (omega arith) small_too is in
-    record { line_is = same.0; code_is = second.0; after_is = second.1 }
-  where
-    some_is : (x y : List ℕ) → Some x ≡ Some y → x ≡ y
-    some_is x y e = cc
+some_is : (x y : List ℕ) → Some x ≡ Some y → x ≡ y
+some_is x y e = cc
 
 event_is : (version : Version) (code : ℕ) (e f : Event) → event_of version code ≡ Some e → event_of version code ≡ Some f → e ≡ f
 event_is version code e f h k = some_event e f (sym h ∙ k)
@@ -197,89 +191,91 @@ event_is version code e f h k = some_event e f (sym h ∙ k)
     some_event : (e f : Event) → an_event e ≡ an_event f → e ≡ f
     some_event e f h = cc
 
-pub no_record_without_event : (version : Version) (text : List ℕ) (line code : ℕ) (after : Option (List ℕ)) (r : Record)
-    → text ≡ decimal line ++ separated 32 (Some (decimal code ++ separated 32 after))
-    → line < 2 ^ 32 → code < 2 ^ 16 → event_of version code ≡ None → Spells version text r → ⊥
-no_record_without_event version text line code after r whole few small none h =
-    let is = headed version text line code after r whole few small h in
-    let event = event_of_fields version r.code r.fields h.grammar.fields in
-    none-some event.event (sym none ∙ ap (event_of version) is.code_is ∙ event.known)
-
-pub no_record_without_fields : (version : Version) (text : List ℕ) (line code : ℕ) (after : Option (List ℕ)) (event : Event) (r : Record)
-    → text ≡ decimal line ++ separated 32 (Some (decimal code ++ separated 32 after))
-    → line < 2 ^ 32 → code < 2 ^ 16 → event_of version code ≡ Some event
-    → ((fields : List ℕ) → length fields ≡ field_count_of event → Fits fields → separated 32 after ≢ flat_map field_text fields)
-    → Spells version text r → ⊥
-no_record_without_fields version text line code after event r whole few small known none h =
-    let is = headed version text line code after r whole few small h in
-    let own = event_of_fields version r.code r.fields h.grammar.fields in
-    let same : event ≡ own.event = event_is version code event own.event known (ap (event_of version) is.code_is ∙ own.known) in
-    none r.fields (own.count ∙ ap field_count_of (sym same)) h.grammar.fields_fit (ap (separated 32) is.after_is
-    ∙ sym (text_of_fields r.fields))
-
-pub no_record_without_name : (version : Version) (text : List ℕ) (line code : ℕ) (after : Option (List ℕ)) (event : Event)
-    (fields : List ℕ) (r : Record)
-    → text ≡ decimal line ++ separated 32 (Some (decimal code ++ separated 32 after)) → line < 2 ^ 32 → code < 2 ^ 16
-    → event_of version code ≡ Some event
-    → separated 32 after ≡ flat_map field_text fields → Fits fields → interns_a_name event fields ≡ false → Spells version text r → ⊥
-no_record_without_name version text line code after event fields r whole few small known found fits unnamed h =
-    let is = headed version text line code after r whole few small h in
-    let own = event_of_fields version r.code r.fields h.grammar.fields in
-    let same : event ≡ own.event = event_is version code event own.event known (ap (event_of version) is.code_is ∙ own.known) in
-    let texts : separated 32 (fields_after fields) ≡ separated 32 (fields_after r.fields) = sym (text_of_fields fields) ∙ sym found
-    ∙ ap (separated 32) is.after_is in
-    let equal : fields ≡ r.fields =
-    same_fields fields r.fields (recursion_from_All (λ field. field < 2 ^ 64) fields fits)
-    (recursion_from_All (λ field. field < 2 ^ 64) r.fields h.grammar.fields_fit)
-    (same_rest (fields_after fields) (fields_after r.fields) texts) in
-    named_or_not _ (sym unnamed ∙ ap (λ (e : Event). interns_a_name e fields) same ∙ ap (interns_a_name own.event) equal) own.named
-  where
-    named_or_not : (named : Bool) → false ≡ named → named ≡ true → ⊥
-    named_or_not true e f = absurd cc
-    named_or_not false e f = absurd cc
-
 pub known_by_code : (version : Version) (code : ℕ) (event : Event) → event_of version code ≡ Some event
     → event_of version (code_of event) ≡ Some event
 known_by_code version code event known = ap (event_of version) (code-is version code event known) ∙ known
 
-pub spells_record : (version : Version) (text : List ℕ) (line code : ℕ) (after : Option (List ℕ)) (event : Event) (fields : List ℕ)
-    → text ≡ decimal line ++ separated 32 (Some (decimal code ++ separated 32 after)) → line < 2 ^ 32
-    → event_of version code ≡ Some event → length fields ≡ field_count_of event
-    → separated 32 after ≡ flat_map field_text fields → Fits fields → interns_a_name event fields ≡ true
-    → Spells version text (record { line = line; code = code_of event; fields = fields })
-spells_record version text line code after event fields whole few known count found fits named =
-    let code_is : code_of event ≡ code = code-is version code event known in
-    record {
-      grammar = record {
-        fields = fields_of_event version (code_of event) fields (record {
-          event = event;
-          known = ap (event_of version) code_is
-              ∙ known;
-          count = count;
-          named = named;
-        });
-        fields_fit = fits;
-        line_fits = few;
-      };
-      text =
-          whole
-          ∙ ap (λ (k : ℕ). decimal line ++ separated 32 (Some (decimal k ++ separated 32 after))) (sym code_is)
-          ∙ ap (λ (x : List ℕ). decimal line ++ separated 32 (Some (decimal (code_of event) ++ x))) (found ∙ text_of_fields fields)
-          ∙ sym (text_of_record (record { line = line; code = code_of event; fields = fields }));
-    }
+named_or_not : (named : Bool) → false ≡ named → named ≡ true → ⊥
+named_or_not true e f = absurd cc
+named_or_not false e f = absurd cc
+
+module _ (version : Version) (text : List ℕ) (line code : ℕ) (after : Option (List ℕ)) (heading : HasHeading text line code after) where
+  heading_of : (r : Record) → Spells version text r → IsHeadingOf line code after r
+  heading_of r h =
+      let line_fits : r.line < 2 ^ 64 = omega (arith, h.grammar.line_fits) in
+      let code_fits : r.code < 2 ^ 64 = omega (arith, small_code version r h.grammar) in
+      let own_line : line < 2 ^ 64 = omega (arith, heading.line_fits) in
+      let own_code : code < 2 ^ 64 = omega (arith, heading.code_fits) in
+      let same = same_number line r.line (Some (decimal code ++ separated 32 after))
+      (Some (decimal r.code ++ separated 32 (fields_after r.fields))) own_line line_fits
+      (sym heading.spelled ∙ h.text ∙ text_of_record r) in
+      let is : decimal code ++ separated 32 after ≡ decimal r.code ++ separated 32 (fields_after r.fields) = some_is _ _ same.1 in
+      let second = same_number code r.code after (fields_after r.fields) own_code code_fits is in
+      record { line_is = same.0; code_is = second.0; after_is = second.1 }
+
+  pub no_record_without_event : event_of version code ≡ None → (r : Record) → Spells version text r → ⊥
+  no_record_without_event none r h =
+      let event = event_of_fields version r.code r.fields h.grammar.fields in
+      none-some event.event (sym none ∙ ap (event_of version) (heading_of r h).code_is ∙ event.known)
+
+  module _ (event : Event) (known : event_of version code ≡ Some event) where
+    same_event : (r : Record) (own : Event) → Spells version text r → event_of version r.code ≡ Some own → event ≡ own
+    same_event r own h own_known = event_is version code event own known (ap (event_of version) (heading_of r h).code_is ∙ own_known)
+
+    pub no_record_without_fields : ((fields : List ℕ) → length fields ≡ field_count_of event → Fits fields
+        → separated 32 after ≢ flat_map field_text fields) → (r : Record) → Spells version text r → ⊥
+    no_record_without_fields none r h =
+        let own = event_of_fields version r.code r.fields h.grammar.fields in
+        let same = same_event r own.event h own.known in
+        none r.fields (own.count ∙ ap field_count_of (sym same)) h.grammar.fields_fit
+        (ap (separated 32) (heading_of r h).after_is ∙ sym (text_of_fields r.fields))
+
+    -- these are the fields
+    module _ (fields : List ℕ) (found : separated 32 after ≡ flat_map field_text fields) (fits : Fits fields) where
+      pub no_record_without_name : interns_a_name event fields ≡ false → (r : Record) → Spells version text r → ⊥
+      no_record_without_name unnamed r h =
+          let own = event_of_fields version r.code r.fields h.grammar.fields in
+          let same = same_event r own.event h own.known in
+          let texts : separated 32 (fields_after fields) ≡ separated 32 (fields_after r.fields) =
+          sym (text_of_fields fields) ∙ sym found ∙ ap (separated 32) (heading_of r h).after_is in
+          let equal : fields ≡ r.fields =
+          same_fields fields r.fields (recursion_from_All (λ field. field < 2 ^ 64) fields fits)
+          (recursion_from_All (λ field. field < 2 ^ 64) r.fields h.grammar.fields_fit)
+          (same_rest (fields_after fields) (fields_after r.fields) texts) in
+          named_or_not _ (sym unnamed ∙ ap (λ (e : Event). interns_a_name e fields) same ∙ ap (interns_a_name own.event) equal) own.named
+
+      pub spells_record : length fields ≡ field_count_of event → interns_a_name event fields ≡ true
+          → Spells version text (record { line = line; code = code_of event; fields = fields })
+      spells_record count named = record {
+        grammar = record {
+          fields = fields_of_event version (code_of event) fields (record {
+            event = event;
+            known = known_by_code version code event known;
+            count = count;
+            named = named;
+          });
+          fields_fit = fits;
+          line_fits = heading.line_fits;
+        };
+        text =
+            heading.spelled
+            ∙ ap (λ (k : ℕ). decimal line ++ separated 32 (Some (decimal k ++ separated 32 after))) (sym (code-is version code event known))
+            ∙ ap (λ (x : List ℕ). decimal line ++ separated 32 (Some (decimal (code_of event) ++ x))) (found ∙ text_of_fields fields)
+            ∙ sym (text_of_record (record { line = line; code = code_of event; fields = fields }));
+      }
 
 -- ---- an interned name
 
 -- the first three of four fields
-front_three : (fields : List ℕ) → length fields ≡ 4 → interned_bytes (take 3 fields) ≡ interned_bytes fields
-front_three [] size = absurd (omega arith)
-front_three (a ∷ []) size = absurd (omega arith)
-front_three (a ∷ b ∷ []) size = absurd (omega arith)
-front_three (a ∷ b ∷ c ∷ fields) size = refl
+first_three : (fields : List ℕ) → length fields ≡ 4 → interned_bytes (take 3 fields) ≡ interned_bytes fields
+first_three [] size = absurd (omega arith)
+first_three (a ∷ []) size = absurd (omega arith)
+first_three (a ∷ b ∷ []) size = absurd (omega arith)
+first_three (a ∷ b ∷ c ∷ fields) size = refl
 
 pub name_tested : (event : Event) (fields : List ℕ) (named : Bool) → event ≡ Intern → length fields ≡ 4
     → named ≡ is_padded_name (interned_bytes fields)
     → named ≡ interns_a_name event (take (field_count_of event) fields)
 name_tested event fields named is size named_is =
-    named_is ∙ ap is_padded_name (sym (front_three fields size))
+    named_is ∙ ap is_padded_name (sym (first_three fields size))
     ∙ ap (λ (e : Event). interns_a_name e (take (field_count_of e) fields)) (sym is)

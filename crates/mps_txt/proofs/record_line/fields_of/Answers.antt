@@ -3,7 +3,7 @@ use Rattle.std.proofs.lemmas.List.{length-set}
 use Rattle.std.proofs.lemmas.List.Elements.{All-set}
 use Rattle.mps_txt.specs.Separators.{separated}
 use Rattle.mps_txt.proofs.NumberTexts.{if_none}
-use Rattle.mps_txt.proofs.RecordWords.{no_field_left, no_field_in_front, spelled_more, others_more}
+use Rattle.mps_txt.proofs.RecordWords.{no_field_left, no_field_leads, spelled_more, others_more}
 use Rattle.mps_txt.proofs.record_line.fields_of.Goals as goal
 
 pub returns-in_err-rest-clause-complete : goal.returns-in_err-rest-clause-complete
@@ -18,7 +18,7 @@ returns-in_err-field-clause-complete c =
     if_none c.from_residual-in_err-field.result _ (λ all full fits e.
     let left = c.loop-i.invariant.others all full fits e in
     let within : c.loop-i.i < length all = omega (arith, full) in
-    no_field_in_front c.loop-i.i all c.in_ok-rest.field-0.now within fits (rw c.in_ok-rest.was at left) c.in_err-field.ensures.complete)
+    no_field_leads c.loop-i.i all c.in_ok-rest.field-0.now within fits (rw c.in_ok-rest.was at left) c.in_err-field.ensures.complete)
 
 pub loop-i-preserved : goal.loop-i-preserved
 loop-i-preserved c =
