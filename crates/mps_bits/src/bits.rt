@@ -57,7 +57,7 @@ impl Bits {
         ensures state { self.new ≡ slice_set self.old at true }
         ensures len { length self.new ≡ length self.old }
     {
-        write_bit(&mut self.words, at, true);
+        self.write(at, true);
     }
 
     /// Clears the bit at `at`.
@@ -66,7 +66,7 @@ impl Bits {
         ensures state { self.new ≡ slice_set self.old at false }
         ensures len { length self.new ≡ length self.old }
     {
-        write_bit(&mut self.words, at, false);
+        self.write(at, false);
     }
 
     /// Sets the bits from `from` up to, but not at, `to`.
@@ -76,7 +76,7 @@ impl Bits {
         ensures state { self.new ≡ with_range self.old from to true }
         ensures len { length self.new ≡ length self.old }
     {
-        write_range(&mut self.words, from, to, true);
+        self.write_range(from, to, true);
     }
 
     /// Clears the bits from `from` up to, but not at, `to`.
@@ -86,7 +86,26 @@ impl Bits {
         ensures state { self.new ≡ with_range self.old from to false }
         ensures len { length self.new ≡ length self.old }
     {
-        write_range(&mut self.words, from, to, false);
+        self.write_range(from, to, false);
+    }
+
+    /// Writes `value` into the bit at `at`.
+    fn write(&mut self, at: usize, value: bool)
+        requires { at < length self.old }
+        ensures state { self.new ≡ slice_set self.old at value }
+        ensures len { length self.new ≡ length self.old }
+    {
+        write_bit(&mut self.words, at, value);
+    }
+
+    /// Writes `value` into the bits from `from` up to, but not at, `to`.
+    fn write_range(&mut self, from: usize, to: usize, value: bool)
+        requires ordered { from ≤ to }
+        requires in_table { to ≤ length self.old }
+        ensures state { self.new ≡ with_range self.old from to value }
+        ensures len { length self.new ≡ length self.old }
+    {
+        write_range(&mut self.words, from, to, value);
     }
 
     /// The lowest set bit at or above `from`.

@@ -10,15 +10,15 @@ use Rattle.mps_seg.proofs.CoveredWords.{OwnSegment, own_segment_of_free, own_seg
 use Rattle.mps_seg.proofs.HeldSegments.{held_after_cover, held_after_uncover, free_again}
 
 -- the words from an address on
-abbrev pub words_at : (at words : ℕ) → Run
-words_at at words = record { from = word_of at; count = words }
+abbrev pub run_at : (at words : ℕ) → Run
+run_at at words = record { from = word_of at; count = words }
 
 -- the first grain of the segment in which an address lies, and how many words are counted for it
-abbrev pub first_at : Inside → ℕ → ℕ
-first_at s at = get_or s.firsts.items (grain_of at) 0
+abbrev pub first_grain_at : Inside → ℕ → ℕ
+first_grain_at s at = get_or s.firsts.items (grain_of at) 0
 
 abbrev pub count_at_first : Inside → ℕ → ℕ
-count_at_first s at = get_or s.counts.items (first_at s at) 0
+count_at_first s at = get_or s.counts.items (first_grain_at s at) 0
 
 -- the segments are held and counted
 abbrev pub IsSoundInside : Inside → Type 0
@@ -27,11 +27,11 @@ IsSoundInside s =
 
 -- what is read from the two tables
 module _ (s : Inside) (at : ℕ) (grain_within : grain_of at < length s.firsts.items)
-    (first_within : first_at s at < length s.counts.items) where
-  first_read : (x : ℕ) → x ≡ get_or s.firsts.items (grain_of at) x → x ≡ first_at s at
+    (first_within : first_grain_at s at < length s.counts.items) where
+  first_read : (x : ℕ) → x ≡ get_or s.firsts.items (grain_of at) x → x ≡ first_grain_at s at
   first_read x is = get_or_read s.firsts.items (grain_of at) x grain_within is 0
 
-  count_read : (x first : ℕ) → first ≡ first_at s at → x ≡ get_or s.counts.items first x → x ≡ count_at_first s at
+  count_read : (x first : ℕ) → first ≡ first_grain_at s at → x ≡ get_or s.counts.items first x → x ≡ count_at_first s at
   count_read x first same is =
       let within : first < length s.counts.items = omega arith in
       get_or_read s.counts.items first x within is 0 ∙ ap (λ (k : ℕ). get_or s.counts.items k 0) same
@@ -39,23 +39,23 @@ module _ (s : Inside) (at : ℕ) (grain_within : grain_of at < length s.firsts.i
 -- words that can be covered
 pub record Covering (s : Inside) (at words : ℕ) : Type 0 where
   pub grain_within : grain_of at < length s.firsts.items
-  pub first_within : first_at s at < length s.counts.items
-  pub first_is : (x : ℕ) → x ≡ get_or s.firsts.items (grain_of at) x → x ≡ first_at s at
-  pub count_is : (x first : ℕ) → first ≡ first_at s at → x ≡ get_or s.counts.items first x → x ≡ count_at_first s at
+  pub first_within : first_grain_at s at < length s.counts.items
+  pub first_is : (x : ℕ) → x ≡ get_or s.firsts.items (grain_of at) x → x ≡ first_grain_at s at
+  pub count_is : (x first : ℕ) → first ≡ first_grain_at s at → x ≡ get_or s.counts.items first x → x ≡ count_at_first s at
   pub fits : count_at_first s at + words < 2 ^ 32
-  pub free : IsAscending 0 s.extents.size (with_run (words_at at words) s.extents.covered)
+  pub free : IsAscending 0 s.extents.size (with_run (run_at at words) s.extents.covered)
   pub held : (blocks reservations : List Run)
       → IsHeld s.arena s.table.items
-      (record s.extents { covered = with_run (words_at at words) s.extents.covered; blocks = blocks; reservations = reservations })
+      (record s.extents { covered = with_run (run_at at words) s.extents.covered; blocks = blocks; reservations = reservations })
   pub counted :
-      IsCounted s.arena.held (s.arena.grains + 1) s.firsts.items (set s.counts.items (first_at s at) (count_at_first s at + words))
-      (with_run (words_at at words) s.extents.covered)
+      IsCounted s.arena.held (s.arena.grains + 1) s.firsts.items (set s.counts.items (first_grain_at s at) (count_at_first s at + words))
+      (with_run (run_at at words) s.extents.covered)
 
 pub covering : (s : Inside) (seen : SegsState) (at words : ℕ) → IsSoundInside s → segs_state s.arena s.table.items s.extents ≡ seen
     → 0 < words
-    → CanCover seen (words_at at words) → Covering s at words
+    → CanCover seen (run_at at words) → Covering s at words
 covering s seen at words sound is nonzero free =
-    let r = words_at at words in
+    let r = run_at at words in
     let grain = grain_of at in
     let can = subst (λ (x : SegsState). CanCover x r) (sym is) free in
     let own : OwnSegment s.arena.held (s.arena.grains + 1) s.firsts.items grain r =
@@ -68,7 +68,7 @@ covering s seen at words sound is nonzero free =
     held_after_cover s.arena s.table.items s.extents sound.0 r blocks reservations nonzero ascending can.inside
     in
     let grain_within : grain < length s.firsts.items = omega (arith, own.grain_within, sound.1.firsts_size) in
-    let first_within : first_at s at < length s.counts.items = omega (arith, own.first, own.first_within, sound.1.counts_size) in
+    let first_within : first_grain_at s at < length s.counts.items = omega (arith, own.first, own.first_within, sound.1.counts_size) in
     record {
       grain_within = grain_within;
       first_within = first_within;
@@ -88,25 +88,25 @@ covering s seen at words sound is nonzero free =
 -- words that are one covered run
 pub record Uncovering (s : Inside) (at words : ℕ) : Type 0 where
   pub grain_within : grain_of at < length s.firsts.items
-  pub first_within : first_at s at < length s.counts.items
-  pub first_is : (x : ℕ) → x ≡ get_or s.firsts.items (grain_of at) x → x ≡ first_at s at
-  pub count_is : (x first : ℕ) → first ≡ first_at s at → x ≡ get_or s.counts.items first x → x ≡ count_at_first s at
+  pub first_within : first_grain_at s at < length s.counts.items
+  pub first_is : (x : ℕ) → x ≡ get_or s.firsts.items (grain_of at) x → x ≡ first_grain_at s at
+  pub count_is : (x first : ℕ) → first ≡ first_grain_at s at → x ≡ get_or s.counts.items first x → x ≡ count_at_first s at
   pub at_most : words ≤ count_at_first s at
   pub held : (blocks reservations : List Run)
       → IsHeld s.arena s.table.items
       (record s.extents { covered = without_run (word_of at) s.extents.covered; blocks = blocks; reservations = reservations })
   pub counted :
-      IsCounted s.arena.held (s.arena.grains + 1) s.firsts.items (set s.counts.items (first_at s at) (count_at_first s at - words))
+      IsCounted s.arena.held (s.arena.grains + 1) s.firsts.items (set s.counts.items (first_grain_at s at) (count_at_first s at - words))
       (without_run (word_of at) s.extents.covered)
   pub can_cover : (blocks reservations : List Run)
       → CanCover
       (segs_state s.arena s.table.items
       (record s.extents { covered = without_run (word_of at) s.extents.covered; blocks = blocks; reservations = reservations }))
-      (words_at at words)
+      (run_at at words)
 
-pub uncovering : (s : Inside) (at words : ℕ) → IsSoundInside s → Contains s.extents.covered (words_at at words) → Uncovering s at words
+pub uncovering : (s : Inside) (at words : ℕ) → IsSoundInside s → Contains s.extents.covered (run_at at words) → Uncovering s at words
 uncovering s at words sound there =
-    let r = words_at at words in
+    let r = run_at at words in
     let grain = grain_of at in
     let size = s.arena.grains + 1 in
     let own : OwnSegment s.arena.held size s.firsts.items grain r =
@@ -114,7 +114,7 @@ uncovering s at words sound there =
     (omega arith)
     in
     let grain_within : grain < length s.firsts.items = omega (arith, own.grain_within, sound.1.firsts_size) in
-    let first_within : first_at s at < length s.counts.items = omega (arith, own.first, own.first_within, sound.1.counts_size) in
+    let first_within : first_grain_at s at < length s.counts.items = omega (arith, own.first, own.first_within, sound.1.counts_size) in
     record {
       grain_within = grain_within;
       first_within = first_within;

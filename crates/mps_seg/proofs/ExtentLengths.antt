@@ -5,18 +5,18 @@ use Rattle.mps_bits.proofs.Searches.{IsLowest, found, missing, lowest_cases, low
 use Rattle.mps_seg.specs.Inside.{length_at, words_upto}
 
 -- the next last word at or above a word
-abbrev pub IsLast : List Bool → ℕ → ℕ → Type 0
-IsLast ends from last = IsLowest (bit ends) from (length ends - from) last
+abbrev pub IsLastWord : List Bool → ℕ → ℕ → Type 0
+IsLastWord ends from last = IsLowest (bit ends) from (length ends - from) last
 
-pub next_last : (ends : List Bool) (from last : ℕ) → IsLast ends from last → next_set ends from ≡ Some last
+pub next_last : (ends : List Bool) (from last : ℕ) → IsLastWord ends from last → next_set ends from ≡ Some last
 unfolding next_set
 next_last ends from last is = lowest_from_is (bit ends) from (length ends - from) last is
 
-pub length_at_is : (ends : List Bool) (from last : ℕ) → IsLast ends from last → length_at ends from ≡ last - from + 1
+pub length_at_is : (ends : List Bool) (from last : ℕ) → IsLastWord ends from last → length_at ends from ≡ last - from + 1
 unfolding length_at
 length_at_is ends from last is = ap (λ (o : Option ℕ). words_upto from o) (next_last ends from last is)
 
-pub last_of : (ends : List Bool) (from : ℕ) → 0 < length_at ends from → IsLast ends from (from + length_at ends from - 1)
+pub last_of : (ends : List Bool) (from : ℕ) → 0 < length_at ends from → IsLastWord ends from (from + length_at ends from - 1)
 unfolding length_at next_set
 last_of ends from some =
     elim (lowest_cases (bit ends) from (length ends - from)) [
@@ -25,7 +25,7 @@ last_of ends from some =
           let same : last ≡ from + words_upto from (lowest_from (bit ends) from (length ends - from)) - 1 =
           omega (arith, count, is.above)
           in
-          let P : ℕ → Type 0 = λ p. IsLast ends from p in
+          let P : ℕ → Type 0 = λ p. IsLastWord ends from p in
           subst P same is
       | missing is_none none ↦ absurd (omega (arith, ap (λ (o : Option ℕ). words_upto from o) is_none, some))
     ]
@@ -36,7 +36,7 @@ pub length_kept : (ends ends' : List Bool) (from : ℕ) → length ends' ≡ len
 length_kept ends ends' from size some same =
     let is = last_of ends from some in
     let last = from + length_at ends from - 1 in
-    let is' : IsLast ends' from last = record {
+    let is' : IsLastWord ends' from last = record {
       above = is.above;
       below = omega (arith, is.below, size);
       passes = same last is.above (omega (arith, some)) ∙ is.passes;

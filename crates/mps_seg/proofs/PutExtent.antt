@@ -10,7 +10,7 @@ use Rattle.mps_seg.specs.declared.extents.Extents.TheInside.{Inside}
 use Rattle.mps_seg.specs.Inside.{length_at, minus, extents, lists_of, AreSoundTables}
 use Rattle.mps_seg.proofs.WrittenBits.{bit-set_same, bit-set_other, bit_within, bit-with_range_inside, bit-with_range_outside, minus_is_begin, length-minus, minus-set_first, minus_less}
 use Rattle.mps_seg.proofs.ExtentBits.{extent_at, begin_of, SameLengths, extents_kept, extents_put, extents_taken, others_stay, IsReservation, is_reservation, lists}
-use Rattle.mps_seg.proofs.ExtentLengths.{IsLast, length_at_is, length_kept}
+use Rattle.mps_seg.proofs.ExtentLengths.{IsLastWord, length_at_is, length_kept}
 use Rattle.mps_seg.proofs.ApartRuns.{has_word-true, has_word-below, has_word-above, contains_put, apart_from_put, covers_contained, uncovered_by_put, covered_put_has, covered_put_other}
 
 pub record Put (covered begins ends blocks : List Bool) (at words : ℕ) : Type 0 where
@@ -138,7 +138,7 @@ module _ (covered begins ends blocks : List Bool) (at words : ℕ) (put : Put co
   put_here : length_at ends' at ≡ words
   put_here =
       let some = put.nonzero in
-      let is : IsLast ends' at last = record {
+      let is : IsLastWord ends' at last = record {
         above = omega arith;
         below = omega (arith, length_ends', put_bounds, put.sound.same_size.1);
         passes = bit-set_same ends last true (omega (arith, put_bounds, put.sound.same_size.1));

@@ -10,7 +10,7 @@ use Rattle.mps_seg.specs.declared.extents.Extents.TheInside.{Inside}
 use Rattle.mps_seg.specs.Inside.{length_at, minus, extents, lists_of, AreSoundTables}
 use Rattle.mps_seg.proofs.WrittenBits.{bit-set_same, bit-set_other, bit_within, bit-with_range_inside, bit-with_range_outside, minus_is_begin, length-minus, bit-minus, minus_less, minus_same}
 use Rattle.mps_seg.proofs.ExtentBits.{extent_at, begin_of, among_all, SameLengths, extents_kept, extents_taken, others_stay, IsReservation, is_reservation, lists}
-use Rattle.mps_seg.proofs.ExtentLengths.{IsLast, next_last, last_of, length_kept}
+use Rattle.mps_seg.proofs.ExtentLengths.{IsLastWord, next_last, last_of, length_kept}
 use Rattle.mps_seg.proofs.ApartRuns.{has_word-true, has_word-below, has_word-above, apart_each, uncovered_taken, covered_taken_other}
 
 pub record Taken (covered begins ends blocks : List Bool) (r : Run) : Type 0 where
@@ -47,11 +47,11 @@ module _ (covered begins ends blocks : List Bool) (r : Run) (taken : Taken cover
       let bounds = contained_bounds 0 (length begins) old r taken.sound.ascending taken.there in
       (bounds.1, bounds.2)
 
-  pub taken_last : IsLast ends r.from last
+  pub taken_last : IsLastWord ends r.from last
   taken_last =
       let b = begin_of begins ends r taken.there in
       let bounds = taken_bounds in
-      let P : ℕ → Type 0 = λ n. IsLast ends r.from (r.from + n - 1) in
+      let P : ℕ → Type 0 = λ n. IsLastWord ends r.from (r.from + n - 1) in
       subst P (sym b.1) (last_of ends r.from (omega (arith, b.1, bounds.0)))
 
   taken_same : SameLengths begins ends ends' r.from

@@ -15,7 +15,7 @@ use Rattle.mps_seg.specs.Table.{segments_in, segs_state, IsHeld, IsCounted}
 use Rattle.mps_seg.proofs.CoveredWords.{Noted, counted_after_take}
 use Rattle.mps_seg.proofs.HeldSegments.{new_is_free, segments_after_take, held_after_take}
 use Rattle.mps_seg.proofs.Placements.{taken_at}
-use Rattle.mps_seg.proofs.Covering.{IsSoundInside, words_at}
+use Rattle.mps_seg.proofs.Covering.{IsSoundInside, run_at}
 
 -- the grains of a new segment for n words, and its entry
 abbrev pub new_run : (base words : ℕ) → Run
@@ -45,7 +45,7 @@ pub record Taking (s : Inside) (base words pool generation : ℕ) (rank : Rank) 
   pub can_cover :
       CanCover
       (segs_state (arena_with s.arena base words) (set s.table.items (grain_of base) (new_entry words pool generation rank)) s.extents)
-      (words_at base words)
+      (run_at base words)
 
 pub taking : (s : Inside) (base : Addr) (words pool generation : ℕ) (rank : Rank) → IsSoundInside s → 0 < words
     → Ok base ≡ answer_of_placement (placement_in s.arena (grains_needed words)) → Taking s base.0 words pool generation rank

@@ -1,6 +1,6 @@
 use Rattle.std.proofs.Common.{arith}
 use Rattle.mps_base.specs.Run.{with_run}
-use Rattle.mps_seg.proofs.Covering.{covering, words_at}
+use Rattle.mps_seg.proofs.Covering.{covering, run_at}
 use Rattle.mps_seg.proofs.segs.Segs.cover.Goals as goal
 
 pub cover-requires-clause-free : goal.cover-requires-clause-free
@@ -36,4 +36,4 @@ invariant_of-self c =
     let first = facts.first_is c.index.result.now c.index.ensures in
     let count = facts.count_is c.index_mut.result.now c.index.result.now first c.index_mut.ensures.value in
     rw (c.cover.ensures, first, count)
-    (facts.held s.extents.blocks (with_run (words_at c.args.at.0 c.args.words) s.extents.reservations), facts.counted)
+    (facts.held s.extents.blocks (with_run (run_at c.args.at.0 c.args.words) s.extents.reservations), facts.counted)

@@ -8,7 +8,7 @@ use Rattle.mps_seg.specs.Segs.{SegsState, CanCover, placement_for, segments_afte
 use Rattle.mps_seg.specs.Table.{segs_state}
 use Rattle.mps_seg.proofs.CoveredWords.{Noted}
 use Rattle.mps_seg.proofs.Placements.{refused_held}
-use Rattle.mps_seg.proofs.Covering.{words_at}
+use Rattle.mps_seg.proofs.Covering.{run_at}
 use Rattle.mps_seg.proofs.Taking.{taking, new_run, new_entry}
 use Rattle.mps_seg.proofs.segs.Segs.take.Goals as goal
 
@@ -94,5 +94,5 @@ returns-clause-free c =
     in
     let now = c.take_run.ensures.state ∙ ap (λ (rs : List Run). record s.arena { held = rs }) facts.held_is in
     let table = set s.table.items (grain_of c.in_ok-base.base.0) (new_entry a.words a.pool a.generation a.rank) in
-    let P : ArenaMemory → Type 0 = λ arena. CanCover (segs_state arena table s.extents) (words_at c.in_ok-base.base.0 a.words) in
+    let P : ArenaMemory → Type 0 = λ arena. CanCover (segs_state arena table s.extents) (run_at c.in_ok-base.base.0 a.words) in
     subst P (sym now) facts.can_cover
