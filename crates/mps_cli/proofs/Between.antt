@@ -4,14 +4,14 @@ use Rattle.std.proofs.Math.Seq.{take-append-add}
 use Rattle.std.proofs.lemmas.List.{take-take, drop-take, drop-drop, drop-append-le, length-take-le, length-drop, take-append-le}
 use Rattle.mps_cli.specs.Buffer.{bytes_between}
 
--- what lies before a place of a part
-pub between_front : (s e n : ℕ) (xs : List ℕ) → s + n ≤ e → bytes_between s (s + n) xs ≡ take n (bytes_between s e xs)
-between_front s e n xs h =
+-- what lies before an index of a part
+pub between_prefix : (s e n : ℕ) (xs : List ℕ) → s + n ≤ e → bytes_between s (s + n) xs ≡ take n (bytes_between s e xs)
+between_prefix s e n xs h =
     let a : (s + n) - s ≡ n = omega arith in
     let b : n ≤ e - s = omega arith in
     rw a (sym (take-take n (e - s) (drop s xs) b))
 
--- what lies from a place of a part on
+-- what lies from an index of a part on
 pub between_rest : (s e m from : ℕ) (xs : List ℕ) → s + m ≤ e → from ≡ s + m → bytes_between from e xs ≡ drop m (bytes_between s e xs)
 between_rest s e m from xs h at =
     let a : e - s ≡ m + (e - (s + m)) = omega arith in

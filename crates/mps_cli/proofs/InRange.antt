@@ -31,7 +31,8 @@ either_in_range : (b : Bool) (x y : Option Call) → AreInRange x → AreInRange
 either_in_range true x y h k = h
 either_in_range false x y h k = k
 
-then_in_range : {A : Type 0} (f : A → Option Call) (o : Option A) → ((a : A) → o ≡ Some a → AreInRange (f a)) → AreInRange (option_and_then f o)
+then_in_range : {A : Type 0} (f : A → Option Call) (o : Option A) → ((a : A) → o ≡ Some a → AreInRange (f a))
+    → AreInRange (option_and_then f o)
 then_in_range f None h = none_in_range
 then_in_range f (Some a) h = h a refl
 
@@ -59,7 +60,8 @@ within_range low high word m e = bounded low high (decimal_number word) m e
 arena_in_range : (ws : List (List ℕ)) → AreInRange (arena_call ws)
 arena_in_range ws =
     then_in_range _ (two_words ws) (λ p e.
-    then_in_range (λ grains. option_and_then (λ limit. Some (call.Arena grains limit)) (number_within 0 2048 p.1)) (number_within 1 2048 p.0) (λ grains some.
+    then_in_range (λ grains. option_and_then (λ limit. Some (call.Arena grains limit)) (number_within 0 2048 p.1))
+    (number_within 1 2048 p.0) (λ grains some.
     then_in_range (λ limit. Some (call.Arena grains limit)) (number_within 0 2048 p.1) (λ limit most.
     some_in_range (call.Arena grains limit)
     ((within_range 1 2048 p.0 grains some).0, (within_range 1 2048 p.0 grains some).1, (within_range 0 2048 p.1 limit most).1))))
@@ -67,7 +69,8 @@ arena_in_range ws =
 table_in_range : (ws : List (List ℕ)) → AreInRange (table_call ws)
 table_in_range ws =
     then_in_range _ (two_words ws) (λ p e.
-    then_in_range (λ table. option_and_then (λ slots. Some (call.Table table slots)) (number_within 1 65536 p.1)) (name_of p.0) (λ table named.
+    then_in_range (λ table. option_and_then (λ slots. Some (call.Table table slots)) (number_within 1 65536 p.1)) (name_of p.0)
+    (λ table named.
     then_in_range (λ slots. Some (call.Table table slots)) (number_within 1 65536 p.1) (λ slots some.
     some_in_range (call.Table table slots) (within_range 1 65536 p.1 slots some))))
 
@@ -80,7 +83,8 @@ pool_in_range ws =
     then_in_range _ (three_words ws) (λ p e.
     then_in_range (front_pool_call p.1 p.2) (name_of p.0) (λ pool named.
     either_in_range (bytes_eq p.1 (codes "amc")) (if bytes_eq p.2 (codes "front") then Some (call.Pool pool Amc 1) else None) None
-    (either_in_range (bytes_eq p.2 (codes "front")) (Some (call.Pool pool Amc 1)) None (some_in_range (call.Pool pool Amc 1) tt) none_in_range)
+    (either_in_range (bytes_eq p.2 (codes "front")) (Some (call.Pool pool Amc 1)) None
+    (some_in_range (call.Pool pool Amc 1) tt) none_in_range)
     none_in_range))
 
 abbrev exact_point_call : (rank : List ℕ) → Name → Name → Option Call
@@ -104,10 +108,12 @@ init_in_range : (ws : List (List ℕ)) → AreInRange (init_call ws)
 init_in_range ws =
     then_in_range _ (three_words ws) (λ p e.
     then_in_range
-    (λ point. option_and_then (λ cell. option_and_then (λ value. Some (call.InitNumber point cell value)) (number_of p.2)) (decimal_number p.1))
+    (λ point. option_and_then (λ cell. option_and_then (λ value. Some (call.InitNumber point cell value)) (number_of p.2))
+    (decimal_number p.1))
     (name_of p.0)
     (λ point named.
-    then_in_range (λ cell. option_and_then (λ value. Some (call.InitNumber point cell value)) (number_of p.2)) (decimal_number p.1) (λ cell at.
+    then_in_range (λ cell. option_and_then (λ value. Some (call.InitNumber point cell value)) (number_of p.2)) (decimal_number p.1)
+    (λ cell at.
     then_in_range (λ value. Some (call.InitNumber point cell value)) (number_of p.2) (λ value is.
     some_in_range (call.InitNumber point cell value) tt))))
 
@@ -133,40 +139,47 @@ abbrev from_pool : List ℕ → List (List ℕ) → Option Call
 from_pool word ws = if bytes_eq word (codes "pool") then pool_call ws else (from_point word ws)
 
 from_pool_in_range : (word : List ℕ) (ws : List (List ℕ)) → AreInRange (from_pool word ws)
-from_pool_in_range word ws = either_in_range (bytes_eq word (codes "pool")) (pool_call ws) (from_point word ws) (pool_in_range ws) (from_point_in_range word ws)
+from_pool_in_range word ws = either_in_range (bytes_eq word (codes "pool")) (pool_call ws) (from_point word ws) (pool_in_range ws)
+    (from_point_in_range word ws)
 
 abbrev from_table : List ℕ → List (List ℕ) → Option Call
 from_table word ws = if bytes_eq word (codes "table") then table_call ws else (from_pool word ws)
 
 from_table_in_range : (word : List ℕ) (ws : List (List ℕ)) → AreInRange (from_table word ws)
-from_table_in_range word ws = either_in_range (bytes_eq word (codes "table")) (table_call ws) (from_pool word ws) (table_in_range ws) (from_pool_in_range word ws)
+from_table_in_range word ws = either_in_range (bytes_eq word (codes "table")) (table_call ws) (from_pool word ws) (table_in_range ws)
+    (from_pool_in_range word ws)
 
 abbrev from_arena : List ℕ → List (List ℕ) → Option Call
 from_arena word ws = if bytes_eq word (codes "arena") then arena_call ws else (from_table word ws)
 
 from_arena_in_range : (word : List ℕ) (ws : List (List ℕ)) → AreInRange (from_arena word ws)
-from_arena_in_range word ws = either_in_range (bytes_eq word (codes "arena")) (arena_call ws) (from_table word ws) (arena_in_range ws) (from_table_in_range word ws)
+from_arena_in_range word ws = either_in_range (bytes_eq word (codes "arena")) (arena_call ws) (from_table word ws) (arena_in_range ws)
+    (from_table_in_range word ws)
 
 abbrev from_commit : List ℕ → List (List ℕ) → Option Call
 from_commit word ws = if bytes_eq word (codes "commit") then commit_call ws else (from_arena word ws)
 
 from_commit_in_range : (word : List ℕ) (ws : List (List ℕ)) → AreInRange (from_commit word ws)
-from_commit_in_range word ws = either_in_range (bytes_eq word (codes "commit")) (commit_call ws) (from_arena word ws) (commit_in_range ws) (from_arena_in_range word ws)
+from_commit_in_range word ws = either_in_range (bytes_eq word (codes "commit")) (commit_call ws) (from_arena word ws) (commit_in_range ws)
+    (from_arena_in_range word ws)
 
 abbrev from_init : List ℕ → List (List ℕ) → Option Call
 from_init word ws = if bytes_eq word (codes "init") then init_call ws else (from_commit word ws)
 
 from_init_in_range : (word : List ℕ) (ws : List (List ℕ)) → AreInRange (from_init word ws)
-from_init_in_range word ws = either_in_range (bytes_eq word (codes "init")) (init_call ws) (from_commit word ws) (init_in_range ws) (from_commit_in_range word ws)
+from_init_in_range word ws = either_in_range (bytes_eq word (codes "init")) (init_call ws) (from_commit word ws) (init_in_range ws)
+    (from_commit_in_range word ws)
 
 abbrev from_reserve : List ℕ → List (List ℕ) → Option Call
 from_reserve word ws = if bytes_eq word (codes "reserve") then reserve_call ws else (from_init word ws)
 
 from_reserve_in_range : (word : List ℕ) (ws : List (List ℕ)) → AreInRange (from_reserve word ws)
-from_reserve_in_range word ws = either_in_range (bytes_eq word (codes "reserve")) (reserve_call ws) (from_init word ws) (reserve_in_range ws) (from_init_in_range word ws)
+from_reserve_in_range word ws = either_in_range (bytes_eq word (codes "reserve")) (reserve_call ws) (from_init word ws)
+    (reserve_in_range ws) (from_init_in_range word ws)
 
 built_in_range : (word : List ℕ) (ws : List (List ℕ)) → AreInRange (built_call word ws)
-built_in_range word ws = either_in_range (bytes_eq word (codes "num")) (number_call ws) (from_reserve word ws) (number_in_range ws) (from_reserve_in_range word ws)
+built_in_range word ws = either_in_range (bytes_eq word (codes "num")) (number_call ws) (from_reserve word ws) (number_in_range ws)
+    (from_reserve_in_range word ws)
 
 -- ---- lines
 
@@ -180,7 +193,8 @@ words_in_range (word ∷ ws) =
     either_in_range (begins_comment word) None (Some (unwrap_or (built_call word ws) call.Other)) none_in_range
     (some_in_range (unwrap_or (built_call word ws) call.Other) (or_other (built_call word ws) (built_in_range word ws)))
 
-line_in_range : (b : Bool) (bad : BadLine) (o : Option Call) (c : Call) → AreInRange o → (if b then Err bad else Ok o) ≡ Ok (Some c) → IsInRange c
+line_in_range : (b : Bool) (bad : BadLine) (o : Option Call) (c : Call) → AreInRange o → (if b then Err bad else Ok o) ≡ Ok (Some c)
+    → IsInRange c
 line_in_range true bad o c h e = absurd (let a : Err bad ≡ Ok (Some c) = e in cc)
 line_in_range false bad o c h e = h c (let a : Ok o ≡ Ok (Some c) = e in cc)
 

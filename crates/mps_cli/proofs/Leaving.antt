@@ -29,7 +29,8 @@ use Rattle.mps_cli.proofs.SoFar.{SoFar, NextRead, has_run, leaves_whole, read_mo
 -- ---- one line
 
 -- a line with a command is in the grammar
-good_line : (line : ℕ) (command : ScriptCommand) (r : Result (Option Call) BadLine) → command ∷ [] ≡ commands_of_call line r → is_grammatical r ≡ true
+good_line : (line : ℕ) (command : ScriptCommand) (r : Result (Option Call) BadLine) → command ∷ [] ≡ commands_of_call line r
+    → is_grammatical r ≡ true
 good_line line command (Ok call) e = refl
 good_line line command (Err bad) e = absurd (let none : command ∷ [] ≡ [] = e in cc)
 
@@ -45,7 +46,8 @@ module _ (heap : HeapState) (n : ℕ) (old o1 o2 o3 : Outside) (script rest line
         commands = (read_more n f.history (step ∷ []) script rest line (drop (length_of_line rest + 1) rest) f.read r.comes.0 r.comes.1 refl
             (good_line (n + 1) (command_of_step step) (call_of_line line) b.answers) b.answers).commands;
         legal = IsLegalFrom-append empty_world f.history (step ∷ []) f.legal (b.legal (world_after_history f.history) f.stands);
-        unsupported = unsupported-append empty_world f.history (step ∷ []) f.unsupported (b.unsupported (world_after_history f.history) f.stands);
+        unsupported = unsupported-append empty_world f.history (step ∷ []) f.unsupported
+            (b.unsupported (world_after_history f.history) f.stands);
       }
 
   leaves_part_of_records : StopsLogging (commands_of_call (n + 1) (call_of_line line)) heap o2 o3 → LeavesPartOfRecords [] script old o3
@@ -58,7 +60,8 @@ module _ (heap : HeapState) (n : ℕ) (old o1 o2 o3 : Outside) (script rest line
         begun = begins s.step s.begun;
         printed = s.printed ∙ (r.reads.printed ∙ f.printed);
         count = s.count;
-        logged = subst (λ p. o3.logged ≡ appended o2.logged (take s.count (records_bytes (records_of_step p s.step)))) f.pools (s.logged (world_after_history f.history) f.stands)
+        logged = subst (λ p. o3.logged ≡ appended o2.logged (take s.count (records_bytes (records_of_step p s.step)))) f.pools
+            (s.logged (world_after_history f.history) f.stands)
             ∙ (ap (λ known. appended known (take s.count (records_after f.history s.step))) (r.reads.logged ∙ f.logged)
             ∙ appended_twice old.logged (records_bytes (log_of f.history)) (take s.count (records_after f.history s.step)));
       }
@@ -71,7 +74,8 @@ module _ (heap : HeapState) (n : ℕ) (old o1 o2 o3 : Outside) (script rest line
         lines = n;
         step = s.step;
         begun = begins s.step s.begun;
-        logged = subst (λ p. o3.logged ≡ appended o2.logged (records_bytes (records_of_step p s.step))) f.pools (s.logged (world_after_history f.history) f.stands)
+        logged = subst (λ p. o3.logged ≡ appended o2.logged (records_bytes (records_of_step p s.step))) f.pools
+            (s.logged (world_after_history f.history) f.stands)
             ∙ (ap (λ known. appended known (records_after f.history s.step)) (r.reads.logged ∙ f.logged)
             ∙ appended_twice old.logged (records_bytes (log_of f.history)) (records_after f.history s.step));
         count = s.count;
@@ -93,7 +97,8 @@ module _ (heap : HeapState) (n : ℕ) (old o1 o2 o3 : Outside) (script rest line
   out_of_memory : IsUnbegun o2 o3 → NeedsMemory (commands_of_call (n + 1) (call_of_line line)) → RunsOutOfMemory [] script old o3
   out_of_memory u needs = record { whole = whole_before u; next = subst NeedsMemory (sym next_commands) needs }
 
-  leaves_known : (why : Stop BadScriptLine) → Stops why (commands_of_call (n + 1) (call_of_line line)) heap o2 o3 → Leaves (Err why) [] script old o3
+  leaves_known : (why : Stop BadScriptLine) → Stops why (commands_of_call (n + 1) (call_of_line line)) heap o2 o3
+      → Leaves (Err why) [] script old o3
   leaves_known stop.LogFailed s = leaves_part_of_records s
   leaves_known stop.WriteFailed s = leaves_part_of_answer s
   leaves_known stop.OutOfMemory s = out_of_memory s.0 s.1
@@ -101,7 +106,8 @@ module _ (heap : HeapState) (n : ℕ) (old o1 o2 o3 : Outside) (script rest line
   leaves_known stop.TooLong s = absurd s
   leaves_known stop.ReadFailed s = absurd s
 
-leaves_at : (why : Stop BadScriptLine) (heap : HeapState) (n : ℕ) (old o1 o2 o3 : Outside) (script line : List ℕ) (left left2 : Option (List ℕ))
+leaves_at : (why : Stop BadScriptLine) (heap : HeapState) (n : ℕ) (old o1 o2 o3 : Outside) (script line : List ℕ)
+    (left left2 : Option (List ℕ))
     → NextRead heap n old o1 o2 script left Line line left2
     → Stops why (commands_of_call (n + 1) (call_of_line line)) heap o2 o3 → Leaves (Err why) [] script old o3
 leaves_at why heap n old o1 o2 o3 script line None left2 r s = absurd r.so_far.read
@@ -115,7 +121,8 @@ leaves_line {heap} {n} {old} {o1} {o2} {script} {line} {left} {left2} why o3 r s
 
 -- ---- the whole run, after the header of the log
 
-module _ (header script : List ℕ) (old start new : Outside) (p : start.printed ≡ old.printed) (l : start.logged ≡ appended old.logged header) where
+module _ (header script : List ℕ) (old start new : Outside) (p : start.printed ≡ old.printed)
+    (l : start.logged ≡ appended old.logged header) where
   -- what was logged after the header
   logged_after : (bytes : List ℕ) → new.logged ≡ appended start.logged bytes → new.logged ≡ appended old.logged (header ++ bytes)
   logged_after bytes later = later ∙ (ap (λ known. appended known bytes) l ∙ appended_twice old.logged header bytes)
@@ -160,7 +167,8 @@ module _ (header script : List ℕ) (old start new : Outside) (p : start.printed
   unfolding whole_after
   ran_after_header ends r = record { whole = whole_after r.whole; ends_at = r.ends_at }
 
-module _ (script : List ℕ) (old start new : Outside) (p : start.printed ≡ old.printed) (l : start.logged ≡ appended old.logged log_header) where
+module _ (script : List ℕ) (old start new : Outside) (p : start.printed ≡ old.printed)
+    (l : start.logged ≡ appended old.logged log_header) where
   pub leaves_after_header : (ends : Ending) → Leaves ends [] script start new → LeavesRun ends script old new
   leaves_after_header (Ok done) r = whole_after log_header script old start new p l r
   leaves_after_header (Err (stop.Bad bad)) r = whole_after log_header script old start new p l r
@@ -176,7 +184,8 @@ pub leaves_unbegun : (why : Stop BadScriptLine) (script : List ℕ) (old new : O
 leaves_unbegun why script old new (inl is) u =
     subst (λ e. LeavesRun (Err e) script old new) (sym is) (inl u)
 leaves_unbegun why script old new (inr is) u =
-    subst (λ e. LeavesRun (Err e) script old new) (sym is) (inl (record { printed = u.printed; count = 0; logged = u.logged ∙ appended_empty old.logged }))
+    subst (λ e. LeavesRun (Err e) script old new) (sym is) (inl
+    (record { printed = u.printed; count = 0; logged = u.logged ∙ appended_empty old.logged }))
 
 -- ---- the report
 
@@ -225,7 +234,12 @@ module _ (script : List ℕ) (old mid new : Outside) (o : OnlyReports mid new) w
   leaves_then_reported (Err stop.ReadFailed) (inr r) = inr (whole_reported r)
   leaves_then_reported (Err stop.OutOfMemory) (inl r) = inl (reports_only-then old mid new r o)
   leaves_then_reported (Err stop.OutOfMemory) (inr r) = inr (memory_reported r)
-  leaves_then_reported (Err stop.LogFailed) (inl r) = inl (record { printed = o.printed ∙ r.printed; count = r.count; logged = o.logged ∙ r.logged })
+  leaves_then_reported (Err stop.LogFailed) (inl r) = inl (record {
+    printed = o.printed ∙ r.printed;
+    count = r.count;
+    logged = o.logged
+        ∙ r.logged;
+  })
   leaves_then_reported (Err stop.LogFailed) (inr r) = inr (records_part_reported r)
   leaves_then_reported (Err stop.WriteFailed) r = answer_part_reported r
 

@@ -29,19 +29,27 @@ split_front_at : (x : ℕ) (xs : List ℕ) (b : Bool) → is_line_feed x ≡ b
     → slice_split is_line_feed (x ∷ xs) ≡ take (length_of_line (x ∷ xs)) (x ∷ xs) ∷ rest_parts (drop (length_of_line (x ∷ xs)) (x ∷ xs))
 split_front_at x xs true h ih = rw (slice_split-cons_yes is_line_feed x xs h, length_yes x xs h)
 split_front_at x xs false h ih =
-    rw (slice_split-cons_no is_line_feed x xs h, length_no x xs h, take_more x (length_of_line xs) xs, drop_more x (length_of_line xs) xs, ih)
+    rw (
+      slice_split-cons_no is_line_feed x xs h,
+      length_no x xs h,
+      take_more x (length_of_line xs) xs,
+      drop_more x
+          (length_of_line xs) xs,
+      ih,
+    )
 
 split_front : (xs : List ℕ) → slice_split is_line_feed xs ≡ take (length_of_line xs) xs ∷ rest_parts (drop (length_of_line xs) xs)
 split_front [] = refl
 split_front (x ∷ xs) = split_front_at x xs (is_line_feed x) refl (split_front xs)
 
 -- a first line before others stays
-kept_before : (line : List ℕ) (ys : List ℕ) → without_empty_last (line ∷ slice_split is_line_feed ys) ≡ line ∷ without_empty_last (slice_split is_line_feed ys)
-kept_before line ys = rw (split_front ys) (kept line (take (length_of_line ys) ys) (rest_parts (drop (length_of_line ys) ys)))
+first_stays : (line : List ℕ) (ys : List ℕ) → without_empty_last (line ∷ slice_split is_line_feed ys) ≡ line ∷ without_empty_last
+    (slice_split is_line_feed ys)
+first_stays line ys = rw (split_front ys) (stays line (take (length_of_line ys) ys) (rest_parts (drop (length_of_line ys) ys)))
   where
-    kept : (line m : List ℕ) (ms : List (List ℕ)) → without_empty_last (line ∷ m ∷ ms) ≡ line ∷ without_empty_last (m ∷ ms)
-    kept [] m ms = refl
-    kept (x ∷ xs) m ms = refl
+    stays : (line m : List ℕ) (ms : List (List ℕ)) → without_empty_last (line ∷ m ∷ ms) ≡ line ∷ without_empty_last (m ∷ ms)
+    stays [] m ms = refl
+    stays (x ∷ xs) m ms = refl
 
 only_line : (line : List ℕ) → 0 < length line → without_empty_last (line ∷ []) ≡ line ∷ []
 only_line [] h = absurd (omega arith)
@@ -56,7 +64,7 @@ first_at bytes [] h e =
     ∙ rw all (only_line bytes h)
 first_at bytes (y ∷ ys) h e =
     ap without_empty_last (split_front bytes ∙ ap (λ r. take (length_of_line bytes) bytes ∷ rest_parts r) e)
-    ∙ kept_before (take (length_of_line bytes) bytes) ys
+    ∙ first_stays (take (length_of_line bytes) bytes) ys
 
 -- the first line of what is left, and the lines after it
 pub first_line : (bytes : List ℕ) → 0 < length bytes
@@ -92,5 +100,6 @@ good_append (x ∷ xs) ys h k = grind (arith, common_steps)
 pub commands_append : (n : ℕ) (xs ys : List (List ℕ)) → commands_from n (xs ++ ys) ≡ commands_from n xs ++ commands_from (n + length xs) ys
 commands_append n [] ys = ap (λ m. commands_from m ys) (omega arith)
 commands_append n (x ∷ xs) ys =
-    ap (λ r. commands_of_call n (call_of_line x) ++ r) (commands_append (n + 1) xs ys ∙ ap (λ m. commands_from (n + 1) xs ++ commands_from m ys) (omega arith))
+    ap (λ r. commands_of_call n (call_of_line x) ++ r) (commands_append (n + 1) xs ys
+    ∙ ap (λ m. commands_from (n + 1) xs ++ commands_from m ys) (omega arith))
     ∙ sym (append_assoc (commands_of_call n (call_of_line x)) (commands_from (n + 1) xs) (commands_from (n + length (x ∷ xs)) ys))

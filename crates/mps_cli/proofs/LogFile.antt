@@ -45,11 +45,13 @@ logs_into_then_reported name old mid new (inl r) o = inl (in_file_then_reported 
 logs_into_then_reported name old mid new (inr r) o = inr (record { logged = o.logged ∙ r.logged; files = o.files ∙ r.files })
 
 -- a script that is not there
-missing_status : (status : ℕ) (ends : Ending) → status ≡ status_of_ending ends → (ends ≡ Err stop.ReadFailed) ⊎ (ends ≡ Err stop.OutOfMemory) → (status ≡ 3) ⊎ (status ≡ 8)
+missing_status : (status : ℕ) (ends : Ending) → status ≡ status_of_ending ends
+    → (ends ≡ Err stop.ReadFailed) ⊎ (ends ≡ Err stop.OutOfMemory) → (status ≡ 3) ⊎ (status ≡ 8)
 missing_status status ends is (inl read) = inl (is ∙ ap status_of_ending read)
 missing_status status ends is (inr memory) = inr (is ∙ ap status_of_ending memory)
 
-pub missing_then_reported : (status : ℕ) (ends : Ending) (old mid new : Outside) → status ≡ status_of_ending ends → (ends ≡ Err stop.ReadFailed) ⊎ (ends ≡ Err stop.OutOfMemory)
+pub missing_then_reported : (status : ℕ) (ends : Ending) (old mid new : Outside) → status ≡ status_of_ending ends
+    → (ends ≡ Err stop.ReadFailed) ⊎ (ends ≡ Err stop.OutOfMemory)
     → IsUnbegun old mid → mid.files ≡ old.files → OnlyReports mid new → IsUnopened status old new × IsUnlogged old new
 missing_then_reported status ends old mid new is why unbegun files o = (
   (missing_status status ends is why, o.printed ∙ unbegun.printed),
@@ -72,13 +74,15 @@ log_in_its_file log script status old new r whole files known before logged byte
     let ran = (r.ran whole bytes e).ran.whole in
     let filed = r.in_file whole in
     let same : filed.bytes ≡ log_bytes ran.history = same_piece before filed.bytes (log_bytes ran.history)
-    (ap (λ o. appended o filed.bytes) (sym logged) ∙ (sym filed.logged ∙ (ran.logged ∙ ap (λ o. appended o (log_bytes ran.history)) logged))) in
+    (ap (λ o. appended o filed.bytes) (sym logged) ∙ (sym filed.logged
+    ∙ (ran.logged ∙ ap (λ o. appended o (log_bytes ran.history)) logged))) in
     record {
       history = ran.history;
       lines = ran.lines;
       run = ran.run;
       now = with_log log (log_bytes ran.history) files;
-      known = filed.files ∙ (ap (λ bs. option_map (with_log log bs) old.files) same ∙ ap (λ o. option_map (with_log log (log_bytes ran.history)) o) known);
+      known = filed.files ∙ (ap (λ bs. option_map (with_log log bs) old.files) same
+          ∙ ap (λ o. option_map (with_log log (log_bytes ran.history)) o) known);
       log = file_named-with_file files.all log (log_bytes ran.history);
       others = λ other differ. file_named-with_file_other files.all log other (log_bytes ran.history) differ;
     }

@@ -5,11 +5,11 @@ use Rattle.std.proofs.lemmas.List.Folds.{prefix_len-append}
 use Rattle.std.proofs.lemmas.List.Sums.{prefix_len-le-length}
 use Rattle.std.proofs.lemmas.Grind.{common_steps}
 use Rattle.mps_script.specs.Line.{is_line_feed}
-use Rattle.mps_cli.specs.Buffer.{Waiting, TakesIn, HeldGives, IsLast, ComesNextOf, left_of, length_of_line}
+use Rattle.mps_cli.specs.Buffer.{LineBuffer, TakesIn, HeldGives, IsLast, ComesNextOf, rest_of_script, length_of_line}
 use Rattle.mps_cli.specs.declared.next.Next.{Next}
 use Rattle.mps_cli.specs.declared.next.Next.TheVariants.{Line, TooLong, End}
 
-line_bound : (xs : List ℕ) → length_of_line xs ≤ length xs
+pub line_bound : (xs : List ℕ) → length_of_line xs ≤ length xs
 line_bound xs = prefix_len-le-length (λ b. not (is_line_feed b)) xs
 
 -- a line that ends in the front is the line of the whole
@@ -23,8 +23,8 @@ line_grows xs ys =
     let b = line_bound xs in grind (arith, common_steps, e)
 
 -- what the bytes that wait tell is what comes next
-pub held_comes : (old new : Waiting) (input : Option (List ℕ)) (next : Next)
-    → HeldGives old new (Some next) → ComesNextOf next (left_of old input) new.line (left_of new input)
+pub held_comes : (old new : LineBuffer) (input : Option (List ℕ)) (next : Next)
+    → HeldGives old new (Some next) → ComesNextOf next (rest_of_script old input) new.line (rest_of_script new input)
 held_comes old new None next h = refl
 held_comes old new (Some rest) Line h =
     let same : length_of_line (old.waiting ++ rest) ≡ length_of_line old.waiting = line_same old.waiting rest h.0 in
@@ -41,18 +41,18 @@ held_comes old new (Some rest) TooLong h = let grows = line_grows old.waiting re
 held_comes old new (Some rest) End h = absurd h
 
 -- a read leaves what is left as it is
-pub taking_keeps_left : (old new : Waiting) (before after : Option (List ℕ)) (count : ℕ)
-    → TakesIn old new before after count → left_of new after ≡ left_of old before
-taking_keeps_left old new before None count t = ap (left_of old) (sym t.from)
+pub taking_keeps_left : (old new : LineBuffer) (before after : Option (List ℕ)) (count : ℕ)
+    → TakesIn old new before after count → rest_of_script new after ≡ rest_of_script old before
+taking_keeps_left old new before None count t = ap (rest_of_script old) (sym t.from)
 taking_keeps_left old new before (Some rest) count t =
-    ap Some (ap (λ w. w ++ rest) t.waits ∙ append_assoc old.waiting t.chunk rest) ∙ ap (left_of old) (sym t.from)
+    ap Some (ap (λ w. w ++ rest) t.waits ∙ append_assoc old.waiting t.chunk rest) ∙ ap (rest_of_script old) (sym t.from)
 
 nothing_left : (xs : List ℕ) → length xs ≡ 0 → xs ≡ []
 nothing_left [] e = refl
 nothing_left (x ∷ xs) e = absurd (omega arith)
 
 -- the last line, where the input is at its end
-last_comes : (w : List ℕ) (filled new : Waiting) (next : Next)
+last_comes : (w : List ℕ) (filled new : LineBuffer) (next : Next)
     → length_of_line w ≡ length w → IsLast filled new next → filled.waiting ≡ w
     → ComesNextOf next (Some (w ++ [])) new.line (Some (new.waiting ++ []))
 last_comes w filled new Line whole last same =
@@ -65,7 +65,7 @@ last_comes w filled new Line whole last same =
 last_comes w filled new TooLong whole last same = absurd last
 last_comes w filled new End whole last same = let all : w ++ [] ≡ w = grind (arith, common_steps) in all ∙ (sym same ∙ last)
 
-nothing_read_then : (w filled new : Waiting) (rest : List ℕ) (next : Next) (chunk : List ℕ)
+nothing_read_then : (w filled new : LineBuffer) (rest : List ℕ) (next : Next) (chunk : List ℕ)
     → length_of_line w.waiting ≡ length w.waiting → IsLast filled new next
     → filled.waiting ≡ w.waiting ++ chunk → chunk ≡ [] → rest ≡ []
     → ComesNextOf next (Some (w.waiting ++ (chunk ++ rest))) new.line (Some (new.waiting ++ rest))
@@ -77,10 +77,10 @@ empty_front : (xs ys : List ℕ) → xs ++ ys ≡ [] → ys ≡ []
 empty_front [] ys e = e
 empty_front (x ∷ xs) ys e = cc
 
-pub end_comes : (old held filled new : Waiting) (before after : Option (List ℕ)) (count : ℕ) (next : Next)
+pub end_comes : (old held filled new : LineBuffer) (before after : Option (List ℕ)) (count : ℕ) (next : Next)
     → HeldGives old held None → TakesIn held filled before after count → count ≡ 0
     → IfSome before (λ left. left ≡ []) → IsLast filled new next
-    → ComesNextOf next (left_of old before) new.line (left_of new after)
+    → ComesNextOf next (rest_of_script old before) new.line (rest_of_script new after)
 end_comes old held filled new None None count next h t zero none last = refl
 end_comes old held filled new None (Some rest) count next h t zero none last = absurd (let e : None ≡ Some (t.chunk ++ rest) = t.from in cc)
 end_comes old held filled new (Some left) None count next h t zero none last = absurd (let e : Some left ≡ None = t.from in cc)

@@ -60,7 +60,8 @@ module _ (line : ℕ) (call : Call) (done : Done) (old new : Outside) where
 -- ---- commands without a record of their own
 
 -- an accepted command of another kind
-pub none_of_another : (c : Call) (pool line : ℕ) → ((grains limit : ℕ) → c ≡ call.Arena grains limit → ⊥) → ((limit : ℕ) → c ≡ call.Limit limit → ⊥)
+pub none_of_another : (c : Call) (pool line : ℕ) → ((grains limit : ℕ) → c ≡ call.Arena grains limit → ⊥)
+    → ((limit : ℕ) → c ≡ call.Limit limit → ⊥)
     → ((name : Name) (kind : Kind) (format : ℕ) → c ≡ call.Pool name kind format → ⊥)
     → ((name : Name) (kind : Kind) (format : ℕ) (chain : Name) → c ≡ call.PoolOnChain name kind format chain → ⊥)
     → ((name : Name) (words : ℕ) → c ≡ call.PoolMfs name words → ⊥) → ((name : Name) → c ≡ call.PoolMvff name → ⊥)

@@ -52,7 +52,8 @@ complete_ending (Err stop.LogFailed) old new h f m = absurd (f.logging h)
 complete_ending (Err stop.OutOfMemory) old new h f m = absurd (m refl)
 
 -- a status blames a side of the outside only where the count of its faults rose
-pub read_blamed : (ends : Ending) (old new : Outside) → HasCause ends old new → status_of_ending ends ≡ 3 → HasRisen old.in_faults new.in_faults
+pub read_blamed : (ends : Ending) (old new : Outside) → HasCause ends old new → status_of_ending ends ≡ 3
+    → HasRisen old.in_faults new.in_faults
 read_blamed (Err stop.ReadFailed) old new h e = h
 read_blamed (Ok done) old new h e = absurd (let wrong : 0 ≡ 3 = e in cc)
 read_blamed (Err (stop.Bad bad)) old new h e = absurd (let wrong : 6 ≡ 3 = e in cc)
@@ -61,7 +62,8 @@ read_blamed (Err stop.WriteFailed) old new h e = absurd (let wrong : 4 ≡ 3 = e
 read_blamed (Err stop.LogFailed) old new h e = absurd (let wrong : 5 ≡ 3 = e in cc)
 read_blamed (Err stop.OutOfMemory) old new h e = absurd (let wrong : 8 ≡ 3 = e in cc)
 
-pub write_blamed : (ends : Ending) (old new : Outside) → HasCause ends old new → status_of_ending ends ≡ 4 → HasRisen old.out_faults new.out_faults
+pub write_blamed : (ends : Ending) (old new : Outside) → HasCause ends old new → status_of_ending ends ≡ 4
+    → HasRisen old.out_faults new.out_faults
 write_blamed (Err stop.WriteFailed) old new h e = h
 write_blamed (Ok done) old new h e = absurd (let wrong : 0 ≡ 4 = e in cc)
 write_blamed (Err (stop.Bad bad)) old new h e = absurd (let wrong : 6 ≡ 4 = e in cc)
@@ -70,7 +72,8 @@ write_blamed (Err stop.ReadFailed) old new h e = absurd (let wrong : 3 ≡ 4 = e
 write_blamed (Err stop.LogFailed) old new h e = absurd (let wrong : 5 ≡ 4 = e in cc)
 write_blamed (Err stop.OutOfMemory) old new h e = absurd (let wrong : 8 ≡ 4 = e in cc)
 
-pub log_blamed : (ends : Ending) (old new : Outside) → HasCause ends old new → status_of_ending ends ≡ 5 → HasRisen old.log_faults new.log_faults
+pub log_blamed : (ends : Ending) (old new : Outside) → HasCause ends old new → status_of_ending ends ≡ 5
+    → HasRisen old.log_faults new.log_faults
 log_blamed (Err stop.LogFailed) old new h e = h
 log_blamed (Ok done) old new h e = absurd (let wrong : 0 ≡ 5 = e in cc)
 log_blamed (Err (stop.Bad bad)) old new h e = absurd (let wrong : 6 ≡ 5 = e in cc)

@@ -1,7 +1,6 @@
 -- What a run has done so far, and what is left to do.
 use Rattle.std.proofs.Common.{◌≡◌, ℕ, ◌+◌, ◌<◌, ◌≤◌, true, false, Option, Some, None, Ok, Err, List, [], ◌∷◌, ◌++◌, length, take, drop, refl, sym, ◌∙◌, ap, arith, append-nil, option_and_then, subst, zero-add, not, nat_lt}
 use Rattle.std.specs.List.{list_all}
-use Rattle.std.proofs.lemmas.List.Sums.{prefix_len-le-length}
 use Rattle.std.proofs.lemmas.List.{map-append, length-take-le}
 use Rattle.std.proofs.lemmas.Grind.{flat_map-append, common_steps}
 use Rattle.mps_base.specs.Desk.{Outside, OnlyReads}
@@ -24,6 +23,7 @@ use Rattle.mps_cli.specs.Script.{ScriptCommand, StepsRan, HasRun, LeavesWhole, A
 use Rattle.mps_cli.specs.declared.next.Next.{Next}
 use Rattle.mps_cli.specs.declared.next.Next.TheVariants.{Line, TooLong, End}
 use Rattle.mps_report.proofs.Appended.{appended_empty, appended_twice}
+use Rattle.mps_cli.proofs.NextLine.{line_bound}
 use Rattle.mps_cli.proofs.LineByLine.{first_line, take_one_more, good_append, commands_append}
 
 -- n lines of a script were run, and these bytes are left of it
@@ -113,9 +113,11 @@ read_next : (n : ℕ) (h steps : History) (script left : Option (List ℕ)) (lin
 read_next n h steps None None line left2 r next good answers = next
 read_next n h steps None (Some rest) line left2 r next good answers = absurd (let e : Some rest ≡ None = r in cc)
 read_next n h steps (Some script) None line left2 r next good answers = absurd r
-read_next n h steps (Some script) (Some rest) line None r next good answers = absurd (let e : None ≡ Some (drop (length_of_line rest + 1) rest) = next.2 in cc)
+read_next n h steps (Some script) (Some rest) line None r next good answers = absurd
+    (let e : None ≡ Some (drop (length_of_line rest + 1) rest) = next.2 in cc)
 read_next n h steps (Some script) (Some rest) line (Some rest2) r next good answers =
-    read_more n h steps script rest line rest2 r next.0 next.1 (let e : Some rest2 ≡ Some (drop (length_of_line rest + 1) rest) = next.2 in cc) good answers
+    read_more n h steps script rest line rest2 r next.0 next.1
+    (let e : Some rest2 ≡ Some (drop (length_of_line rest + 1) rest) = next.2 in cc) good answers
 
 -- steps after others
 pub unsupported-append : (w : World) (h steps : History) → AreUnsupportedWhereDue w h → AreUnsupportedWhereDue (world_after_steps w h) steps
@@ -128,7 +130,8 @@ pools_made-append [] steps = omega arith
 pools_made-append (t ∷ h) steps = omega (arith, pools_made-append h steps)
 
 -- one line more
-pub one_line_more : {heap heap2 : HeapState} {n : ℕ} {old o1 o2 o3 : Outside} {script left : Option (List ℕ)} (left2 : Option (List ℕ)) (line : List ℕ)
+pub one_line_more : {heap heap2 : HeapState} {n : ℕ} {old o1 o2 o3 : Outside} {script left : Option (List ℕ)} (left2 : Option (List ℕ))
+    (line : List ℕ)
     → SoFar heap n old o1 script left → OnlyReads o1 o2 → ComesNextOf Line left line left2
     → is_good line ≡ true → StepsRan (commands_of_call (n + 1) (call_of_line line)) heap heap2 o2 o3
     → SoFar heap2 (n + 1) old o3 script left2
@@ -138,7 +141,8 @@ one_line_more {heap} {heap2} {n} {old} {o1} {o2} {o3} {script} {left} left2 line
       ∙ (ap (λ known. appended known (answers_of s.steps)) (reads.printed ∙ f.printed)
       ∙ (appended_twice old.printed (answers_of f.history) (answers_of s.steps)
       ∙ ap (appended old.printed) (sym (flat_map-append (λ (t : Step). line_of_answer t.answer) f.history s.steps))));
-  logged = subst (λ p. o3.logged ≡ appended o2.logged (records_bytes (log_from p s.steps))) f.pools (s.logged (world_after_history f.history) f.stands)
+  logged = subst (λ p. o3.logged ≡ appended o2.logged (records_bytes (log_from p s.steps))) f.pools
+      (s.logged (world_after_history f.history) f.stands)
       ∙ (ap (λ known. appended known (records_bytes (log_from (pools_made f.history) s.steps))) (reads.logged ∙ f.logged)
       ∙ (appended_twice old.logged (records_bytes (log_of f.history)) (records_bytes (log_from (pools_made f.history) s.steps))
       ∙ ap (appended old.logged)
@@ -148,7 +152,8 @@ one_line_more {heap} {heap2} {n} {old} {o1} {o2} {o3} {script} {left} left2 line
   read = read_next n f.history s.steps script left line left2 f.read next good s.answers;
   legal = IsLegalFrom-append empty_world f.history s.steps f.legal (s.legal (world_after_history f.history) f.stands);
   unsupported = unsupported-append empty_world f.history s.steps f.unsupported (s.unsupported (world_after_history f.history) f.stands);
-  stands = subst (StandsFor heap2) (sym (world_after_steps-append empty_world f.history s.steps)) (s.stands (world_after_history f.history) f.stands);
+  stands = subst (StandsFor heap2) (sym (world_after_steps-append empty_world f.history s.steps))
+      (s.stands (world_after_history f.history) f.stands);
   pools = ap (λ (w : World). length w.pools) (world_after_steps-append empty_world f.history s.steps)
       ∙ (s.pools (world_after_history f.history) f.stands
       ∙ (ap (λ p. p + pools_made s.steps) f.pools ∙ sym (pools_made-append f.history s.steps)));
@@ -187,15 +192,13 @@ ends_with {heap} {n} {old} {o1} {o2} ends f reads at = record {
 
 module _ (heap : HeapState) (n : ℕ) (old o1 o2 : Outside) (script : List ℕ) where
   -- at the end of the input
-  done_at : (left left2 : Option (List ℕ)) (line : List ℕ) → NextRead heap n old o1 o2 script left End line left2 → RanTo (Ok tt) [] script old o2
+  done_at : (left left2 : Option (List ℕ)) (line : List ℕ) → NextRead heap n old o1 o2 script left End line left2
+      → RanTo (Ok tt) [] script old o2
   done_at None left2 line r = absurd r.so_far.read
   done_at (Some rest) left2 line r = ends_with (Ok tt) r.so_far r.reads (ap lines_of r.comes)
 
   some_line : (rest : List ℕ) → 0 < length rest → 0 < length (lines_of rest)
   some_line rest pos = let e = first_line rest pos in omega (arith, ap length e)
-
-  line_bound : (xs : List ℕ) → length_of_line xs ≤ length xs
-  line_bound xs = prefix_len-le-length (λ b. not (is_line_feed b)) xs
 
   -- where there are more lines than can be counted
   too_many_at : (left left2 : Option (List ℕ)) (line : List ℕ) (next : Next) → NextRead heap n old o1 o2 script left next line left2
@@ -221,20 +224,24 @@ module _ (heap : HeapState) (n : ℕ) (old o1 o2 : Outside) (script : List ℕ) 
       → RanTo (Err (stop.Bad (record { line = n + 1 }))) [] script old o2
   long_line_at None left2 line r = absurd r.so_far.read
   long_line_at (Some rest) left2 line r =
-      let long : length (take (length_of_line rest) rest) ≡ length_of_line rest = length-take-le (length_of_line rest) rest (line_bound rest) in
-      let bad : is_good (take (length_of_line rest) rest) ≡ false = long_line_is_bad (take (length_of_line rest) rest) (omega (arith, r.comes)) in
+      let long : length (take (length_of_line rest) rest) ≡ length_of_line rest = length-take-le (length_of_line rest) rest
+      (line_bound rest) in
+      let bad : is_good (take (length_of_line rest) rest) ≡ false = long_line_is_bad (take (length_of_line rest) rest)
+      (omega (arith, r.comes)) in
       let pos : 0 < length rest = omega (arith, r.comes, line_bound rest) in
       ends_with (Err (stop.Bad (record { line = n + 1 }))) r.so_far r.reads
       (refl, first_is_bad rest (take (length_of_line rest) rest) pos refl bad)
 
   -- at a line that is bad
-  bad_line_at : (left left2 : Option (List ℕ)) (line : List ℕ) (o3 : Outside) (ends : Ending) → NextRead heap n old o1 o2 script left Line line left2
+  bad_line_at : (left left2 : Option (List ℕ)) (line : List ℕ) (o3 : Outside) (ends : Ending)
+      → NextRead heap n old o1 o2 script left Line line left2
       → IsBadHere line (n + 1) ends o2 o3 → RanTo ends [] script old o3
   bad_line_at None left2 line o3 ends r bad = absurd r.so_far.read
   bad_line_at (Some rest) left2 line o3 ends r bad = record {
     whole = leaves_whole o3 r.so_far (bad.printed ∙ r.reads.printed) (bad.logged ∙ r.reads.logged);
     ends_at = subst (λ e. RunEndsAt e n (drop n (lines_of script))) (sym bad.is_end)
-        (subst (RunEndsAt (Err (stop.Bad (record { line = n + 1 }))) n) (sym r.so_far.read.later) (refl, first_is_bad rest line r.comes.0 r.comes.1 bad.bad));
+        (subst (RunEndsAt (Err (stop.Bad (record { line = n + 1 }))) n) (sym r.so_far.read.later)
+        (refl, first_is_bad rest line r.comes.0 r.comes.1 bad.bad));
   }
 
 pub ends_done : {heap : HeapState} {n : ℕ} {old o1 o2 : Outside} {script line : List ℕ} {left left2 : Option (List ℕ)}
@@ -250,7 +257,8 @@ pub ends_long_line : {heap : HeapState} {n : ℕ} {old o1 o2 : Outside} {script 
     → NextRead heap n old o1 o2 script left TooLong line left2 → RanTo (Err (stop.Bad (record { line = n + 1 }))) [] script old o2
 ends_long_line {heap} {n} {old} {o1} {o2} {script} {line} {left} {left2} r = long_line_at heap n old o1 o2 script left left2 line r
 
-pub ends_bad_line : {heap : HeapState} {n : ℕ} {old o1 o2 o3 : Outside} {script line : List ℕ} {left left2 : Option (List ℕ)} {ends : Ending}
+pub ends_bad_line : {heap : HeapState} {n : ℕ} {old o1 o2 o3 : Outside} {script line : List ℕ} {left left2 : Option
+    (List ℕ)} {ends : Ending}
     → NextRead heap n old o1 o2 script left Line line left2 → IsBadHere line (n + 1) ends o2 o3 → RanTo ends [] script old o3
 ends_bad_line {heap} {n} {old} {o1} {o2} {o3} {script} {line} {left} {left2} {ends} r bad =
     bad_line_at heap n old o1 o2 script left left2 line o3 ends r bad

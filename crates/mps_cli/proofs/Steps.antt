@@ -67,7 +67,8 @@ module _ (line : ℕ) (call : Call) (done : Done) (before after : HeapState) (is
     replayed = λ w n s. ap (replay_from (live_blocks w)) (append-nil (records_of_step n the_step)) ∙ is.replayed w line s n;
     pools = λ w s. is.counted w line s ∙ omega arith;
     logged = λ w s. l.logged
-        ∙ ap (λ rs. appended old.logged (records_bytes rs)) (same_records w s ∙ sym (append-nil (records_of_step (length w.pools) the_step)));
+        ∙ ap (λ rs. appended old.logged (records_bytes rs)) (same_records w s
+        ∙ sym (append-nil (records_of_step (length w.pools) the_step)));
     answers = refl;
     printed = l.printed ∙ ap (appended old.printed) (sym (append-nil (text_of done.reply)));
     input = input;

@@ -106,15 +106,18 @@ pub a_log_by_its_name : (old new : Outside) → DoesAsAsked (meaning (codes "run
     → IsInFile (codes "a") old new
 a_log_by_its_name old new does = does.in_file refl
 
-pub a_script_by_its_name : (old new : Outside) (bytes : List ℕ) → DoesAsAsked (meaning (codes "run" ∷ codes "-o" ∷ codes "a" ∷ codes "s" ∷ [])) 0 old new
+pub a_script_by_its_name : (old new : Outside) (bytes : List ℕ)
+    → DoesAsAsked (meaning (codes "run" ∷ codes "-o" ∷ codes "a" ∷ codes "s" ∷ [])) 0 old new
     → old.text (codes "s") ≡ Some bytes → RanWith 0 bytes old new
 a_script_by_its_name old new bytes does is_known = does.ran refl bytes is_known
 
-pub a_log_is_converted_whole : (old new : Outside) (bytes : List ℕ) → DoesAsAsked (meaning (codes "cnv" ∷ codes "-k" ∷ codes "seg,object" ∷ [])) 0 old new
+pub a_log_is_converted_whole : (old new : Outside) (bytes : List ℕ)
+    → DoesAsAsked (meaning (codes "cnv" ∷ codes "-k" ∷ codes "seg,object" ∷ [])) 0 old new
     → old.text (codes "mpsio.log") ≡ Some bytes → ConvertedWith 40 bytes 0 old new
 a_log_is_converted_whole old new bytes does is_known = does.converted refl bytes is_known
 
-pub a_missing_text_prints_nothing : (status : ℕ) (old new : Outside) → DoesAsAsked (meaning (codes "txt" ∷ codes "-l" ∷ codes "a" ∷ [])) status old new
+pub a_missing_text_prints_nothing : (status : ℕ) (old new : Outside)
+    → DoesAsAsked (meaning (codes "txt" ∷ codes "-l" ∷ codes "a" ∷ [])) status old new
     → OpensNothing old (codes "a") → new.printed ≡ old.printed
 a_missing_text_prints_nothing status old new does nothing = (does.missing nothing).1
 
@@ -122,5 +125,6 @@ pub a_missing_log_lists_nothing : (status : ℕ) (old new : Outside) → DoesAsA
     → OpensNothing old (codes "mpsio.log") → new.printed ≡ old.printed
 a_missing_log_lists_nothing status old new does nothing = (does.missing nothing).1
 
-pub a_script_is_generated : (old new : Outside) → DoesAsAsked (meaning (codes "gen" ∷ codes "7" ∷ codes "0" ∷ [])) 0 old new → Prints old new (generated_script 7 0)
+pub a_script_is_generated : (old new : Outside) → DoesAsAsked (meaning (codes "gen" ∷ codes "7" ∷ codes "0" ∷ [])) 0 old new
+    → Prints old new (generated_script 7 0)
 a_script_is_generated old new does = does.whole refl

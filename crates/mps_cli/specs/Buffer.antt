@@ -7,17 +7,17 @@ use Rattle.mps_cli.specs.declared.next.Next.{Next}
 use Rattle.mps_cli.specs.declared.next.Next.TheVariants.{Line, TooLong, End}
 
 -- the line that was given last, and the bytes that were read and wait after it
-pub record Waiting : Type 0 where
+pub record LineBuffer : Type 0 where
   pub line : List ℕ
   pub waiting : List ℕ
   -- how many more bytes may be read after them
   pub room : ℕ
 
 -- nothing was given, and nothing waits
-abbrev pub nothing_read : Waiting
+abbrev pub nothing_read : LineBuffer
 nothing_read = record { line = []; waiting = []; room = 65536 }
 
--- the bytes from one place up to and without another
+-- the bytes from one index up to and without another
 abbrev pub bytes_between : ℕ → ℕ → List ℕ → List ℕ
 bytes_between from to bytes = take (to - from) (drop from bytes)
 
@@ -26,11 +26,11 @@ abbrev pub length_of_line : List ℕ → ℕ
 length_of_line bytes = position_or_len is_line_feed bytes
 
 -- what is left: what waits, and after it the input that is left to read
-abbrev pub left_of : Waiting → Option (List ℕ) → Option (List ℕ)
-left_of w input = option_map (λ rest. w.waiting ++ rest) input
+abbrev pub rest_of_script : LineBuffer → Option (List ℕ) → Option (List ℕ)
+rest_of_script w input = option_map (λ rest. w.waiting ++ rest) input
 
--- what waits has a whole line, or more than a line may have; or it doesn't tell
-abbrev pub HeldGives : Waiting → Waiting → Option Next → Type 0
+-- what waits has a whole line, or more bytes than a line may have; or neither
+abbrev pub HeldGives : LineBuffer → LineBuffer → Option Next → Type 0
 HeldGives old new None =
     (new.waiting ≡ old.waiting) × (length_of_line old.waiting ≡ length old.waiting) × (length old.waiting ≤ longest_line)
 HeldGives old new (Some Line) =
@@ -40,7 +40,7 @@ HeldGives old new (Some TooLong) = longest_line < length_of_line old.waiting
 HeldGives old new (Some End) = ⊥
 
 -- a read put n bytes of the input after what waits
-pub record TakesIn (old new : Waiting) (before after : Option (List ℕ)) (count : ℕ) : Type 0 where
+pub record TakesIn (old new : LineBuffer) (before after : Option (List ℕ)) (count : ℕ) : Type 0 where
   pub chunk : List ℕ
   pub counted : length chunk ≡ count
   pub waits : new.waiting ≡ old.waiting ++ chunk
@@ -53,13 +53,13 @@ ComesNext Line left line left_after =
 ComesNext TooLong left line left_after = longest_line < length_of_line left
 ComesNext End left line left_after = left ≡ []
 
--- the same, where what is left is told
+-- the same, where what is left is known
 abbrev pub ComesNextOf : Next → (left : Option (List ℕ)) → (line : List ℕ) → (left_after : Option (List ℕ)) → Type 0
 ComesNextOf next None line left_after = left_after ≡ None
 ComesNextOf next (Some left) line left_after = ComesNext next left line left_after
 
 -- at the end of the input: the last line, which has no line feed, or nothing
-abbrev pub IsLast : Waiting → Waiting → Next → Type 0
+abbrev pub IsLast : LineBuffer → LineBuffer → Next → Type 0
 IsLast old new Line = (0 < length old.waiting) × (new.line ≡ old.waiting) × (new.waiting ≡ [])
 IsLast old new TooLong = ⊥
 IsLast old new End = old.waiting ≡ []

@@ -1,4 +1,4 @@
--- What a run of a script tells: its commands, each with its line, and what was printed and logged for them.
+-- The run of a script: its commands, each with its line, and what was printed and logged for them.
 use Rattle.std.specs.Prelude.{ℕ, ◌≡◌, ◌↔◌, ◌+◌, ◌<◌, IsTrue, Bool, true, false, Option, Some, None, Result, Ok, Err, List, [], ◌∷◌, ◌++◌, map, length, take, drop, codes, refl}
 use Rattle.std.specs.List.{flat_map, list_all}
 use Rattle.mps_base.specs.Desk.{Outside, HasRisen}
@@ -170,8 +170,8 @@ LogsThenPrints records answer ending old new = ⊥
 pub a_comment_has_no_command : commands_from 1 (codes "# x" ∷ codes "foo" ∷ []) ≡ record { line = 2; call = call.Other } ∷ []
 a_comment_has_no_command = refl
 
--- the run of a script ended with a status: what was printed and logged is that of a history of its commands, and what was
--- reported tells where it ended
+-- the run of a script ended with a status: what was printed and logged is that of a history of its commands, and the ending
+-- was reported
 pub record RanWith (status : ℕ) (script : List ℕ) (old new : Outside) : Type 0 where
   pub ends : Ending
   pub status_is : status ≡ status_of_ending ends

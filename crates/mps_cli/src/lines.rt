@@ -1,18 +1,16 @@
 // The lines of the input, one by one, across reads of any size.
 ghost use Rattle.std.specs.Prelude.{◌≡◌, ◌<◌, ◌≤◌, ◌↔◌, ℕ, [], length, IfOk, IfSome, OnErr};
-ghost use Rattle.std.specs.List.{position_or_len};
 ghost use Rattle.mps_base.specs.Desk.{HasRisen, OnlyReads};
-ghost use Rattle.mps_script.specs.Line.{is_line_feed};
-ghost use Rattle.mps_cli.specs.Buffer.{nothing_read, length_of_line, left_of, HeldGives, TakesIn, ComesNextOf, IsLast};
+ghost use Rattle.mps_cli.specs.Buffer.{nothing_read, length_of_line, rest_of_script, HeldGives, TakesIn, ComesNextOf, IsLast};
 
 use crate::next::Next;
-use mps_base::{Desk, Failed};
+use mps_base::{Desk, Failed, length_before};
 use mps_script::LONGEST_LINE;
 use std::alloc::{AllocError, Global};
 use std::marker::Model;
 
-/// How many bytes of the input are held at once.
-const ROOM: usize = 65536;
+/// The most bytes of the input that are held at once.
+const MAX_HELD_BYTES: usize = 65536;
 
 /// The lines of the input. Bytes that were read and not yet given wait in a buffer of fixed size. Contracts see the line
 /// that was given last and the bytes that wait.
@@ -27,9 +25,9 @@ pub struct Lines {
 
 impl Model for Lines {
     ghost use Rattle.std.specs.Prelude.{◌≡◌, ◌-◌, ◌≤◌, vec_len};
-    ghost use Rattle.mps_cli.specs.Buffer.{Waiting, bytes_between};
+    ghost use Rattle.mps_cli.specs.Buffer.{LineBuffer, bytes_between};
 
-    ghost Value = { Waiting };
+    ghost Value = { LineBuffer };
 
     ghost view = { λ l. record {
       line = bytes_between l.line_start l.line_end l.bytes.items;
@@ -47,7 +45,7 @@ impl Lines {
         ensures { IfOk result (λ lines. lines ≡ nothing_read) }
     {
         Ok(Lines {
-            bytes: Vec::from_elem(alloc, 0, ROOM)?,
+            bytes: Vec::from_elem(alloc, 0, MAX_HELD_BYTES)?,
             line_start: 0,
             line_end: 0,
             start: 0,
@@ -64,8 +62,8 @@ impl Lines {
 
     /// Goes on to the next line.
     pub fn next<D: Desk>(&mut self, desk: &mut D) -> Result<Next, Failed>
-        ensures next { IfOk result (λ next. ComesNextOf next (left_of self.old (D.outside desk.old).input) self.new.line
-            (left_of self.new (D.outside desk.new).input)) }
+        ensures next { IfOk result (λ next. ComesNextOf next (rest_of_script self.old (D.outside desk.old).input) self.new.line
+            (rest_of_script self.new (D.outside desk.new).input)) }
         ensures counted { (D.outside desk.old).in_faults ≤ (D.outside desk.new).in_faults }
         ensures cause { OnErr result (HasRisen (D.outside desk.old).in_faults (D.outside desk.new).in_faults) }
         ensures others { OnlyReads (D.outside desk.old) (D.outside desk.new) }
@@ -80,11 +78,11 @@ impl Lines {
         }
     }
 
-    /// The next line, where what waits tells it.
+    /// The next line, where it waits whole, or more bytes than a line may have.
     fn next_held(&mut self) -> Option<Next>
         ensures { HeldGives self.old self.new result }
     {
-        let length = find_line_feed(&self.bytes[self.start..self.end]);
+        let length = length_before(b'\n', &self.bytes[self.start..self.end]);
         if length > LONGEST_LINE {
             return Some(Next::TooLong);
         }
@@ -97,35 +95,36 @@ impl Lines {
         Some(Next::Line)
     }
 
-    /// Reads more after what waits, and answers how many bytes; 0 at the end of the input.
+    /// Reads more after what waits, and returns how many bytes; 0 at the end of the input.
     fn fill<D: Desk>(&mut self, desk: &mut D) -> Result<usize, Failed>
         requires { length self.old.waiting ≤ 4096 }
-        ensures taken { IfOk result (λ count. TakesIn self.old self.new (D.outside desk.old).input (D.outside desk.new).input count) }
+        ensures read { IfOk result (λ count. TakesIn self.old self.new (D.outside desk.old).input (D.outside desk.new).input count) }
         ensures end { IfOk result (λ count. count ≡ 0 → IfSome (D.outside desk.old).input (λ left. left ≡ [])) }
         ensures counted { (D.outside desk.old).in_faults ≤ (D.outside desk.new).in_faults }
         ensures cause { OnErr result (HasRisen (D.outside desk.old).in_faults (D.outside desk.new).in_faults) }
         ensures others { OnlyReads (D.outside desk.old) (D.outside desk.new) }
     {
-        if self.end == ROOM {
+        if self.end == MAX_HELD_BYTES {
             self.move_down();
         }
         self.read_after(desk)
     }
 
-    /// Moves what waits to a prefix of the buffer. The line that was given last is lost.
+    /// Moves what waits to the beginning of the buffer. The line that was given last is lost.
     fn move_down(&mut self)
         requires { length self.old.waiting ≤ 4096 }
         ensures waits { self.new.waiting ≡ self.old.waiting }
-        ensures room { 0 < self.new.room }
+        ensures fits { 0 < self.new.room }
     {
         self.bytes.copy_within(self.start..self.end, 0);
         self.end -= self.start;
         self.start = 0;
     }
 
+    /// Reads some bytes after what waits.
     fn read_after<D: Desk>(&mut self, desk: &mut D) -> Result<usize, Failed>
         requires { 0 < self.old.room }
-        ensures taken { IfOk result (λ count. TakesIn self.old self.new (D.outside desk.old).input (D.outside desk.new).input count) }
+        ensures read { IfOk result (λ count. TakesIn self.old self.new (D.outside desk.old).input (D.outside desk.new).input count) }
         ensures end { IfOk result (λ count. count ≡ 0 → IfSome (D.outside desk.old).input (λ left. left ≡ [])) }
         ensures counted { (D.outside desk.old).in_faults ≤ (D.outside desk.new).in_faults }
         ensures cause { OnErr result (HasRisen (D.outside desk.old).in_faults (D.outside desk.new).in_faults) }
@@ -148,17 +147,4 @@ impl Lines {
         self.start = self.end;
         Next::Line
     }
-}
-
-/// The place of the first line feed, or the length where there is none.
-fn find_line_feed(bytes: &[u8]) -> usize
-    ensures place { result ≡ position_or_len is_line_feed bytes.now }
-    ensures within { result ≤ length bytes.now }
-{
-    for (i, b) in bytes.iter().enumerate() {
-        if *b == b'\n' {
-            return i;
-        }
-    }
-    bytes.len()
 }

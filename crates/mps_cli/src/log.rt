@@ -10,8 +10,8 @@ ghost use Rattle.mps_cli.specs.Records.{pool_number as number_of_pool, records_o
 ghost use Rattle.mps_cli.specs.Script.{log_header as header_of_log};
 ghost use Rattle.mps_report.specs.Streams.{Logs, LogsPart};
 
-use mps_base::{Desk, Failed, Kind, Move};
-use mps_event::{Event, Version, header_of, put};
+use mps_base::{Desk, Failed, Move};
+use mps_event::{Event, MFS_NUMBER, MVFF_NUMBER, Version, header_of, kind_number, put};
 use mps_first_heap::Done;
 use mps_model::{Call, Reply};
 use mps_report::log_all;
@@ -29,8 +29,10 @@ pub fn log_header<D: Desk>(desk: &mut D) -> Result<(), Failed>
 
 /// Writes the records of a command: that of its move, then its own.
 pub fn log_records<D: Desk>(desk: &mut D, line: u32, call: &Call, done: &Done) -> Result<(), Failed>
-    ensures logged { OnOk result (Logs (D.outside desk.old) (D.outside desk.new) (records_bytes (records_of_done line call.now done.now))) }
-    ensures failed { OnErr result (LogsPart (D.outside desk.old) (D.outside desk.new) (records_bytes (records_of_done line call.now done.now))) }
+    ensures logged { OnOk result (Logs (D.outside desk.old) (D.outside desk.new)
+        (records_bytes (records_of_done line call.now done.now))) }
+    ensures failed { OnErr result (LogsPart (D.outside desk.old) (D.outside desk.new)
+        (records_bytes (records_of_done line call.now done.now))) }
 {
     if let Some(moved) = &done.moved {
         log_move(desk, line, moved)?;
@@ -107,8 +109,10 @@ fn log_command<D: Desk>(
     call: &Call,
     reply: &Reply,
 ) -> Result<(), Failed>
-    ensures logged { OnOk result (Logs (D.outside desk.old) (D.outside desk.new) (records_bytes (records_of_command pool call.now (Replied reply.now) line))) }
-    ensures failed { OnErr result (LogsPart (D.outside desk.old) (D.outside desk.new) (records_bytes (records_of_command pool call.now (Replied reply.now) line))) }
+    ensures logged { OnOk result (Logs (D.outside desk.old) (D.outside desk.new)
+        (records_bytes (records_of_command pool call.now (Replied reply.now) line))) }
+    ensures failed { OnErr result (LogsPart (D.outside desk.old) (D.outside desk.new)
+        (records_bytes (records_of_command pool call.now (Replied reply.now) line))) }
 {
     match *reply {
         Reply::Ok => log_accepted(desk, line, pool, call),
@@ -118,8 +122,10 @@ fn log_command<D: Desk>(
 
 /// Writes the record of an accepted command, where it has one.
 fn log_accepted<D: Desk>(desk: &mut D, line: u32, pool: u64, call: &Call) -> Result<(), Failed>
-    ensures logged { OnOk result (Logs (D.outside desk.old) (D.outside desk.new) (records_bytes (records_of_accepted pool call.now line))) }
-    ensures failed { OnErr result (LogsPart (D.outside desk.old) (D.outside desk.new) (records_bytes (records_of_accepted pool call.now line))) }
+    ensures logged { OnOk result (Logs (D.outside desk.old) (D.outside desk.new)
+        (records_bytes (records_of_accepted pool call.now line))) }
+    ensures failed { OnErr result (LogsPart (D.outside desk.old) (D.outside desk.new)
+        (records_bytes (records_of_accepted pool call.now line))) }
 {
     match *call {
         Call::Arena { grains, limit } => log_record(
@@ -145,22 +151,14 @@ fn log_accepted<D: Desk>(desk: &mut D, line: u32, pool: u64, call: &Call) -> Res
                 &[pool, kind_number(kind), format],
             )
         }
-        Call::PoolMfs { words, .. } => log_record(desk, line, Event::PoolCreate, &[pool, 6, words]),
-        Call::PoolMvff { .. } => log_record(desk, line, Event::PoolCreate, &[pool, 7, 0]),
+        Call::PoolMfs { words, .. } => log_record(
+            desk,
+            line,
+            Event::PoolCreate,
+            &[pool, MFS_NUMBER, words],
+        ),
+        Call::PoolMvff { .. } => log_record(desk, line, Event::PoolCreate, &[pool, MVFF_NUMBER, 0]),
         _ => Ok(()),
-    }
-}
-
-/// The number of a kind of pool in the log.
-fn kind_number(kind: Kind) -> u64
-    ensures { result ≡ number_of_kind kind }
-{
-    match kind {
-        Kind::Amc => 1,
-        Kind::Amcz => 2,
-        Kind::Ams => 3,
-        Kind::Awl => 4,
-        Kind::Lo => 5,
     }
 }
 
@@ -168,8 +166,10 @@ fn kind_number(kind: Kind) -> u64
 fn log_record<D: Desk>(desk: &mut D, line: u32, event: Event, fields: &[u64]) -> Result<(), Failed>
     requires known { AreFields One (code_of event) fields.now }
     requires at_most { length fields.now ≤ 4 }
-    ensures logged { OnOk result (Logs (D.outside desk.old) (D.outside desk.new) (record_bytes (record { line = line; code = code_of event; fields = fields.now }))) }
-    ensures failed { OnErr result (LogsPart (D.outside desk.old) (D.outside desk.new) (record_bytes (record { line = line; code = code_of event; fields = fields.now }))) }
+    ensures logged { OnOk result (Logs (D.outside desk.old) (D.outside desk.new)
+        (record_bytes (record { line = line; code = code_of event; fields = fields.now }))) }
+    ensures failed { OnErr result (LogsPart (D.outside desk.old) (D.outside desk.new)
+        (record_bytes (record { line = line; code = code_of event; fields = fields.now }))) }
 {
     let mut bytes = [0u8; MAX_RECORD_BYTES];
     let length = put_record(&mut bytes, line, event, fields);

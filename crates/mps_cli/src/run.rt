@@ -9,7 +9,7 @@ ghost use Rattle.mps_log_reader.specs.Opening.{OpensNothing};
 ghost use Rattle.mps_report.specs.declared.stop.Stop.TheVariants as stop;
 ghost use Rattle.mps_script.specs.Line.{call_of_line};
 ghost use Rattle.mps_script.specs.Text.{text_of};
-ghost use Rattle.mps_cli.specs.Buffer.{left_of};
+ghost use Rattle.mps_cli.specs.Buffer.{rest_of_script};
 ghost use Rattle.mps_cli.specs.Ending.{HasCause, CountsGrow, RunsOn, is_verdict};
 ghost use Rattle.mps_cli.specs.Leaving.{IsUnbegun, Leaves, LeavesRun, Stops};
 ghost use Rattle.mps_cli.specs.LogFile.{LogsInto, IsInFile};
@@ -107,11 +107,11 @@ fn run_lines<D: Desk>(
     ensures cause { HasCause result (D.outside desk.old) (D.outside desk.new) }
     ensures takes { LogTakes (D.outside desk.old) (D.outside desk.new) }
     ensures runs { RunsOn (D.outside desk.old) (D.outside desk.new) }
-    ensures ran { is_verdict result ≡ true → (script : List ℕ) → left_of lines.old (D.outside desk.old).input ≡ Some script
+    ensures ran { is_verdict result ≡ true → (script : List ℕ) → rest_of_script lines.old (D.outside desk.old).input ≡ Some script
         → RanTo result [] script (D.outside desk.old) (D.outside desk.new) }
-    ensures leaves { (script : List ℕ) → left_of lines.old (D.outside desk.old).input ≡ Some script
+    ensures leaves { (script : List ℕ) → rest_of_script lines.old (D.outside desk.old).input ≡ Some script
         → Leaves result [] script (D.outside desk.old) (D.outside desk.new) }
-    ensures answered { result ≢ Err stop.WriteFailed → (script : List ℕ) → left_of lines.old (D.outside desk.old).input ≡ Some script
+    ensures answered { result ≢ Err stop.WriteFailed → (script : List ℕ) → rest_of_script lines.old (D.outside desk.old).input ≡ Some script
         → Answered script (D.outside desk.old) (D.outside desk.new) }
 {
     let mut heap = FirstHeap::new(alloc);

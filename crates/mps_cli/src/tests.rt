@@ -15,7 +15,8 @@ const FIRST_ANSWERS: &[u8] = b"ok\nok\nok\nok\nok\nok\nok\n7\n";
 const FIRST_LOG: &[u8] = b"MPSLOG\x01\x00\
     \x01\x00\x02\x00\x01\x00\x00\x00\x08\x00\x00\x00\x00\x00\x00\x00\x08\x00\x00\x00\x00\x00\x00\x00\
     \x10\x00\x03\x00\x03\x00\x00\x00\x00\x00\x00\x00\x00\x00\x00\x00\x01\x00\x00\x00\x00\x00\x00\x00\x01\x00\x00\x00\x00\x00\x00\x00\
-    \x30\x00\x04\x00\x05\x00\x00\x00\x00\x10\x00\x00\x00\x00\x00\x00\x01\x00\x00\x00\x00\x00\x00\x00\x00\x00\x00\x00\x00\x00\x00\x00\x00\x00\x00\x00\x00\x00\x00\x00\
+    \x30\x00\x04\x00\x05\x00\x00\x00\x00\x10\x00\x00\x00\x00\x00\x00\x01\x00\x00\x00\x00\x00\x00\x00\
+    \x00\x00\x00\x00\x00\x00\x00\x00\x00\x00\x00\x00\x00\x00\x00\x00\
     \x50\x00\x03\x00\x07\x00\x00\x00\x00\x10\x00\x00\x00\x00\x00\x00\x03\x00\x00\x00\x00\x00\x00\x00\x00\x00\x00\x00\x00\x00\x00\x00";
 
 /// What is reported where the words have no meaning.
@@ -25,7 +26,7 @@ const USAGE: &[u8] = b"mps: usage: run, cnv, txt, blocks or gen\n";
 const GENERATED: &[u8] =
     b"arena 1024 1024\nchain c 4 8\npool p amc front c\ntable t 16\nap x p exact\ncollect\nlive\ncommitted\n";
 
-/// What a run answers.
+/// The results of a run.
 #[derive(Drop)]
 struct Answers<'a> {
     status: u8,
@@ -33,18 +34,18 @@ struct Answers<'a> {
     reported: &'a [u8],
 }
 
-/// Runs the program over a desk with the words of a line, and compares what it answers.
+/// Runs the program over a desk with the words of a line, and compares its results.
 fn compare(
     rt: &impl Abort,
     alloc: Global,
     desk: &mut MemDesk,
     line: &str,
-    wanted: &Answers<'_>,
+    expected: &Answers<'_>,
 ) -> Result<(), AllocError> {
     let words = words_of(alloc, line)?;
-    assert_eq!(rt; mps(alloc, &words, desk), wanted.status, "{line}");
-    assert_eq!(rt; desk.printed(), wanted.printed, "{line}");
-    assert_eq!(rt; desk.reported(), wanted.reported, "{line}");
+    assert_eq!(rt; mps(alloc, &words, desk), expected.status, "{line}");
+    assert_eq!(rt; desk.printed(), expected.printed, "{line}");
+    assert_eq!(rt; desk.reported(), expected.reported, "{line}");
     Ok(())
 }
 
@@ -60,7 +61,7 @@ fn words_of(alloc: Global, line: &str) -> Result<Vec<String>, AllocError> {
 /// Whole and in pieces of 1 and of 7 bytes, the first script has its answers, and its log byte for byte.
 #[test]
 fn the_first_script_and_its_log(rt: HostRuntime) -> Result<(), Fail> {
-    let wanted = Answers {
+    let expected = Answers {
         status: 0,
         printed: FIRST_ANSWERS,
         reported: b"",
@@ -69,7 +70,7 @@ fn the_first_script_and_its_log(rt: HostRuntime) -> Result<(), Fail> {
         let mut desk = MemDesk::new(rt.alloc());
         desk.add_file("-", FIRST)?;
         desk.pieces(most);
-        compare(&rt, rt.alloc(), &mut desk, "run", &wanted)?;
+        compare(&rt, rt.alloc(), &mut desk, "run", &expected)?;
         assert_eq!(rt; desk.file("mpsio.log"), Some(FIRST_LOG));
     }
     Ok(())
@@ -83,7 +84,8 @@ fn scripts_and_their_answers(rt: HostRuntime) -> Result<(), Fail> {
         (b"".as_slice(), b"".as_slice(), 8),
         (b"\n   \n # arena\n#\x00\xff\r\n", b"", 8),
         (
-            b"arena 1 1\ntable t 1\npool p amc front\nap x p exact\nnum t.0 1\nreserve x f:512:0\ncommit x t.0\nreserve x f:2:0\nget t.0 t.0 1",
+            b"arena 1 1\ntable t 1\npool p amc front\nap x p exact\nnum t.0 1\nreserve x f:512:0\n\
+            commit x t.0\nreserve x f:2:0\nget t.0 t.0 1",
             b"ok\nok\nok\nok\nrefused 4\nok\nok\nrefused 10 1 1 1\nunsupported\n",
             136,
         ),
@@ -95,12 +97,12 @@ fn scripts_and_their_answers(rt: HostRuntime) -> Result<(), Fail> {
     ] {
         let mut desk = MemDesk::new(rt.alloc());
         desk.add_file("-", script)?;
-        let wanted = Answers {
+        let expected = Answers {
             status: 0,
             printed,
             reported: b"",
         };
-        compare(&rt, rt.alloc(), &mut desk, "run", &wanted)?;
+        compare(&rt, rt.alloc(), &mut desk, "run", &expected)?;
         let log = desk.file("mpsio.log").map_or(0, |log| log.len());
         assert_eq!(rt; log, logged);
     }
@@ -127,12 +129,12 @@ fn each_call_of_the_desk_may_fail(rt: HostRuntime) -> Result<(), Fail> {
         let mut desk = MemDesk::new(rt.alloc());
         desk.add_file("-", FIRST)?;
         desk.fail(call, number)?;
-        let wanted = Answers {
+        let expected = Answers {
             status,
             printed,
             reported,
         };
-        compare(&rt, rt.alloc(), &mut desk, "run", &wanted)?;
+        compare(&rt, rt.alloc(), &mut desk, "run", &expected)?;
     }
     Ok(())
 }
@@ -162,12 +164,12 @@ fn each_line_of_words_has_its_answers(rt: HostRuntime) -> Result<(), Fail> {
         let mut desk = MemDesk::new(rt.alloc());
         desk.add_file("s", FIRST)?;
         desk.add_file("l", FIRST_LOG)?;
-        let wanted = Answers {
+        let expected = Answers {
             status,
             printed,
             reported,
         };
-        compare(&rt, rt.alloc(), &mut desk, line, &wanted)?;
+        compare(&rt, rt.alloc(), &mut desk, line, &expected)?;
     }
     Ok(())
 }
@@ -181,12 +183,12 @@ fn the_log_goes_to_its_file(rt: HostRuntime) -> Result<(), Fail> {
     ] {
         let mut desk = MemDesk::new(rt.alloc());
         desk.add_file("s", FIRST)?;
-        let wanted = Answers {
+        let expected = Answers {
             status: 0,
             printed: FIRST_ANSWERS,
             reported: b"",
         };
-        compare(&rt, rt.alloc(), &mut desk, line, &wanted)?;
+        compare(&rt, rt.alloc(), &mut desk, line, &expected)?;
         assert_eq!(rt; desk.file(log), Some(FIRST_LOG));
         assert!(rt; desk.file(other).is_none());
     }
@@ -194,7 +196,7 @@ fn the_log_goes_to_its_file(rt: HostRuntime) -> Result<(), Fail> {
 }
 
 /// The first script where an allocation may fail, which `rt try --test --fail-alloc N` makes happen: the answers so far
-/// stand printed, and the status and the report tell what failed. All answers stand there exactly with status 0.
+/// stand printed, and the status and the report say what failed. All answers stand there exactly with status 0.
 #[test]
 fn an_allocation_may_fail(rt: HostRuntime) -> Result<(), Fail> {
     let words = words_of(rt.alloc(), "run")?;
@@ -238,12 +240,12 @@ fn a_line_of_4096_bytes_is_the_longest(rt: HostRuntime) -> Result<(), Fail> {
         let mut desk = MemDesk::new(rt.alloc());
         desk.add_file("-", &script)?;
         desk.fail(DeskCall::Err, failing)?;
-        let wanted = Answers {
+        let expected = Answers {
             status,
             printed,
             reported,
         };
-        compare(&rt, rt.alloc(), &mut desk, "run", &wanted)?;
+        compare(&rt, rt.alloc(), &mut desk, "run", &expected)?;
     }
     Ok(())
 }

@@ -13,7 +13,8 @@ pub returns-in-Pool-clause-logged : goal.returns-in-Pool-clause-logged
 returns-in-Pool-clause-logged g c = rw c.in-Pool.is (rw c.kind_number.ensures at c.log_record-in-Pool.ensures.logged)
 
 pub returns-in-PoolOnChain-clause-logged : goal.returns-in-PoolOnChain-clause-logged
-returns-in-PoolOnChain-clause-logged g c = rw c.in-PoolOnChain.is (rw c.kind_number-in-PoolOnChain.ensures at c.log_record-in-PoolOnChain.ensures.logged)
+returns-in-PoolOnChain-clause-logged g c = rw c.in-PoolOnChain.is
+    (rw c.kind_number-in-PoolOnChain.ensures at c.log_record-in-PoolOnChain.ensures.logged)
 
 pub returns-in-PoolMfs-clause-logged : goal.returns-in-PoolMfs-clause-logged
 returns-in-PoolMfs-clause-logged g c = rw c.in-PoolMfs.is (simp append-nil c.log_record-in-PoolMfs.ensures.logged)
@@ -31,7 +32,8 @@ pub returns-in-Pool-clause-failed : goal.returns-in-Pool-clause-failed
 returns-in-Pool-clause-failed g c = rw c.in-Pool.is (rw c.kind_number.ensures at c.log_record-in-Pool.ensures.failed)
 
 pub returns-in-PoolOnChain-clause-failed : goal.returns-in-PoolOnChain-clause-failed
-returns-in-PoolOnChain-clause-failed g c = rw c.in-PoolOnChain.is (rw c.kind_number-in-PoolOnChain.ensures at c.log_record-in-PoolOnChain.ensures.failed)
+returns-in-PoolOnChain-clause-failed g c = rw c.in-PoolOnChain.is
+    (rw c.kind_number-in-PoolOnChain.ensures at c.log_record-in-PoolOnChain.ensures.failed)
 
 pub returns-in-PoolMfs-clause-failed : goal.returns-in-PoolMfs-clause-failed
 returns-in-PoolMfs-clause-failed g c = rw c.in-PoolMfs.is (simp append-nil c.log_record-in-PoolMfs.ensures.failed)

@@ -21,13 +21,19 @@ returns-clause-logged g c =
     let end = g.D.Desk.outside c.log_command.new.desk in
     on_ok c.log_command.result _ _ c.log_command.ensures.logged (λ l.
     elim c.match-done.branch [
-      | in-Some+in_ok-log_move w ↦ logged_after_move c.args.line c.args.call.now c.args.done.now start (g.D.Desk.outside c.match-done.desk) end
+      | in-Some+in_ok-log_move w ↦ logged_after_move c.args.line c.args.call.now c.args.done.now start
+          (g.D.Desk.outside c.match-done.desk) end
           w.in-Some.moved w.in-Some.is
-          (subst (λ d. Logs start (g.D.Desk.outside d) (record_bytes (record_of w.in-Some.moved c.args.line))) (sym w.desk-is) w.in_ok-log_move.ensures.logged)
-          (subst (λ p. Logs (g.D.Desk.outside c.match-done.desk) end (records_bytes (records_of_command p c.args.call.now (Replied c.args.done.now.reply) c.args.line))) c.pool_number.ensures l)
+          (subst (λ d. Logs start (g.D.Desk.outside d) (record_bytes (record_of w.in-Some.moved c.args.line)))
+          (sym w.desk-is) w.in_ok-log_move.ensures.logged)
+          (subst (λ p. Logs (g.D.Desk.outside c.match-done.desk) end
+          (records_bytes (records_of_command p c.args.call.now (Replied c.args.done.now.reply) c.args.line))) c.pool_number.ensures l)
       | in_default w ↦ logged_without_move c.args.line c.args.call.now c.args.done.now start end w.in_default.is
-          (subst (λ d. Logs (g.D.Desk.outside d) end (records_bytes (records_of_command (pool_number c.args.done.now.pool) c.args.call.now (Replied c.args.done.now.reply) c.args.line))) w.desk-is
-          (subst (λ p. Logs (g.D.Desk.outside c.match-done.desk) end (records_bytes (records_of_command p c.args.call.now (Replied c.args.done.now.reply) c.args.line))) c.pool_number.ensures l))
+          (subst (λ d. Logs (g.D.Desk.outside d) end (records_bytes
+          (records_of_command (pool_number c.args.done.now.pool) c.args.call.now
+          (Replied c.args.done.now.reply) c.args.line))) w.desk-is
+          (subst (λ p. Logs (g.D.Desk.outside c.match-done.desk) end
+          (records_bytes (records_of_command p c.args.call.now (Replied c.args.done.now.reply) c.args.line))) c.pool_number.ensures l))
     ])
 
 pub returns-clause-failed : goal.returns-clause-failed
@@ -36,11 +42,17 @@ returns-clause-failed g c =
     let end = g.D.Desk.outside c.log_command.new.desk in
     on_failed c.log_command.result _ _ c.log_command.ensures.failed (λ l.
     elim c.match-done.branch [
-      | in-Some+in_ok-log_move w ↦ part_after_move c.args.line c.args.call.now c.args.done.now start (g.D.Desk.outside c.match-done.desk) end
+      | in-Some+in_ok-log_move w ↦ part_after_move c.args.line c.args.call.now c.args.done.now start
+          (g.D.Desk.outside c.match-done.desk) end
           w.in-Some.moved w.in-Some.is
-          (subst (λ d. Logs start (g.D.Desk.outside d) (record_bytes (record_of w.in-Some.moved c.args.line))) (sym w.desk-is) w.in_ok-log_move.ensures.logged)
-          (subst (λ p. LogsPart (g.D.Desk.outside c.match-done.desk) end (records_bytes (records_of_command p c.args.call.now (Replied c.args.done.now.reply) c.args.line))) c.pool_number.ensures l)
+          (subst (λ d. Logs start (g.D.Desk.outside d) (record_bytes (record_of w.in-Some.moved c.args.line)))
+          (sym w.desk-is) w.in_ok-log_move.ensures.logged)
+          (subst (λ p. LogsPart (g.D.Desk.outside c.match-done.desk) end
+          (records_bytes (records_of_command p c.args.call.now (Replied c.args.done.now.reply) c.args.line))) c.pool_number.ensures l)
       | in_default w ↦ part_without_move c.args.line c.args.call.now c.args.done.now start end w.in_default.is
-          (subst (λ d. LogsPart (g.D.Desk.outside d) end (records_bytes (records_of_command (pool_number c.args.done.now.pool) c.args.call.now (Replied c.args.done.now.reply) c.args.line))) w.desk-is
-          (subst (λ p. LogsPart (g.D.Desk.outside c.match-done.desk) end (records_bytes (records_of_command p c.args.call.now (Replied c.args.done.now.reply) c.args.line))) c.pool_number.ensures l))
+          (subst (λ d. LogsPart (g.D.Desk.outside d) end (records_bytes
+          (records_of_command (pool_number c.args.done.now.pool) c.args.call.now
+          (Replied c.args.done.now.reply) c.args.line))) w.desk-is
+          (subst (λ p. LogsPart (g.D.Desk.outside c.match-done.desk) end
+          (records_bytes (records_of_command p c.args.call.now (Replied c.args.done.now.reply) c.args.line))) c.pool_number.ensures l))
     ])

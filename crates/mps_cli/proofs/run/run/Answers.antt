@@ -1,5 +1,5 @@
 use Rattle.std.proofs.Common.{◌≡◌, Some, ◌∙◌, ap, refl, inl, inr}
-use Rattle.mps_cli.specs.Buffer.{Waiting, left_of}
+use Rattle.mps_cli.specs.Buffer.{LineBuffer, rest_of_script}
 use Rattle.mps_cli.specs.Script.{log_header}
 use Rattle.mps_report.specs.Streams.{appended}
 use Rattle.mps_cli.proofs.SoFar.{answered_between, answered_nothing}
@@ -12,8 +12,8 @@ pub returns-clause-ran : goal.returns-clause-ran
 returns-clause-ran g c whole bytes e =
     let input : (g.D.Desk.outside c.log_header.new.desk).input ≡ Some bytes =
     c.in-Ok-log_header.ensures.logged.others.input ∙ (c.in-Ok-open_files.ensures.input ∙ e) in
-    let left : left_of c.in-Ok.lines (g.D.Desk.outside c.log_header.new.desk).input ≡ Some bytes =
-    ap (left_of c.in-Ok.lines) input ∙ ap (λ (w : Waiting). left_of w (Some bytes)) c.in-Ok.ensures in
+    let left : rest_of_script c.in-Ok.lines (g.D.Desk.outside c.log_header.new.desk).input ≡ Some bytes =
+    ap (rest_of_script c.in-Ok.lines) input ∙ ap (λ (w : LineBuffer). rest_of_script w (Some bytes)) c.in-Ok.ensures in
     ran_after_header log_header bytes (g.D.Desk.outside c.args.desk.now) (g.D.Desk.outside c.log_header.new.desk)
     (g.D.Desk.outside c.run_lines.new.desk)
     (c.in-Ok-log_header.ensures.logged.others.printed ∙ c.open_files.ensures.unbegun.printed)
@@ -21,7 +21,8 @@ returns-clause-ran g c whole bytes e =
     c.run_lines.result (c.run_lines.ensures.ran whole bytes left)
 
 pub returns-in_default-clause-answered : goal.returns-in_default-clause-answered
-returns-in_default-clause-answered g c other bytes e = answered_nothing bytes (g.D.Desk.outside c.args.desk.now) (g.D.Desk.outside c.args.desk.now) refl
+returns-in_default-clause-answered g c other bytes e = answered_nothing bytes (g.D.Desk.outside c.args.desk.now)
+    (g.D.Desk.outside c.args.desk.now) refl
 
 pub returns-in-Err-clause-answered : goal.returns-in-Err-clause-answered
 returns-in-Err-clause-answered g c other bytes e =
@@ -36,28 +37,32 @@ pub returns-clause-answered : goal.returns-clause-answered
 returns-clause-answered g c other bytes e =
     let input : (g.D.Desk.outside c.log_header.new.desk).input ≡ Some bytes =
     c.in-Ok-log_header.ensures.logged.others.input ∙ (c.in-Ok-open_files.ensures.input ∙ e) in
-    let left : left_of c.in-Ok.lines (g.D.Desk.outside c.log_header.new.desk).input ≡ Some bytes =
-    ap (left_of c.in-Ok.lines) input ∙ ap (λ (w : Waiting). left_of w (Some bytes)) c.in-Ok.ensures in
-    answered_between bytes (g.D.Desk.outside c.args.desk.now) (g.D.Desk.outside c.log_header.new.desk) (g.D.Desk.outside c.run_lines.new.desk)
+    let left : rest_of_script c.in-Ok.lines (g.D.Desk.outside c.log_header.new.desk).input ≡ Some bytes =
+    ap (rest_of_script c.in-Ok.lines) input ∙ ap (λ (w : LineBuffer). rest_of_script w (Some bytes)) c.in-Ok.ensures in
+    answered_between bytes (g.D.Desk.outside c.args.desk.now) (g.D.Desk.outside c.log_header.new.desk)
+    (g.D.Desk.outside c.run_lines.new.desk)
     (g.D.Desk.outside c.run_lines.new.desk)
     (c.in-Ok-log_header.ensures.logged.others.printed ∙ c.open_files.ensures.unbegun.printed)
     (c.run_lines.ensures.answered other bytes left) refl
 
 pub returns-clause-filed : goal.returns-clause-filed
 returns-clause-filed g c =
-    inl (in_file c.args.log.now (g.D.Desk.outside c.args.desk.now) (g.D.Desk.outside c.open_files.new.desk) (g.D.Desk.outside c.run_lines.new.desk)
+    inl (in_file c.args.log.now (g.D.Desk.outside c.args.desk.now) (g.D.Desk.outside c.open_files.new.desk)
+    (g.D.Desk.outside c.run_lines.new.desk)
     c.open_files.ensures.unbegun.logged c.in-Ok-open_files.ensures.made
     (takes_then _ _ _ (takes_of_logs _ _ _ c.in-Ok-log_header.ensures.logged) c.run_lines.ensures.takes))
 
 pub returns-clause-whole_log : goal.returns-clause-whole_log
 returns-clause-whole_log g c whole =
-    in_file c.args.log.now (g.D.Desk.outside c.args.desk.now) (g.D.Desk.outside c.open_files.new.desk) (g.D.Desk.outside c.run_lines.new.desk)
+    in_file c.args.log.now (g.D.Desk.outside c.args.desk.now) (g.D.Desk.outside c.open_files.new.desk)
+    (g.D.Desk.outside c.run_lines.new.desk)
     c.open_files.ensures.unbegun.logged c.in-Ok-open_files.ensures.made
     (takes_then _ _ _ (takes_of_logs _ _ _ c.in-Ok-log_header.ensures.logged) c.run_lines.ensures.takes)
 
 pub returns-in_default-log_header-clause-filed : goal.returns-in_default-log_header-clause-filed
 returns-in_default-log_header-clause-filed g c =
-    inl (in_file c.args.log.now (g.D.Desk.outside c.args.desk.now) (g.D.Desk.outside c.open_files.new.desk) (g.D.Desk.outside c.log_header.new.desk)
+    inl (in_file c.args.log.now (g.D.Desk.outside c.args.desk.now) (g.D.Desk.outside c.open_files.new.desk)
+    (g.D.Desk.outside c.log_header.new.desk)
     c.open_files.ensures.unbegun.logged c.in-Ok-open_files.ensures.made (takes_of_part _ _ _ c.in_default-log_header.ensures.failed))
 
 pub returns-in_default-clause-filed : goal.returns-in_default-clause-filed
@@ -70,8 +75,8 @@ pub returns-clause-leaves : goal.returns-clause-leaves
 returns-clause-leaves g c bytes e =
     let input : (g.D.Desk.outside c.log_header.new.desk).input ≡ Some bytes =
     c.in-Ok-log_header.ensures.logged.others.input ∙ (c.in-Ok-open_files.ensures.input ∙ e) in
-    let left : left_of c.in-Ok.lines (g.D.Desk.outside c.log_header.new.desk).input ≡ Some bytes =
-    ap (left_of c.in-Ok.lines) input ∙ ap (λ (w : Waiting). left_of w (Some bytes)) c.in-Ok.ensures in
+    let left : rest_of_script c.in-Ok.lines (g.D.Desk.outside c.log_header.new.desk).input ≡ Some bytes =
+    ap (rest_of_script c.in-Ok.lines) input ∙ ap (λ (w : LineBuffer). rest_of_script w (Some bytes)) c.in-Ok.ensures in
     leaves_after_header bytes (g.D.Desk.outside c.args.desk.now) (g.D.Desk.outside c.log_header.new.desk)
     (g.D.Desk.outside c.run_lines.new.desk)
     (c.in-Ok-log_header.ensures.logged.others.printed ∙ c.open_files.ensures.unbegun.printed)

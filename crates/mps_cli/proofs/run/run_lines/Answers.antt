@@ -1,6 +1,6 @@
 use Rattle.std.proofs.Common.{◌≡◌, ◌+◌, true, Err, refl, ◌∙◌, subst, sym, ap, arith}
 use Rattle.mps_script.specs.Line.{call_of_line}
-use Rattle.mps_cli.specs.Buffer.{ComesNextOf, left_of}
+use Rattle.mps_cli.specs.Buffer.{ComesNextOf, rest_of_script}
 use Rattle.mps_cli.specs.Leaving.{Stops}
 use Rattle.mps_cli.specs.Script.{IsBadHere, StepsRan, commands_of_call, is_good}
 use Rattle.mps_cli.proofs.SoFar.{SoFar, next_read, at_start, answered_so_far, one_line_more, ends_done, ends_long_line, ends_too_long, ends_bad_line, runs_on_self, runs_on_line}
@@ -11,35 +11,36 @@ use Rattle.mps_cli.proofs.run.run_lines.Goals as goal
 pub returns-in-End-clause-ran : goal.returns-in-End-clause-ran
 returns-in-End-clause-ran g c whole script e =
     ends_done
-    (next_read c.next.new.self.line (left_of c.next.new.self (g.D.Desk.outside c.next.new.desk).input) c.loop-next.invariant.so_far e
+    (next_read c.next.new.self.line (rest_of_script c.next.new.self (g.D.Desk.outside c.next.new.desk).input) c.loop-next.invariant.so_far e
     c.in-Ok.ensures.others c.in-Ok.ensures.next c.in-End.is)
 
 pub returns-in-TooLong-clause-ran : goal.returns-in-TooLong-clause-ran
 returns-in-TooLong-clause-ran g c whole script e =
     ends_long_line
-    (next_read c.next.new.self.line (left_of c.next.new.self (g.D.Desk.outside c.next.new.desk).input) c.loop-next.invariant.so_far e
+    (next_read c.next.new.self.line (rest_of_script c.next.new.self (g.D.Desk.outside c.next.new.desk).input) c.loop-next.invariant.so_far e
     c.in-Ok.ensures.others c.in-Ok.ensures.next c.in-TooLong.is)
 
 pub returns-in-TooLong-2-clause-ran : goal.returns-in-TooLong-2-clause-ran
 returns-in-TooLong-2-clause-ran g c whole script e =
     ends_too_long
-    (next_read c.next.new.self.line (left_of c.next.new.self (g.D.Desk.outside c.next.new.desk).input) c.loop-next.invariant.so_far e
+    (next_read c.next.new.self.line (rest_of_script c.next.new.self (g.D.Desk.outside c.next.new.desk).input) c.loop-next.invariant.so_far e
     c.in-Ok.ensures.others c.in-Ok.ensures.next c.in-TooLong-2.is)
     (λ x. cc) (omega arith)
 
 pub returns-then-line-clause-ran : goal.returns-then-line-clause-ran
 returns-then-line-clause-ran g c whole script e =
     ends_too_long
-    (next_read c.next.new.self.line (left_of c.next.new.self (g.D.Desk.outside c.next.new.desk).input) c.loop-next.invariant.so_far e
+    (next_read c.next.new.self.line (rest_of_script c.next.new.self (g.D.Desk.outside c.next.new.desk).input) c.loop-next.invariant.so_far e
     c.in-Ok.ensures.others c.in-Ok.ensures.next c.in-Line.is)
     (λ x. cc) (omega arith)
 
 pub returns-in-Err-clause-ran : goal.returns-in-Err-clause-ran
 returns-in-Err-clause-ran g c whole script e =
     ends_bad_line
-    (next_read c.next.new.self.line (left_of c.next.new.self (g.D.Desk.outside c.next.new.desk).input) c.loop-next.invariant.so_far e
+    (next_read c.next.new.self.line (rest_of_script c.next.new.self (g.D.Desk.outside c.next.new.desk).input) c.loop-next.invariant.so_far e
     c.in-Ok.ensures.others c.in-Ok.ensures.next c.in-Line.is)
-    (subst (λ bytes. IsBadHere bytes (c.loop-next.line + 1) (Err c.in-Err.stop) (g.D.Desk.outside c.next.new.desk) (g.D.Desk.outside c.run_line.new.desk)) c.line.ensures (c.in-Err.ensures.bad whole))
+    (subst (λ bytes. IsBadHere bytes (c.loop-next.line + 1) (Err c.in-Err.stop) (g.D.Desk.outside c.next.new.desk)
+    (g.D.Desk.outside c.run_line.new.desk)) c.line.ensures (c.in-Err.ensures.bad whole))
 
 pub loop-next-preserved : goal.loop-next-preserved
 loop-next-preserved g c =
@@ -51,12 +52,14 @@ loop-next-preserved g c =
     record {
       runs = runs_on_line old before read ran i.runs c.in-Ok.ensures.counted c.in-Ok.ensures.others c.run_line.ensures.runs;
       takes = takes_after_reading old before read ran i.takes c.in-Ok.ensures.others c.run_line.ensures.takes;
-      so_far = subst (λ left. SoFar c.run_line.new.heap (c.loop-next.line + 1) old ran (left_of c.args.lines.now old.input) left)
-          (sym (ap (left_of c.next.new.self) c.in-Ok-run_line.ensures.steps.input))
-          (one_line_more (left_of c.next.new.self read.input) c.next.new.self.line i.so_far c.in-Ok.ensures.others
-          (subst (λ n. ComesNextOf n (left_of c.loop-next.lines before.input) c.next.new.self.line (left_of c.next.new.self read.input)) c.in-Line.is c.in-Ok.ensures.next)
+      so_far = subst (λ left. SoFar c.run_line.new.heap (c.loop-next.line + 1) old ran (rest_of_script c.args.lines.now old.input) left)
+          (sym (ap (rest_of_script c.next.new.self) c.in-Ok-run_line.ensures.steps.input))
+          (one_line_more (rest_of_script c.next.new.self read.input) c.next.new.self.line i.so_far c.in-Ok.ensures.others
+          (subst (λ n. ComesNextOf n (rest_of_script c.loop-next.lines before.input) c.next.new.self.line
+          (rest_of_script c.next.new.self read.input)) c.in-Line.is c.in-Ok.ensures.next)
           (subst (λ bytes. is_good bytes ≡ true) c.line.ensures c.in-Ok-run_line.ensures.good)
-          (subst (λ bytes. StepsRan (commands_of_call (c.loop-next.line + 1) (call_of_line bytes)) c.loop-next.heap c.run_line.new.heap read ran)
+          (subst (λ bytes. StepsRan (commands_of_call (c.loop-next.line + 1)
+          (call_of_line bytes)) c.loop-next.heap c.run_line.new.heap read ran)
           c.line.ensures c.in-Ok-run_line.ensures.steps));
     }
 
@@ -64,7 +67,8 @@ pub loop-next-init : goal.loop-next-init
 loop-next-init g c = record {
   runs = runs_on_self (g.D.Desk.outside c.args.desk.now);
   takes = takes_self (g.D.Desk.outside c.args.desk.now);
-  so_far = at_start c.new-heap.result (g.D.Desk.outside c.args.desk.now) (left_of c.args.lines.now (g.D.Desk.outside c.args.desk.now).input) c.new-heap.ensures;
+  so_far = at_start c.new-heap.result (g.D.Desk.outside c.args.desk.now)
+      (rest_of_script c.args.lines.now (g.D.Desk.outside c.args.desk.now).input) c.new-heap.ensures;
 }
 
 pub returns-in-Err-clause-takes : goal.returns-in-Err-clause-takes
@@ -75,9 +79,10 @@ returns-in-Err-clause-takes g c =
 pub returns-in-Err-clause-leaves : goal.returns-in-Err-clause-leaves
 returns-in-Err-clause-leaves g c script e =
     leaves_line c.in-Err.stop (g.D.Desk.outside c.run_line.new.desk)
-    (next_read c.next.new.self.line (left_of c.next.new.self (g.D.Desk.outside c.next.new.desk).input) c.loop-next.invariant.so_far e
+    (next_read c.next.new.self.line (rest_of_script c.next.new.self (g.D.Desk.outside c.next.new.desk).input) c.loop-next.invariant.so_far e
     c.in-Ok.ensures.others c.in-Ok.ensures.next c.in-Line.is)
-    (subst (λ bytes. Stops c.in-Err.stop (commands_of_call (c.loop-next.line + 1) (call_of_line bytes)) c.loop-next.heap (g.D.Desk.outside c.next.new.desk) (g.D.Desk.outside c.run_line.new.desk))
+    (subst (λ bytes. Stops c.in-Err.stop (commands_of_call (c.loop-next.line + 1) (call_of_line bytes)) c.loop-next.heap
+    (g.D.Desk.outside c.next.new.desk) (g.D.Desk.outside c.run_line.new.desk))
     c.line.ensures c.in-Err.ensures.stops)
 
 pub returns-in-Err-clause-answered : goal.returns-in-Err-clause-answered

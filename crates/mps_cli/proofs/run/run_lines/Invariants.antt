@@ -1,5 +1,5 @@
 use Rattle.std.proofs.Common.{◌-◌}
-use Rattle.mps_cli.specs.Buffer.{left_of}
+use Rattle.mps_cli.specs.Buffer.{rest_of_script}
 use Rattle.mps_cli.specs.Ending.{RunsOn}
 use Rattle.mps_report.specs.Streams.{LogTakes}
 use Rattle.mps_cli.proofs.SoFar.{SoFar}
@@ -10,7 +10,7 @@ invariant-loop-next g l = record {
   runs : RunsOn (g.D.Desk.outside l.initial.desk) (g.D.Desk.outside l.desk);
   takes : LogTakes (g.D.Desk.outside l.initial.desk) (g.D.Desk.outside l.desk);
   so_far : SoFar l.heap l.line (g.D.Desk.outside l.initial.desk) (g.D.Desk.outside l.desk)
-      (left_of l.initial.lines (g.D.Desk.outside l.initial.desk).input) (left_of l.lines (g.D.Desk.outside l.desk).input);
+      (rest_of_script l.initial.lines (g.D.Desk.outside l.initial.desk).input) (rest_of_script l.lines (g.D.Desk.outside l.desk).input);
 }
 
 abbrev pub decreases-loop-next : goal.decreases-loop-next

@@ -1,11 +1,11 @@
 use Rattle.std.proofs.Common.{◌≡◌, ◌≤◌, ◌-◌, length}
 use Rattle.mps_base.specs.Desk.{OnlyReads}
-use Rattle.mps_cli.specs.Buffer.{left_of}
+use Rattle.mps_cli.specs.Buffer.{rest_of_script}
 use Rattle.mps_cli.proofs.lines.Lines.next.Given as goal
 
 abbrev pub invariant-loop-next : goal.invariant-loop-next
 invariant-loop-next g l = record {
-  left : left_of l.self (g.D.Desk.outside l.desk).input ≡ left_of l.initial.self (g.D.Desk.outside l.initial.desk).input;
+  left : rest_of_script l.self (g.D.Desk.outside l.desk).input ≡ rest_of_script l.initial.self (g.D.Desk.outside l.initial.desk).input;
   counted : (g.D.Desk.outside l.initial.desk).in_faults ≤ (g.D.Desk.outside l.desk).in_faults;
   others : OnlyReads (g.D.Desk.outside l.initial.desk) (g.D.Desk.outside l.desk);
 }
