@@ -24,7 +24,7 @@ use Rattle.mps_txt.specs.Text.{terminated, max_lines, max_record_lines, Ending, 
 use Rattle.mps_txt.specs.TextSteps.{IsWholeOrLast, Progress, NextGives, ShowsLines, AllGives}
 use Rattle.mps_txt.proofs.LastLineFeed.{terminated-some}
 
--- ---- one record more
+-- ---- one more record
 
 pub naming_is : (x y : Naming) → Some x ≡ Some y → x ≡ y
 naming_is x y e = cc

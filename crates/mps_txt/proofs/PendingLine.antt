@@ -20,7 +20,7 @@ use Rattle.mps_txt.proofs.SplitAtByte.{one_split}
 use Rattle.mps_txt.proofs.LastLineFeed.{terminated-line, terminated-last, terminated-adds}
 use Rattle.mps_txt.proofs.Spelling.{text_lacks, text_at_most}
 
--- a whole line is pending, if one follows
+-- all that a line may take is pending, unless the input ended or failed before
 abbrev pub HoldsLine : Buffered → Type 0
 HoldsLine b = b.ended ≡ false → b.failed ≡ false → max_line_bytes + 1 ≤ length b.pending
 

@@ -78,7 +78,7 @@ all_fields_left count all text full e =
     let h : length (32 ∷ text) ≡ 0 = ap (λ (x : List ℕ). length x) (e ∙ ap (λ (x : List ℕ). flat_map field_text x) none) in
     omega (arith, h)
 
--- one field more
+-- one more field
 pub spelled_more : (i field : ℕ) (fields text text_after : List ℕ) (rest : Option (List ℕ)) → i < length fields
     → text ≡ flat_map field_text (take i fields) ++ 32 ∷ text_after
     → text_after ≡ hexadecimal field ++ separated 32 rest

@@ -47,7 +47,7 @@ relabelled s address (Some id) = with_label s address id
 abbrev pub moved : Naming → (from to : ℕ) → Naming
 moved s from to = without_label (relabelled s to (id_at s from)) from
 
--- with one name more
+-- with one more name
 abbrev pub with_name : Naming → (name : List ℕ) → Naming
 with_name s name = record s { names = s.names ++ name ∷ [] }
 
@@ -82,8 +82,8 @@ abbrev pub after_records : Version → Naming → List Record → Option Naming
 after_records version s [] = Some s
 after_records version s (r ∷ rs) = option_and_then (λ next. after_records version next rs) (after_record version s r)
 
--- whether a record of an event with these fields takes memory: for a name or a label more, where it has a meaning, or for a
--- label that moves along
+-- whether a record of an event with these fields takes memory: for one more name or label, where it has a meaning, or for a
+-- label that it moves
 abbrev pub takes_memory : Event → (fields : List ℕ) → Naming → Bool
 takes_memory Intern fields s = slice_index fields 0 == length s.names
 takes_memory Label fields s = nat_lt (slice_index fields 1) (length s.names)

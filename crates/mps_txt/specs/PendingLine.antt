@@ -26,7 +26,7 @@ pub record IsLastLine (b : Buffered) (line : List ℕ) (size : ℕ) : Type 0 whe
   pub at_most : length line ≤ max_line_bytes
   pub whole : b.failed ≡ false
 
--- this line is pending first, and takes so many bytes
+-- this line is pending first, and takes `size` bytes
 abbrev pub IsPendingLine : Buffered → (line : List ℕ) → (size : ℕ) → Type 0
 IsPendingLine b line size = IsTerminatedLine b line size ⊎ IsLastLine b line size
 

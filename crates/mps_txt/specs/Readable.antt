@@ -69,7 +69,7 @@ label_text (Some name) = codes "[" ++ name ++ codes "]"
 abbrev pub hexadecimal_text : ℕ → List ℕ
 hexadecimal_text number = codes "0x" ++ hexadecimal number
 
--- the field of an index, so shown
+-- the field of an index, shown in this way
 abbrev pub shown_field : (before after : Naming) → (fields : List ℕ) → (index : ℕ) → Shown → List ℕ
 shown_field before after fields index InDecimal = decimal (slice_index fields index)
 shown_field before after fields index InHexadecimal = hexadecimal_text (slice_index fields index)
@@ -86,7 +86,7 @@ columns_text before after fields index (column ∷ columns) =
     (codes " " ++ column.0 ++ codes "=" ++ shown_field before after fields index column.1)
     ++ columns_text before after fields (index + 1) columns
 
--- the text of an event with these fields, before which and after which the addresses are labelled so
+-- the text of an event with these fields, with the labels before and after it
 abbrev pub event_text : (before after : Naming) → Event → (fields : List ℕ) → List ℕ
 event_text before after event fields =
     codes " " ++ name_of_event event ++ columns_text before after fields 0 (columns_of event)
@@ -96,7 +96,7 @@ abbrev pub readable_line : Version → (before after : Naming) → Record → Li
 readable_line version before after r =
     decimal r.line ++ option_map_or (λ event. event_text before after event r.fields) (event_of version r.code) [] ++ codes "\n"
 
--- the lines of records after others, after which the addresses are labelled so
+-- the lines of records that follow others, with the labels after those
 abbrev pub readable_from : Version → Naming → List Record → List ℕ
 readable_from version before [] = []
 readable_from version before (r ∷ rs) =

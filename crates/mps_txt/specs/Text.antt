@@ -114,7 +114,7 @@ pub record FailsAfterLines (bytes : List ℕ) (old new : Outside) : Type 0 where
   pub breaks : BreaksOff lines.left new.input
   pub printed : PrintsAsFar old new (readable_text lines.version lines.records)
 
--- the next line is that of a record that takes memory: it interns a name, sets a label, or moves one along
+-- the next line is that of a record that takes memory: it interns a name, sets a label, or moves one
 pub record IsNextToTakeMemory (version : Version) (before : Naming) (rest : List ℕ) : Type 0 where
   pub next : Record
   pub following : List ℕ

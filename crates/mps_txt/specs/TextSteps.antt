@@ -171,7 +171,7 @@ FindsNoVersion b (stop.Bad bad) = (bad.line ≡ 1) × HasOtherLine b
 FindsNoVersion b stop.ReadFailed = IsBrokenOff b
 FindsNoVersion b why = ⊥
 
--- the first line of a version is pending, and takes so many bytes with its line feed; or there is none
+-- the first line of a version is pending, and its size with the line feed; or there is none
 abbrev pub FindsVersion : Buffered → Result (Version × ℕ) (Stop BadTextLine) → Type 0
 FindsVersion b (Ok found) = IsPendingLine b (first_text found.0) found.1
 FindsVersion b (Err why) = FindsNoVersion b why

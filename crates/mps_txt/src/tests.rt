@@ -94,103 +94,114 @@ fn compare_in_pieces(
     Ok(())
 }
 
-/// A whole text; texts with a wrong line; and one with more bytes before a line feed than any line of a record has.
-#[test]
-fn texts_in_pieces(rt: HostRuntime) -> Result<(), Fail> {
-    let mut long = Vec::from_slice(rt.alloc(), b"mpslog 1\n")?;
-    long.resize(5000, b'1')?;
-    let long: [&[u8]; 1] = [&long];
-    let tables: [(&[&[u8]], u8, &[u8], &[u8]); 5] = [
-        (&[LABELLED], 0, LABELLED_READABLE, b""),
-        (&NO_FIRST, 6, b"", b"mps: text line 1: bad line\n"),
-        (
-            &BAD_SECOND,
-            6,
-            b"mpslog 1\n",
-            b"mps: text line 2: bad line\n",
-        ),
-        (
-            &BAD_THIRD,
-            6,
-            b"mpslog 2\n1 End\n",
-            b"mps: text line 3: bad line\n",
-        ),
-        (&long, 6, b"mpslog 1\n", b"mps: text line 2: bad line\n"),
-    ];
-    for (texts, status, printed, reported) in tables {
-        let expected = Expected {
-            status,
-            printed,
-            reported,
-        };
-        for text in texts {
-            compare_in_pieces(&rt, rt.alloc(), text, &expected)?;
-        }
+/// Each of these texts gives the same.
+fn compare_all(
+    rt: &impl Abort,
+    alloc: Global,
+    texts: &[&[u8]],
+    expected: &Expected<'_>,
+) -> Result<(), AllocError> {
+    for text in texts {
+        compare_in_pieces(rt, alloc, text, expected)?;
     }
     Ok(())
 }
 
-/// A write fails, alone and after a read that failed before; a report fails, which changes no status; and a second read
-/// fails, before which one line had come whole.
+/// A whole text, and texts with a wrong line.
 #[test]
-fn calls_that_fail(rt: HostRuntime) -> Result<(), Fail> {
-    let cases: [(
-        &[u8],
-        usize,
-        (DeskCall, u64),
-        (DeskCall, u64),
-        u8,
-        &[u8],
-        &[u8],
-    ); 4] = [
-        (
-            LABELLED,
-            30,
-            (DeskCall::Out, 1),
-            (DeskCall::Out, 2),
-            4,
-            b"",
-            b"mps: write failed\n",
-        ),
-        (
-            LABELLED,
-            30,
-            (DeskCall::Out, 1),
-            (DeskCall::Read, 2),
-            3,
-            b"",
-            b"mps: read failed\n",
-        ),
-        (
-            LABELLED,
-            30,
-            (DeskCall::Err, 1),
-            (DeskCall::Read, 1),
-            3,
-            b"",
-            b"",
-        ),
-        (
-            CUT,
-            20,
-            (DeskCall::Read, 2),
-            (DeskCall::Out, 9),
-            3,
-            b"mpslog 1\n1 ArenaCreate grains=8 limit=8\n",
-            b"mps: read failed\n",
-        ),
-    ];
-    for (text, most, first, second, status, printed, reported) in cases {
+fn texts_in_pieces(rt: HostRuntime) -> Result<(), Fail> {
+    let whole = Expected {
+        status: 0,
+        printed: LABELLED_READABLE,
+        reported: b"",
+    };
+    compare_in_pieces(&rt, rt.alloc(), LABELLED, &whole)?;
+    let first = Expected {
+        status: 6,
+        printed: b"",
+        reported: b"mps: text line 1: bad line\n",
+    };
+    compare_all(&rt, rt.alloc(), &NO_FIRST, &first)?;
+    let second = Expected {
+        status: 6,
+        printed: b"mpslog 1\n",
+        reported: b"mps: text line 2: bad line\n",
+    };
+    compare_all(&rt, rt.alloc(), &BAD_SECOND, &second)?;
+    let third = Expected {
+        status: 6,
+        printed: b"mpslog 2\n1 End\n",
+        reported: b"mps: text line 3: bad line\n",
+    };
+    compare_all(&rt, rt.alloc(), &BAD_THIRD, &third)?;
+    Ok(())
+}
+
+/// More bytes stand before a line feed than any line of a record has.
+#[test]
+fn a_text_with_a_long_line(rt: HostRuntime) -> Result<(), Fail> {
+    let expected = Expected {
+        status: 6,
+        printed: b"mpslog 1\n",
+        reported: b"mps: text line 2: bad line\n",
+    };
+    let mut text = Vec::from_slice(rt.alloc(), b"mpslog 1\n")?;
+    text.resize(5000, b'1')?;
+    for most in [usize::MAX, 100] {
         let mut desk = MemDesk::new(rt.alloc());
         desk.pieces(most);
-        desk.fail(first.0, first.1)?;
-        desk.fail(second.0, second.1)?;
+        compare(&rt, rt.alloc(), &text, &mut desk, &expected)?;
+    }
+    Ok(())
+}
+
+/// The second read fails, after 20 bytes: the whole line among them is printed.
+#[test]
+fn a_read_that_fails(rt: HostRuntime) -> Result<(), Fail> {
+    let expected = Expected {
+        status: 3,
+        printed: b"mpslog 1\n1 ArenaCreate grains=8 limit=8\n",
+        reported: b"mps: read failed\n",
+    };
+    let mut desk = MemDesk::new(rt.alloc());
+    desk.pieces(20);
+    desk.fail(DeskCall::Read, 2)?;
+    compare(&rt, rt.alloc(), CUT, &mut desk, &expected)?;
+    Ok(())
+}
+
+/// A write fails, alone and after a read that failed before; and a report fails, which changes no status.
+#[test]
+fn calls_that_fail(rt: HostRuntime) -> Result<(), Fail> {
+    for (first, second, number, status, printed, reported) in [
+        (
+            DeskCall::Out,
+            DeskCall::Out,
+            2u64,
+            4u8,
+            b"".as_slice(),
+            b"mps: write failed\n".as_slice(),
+        ),
+        (
+            DeskCall::Out,
+            DeskCall::Read,
+            2,
+            3,
+            b"",
+            b"mps: read failed\n",
+        ),
+        (DeskCall::Err, DeskCall::Read, 1, 3, b"", b""),
+    ] {
+        let mut desk = MemDesk::new(rt.alloc());
+        desk.pieces(30);
+        desk.fail(first, 1)?;
+        desk.fail(second, number)?;
         let expected = Expected {
             status,
             printed,
             reported,
         };
-        compare(&rt, rt.alloc(), text, &mut desk, &expected)?;
+        compare(&rt, rt.alloc(), LABELLED, &mut desk, &expected)?;
     }
     Ok(())
 }
