@@ -13,7 +13,7 @@ use Rattle.mps_script.specs.Name.{name_of, slot_of}
 use Rattle.mps_script.specs.Head.{head_of}
 use Rattle.mps_base.specs.declared.names.Name.{Name}
 use Rattle.mps_script.specs.Form.{arena_call, table_call, pool_call, point_call, reserve_call, init_call, commit_call, number_call, built_call, begins_comment, call_of_words}
-use Rattle.mps_script.specs.Line.{call_of_line, longest_line}
+use Rattle.mps_script.specs.Line.{call_of_line, max_line_bytes}
 use Rattle.mps_script.specs.declared.line.BadLine.{BadLine}
 use Rattle.mps_first_heap.specs.Unsupported.{IsInRange}
 
@@ -201,4 +201,4 @@ line_in_range false bad o c h e = h c (let a : Ok o ≡ Ok (Some c) = e in cc)
 -- the call of a line is in range
 pub call_in_range : (line : List ℕ) (c : Call) → call_of_line line ≡ Ok (Some c) → IsInRange c
 call_in_range line c e =
-    line_in_range (nat_lt longest_line (length line)) (record {}) (call_of_words (words line)) c (words_in_range (words line)) e
+    line_in_range (nat_lt max_line_bytes (length line)) (record {}) (call_of_words (words line)) c (words_in_range (words line)) e

@@ -15,7 +15,7 @@ use Rattle.mps_model.proofs.Appending.{log_from-append, IsLegalFrom-append, worl
 use Rattle.mps_first_heap.specs.HeapState.{HeapState}
 use Rattle.mps_first_heap.specs.StandsFor.{StandsFor}
 use Rattle.mps_report.specs.declared.stop.Stop.TheVariants as stop
-use Rattle.mps_script.specs.Line.{lines_of, call_of_line, longest_line, is_line_feed}
+use Rattle.mps_script.specs.Line.{lines_of, call_of_line, max_line_bytes, is_line_feed}
 use Rattle.mps_report.specs.Streams.{appended}
 use Rattle.mps_cli.specs.Ending.{Ending, CountsGrow, RunsOn}
 use Rattle.mps_cli.specs.Buffer.{ComesNextOf, length_of_line}
@@ -210,8 +210,8 @@ module _ (heap : HeapState) (n : ℕ) (old o1 o2 : Outside) (script : List ℕ) 
   too_many_at (Some rest) left2 line TooLong r not_end count =
       ends_with (Err stop.TooLong) r.so_far r.reads (count, some_line rest (omega (arith, r.comes, line_bound rest)))
 
-  long_line_is_bad : (line : List ℕ) → longest_line < length line → is_good line ≡ false
-  long_line_is_bad line h = let t : nat_lt longest_line (length line) ≡ true = grind (arith, common_steps) in rw t
+  long_line_is_bad : (line : List ℕ) → max_line_bytes < length line → is_good line ≡ false
+  long_line_is_bad line h = let t : nat_lt max_line_bytes (length line) ≡ true = grind (arith, common_steps) in rw t
 
   first_is_bad : (rest line : List ℕ) → 0 < length rest → line ≡ take (length_of_line rest) rest → is_good line ≡ false
       → list_all is_good (take 1 (lines_of rest)) ≡ false

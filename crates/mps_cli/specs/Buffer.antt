@@ -2,7 +2,7 @@
 use Rattle.std.specs.Prelude.{ℕ, ◌≡◌, ◌+◌, ◌-◌, ◌<◌, ◌≤◌, Option, Some, None, List, [], ◌++◌, length, take, drop}
 use Rattle.std.specs.List.{position_or_len}
 use Rattle.std.specs.Option.{option_map}
-use Rattle.mps_script.specs.Line.{is_line_feed, longest_line}
+use Rattle.mps_script.specs.Line.{is_line_feed, max_line_bytes}
 use Rattle.mps_cli.specs.declared.next.Next.{Next}
 use Rattle.mps_cli.specs.declared.next.Next.TheVariants.{Line, TooLong, End}
 
@@ -32,11 +32,11 @@ rest_of_script w input = option_map (λ rest. w.waiting ++ rest) input
 -- what waits has a whole line, or more bytes than a line may have; or neither
 abbrev pub HeldGives : LineBuffer → LineBuffer → Option Next → Type 0
 HeldGives old new None =
-    (new.waiting ≡ old.waiting) × (length_of_line old.waiting ≡ length old.waiting) × (length old.waiting ≤ longest_line)
+    (new.waiting ≡ old.waiting) × (length_of_line old.waiting ≡ length old.waiting) × (length old.waiting ≤ max_line_bytes)
 HeldGives old new (Some Line) =
     (length_of_line old.waiting < length old.waiting)
     × (new.line ≡ take (length_of_line old.waiting) old.waiting) × (new.waiting ≡ drop (length_of_line old.waiting + 1) old.waiting)
-HeldGives old new (Some TooLong) = longest_line < length_of_line old.waiting
+HeldGives old new (Some TooLong) = max_line_bytes < length_of_line old.waiting
 HeldGives old new (Some End) = ⊥
 
 -- a read put n bytes of the input after what waits
@@ -50,7 +50,7 @@ pub record TakesIn (old new : LineBuffer) (before after : Option (List ℕ)) (co
 abbrev pub ComesNext : Next → (left line : List ℕ) → (left_after : Option (List ℕ)) → Type 0
 ComesNext Line left line left_after =
     (0 < length left) × (line ≡ take (length_of_line left) left) × (left_after ≡ Some (drop (length_of_line left + 1) left))
-ComesNext TooLong left line left_after = longest_line < length_of_line left
+ComesNext TooLong left line left_after = max_line_bytes < length_of_line left
 ComesNext End left line left_after = left ≡ []
 
 -- the same, where what is left is known

@@ -5,7 +5,7 @@ ghost use Rattle.mps_cli.specs.Buffer.{nothing_read, length_of_line, rest_of_scr
 
 use crate::next::Next;
 use mps_base::{Desk, Failed, length_before};
-use mps_script::LONGEST_LINE;
+use mps_script::MAX_LINE_BYTES;
 use std::alloc::{AllocError, Global};
 use std::marker::Model;
 
@@ -83,7 +83,7 @@ impl Lines {
         ensures { HeldGives self.old self.new result }
     {
         let length = length_before(b'\n', &self.bytes[self.start..self.end]);
-        if length > LONGEST_LINE {
+        if length > MAX_LINE_BYTES {
             return Some(Next::TooLong);
         }
         if length == self.end - self.start {

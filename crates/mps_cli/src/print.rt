@@ -6,7 +6,7 @@ ghost use Rattle.mps_script.specs.Text.{text_of};
 use mps_base::{Desk, Failed};
 use mps_model::Reply;
 use mps_report::print_all;
-use mps_script::{LONGEST_ANSWER, put_text};
+use mps_script::{MAX_ANSWER_BYTES, put_text};
 
 /// Prints the answer line of a reply, as one piece.
 pub fn print<D: Desk>(desk: &mut D, reply: &Reply) -> Result<(), Failed>
@@ -17,7 +17,7 @@ pub fn print<D: Desk>(desk: &mut D, reply: &Reply) -> Result<(), Failed>
     if let Reply::Words(_, _) = reply {
         return print_all(b"\n", desk);
     }
-    let mut text = [0u8; LONGEST_ANSWER];
+    let mut text = [0u8; MAX_ANSWER_BYTES];
     let length = put_text(&mut text, reply);
     print_all(&text[..length], desk)
 }

@@ -30,14 +30,14 @@ before_the_seam xs ys k digits below =
 seam_is_within : (xs ys : List ℕ) → length xs < length (xs ++ 58 ∷ ys)
 seam_is_within xs ys = omega (arith, length-append xs (58 ∷ ys))
 
-place_of_seam : (xs ys : List ℕ) → AllDigits 10 xs → position_or_len is_colon (xs ++ 58 ∷ ys) ≡ length xs
-place_of_seam xs ys digits =
+index_of_seam : (xs ys : List ℕ) → AllDigits 10 xs → position_or_len is_colon (xs ++ 58 ∷ ys) ≡ length xs
+index_of_seam xs ys digits =
     position_or_len_is is_colon (xs ++ 58 ∷ ys) (length xs) 0 (omega (arith, seam_is_within xs ys))
     (λ k below. before_the_seam xs ys k digits below) (λ _. at_the_seam xs ys)
 
 -- the first colon after digits is the one that ends them
 pub position_of_seam : (xs ys : List ℕ) → AllDigits 10 xs → position is_colon (xs ++ 58 ∷ ys) ≡ Some (length xs)
-position_of_seam xs ys digits = grind (arith, nat_tests, place_of_seam xs ys digits, seam_is_within xs ys)
+position_of_seam xs ys digits = grind (arith, nat_tests, index_of_seam xs ys digits, seam_is_within xs ys)
 
 -- what a text of two numbers with a colon between them has, by the place of its first colon
 pub record IsCutAt (text : List ℕ) (a b colon : ℕ) : Type 0 where
@@ -63,8 +63,8 @@ joined_at_colon text colon p =
     let byte : get_or text colon 0 ≡ 58 = grind (arith, nat_tests) in
     rw (add-one) (split_at text colon 0 at.0 ∙ ap (λ (x : ℕ). take colon text ++ x ∷ drop (suc colon) text) byte)
 
-pub found_pair : (text : List ℕ) (colon : ℕ) (r : Option (ℕ × ℕ)) → position is_colon text ≡ Some colon → IfSome r (λ p. (take colon text ≡ decimal p.0) × (take (length text - (colon + 1)) (drop (colon + 1) text) ≡ decimal p.1)) → IfSome r (λ p. text ≡ decimal p.0 ++ 58 ∷ decimal p.1)
-found_pair text colon (Some p) e h =
+pub sound_pair : (text : List ℕ) (colon : ℕ) (r : Option (ℕ × ℕ)) → position is_colon text ≡ Some colon → IfSome r (λ p. (take colon text ≡ decimal p.0) × (take (length text - (colon + 1)) (drop (colon + 1) text) ≡ decimal p.1)) → IfSome r (λ p. text ≡ decimal p.0 ++ 58 ∷ decimal p.1)
+sound_pair text colon (Some p) e h =
     joined_at_colon text colon e ∙ ap (λ (t : List ℕ). t ++ 58 ∷ drop (colon + 1) text) h.0
     ∙ ap (λ (t : List ℕ). decimal p.0 ++ 58 ∷ t) (sym (take_rest text (colon + 1)) ∙ h.1)
-found_pair text colon None e h = h
+sound_pair text colon None e h = h

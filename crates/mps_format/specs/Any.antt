@@ -5,9 +5,18 @@ use Rattle.mps_format.specs.Front.{front_layout}
 use Rattle.mps_format.specs.Mapped.{mapped_layout}
 use Rattle.mps_format.specs.Leaf.{leaf_layout}
 
--- any other number counts as 3
+abbrev pub front_number : ℕ
+front_number = 1
+
+abbrev pub mapped_number : ℕ
+mapped_number = 2
+
+abbrev pub leaf_number : ℕ
+leaf_number = 3
+
+-- any other number counts as that of `leaf`
 abbrev pub numbered_layout : ℕ → Layout
-numbered_layout n = if n == 1 then front_layout else (if n == 2 then mapped_layout else leaf_layout)
+numbered_layout n = if n == front_number then front_layout else (if n == mapped_number then mapped_layout else leaf_layout)
 
 two_is_mapped : (numbered_layout 2).is_valid 0x600000302 ≡ true
 two_is_mapped = refl

@@ -3,7 +3,7 @@ use Rattle.std.specs.Prelude.{◌≡◌, ℕ, refl}
 use Rattle.mps_format.specs.declared.any.AnyFormat.{AnyFormat}
 use Rattle.mps_format.specs.declared.any.AnyFormat.TheVariants.{Front, Mapped, Leaf}
 use Rattle.mps_format.specs.Layout.{Layout, IsLawful}
-use Rattle.mps_format.specs.Any.{numbered_layout}
+use Rattle.mps_format.specs.Any.{front_number, mapped_number, leaf_number, numbered_layout}
 use Rattle.mps_format.specs.Front.{front_layout}
 use Rattle.mps_format.specs.Mapped.{mapped_layout}
 use Rattle.mps_format.specs.Leaf.{leaf_layout}
@@ -15,11 +15,11 @@ any_layout (Mapped _) = mapped_layout
 any_layout (Leaf _) = leaf_layout
 
 abbrev pub number_of : AnyFormat → ℕ
-number_of (Front _) = 1
-number_of (Mapped _) = 2
-number_of (Leaf _) = 3
+number_of (Front _) = front_number
+number_of (Mapped _) = mapped_number
+number_of (Leaf _) = leaf_number
 
--- its number tells what it says of words
+-- its number decides what it says of words
 pub numbered_layout-number_of : (f : AnyFormat) → numbered_layout (number_of f) ≡ any_layout f
 numbered_layout-number_of (Front _) = refl
 numbered_layout-number_of (Mapped _) = refl

@@ -42,11 +42,11 @@ pub record IsLawful (f : Layout) : Type 0 where
   pub sizes : (h : ℕ) → IsTrue (f.is_valid h) → IsBlockSize (f.size h)
   -- cell 0 is no reference, and a reference cell lies within the block
   pub references : (h k : ℕ) → IsTrue (f.is_valid h) → IsTrue (f.is_reference h k) → (0 < k) × (k < f.size h)
-  -- a forwarded head tells the size of its block
+  -- a forwarded head has the size of its block
   pub forwarded_keeps_size : (m n : ℕ) → IsBlockSize m → IsBlockSize n → f.forwarded_head m ≡ f.forwarded_head n → m ≡ n
   -- no word is of two kinds
   pub disjoint : AreDisjoint f
-  -- a pad head tells the length of its pad
+  -- a pad head has the length of its pad
   pub pad_keeps_length : (m n : ℕ) → IsPadLength m → IsPadLength n → f.pad_head m ≡ f.pad_head n → m ≡ n
   -- the target of a word is the word less its tag, which is its low three bits
   pub target_drops_tag : (w : ℕ) → w < 2 ^ 64 → f.target w ≡ w - w % 8

@@ -2,6 +2,13 @@
 use crate::{Format, Front, Leaf, Mapped};
 use mps_base::Addr;
 
+// The numbers of the formats.
+const FRONT_NUMBER: u32 = 1;
+
+const MAPPED_NUMBER: u32 = 2;
+
+const LEAF_NUMBER: u32 = 3;
+
 /// One of the three formats. Its laws are those of the format that it is.
 #[derive(Clone, Copy, Debug, PartialEq, Eq)]
 pub enum AnyFormat {
@@ -21,8 +28,8 @@ impl AnyFormat {
         ensures { number_of result ≡ number }
     {
         match number {
-            1 => AnyFormat::Front(Front),
-            2 => AnyFormat::Mapped(Mapped),
+            FRONT_NUMBER => AnyFormat::Front(Front),
+            MAPPED_NUMBER => AnyFormat::Mapped(Mapped),
             _ => AnyFormat::Leaf(Leaf),
         }
     }
@@ -32,9 +39,9 @@ impl AnyFormat {
         ensures { result ≡ number_of self.now }
     {
         match self {
-            AnyFormat::Front(_) => 1,
-            AnyFormat::Mapped(_) => 2,
-            AnyFormat::Leaf(_) => 3,
+            AnyFormat::Front(_) => FRONT_NUMBER,
+            AnyFormat::Mapped(_) => MAPPED_NUMBER,
+            AnyFormat::Leaf(_) => LEAF_NUMBER,
         }
     }
 }

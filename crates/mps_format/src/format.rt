@@ -31,13 +31,13 @@ pub trait Format: Copy {
     /// The first reference cell of a block with this head, from the cell `from` on.
     fn ref_from(&self, head: u64, from: u32) -> Option<u32>
         requires { IsTrue ((layout self.now).is_valid head) }
-        ensures found { IfSome result (λ k. IsFirstReference (layout self.now) head from k) }
+        ensures sound { IfSome result (λ k. IsFirstReference (layout self.now) head from k) }
         ensures none { IfNone result (HasNoReference (layout self.now) head from) };
 
     /// The first reference cell of the block, from the cell `from` on. The slice is the block exactly.
     fn next_ref(&self, block: &[u64], from: u32) -> Option<u32>
         requires { IsBlock (layout self.now) block.now }
-        ensures found { IfSome result (λ k. IsFirstReference (layout self.now) (slice_index block.now 0) from k) }
+        ensures sound { IfSome result (λ k. IsFirstReference (layout self.now) (slice_index block.now 0) from k) }
         ensures none { IfNone result (HasNoReference (layout self.now) (slice_index block.now 0) from) };
 
     /// Leaves a forwarded block of the same size, whose target is `to`. The slice is a block exactly. What the words
@@ -49,8 +49,8 @@ pub trait Format: Copy {
 
     /// The target of the forwarded block that begins `mem`, or None exactly where no forwarded block begins it.
     fn forwarded(&self, mem: &[u64]) -> Option<Addr>
-        ensures found { (size : ℕ) → BeginsForwarded (layout self.now) mem.now size → result ≡ Some (record { 0 = slice_index mem.now 1 }) }
-        ensures only { OnSome result ((size : ℕ) × BeginsForwarded (layout self.now) mem.now size) };
+        ensures complete { (size : ℕ) → BeginsForwarded (layout self.now) mem.now size → result ≡ Some (record { 0 = slice_index mem.now 1 }) }
+        ensures sound { OnSome result ((size : ℕ) × BeginsForwarded (layout self.now) mem.now size) };
 
     /// Makes 1 to 65,536 words one pad. What the words from word 1 on then hold is open.
     fn pad(&self, mem: &mut [u64])

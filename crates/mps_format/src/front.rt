@@ -1,4 +1,4 @@
-// The format whose references stand in front.
+// The format whose references are the first cells after the head.
 use crate::Format;
 use crate::head_word::{
     FRONT, MAX_WORDS, extra_of_head, size_of_head, tag_of_head, target_of_forwarded,

@@ -25,12 +25,12 @@ impl Head {
     ghost use Rattle.mps_format.specs.HeadText.{text_of, word_of, IsInWords, head_of_word};
 
     /// The most bytes that a head text has.
-    pub const MAX_TEXT: usize = 43;
+    pub const MAX_TEXT_BYTES: usize = 43;
 
     /// The head whose text this is, or None where it is no head text.
     pub fn parse(text: &[u8]) -> Option<Head>
-        ensures found { IfSome result (λ h. text.now ≡ text_of h) }
-        ensures exact { (h : Head) → IsInWords h → text.now ≡ text_of h → result ≡ Some h }
+        ensures sound { IfSome result (λ h. text.now ≡ text_of h) }
+        ensures complete { (h : Head) → IsInWords h → text.now ≡ text_of h → result ≡ Some h }
     {
         if let Some((size, references)) = pair_after(b'f', text) {
             return Some(Head::Front { size, references });
@@ -75,12 +75,12 @@ impl Head {
         }
     }
 
-    /// Writes the text to a prefix of `out`, and returns its length in bytes.
+    /// Writes the text to the start of `out`, and returns its length in bytes.
     pub fn put_text(&self, out: &mut [u8]) -> usize
-        requires { Self.MAX_TEXT ≤ length out.old }
+        requires { Self.MAX_TEXT_BYTES ≤ length out.old }
         ensures text { take result out.new ≡ text_of self.now }
-        ensures rest { drop result out.new ≡ drop result out.old }
-        ensures short { result ≤ Self.MAX_TEXT }
+        ensures unchanged { drop result out.new ≡ drop result out.old }
+        ensures at_most { result ≤ Self.MAX_TEXT_BYTES }
     {
         match *self {
             Head::Front { size, references } => put_pair(b'f', size, references, out),
@@ -90,13 +90,13 @@ impl Head {
     }
 }
 
-/// Writes the text of a head word to a prefix of `out`, and returns its length in bytes. The tag decides the form of
+/// Writes the text of a head word to the start of `out`, and returns its length in bytes. The tag decides the form of
 /// the text, so a word that is no head has a text too.
 pub fn put_head_text(word: u64, out: &mut [u8]) -> usize
-    requires { Head.MAX_TEXT ≤ length out.old }
+    requires { Head.MAX_TEXT_BYTES ≤ length out.old }
     ensures text { take result out.new ≡ head_text word }
-    ensures rest { drop result out.new ≡ drop result out.old }
-    ensures short { result ≤ Head.MAX_TEXT }
+    ensures unchanged { drop result out.new ≡ drop result out.old }
+    ensures at_most { result ≤ Head.MAX_TEXT_BYTES }
 {
     let size = u64::from(size_of_head(word));
     let extra = u64::from(extra_of_head(word));

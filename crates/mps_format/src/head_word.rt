@@ -47,7 +47,7 @@ pub fn extra_of_head(head: u64) -> u32
 
 /// Writes the head of a forwarded block over the head of a block, and the target into word 1.
 pub fn write_forwarded(block: &mut [u64], to: Addr)
-    requires long { 2 ≤ length block.old }
+    requires at_least { 2 ≤ length block.old }
     requires size { length block.old ≡ size_field (slice_index block.old 0) }
     ensures head { slice_index block.new 0 ≡ forwarded_word (length block.old) }
     ensures target { slice_index block.new 1 ≡ to.0 }
@@ -58,9 +58,9 @@ pub fn write_forwarded(block: &mut [u64], to: Addr)
 
 /// The target of the forwarded block that begins `mem`.
 pub fn target_of_forwarded(mem: &[u64]) -> Option<Addr>
-    ensures found { (size : ℕ) → IsBlockSize size → size ≤ length mem.now → slice_index mem.now 0 ≡ forwarded_word size
+    ensures complete { (size : ℕ) → IsBlockSize size → size ≤ length mem.now → slice_index mem.now 0 ≡ forwarded_word size
         → result ≡ Some (record { 0 = slice_index mem.now 1 }) }
-    ensures only { OnSome result ((size : ℕ) × (IsBlockSize size × (size ≤ length mem.now)
+    ensures sound { OnSome result ((size : ℕ) × (IsBlockSize size × (size ≤ length mem.now)
         × (slice_index mem.now 0 ≡ forwarded_word size))) }
 {
     let head = *mem.first()?;

@@ -19,7 +19,7 @@ fn fits_bits(mask: u32, bits: u32) -> bool
 
 /// The least bit of the mask that is 1 and isn't below `from`.
 fn first_set_bit(mask: u32, from: u32) -> Option<u32>
-    ensures found { IfSome result (λ k. (from ≤ k) × (bit_at mask k ≡ 1) × ((j : ℕ) → from ≤ j → j < k → bit_at mask j ≡ 0)) }
+    ensures sound { IfSome result (λ k. (from ≤ k) × (bit_at mask k ≡ 1) × ((j : ℕ) → from ≤ j → j < k → bit_at mask j ≡ 0)) }
     ensures none { IfNone result ((j : ℕ) → from ≤ j → bit_at mask j ≡ 0) }
 {
     if from >= 32 {

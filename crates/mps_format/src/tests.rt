@@ -73,7 +73,7 @@ impl Format for Tail {
 /// The reference cells of a block, as the bits of a mask, and how many there are.
 fn references_of<F: Format>(format: &F, block: &[u64]) -> (u64, u32)
     requires { IsBlock (F.layout format.now) block.now }
-    ensures few { result.1 ≤ length block.now }
+    ensures at_most { result.1 ≤ length block.now }
     ensures none { (k : ℕ) → IsTrue ((F.layout format.now).is_reference (slice_index block.now 0) k) → 0 < result.1 }
 {
     let mut mask = 0;
@@ -217,7 +217,7 @@ fn heads_of_each_format(rt: HostRuntime) -> Result<(), Fail> {
 
 /// A head of 3 words with this tag is one of each format exactly where the tag is that format's.
 fn check_tag(rt: &impl Abort, memory: &mut [u64], tag: u64)
-    requires room { 65536 ≤ length memory.old }
+    requires fits { 65536 ≤ length memory.old }
     requires byte { tag < 256 }
 {
     check_head(
@@ -298,7 +298,7 @@ fn head_texts(rt: HostRuntime) {
         (b"f:18446744073709551615:18446744073709551615", 0),
     ];
     for (text, word) in heads {
-        let mut out = [0; Head::MAX_TEXT];
+        let mut out = [0; Head::MAX_TEXT_BYTES];
         let head = Head::parse(text).expect(&rt, "a head text");
         let length = head.put_text(&mut out);
         assert_eq!(rt; out.get(..length), Some(text));

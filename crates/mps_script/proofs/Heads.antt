@@ -129,9 +129,9 @@ none_where : (o : Option Head) → ((h : Head) → o ≡ Some h → ⊥) → Non
 none_where None n = refl
 none_where (Some h) n = absurd (n h refl)
 
--- what a reader of heads answers, exact both ways, is the head that the text writes
+-- a reader that is sound and complete returns the head that the text writes
 pub reader_answers : (text : List ℕ) (r : Option Head) → IfSome r IsInWords → IfSome r (λ h. text ≡ text_of h)
     → ((h : Head) → IsInWords h → text ≡ text_of h → r ≡ Some h) → r ≡ head_in text
-reader_answers text (Some h) fits found exact = sym (ap head_in found ∙ head_read h fits)
-reader_answers text None fits found exact =
-    none_where (head_in text) (λ h e. let k = head_written text h e in let wrong = exact h k.1 k.0 in absurd cc)
+reader_answers text (Some h) fits sound complete = sym (ap head_in sound ∙ head_read h fits)
+reader_answers text None fits sound complete =
+    none_where (head_in text) (λ h e. let k = head_written text h e in let wrong = complete h k.1 k.0 in absurd cc)

@@ -11,13 +11,21 @@ use Rattle.mps_script.specs.Number.{number_of, number_within}
 use Rattle.mps_script.specs.Name.{name_of, slot_of}
 use Rattle.mps_script.specs.Head.{head_of}
 
+-- the most grains of an arena
+abbrev pub max_grains : ℕ
+max_grains = 2048
+
+-- the most slots of a table
+abbrev pub max_slots : ℕ
+max_slots = 65536
+
 -- `arena GRAINS LIMIT`
 abbrev pub arena_call : List (List ℕ) → Option Call
 arena_call ws =
     option_and_then (λ p.
     option_and_then (λ grains.
-    option_and_then (λ limit. Some (variant.Arena grains limit)) (number_within 0 2048 p.1))
-    (number_within 1 2048 p.0))
+    option_and_then (λ limit. Some (variant.Arena grains limit)) (number_within 0 max_grains p.1))
+    (number_within 1 max_grains p.0))
     (two_words ws)
 
 -- `table T N`
@@ -25,7 +33,7 @@ abbrev pub table_call : List (List ℕ) → Option Call
 table_call ws =
     option_and_then (λ p.
     option_and_then (λ table.
-    option_and_then (λ slots. Some (variant.Table table slots)) (number_within 1 65536 p.1))
+    option_and_then (λ slots. Some (variant.Table table slots)) (number_within 1 max_slots p.1))
     (name_of p.0))
     (two_words ws)
 

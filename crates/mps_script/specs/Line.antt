@@ -22,12 +22,12 @@ abbrev pub lines_of : List ℕ → List (List ℕ)
 lines_of script = without_empty_last (slice_split is_line_feed script)
 
 -- the most bytes of a line
-abbrev pub longest_line : ℕ
-longest_line = 4096
+abbrev pub max_line_bytes : ℕ
+max_line_bytes = 4096
 
 -- the call of a line: bad where the line is too long, none where it is empty, of spaces alone or a comment
 abbrev pub call_of_line : List ℕ → Result (Option Call) BadLine
-call_of_line line = if nat_lt longest_line (length line) then Err (record {}) else Ok (call_of_words (words line))
+call_of_line line = if nat_lt max_line_bytes (length line) then Err (record {}) else Ok (call_of_words (words line))
 
 pub the_last_line_needs_no_line_feed : lines_of (codes "a\n\nb") ≡ codes "a" ∷ [] ∷ codes "b" ∷ []
 the_last_line_needs_no_line_feed = refl

@@ -5,7 +5,7 @@ use Rattle.mps_model.specs.declared.reply.Reply.TheVariants as reply
 use Rattle.mps_model.specs.Answer.{Replied}
 use Rattle.mps_model.specs.Text.{line_of_answer}
 
--- whether the text of a reply is told by the reply alone, as it is but for the words of a dump
+-- whether the text of a reply is known by the reply alone, as it is but for the words of a dump
 abbrev pub is_printable : Reply → Bool
 is_printable (reply.Words at words) = false
 is_printable _ = true

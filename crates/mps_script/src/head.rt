@@ -14,7 +14,7 @@ fn parsed(text: &[u8]) -> Option<Head>
 }
 
 /// The head word that a head text stands for, 0 where its numbers break the rules of its format.
-pub fn head(word: &[u8]) -> Option<u64>
+pub fn head_of(word: &[u8]) -> Option<u64>
     ensures { result ≡ head_of word.now }
 {
     let head = parsed(word)?;

@@ -9,5 +9,5 @@ mod number;
 mod text;
 mod words;
 
-pub use line::{BadLine, LONGEST_LINE, call_of};
-pub use text::{LONGEST_ANSWER, put_text};
+pub use line::{BadLine, MAX_LINE_BYTES, call_of};
+pub use text::{MAX_ANSWER_BYTES, put_text};

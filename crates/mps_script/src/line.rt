@@ -3,7 +3,7 @@ ghost use Rattle.std.specs.Prelude.{◌≡◌};
 ghost use Rattle.mps_script.specs.Form.{begins_comment};
 ghost use Rattle.mps_script.specs.Line.{call_of_line};
 
-use crate::forms::built;
+use crate::forms::call_of_form;
 use crate::words::next_word;
 use mps_model::Call;
 
@@ -12,7 +12,7 @@ use mps_model::Call;
 pub struct BadLine;
 
 /// The most bytes of a line.
-pub const LONGEST_LINE: usize = 4096;
+pub const MAX_LINE_BYTES: usize = 4096;
 
 /// The word begins a comment.
 fn is_comment(word: &[u8]) -> bool
@@ -29,7 +29,7 @@ fn is_comment(word: &[u8]) -> bool
 pub fn call_of(line: &[u8]) -> Result<Option<Call>, BadLine>
     ensures { result ≡ call_of_line line.now }
 {
-    if line.len() > LONGEST_LINE {
+    if line.len() > MAX_LINE_BYTES {
         return Err(BadLine);
     }
     match next_word(line) {
@@ -38,7 +38,7 @@ pub fn call_of(line: &[u8]) -> Result<Option<Call>, BadLine>
             if is_comment(word) {
                 Ok(None)
             } else {
-                Ok(Some(built(word, arguments).unwrap_or(Call::Other)))
+                Ok(Some(call_of_form(word, arguments).unwrap_or(Call::Other)))
             }
         }
     }

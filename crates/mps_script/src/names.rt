@@ -7,7 +7,7 @@ use mps_base::{MAX_NAME_BYTES, Name, Slot, is_name};
 use mps_numerals::decimal_number;
 
 /// The name that a word writes.
-pub fn name(word: &[u8]) -> Option<Name>
+pub fn name_of(word: &[u8]) -> Option<Name>
     ensures { result ≡ name_of word.now }
 {
     if !is_name(word) {
@@ -22,11 +22,11 @@ pub fn name(word: &[u8]) -> Option<Name>
 }
 
 /// The slot that a word writes: a name, a dot and a decimal number.
-pub fn slot(word: &[u8]) -> Option<Slot>
+pub fn slot_of(word: &[u8]) -> Option<Slot>
     ensures { result ≡ slot_of word.now }
 {
     let (front, after) = cut(b'.', word)?;
-    let name = name(front)?;
+    let name = name_of(front)?;
     let index = decimal_number(after)?;
     Some(Slot { name, index })
 }

@@ -15,7 +15,7 @@ fn prefixed_hexadecimal(word: &[u8]) -> Option<u64>
 }
 
 /// A number, decimal or hexadecimal.
-pub fn any_number(word: &[u8]) -> Option<u64>
+pub fn number_of(word: &[u8]) -> Option<u64>
     ensures { result ≡ number_of word.now }
 {
     match decimal_number(word) {
@@ -25,7 +25,7 @@ pub fn any_number(word: &[u8]) -> Option<u64>
 }
 
 /// A decimal number in a range.
-pub fn within(low: u64, high: u64, word: &[u8]) -> Option<u64>
+pub fn number_within(low: u64, high: u64, word: &[u8]) -> Option<u64>
     ensures { result ≡ number_within low high word.now }
 {
     let n = decimal_number(word)?;

@@ -11,13 +11,13 @@ use mps_model::Reply;
 use mps_numerals::{put_decimal, put_hexadecimal, put_text as put};
 
 /// Room for any answer line, in bytes.
-pub const LONGEST_ANSWER: usize = 64;
+pub const MAX_ANSWER_BYTES: usize = 64;
 
 /// A space and a number.
 fn put_spaced(out: &mut [u8], at: usize, n: u64) -> usize
     requires { at + 21 ≤ length out.old }
-    ensures after { result ≤ at + 21 }
-    ensures written { take result out.new ≡ take at out.old ++ and_number n }
+    ensures at_most { result ≤ at + 21 }
+    ensures text { take result out.new ≡ take at out.old ++ and_number n }
 {
     let at = put(b" ", out, at);
     put_decimal(n, out, at)
@@ -26,8 +26,8 @@ fn put_spaced(out: &mut [u8], at: usize, n: u64) -> usize
 /// A word in hexadecimal.
 fn put_word(out: &mut [u8], at: usize, n: u64) -> usize
     requires { at + 18 ≤ length out.old }
-    ensures after { result ≤ at + 18 }
-    ensures written { take result out.new ≡ take at out.old ++ word_text n }
+    ensures at_most { result ≤ at + 18 }
+    ensures text { take result out.new ≡ take at out.old ++ word_text n }
 {
     let at = put(b"0x", out, at);
     put_hexadecimal(n, out, at)
@@ -36,8 +36,8 @@ fn put_word(out: &mut [u8], at: usize, n: u64) -> usize
 /// The number of a refusal, and the numbers that it prints after it.
 fn put_refusal(out: &mut [u8], at: usize, why: &Refusal) -> usize
     requires { at + 48 ≤ length out.old }
-    ensures after { result ≤ at + 48 }
-    ensures written { take result out.new ≡ take at out.old ++ refusal_text why.now }
+    ensures at_most { result ≤ at + 48 }
+    ensures text { take result out.new ≡ take at out.old ++ refusal_text why.now }
 {
     match *why {
         Refusal::BadName => put(b"1", out, at),
@@ -55,11 +55,11 @@ fn put_refusal(out: &mut [u8], at: usize, why: &Refusal) -> usize
             limit,
         } => {
             let at = put(b"10", out, at);
-            put_three(out, at, committed, need, limit)
+            put_three_spaced(out, at, committed, need, limit)
         }
         Refusal::NoRun { need, longest } => {
             let at = put(b"11", out, at);
-            put_two(out, at, need, longest)
+            put_two_spaced(out, at, need, longest)
         }
         Refusal::NotABlock => put(b"12", out, at),
         Refusal::WrongPool => put(b"13", out, at),
@@ -67,7 +67,7 @@ fn put_refusal(out: &mut [u8], at: usize, why: &Refusal) -> usize
         Refusal::BadSize => put(b"15", out, at),
         Refusal::TooMany { limit } => {
             let at = put(b"16", out, at);
-            put_small(out, at, limit)
+            put_spaced_u32(out, at, limit)
         }
         Refusal::Running => put(b"17", out, at),
         Refusal::BelowCommitted => put(b"18", out, at),
@@ -76,10 +76,10 @@ fn put_refusal(out: &mut [u8], at: usize, why: &Refusal) -> usize
 }
 
 /// A space and a number of 32 bits.
-fn put_small(out: &mut [u8], at: usize, n: u32) -> usize
+fn put_spaced_u32(out: &mut [u8], at: usize, n: u32) -> usize
     requires { at + 11 ≤ length out.old }
-    ensures after { result ≤ at + 11 }
-    ensures written { take result out.new ≡ take at out.old ++ and_number n }
+    ensures at_most { result ≤ at + 11 }
+    ensures text { take result out.new ≡ take at out.old ++ and_number n }
 {
     let at = put(b" ", out, at);
     let mut buffer = Buffer::new();
@@ -87,30 +87,30 @@ fn put_small(out: &mut [u8], at: usize, n: u32) -> usize
 }
 
 /// A space and a number, twice.
-fn put_two(out: &mut [u8], at: usize, first: u32, second: u32) -> usize
+fn put_two_spaced(out: &mut [u8], at: usize, first: u32, second: u32) -> usize
     requires { at + 22 ≤ length out.old }
-    ensures after { result ≤ at + 22 }
-    ensures written { take result out.new ≡ take at out.old ++ (and_number first ++ and_number second) }
+    ensures at_most { result ≤ at + 22 }
+    ensures text { take result out.new ≡ take at out.old ++ (and_number first ++ and_number second) }
 {
-    let at = put_small(out, at, first);
-    put_small(out, at, second)
+    let at = put_spaced_u32(out, at, first);
+    put_spaced_u32(out, at, second)
 }
 
 /// A space and a number, three times.
-fn put_three(out: &mut [u8], at: usize, first: u32, second: u32, third: u32) -> usize
+fn put_three_spaced(out: &mut [u8], at: usize, first: u32, second: u32, third: u32) -> usize
     requires { at + 33 ≤ length out.old }
-    ensures after { result ≤ at + 33 }
-    ensures written { take result out.new ≡ take at out.old ++ (and_number first ++ (and_number second ++ and_number third)) }
+    ensures at_most { result ≤ at + 33 }
+    ensures text { take result out.new ≡ take at out.old ++ (and_number first ++ (and_number second ++ and_number third)) }
 {
-    let at = put_small(out, at, first);
-    put_two(out, at, second, third)
+    let at = put_spaced_u32(out, at, first);
+    put_two_spaced(out, at, second, third)
 }
 
 /// The answer of a reply, without its line feed.
 fn put_plain(out: &mut [u8], reply: &Reply) -> usize
     requires { 64 ≤ length out.old }
-    ensures after { result ≤ 60 }
-    ensures written { take result out.new ≡ reply_text reply.now }
+    ensures at_most { result ≤ 60 }
+    ensures text { take result out.new ≡ reply_text reply.now }
 {
     match *reply {
         Reply::Ok => put(b"ok", out, 0),
@@ -138,13 +138,13 @@ fn put_plain(out: &mut [u8], reply: &Reply) -> usize
     }
 }
 
-/// Writes the answer line of a reply at a prefix of the buffer, and answers its length. What stands after it is left
-/// open. The words of a dump are not printed here but from the arena.
+/// Writes the answer line of a reply at the start of the buffer, and returns its length. What the buffer holds after it is
+/// left open. The words of a dump are not printed here but from the arena.
 pub fn put_text(out: &mut [u8], reply: &Reply) -> usize
-    requires room { 64 ≤ length out.old }
+    requires fits { 64 ≤ length out.old }
     requires printable { is_printable reply.now ≡ true }
-    ensures within { result ≤ 64 }
-    ensures written { take result out.new ≡ line_of_answer (Replied reply.now) }
+    ensures at_most { result ≤ 64 }
+    ensures text { take result out.new ≡ line_of_answer (Replied reply.now) }
 {
     let at = put_plain(out, reply);
     put(b"\n", out, at)

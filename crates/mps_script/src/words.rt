@@ -46,7 +46,7 @@ pub fn next_word(bytes: &[u8]) -> Option<(&[u8], &[u8])>
 }
 
 /// Two words and no other.
-pub fn two(bytes: &[u8]) -> Option<(&[u8], &[u8])>
+pub fn two_words(bytes: &[u8]) -> Option<(&[u8], &[u8])>
     ensures { MatchOption result (two_words (words bytes.now) ≡ None) (λ p. two_words (words bytes.now) ≡ Some (p.0.now, p.1.now)) }
 {
     let (first, rest) = next_word(bytes)?;
@@ -58,7 +58,7 @@ pub fn two(bytes: &[u8]) -> Option<(&[u8], &[u8])>
 }
 
 /// Three words and no other.
-pub fn three(bytes: &[u8]) -> Option<(&[u8], &[u8], &[u8])>
+pub fn three_words(bytes: &[u8]) -> Option<(&[u8], &[u8], &[u8])>
     ensures { MatchOption result (three_words (words bytes.now) ≡ None) (λ p. three_words (words bytes.now) ≡ Some (p.0.now, p.1.now, p.2.now)) }
 {
     let (first, rest) = next_word(bytes)?;

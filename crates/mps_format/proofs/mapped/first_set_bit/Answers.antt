@@ -10,8 +10,8 @@ returns-then-from-ge32-clause-none c = λ j le. clear_past_32 c.args.mask c.args
 pub returns-then-rest-eq0-clause-none : goal.returns-then-rest-eq0-clause-none
 returns-then-rest-eq0-clause-none c = λ j le. clear_from c.args.mask c.args.from j c.if-rest-eq0.true le
 
-pub returns-else-rest-eq0-clause-found : goal.returns-else-rest-eq0-clause-found
-returns-else-rest-eq0-clause-found c =
+pub returns-else-rest-eq0-clause-sound : goal.returns-else-rest-eq0-clause-sound
+returns-else-rest-eq0-clause-sound c =
     let fits : c.args.mask / 2 ^ c.args.from < 2 ^ 32 = omega (arith, shr_le c.args.mask c.args.from) in
     let first = first_from c.args.mask c.args.from (omega arith) fits in
     (first.not_before, first.is_set, first.clear_between)

@@ -1,5 +1,5 @@
 -- What begins the words is a forwarded block of the shared kind.
 use Rattle.mps_format.proofs.leaf.LeafFormat.forwarded.Goals as goal
 
-pub returns-clause-found : goal.returns-clause-found
-returns-clause-found c = λ size b. c.target_of_forwarded.ensures.found size b.in_range b.whole b.head
+pub returns-clause-complete : goal.returns-clause-complete
+returns-clause-complete c = λ size b. c.target_of_forwarded.ensures.complete size b.in_range b.whole b.head
