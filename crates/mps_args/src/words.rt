@@ -15,27 +15,27 @@ use bitflags::Flags;
 use mps_event::Kinds;
 use mps_numerals::decimal_number;
 
-// The log where none is named.
-const LOG: &str = "mpsio.log";
+/// The log where none is named.
+const USUAL_LOG: &str = "mpsio.log";
 
-// Standard input.
+/// Standard input.
 const STANDARD_INPUT: &str = "-";
 
-// The most steps of a generated script.
-const MOST_STEPS: u64 = 1_000_000;
+/// The most steps of a generated script.
+const MAX_STEPS: u64 = 1_000_000;
 
 /// What the words after the program's name ask for. None where they have no meaning.
 pub fn command_of(words: &[String]) -> Option<Command<'_>>
-    ensures exact { option_map meaning_of result ≡ meaning (texts words.now) }
+    ensures value { option_map meaning_of result ≡ meaning (texts words.now) }
     ensures runnable { IfSome result IsRunnable }
 {
     let (name, rest) = words.split_first()?;
     command_named(name.as_str(), rest)
 }
 
-// The command of a name, and of the words after it.
+/// The command of a name, and of the words after it.
 fn command_named<'a>(name: &str, words: &'a [String]) -> Option<Command<'a>>
-    ensures exact { option_map meaning_of result ≡ meaning_after name.now (texts words.now) }
+    ensures value { option_map meaning_of result ≡ meaning_after name.now (texts words.now) }
     ensures runnable { IfSome result IsRunnable }
 {
     match name {
@@ -48,20 +48,20 @@ fn command_named<'a>(name: &str, words: &'a [String]) -> Option<Command<'a>>
     }
 }
 
-// `[-o LOG] [SCRIPT]`
+/// `[-o LOG] [SCRIPT]`
 fn run_of(words: &[String]) -> Option<Command<'_>>
     ensures { option_map meaning_of result ≡ run_meaning (texts words.now) }
 {
     match words {
-        [] => running(LOG, STANDARD_INPUT),
-        [script] => running(LOG, script.as_str()),
+        [] => running(USUAL_LOG, STANDARD_INPUT),
+        [script] => running(USUAL_LOG, script.as_str()),
         [name, log] if name.as_str() == "-o" => running(log.as_str(), STANDARD_INPUT),
         [name, log, script] if name.as_str() == "-o" => running(log.as_str(), script.as_str()),
         _ => None,
     }
 }
 
-// A run, where the log and the script may be named so.
+/// A run, where the log and the script may be named so.
 fn running<'a>(log: &'a str, script: &'a str) -> Option<Command<'a>>
     ensures { option_map meaning_of result ≡ running log.now script.now }
 {
@@ -72,12 +72,12 @@ fn running<'a>(log: &'a str, script: &'a str) -> Option<Command<'a>>
     }
 }
 
-// `[-f LOG] [-k KINDS]`, in either order
+/// `[-f LOG] [-k KINDS]`, in either order
 fn convert_of(words: &[String]) -> Option<Command<'_>>
     ensures { option_map meaning_of result ≡ cnv_meaning (texts words.now) }
 {
     match words {
-        [] => converting(LOG, every_kind()),
+        [] => converting(USUAL_LOG, every_kind()),
         [name, value] => convert_by_one(name.as_str(), value.as_str()),
         [first, value, second, other] => convert_by_both(
             first.as_str(),
@@ -89,18 +89,18 @@ fn convert_of(words: &[String]) -> Option<Command<'_>>
     }
 }
 
-// One of the two options, with its value.
+/// One of the two options, with its value.
 fn convert_by_one<'a>(name: &str, value: &'a str) -> Option<Command<'a>>
     ensures { option_map meaning_of result ≡ cnv_meaning (name.now ∷ value.now ∷ []) }
 {
     match name {
         "-f" => converting(value, every_kind()),
-        "-k" => converting(LOG, kinds_of(value)?),
+        "-k" => converting(USUAL_LOG, kinds_of(value)?),
         _ => None,
     }
 }
 
-// Both options, each with its value.
+/// Both options, each with its value.
 fn convert_by_both<'a>(
     first: &str,
     value: &'a str,
@@ -116,7 +116,7 @@ fn convert_by_both<'a>(
     }
 }
 
-// A conversion, where the log may be named so.
+/// A conversion, where the log may be named so.
 fn converting(log: &str, kinds: Kinds) -> Option<Command<'_>>
     ensures { option_map meaning_of result ≡ converting log.now (Some (bits_of kinds)) }
 {
@@ -127,7 +127,7 @@ fn converting(log: &str, kinds: Kinds) -> Option<Command<'_>>
     }
 }
 
-// `[-l TEXT]`
+/// `[-l TEXT]`
 fn read_of(words: &[String]) -> Option<Command<'_>>
     ensures { option_map meaning_of result ≡ txt_meaning (texts words.now) }
 {
@@ -138,7 +138,7 @@ fn read_of(words: &[String]) -> Option<Command<'_>>
     }
 }
 
-// A reading, where the text may be named so.
+/// A reading, where the text may be named so.
 fn reading(text: &str) -> Option<Command<'_>>
     ensures { option_map meaning_of result ≡ reading text.now }
 {
@@ -149,18 +149,18 @@ fn reading(text: &str) -> Option<Command<'_>>
     }
 }
 
-// `[-f LOG]`
+/// `[-f LOG]`
 fn blocks_of(words: &[String]) -> Option<Command<'_>>
     ensures { option_map meaning_of result ≡ blocks_meaning (texts words.now) }
 {
     match words {
-        [] => listing(LOG),
+        [] => listing(USUAL_LOG),
         [name, log] if name.as_str() == "-f" => listing(log.as_str()),
         _ => None,
     }
 }
 
-// A list of blocks, where the log may be named so.
+/// A list of blocks, where the log may be named so.
 fn listing(log: &str) -> Option<Command<'_>>
     ensures { option_map meaning_of result ≡ listing log.now }
 {
@@ -171,7 +171,7 @@ fn listing(log: &str) -> Option<Command<'_>>
     }
 }
 
-// `SEED COUNT`
+/// `SEED COUNT`
 fn generate_of(words: &[String]) -> Option<Command<'_>>
     ensures { option_map meaning_of result ≡ gen_meaning (texts words.now) }
 {
@@ -181,25 +181,25 @@ fn generate_of(words: &[String]) -> Option<Command<'_>>
     }
 }
 
-// A generated script, where it has few enough steps.
+/// A generated script, where it has few enough steps.
 fn generating<'a>(seed: u64, count: u64) -> Option<Command<'a>>
     ensures { option_map meaning_of result ≡ generating (Some seed) (Some count) }
 {
-    if count <= MOST_STEPS {
+    if count <= MAX_STEPS {
         Some(Command::Generate { seed, count })
     } else {
         None
     }
 }
 
-// The number that a word writes.
+/// The number that a word writes.
 fn number(word: &str) -> Option<u64>
     ensures { result ≡ number_written word.now }
 {
     decimal_number(word.as_bytes())
 }
 
-// The name of a file: not empty, and not beginning with `-`.
+/// The name of a file: not empty, and not beginning with `-`.
 fn is_file(word: &str) -> bool
     ensures { result ≡ is_file word.now }
 {
@@ -209,14 +209,14 @@ fn is_file(word: &str) -> bool
     }
 }
 
-// The same, or standard input.
+/// The same, or standard input.
 fn is_file_to_read(word: &str) -> bool
     ensures { result ≡ is_file_to_read word.now }
 {
     word == STANDARD_INPUT || is_file(word)
 }
 
-// All kinds.
+/// All kinds.
 #[tactic(auto, unfolding(bitflags::specs::Sets::known_from))]
 fn every_kind() -> Kinds
     ensures { bits_of result ≡ all_kinds }
@@ -224,7 +224,7 @@ fn every_kind() -> Kinds
     Kinds::all()
 }
 
-// The kinds that the text names, with commas between them.
+/// The kinds that the text names, with commas between them.
 fn kinds_of(text: &str) -> Option<Kinds>
     ensures { option_map bits_of result ≡ kinds_named text.now }
 {
@@ -237,7 +237,7 @@ fn kinds_of(text: &str) -> Option<Kinds>
     with_kind(kinds, rest)
 }
 
-// The kinds, and the one that is named.
+/// The kinds, and the one that is named.
 fn with_kind(kinds: Kinds, name: &str) -> Option<Kinds>
     ensures { option_map bits_of result ≡ option_map (bit_or (bits_of kinds)) (kind_named name.now) }
 {
@@ -246,7 +246,7 @@ fn with_kind(kinds: Kinds, name: &str) -> Option<Kinds>
     Some(kinds)
 }
 
-// The kind of a name.
+/// The kind of a name.
 fn kind_of(name: &str) -> Option<Kinds>
     ensures { option_map bits_of result ≡ kind_named name.now }
 {
