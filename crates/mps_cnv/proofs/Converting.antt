@@ -20,7 +20,8 @@ use Rattle.mps_log_reader.specs.Input.{Buffered, ReadsMore, IsAtEnd}
 use Rattle.mps_log_reader.specs.Left.{left_of, LastGives}
 use Rattle.mps_log_reader.specs.PutOut.{put_out, PutsOut}
 use Rattle.mps_log_reader.proofs.Left.{left_same, split_pending, nothing_left, fault_left, nothing_in_front, one_in_front, left_after_known}
-use Rattle.mps_log_reader.proofs.PutOut.{put_same, put_more, nothing_put, one_put}
+use Rattle.mps_report.proofs.Appended.{appended_empty, appended_both}
+use Rattle.mps_log_reader.proofs.PutOut.{put_same, put_more}
 use Rattle.mps_log_reader.proofs.Records.{none_yet, all_and_one, flat_one}
 use Rattle.mps_cnv.specs.Portable.{line_of_kinds}
 use Rattle.mps_cnv.specs.Converting.{PendingGives, NextGives, PutsLines, AllGive}
@@ -91,7 +92,7 @@ at_start version kinds left before = record {
   counted = refl;
   place = refl;
   front = nothing_in_front left;
-  put = nothing_put before;
+  put = appended_empty before;
 }
 
 pub one_more : (version : Version) (kinds count offset size : ℕ) (left left_after left_then before after put : Option (List ℕ))
@@ -107,7 +108,7 @@ one_more version kinds count offset size left left_after left_then before after 
       front = subst (λ (x : List ℕ). left ≡ option_map (λ rest. x ++ rest) left_then) (sym bytes)
           (one_in_front (records_bytes s.records) (record_bytes n.read) left left_after left_then s.front n.front);
       put = subst (λ (x : List ℕ). put ≡ option_map (λ all. all ++ x) before) (sym (flat_one (line_of_kinds version kinds) s.records n.read))
-          (one_put (flat_map (line_of_kinds version kinds) s.records) (line_of_kinds version kinds n.read) before after put s.put n.put);
+          (appended_both (flat_map (line_of_kinds version kinds) s.records) (line_of_kinds version kinds n.read) before after put s.put n.put);
     }
 
 -- the records so far are a prefix of all that was left, where that is known

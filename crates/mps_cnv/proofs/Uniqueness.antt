@@ -13,7 +13,7 @@ use Rattle.mps_log_reader.specs.BadLog.{text_of_bad_log}
 use Rattle.mps_log_reader.specs.Ending.{is_input_verdict}
 use Rattle.mps_log_reader.specs.LogPrefix.{LogPrefix, LogEnds}
 use Rattle.mps_log_reader.proofs.LogPrefix.{has_header}
-use Rattle.mps_log_reader.proofs.PutOut.{nothing_put}
+use Rattle.mps_report.proofs.Appended.{appended_empty}
 use Rattle.mps_log_reader.proofs.Stops.{other_than_verdict}
 use Rattle.mps_log_reader.proofs.TwoReadings.{same_reading}
 use Rattle.mps_cnv.specs.Portable.{portable}
@@ -46,7 +46,7 @@ module _ (kinds : ℕ) (bytes : List ℕ) (status : ℕ) where
       → HasReportedEnding text_of_bad_log ending old new → IsUnique kinds bytes status old new
   unique_ending (Err (stop.Bad bad_log.Header)) old new verdict is h reported = record {
     with_header = λ prefix ending e. absurd (has_header prefix h.0);
-    without_header = λ none. record { status_is = is; printed = h.1 ∙ nothing_put old.printed; reported = reported };
+    without_header = λ none. record { status_is = is; printed = h.1 ∙ appended_empty old.printed; reported = reported };
   }
   unique_ending (Err stop.ReadFailed) old new verdict is h reported = absurd (other_than_verdict status 3 is verdict refl)
   unique_ending (Err stop.WriteFailed) old new verdict is h reported = absurd (other_than_verdict status 4 is verdict refl)

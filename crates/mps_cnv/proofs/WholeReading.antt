@@ -14,6 +14,7 @@ use Rattle.mps_log_reader.specs.declared.bad_log.BadLog.TheVariants as bad_log
 use Rattle.mps_log_reader.specs.BadLog.{text_of_bad_log}
 use Rattle.mps_report.specs.Reports.{status_of, report_of}
 use Rattle.mps_report.specs.Streams.{Reports}
+use Rattle.mps_report.proofs.Appended.{appended_twice}
 use Rattle.mps_log_reader.specs.Input.{Buffered}
 use Rattle.mps_log_reader.specs.Left.{left_of}
 use Rattle.mps_log_reader.specs.PutOut.{put_out, IsToFlush}
@@ -28,10 +29,6 @@ use Rattle.mps_cnv.specs.Converting.{ConvertsAll, AllGive}
 abbrev Ending : Type 0
 Ending = Result (Unit {0}) (Stop BadLog)
 
-printed_all : (line text : List ℕ) (o : Option (List ℕ)) → option_map (λ all. all ++ text) (option_map (λ printed. printed ++ line) o) ≡ option_map (λ before. before ++ (line ++ text)) o
-printed_all line text None = refl
-printed_all line text (Some before) = ap Some (append_assoc before line text)
-
 converts : (version : Version) (kinds : ℕ) (bytes left out : List ℕ) (a b c d : Outside) (after : Option (List ℕ)) (ending : Ending)
     → bytes ≡ header_bytes (number_of_version version) ++ left → b.printed ≡ a.printed → out ≡ first_line version
     → ConvertsAll version kinds left (put_out b out) after ending → d.printed ≡ after → Converts kinds bytes ending a d
@@ -41,7 +38,7 @@ converts version kinds bytes left out a b c d after ending is same line all prin
   printed = printed ∙ all.put
       ∙ ap (λ (x : List ℕ). option_map (λ (t : List ℕ). t ++ flat_map (line_of_kinds version kinds) all.prefix.records) (option_map (λ printed. printed ++ x) b.printed)) line
       ∙ ap (λ (o : Option (List ℕ)). option_map (λ (t : List ℕ). t ++ flat_map (line_of_kinds version kinds) all.prefix.records) (option_map (λ printed. printed ++ first_line version) o)) same
-      ∙ printed_all (first_line version) (flat_map (line_of_kinds version kinds) all.prefix.records) a.printed;
+      ∙ appended_twice a.printed (first_line version) (flat_map (line_of_kinds version kinds) all.prefix.records);
 }
 
 converts_ending : (version : Version) (kinds : ℕ) (bytes left out : List ℕ) (a b c d : Outside) (after : Option (List ℕ)) (ending : Result (Unit {0}) (Stop BadLog))

@@ -36,7 +36,7 @@ pub fn cnv<D: Desk>(alloc: Global, log: &str, kinds: Kinds, desk: &mut D) -> u8
     ensures status { StatusIsJustified (D.outside desk.old) (D.outside desk.new) result }
     // With any status its ending was reported, and nothing with 0.
     ensures reported { ReportsStatus text_of_bad_log result (D.outside desk.old) (D.outside desk.new) }
-    // Where it is known what the opened file holds, and the status is none of a fault or for out of memory: exactly this was printed.
+    // Where it is known what the opened file holds, and the status is of the input alone: exactly this was printed.
     ensures converted { is_input_verdict result ≡ true → (bytes : List ℕ) → (D.outside desk.old).text log.now ≡ Some bytes
         → ConvertedWith (bits_of kinds) bytes result (D.outside desk.old) (D.outside desk.new) }
     // Where the log could not be read: the whole records that had come were printed; a prefix of that, where a write failed

@@ -1,4 +1,4 @@
--- LeavesLogAlone one after the other, and the causes of their stops.
+-- Runs that leave the log alone, one after the other, and the causes of their stops.
 use Rattle.std.proofs.Common.{◌≡◌, ℕ, ◌≤◌, true, List, Result, Ok, Err, refl, sym, subst, ◌∙◌, arith, inl, inr}
 use Rattle.std.specs.Prelude.{OnOk, IfErr}
 use Rattle.mps_base.specs.Desk.{Outside, HasRisen, OnlyReads}
@@ -84,7 +84,7 @@ pub caused_since : {T E : Type 0} (a b c : Outside) (x : Buffered) (ending : Res
 caused_since a b c x (Ok value) r h s f = tt
 caused_since a b c x (Err why) r h s f = cause_since a b c x why r h s f
 
--- what was told of an input
+-- a step over what is pending is justified
 fault_known : {E : Type 0} (T : Type 0) (a b : Outside) (x y : Buffered) (why : Stop E) → (y.failed ≡ true → IsFaulty a b x) → StopIsJustified {T = T} y (Err why) → CauseFrom a b x why
 fault_known T a b x y stop.ReadFailed f h = f h
 fault_known T a b x y stop.WriteFailed f h = absurd h
@@ -154,7 +154,7 @@ works_beside a b x value r = record { runs = r; fault = λ h. inl h; cause = tt 
 pub works_write_failed : {T E : Type 0} (a b : Outside) (x : Buffered) → LeavesLogAlone a b → HasRisen a.out_faults b.out_faults → WorksOnInput {T = T} {E = E} a b x x (Err stop.WriteFailed)
 works_write_failed a b x r h = record { runs = r; fault = λ f. inl f; cause = h }
 
--- what was told of an input that stays as it is, or of which something was taken
+-- the same of a step that leaves the input as it is, or takes something from it
 pub works_known : {T E : Type 0} (o : Outside) (x y : Buffered) (ending : Result T (Stop E)) → y.failed ≡ x.failed → StopIsJustified x ending → WorksOnInput o o x y ending
 works_known o x y ending same is_known = record {
   runs = runs-none o;

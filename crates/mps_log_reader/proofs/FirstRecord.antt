@@ -1,4 +1,4 @@
--- The record at a prefix of some bytes has at most four fields, and lies in them.
+-- The record at the front of some bytes has at most four fields, and lies in them.
 use Rattle.std.proofs.Common.{◌≡◌, ℕ, ◌≤◌, List, ◌++◌, length, drop, ap, arith}
 use Rattle.std.proofs.lemmas.List.{length-append}
 use Rattle.mps_base.specs.Record.{Record, record_bytes, fields_bytes}
@@ -18,7 +18,7 @@ length-record_bytes r = omega (arith, length-fields_bytes r.fields)
 pub lies_within : (r : Record) (pending rest : List ℕ) → pending ≡ record_bytes r ++ rest → size_of_record (length r.fields) ≤ length pending
 lies_within r pending rest e = omega (arith, ap length e, length-append (fields_bytes r.fields) rest, length-fields_bytes r.fields)
 
--- the same of the bytes that are the same
+-- the same where the bytes are equal
 pub is_at_front : (r : Record) (bytes pending : List ℕ) (size : ℕ) → bytes ≡ pending → size ≡ size_of_record (length r.fields)
     → bytes ≡ record_bytes r ++ drop (size_of_record (length r.fields)) bytes → pending ≡ record_bytes r ++ drop size pending
 is_at_front r bytes pending size same sized e = rw (sized, ← same) e

@@ -1,4 +1,4 @@
--- What is left of an input, of told and unknown texts.
+-- What is left of an input, whether or not it is known.
 use Rattle.std.proofs.Common.{◌≡◌, ℕ, ◌≤◌, Bool, true, false, List, [], ◌++◌, length, Option, Some, None, Ok, Err, refl, sym, ap, ◌∙◌, append_assoc}
 use Rattle.std.specs.Prelude.{IfSome}
 use Rattle.std.specs.Option.{option_map}
@@ -46,7 +46,7 @@ pub one_in_front : (x y : List ℕ) (a b c : Option (List ℕ)) → a ≡ option
 one_in_front x y a b None e f = rw (e, f) refl
 one_in_front x y a b (Some rest) e f = rw (e, f) (ap Some (sym (append_assoc x y rest)))
 
--- what is left after them, where all that was left is told
+-- what is left after a piece, where all that was left is known
 pub left_after_known : (x bytes : List ℕ) (left left_after : Option (List ℕ)) → left ≡ option_map (λ rest. x ++ rest) left_after → left ≡ Some bytes
     → (rest : List ℕ) × (left_after ≡ Some rest) × (bytes ≡ x ++ rest)
 left_after_known x bytes left None e f = absurd (let g : None ≡ Some bytes = sym e ∙ f in cc)

@@ -23,7 +23,7 @@ header_in_front header pending more rest size long e =
 size_of_header : (version : Version) → length (header_bytes (number_of_version version)) ≡ 8
 size_of_header version = refl
 
--- with enough bytes, or all of them, a header that isn't there doesn't come
+-- where enough bytes came, or all of them, no header comes later
 no_header_later : (pending more : List ℕ) (ended failed : Bool) → HasNoHeader pending → (failed ≡ true → 8 ≤ length pending)
     → (ended ≡ false → failed ≡ false → 8 ≤ length pending) → (ended ≡ true → more ≡ []) → (version : Version) (rest : List ℕ)
     → pending ++ more ≡ header_bytes (number_of_version version) ++ rest → ⊥
@@ -45,10 +45,10 @@ no_header_of pending bytes ended failed (Some more) known none long enough end =
 abbrev pub untouched : Buffered
 untouched = record { pending = []; ended = false; failed = false }
 
-untouched_left : (a : Outside) (x : Buffered) → x ≡ untouched → left_of a x ≡ a.input
+pub untouched_left : (a : Outside) (x : Buffered) → x ≡ untouched → left_of a x ≡ a.input
 untouched_left a x e = ap (left_of a) e ∙ sym (nothing_in_front a.input)
 
-untouched_end : (a : Outside) (x : Buffered) → x ≡ untouched → IsAtEnd a x
+pub untouched_end : (a : Outside) (x : Buffered) → x ≡ untouched → IsAtEnd a x
 untouched_end a x e h = absurd (let f : x.ended ≡ false = ap (λ (b : Buffered). b.ended) e in let g : true ≡ false = sym h ∙ f in cc)
 
 pub opens : {E : Type 0} (a b : Outside) (x y z : Buffered) (bytes : List ℕ) (text : Option (List ℕ)) (result : Result Version (Stop E)) → x ≡ untouched → a.input ≡ text → ReadsMore a b x y

@@ -7,15 +7,15 @@ use Rattle.mps_base.specs.Desk.{Outside}
 use Rattle.mps_report.specs.Streams.{PrintsPart}
 use Rattle.mps_report.proofs.Outside.{risen_earlier}
 use Rattle.mps_log_reader.specs.PutOut.{put_out, Grows, PutsOut, PutsPart, PrintsAsFar}
-use Rattle.mps_log_reader.proofs.PutOut.{nothing_put, one_put}
+use Rattle.mps_report.proofs.Appended.{appended_empty, appended_twice, appended_both, some_is}
 
 -- ---- what was printed grows
 
 pub grows_none : (o p : Option (List ℕ)) → p ≡ o → Grows o p
-grows_none o p e = ([], e ∙ nothing_put o)
+grows_none o p e = ([], e ∙ appended_empty o)
 
 pub grows_then : (o p q : Option (List ℕ)) → Grows o p → Grows p q → Grows o q
-grows_then o p q e f = (e.0 ++ f.0, one_put e.0 f.0 o p q e.1 f.1)
+grows_then o p q e f = (e.0 ++ f.0, appended_both e.0 f.0 o p q e.1 f.1)
 
 pub grows_by : (text : List ℕ) (o p q : Option (List ℕ)) → p ≡ o → q ≡ option_map (λ before. before ++ text) p → Grows o q
 grows_by text o p q same e = (text, e ∙ ap (λ (x : Option (List ℕ)). option_map (λ before. before ++ text) x) same)
@@ -24,9 +24,6 @@ pub puts_part : (a b c : Outside) (gathered : List ℕ) → b.printed ≡ a.prin
 puts_part a b c gathered same p = (p.count, p.part.printed ∙ ap (λ (x : Option (List ℕ)). option_map (λ before. before ++ take p.count gathered) x) same)
 
 -- ---- a prefix of the whole text
-
-some_is : (x y : List ℕ) → Some x ≡ Some y → x ≡ y
-some_is x y e = cc
 
 pub part_of_text : (front gathered out lines : List ℕ) (n : ℕ) (o c d : Option (List ℕ)) → c ≡ option_map (λ before. before ++ front) o
     → option_map (λ printed. printed ++ gathered) c ≡ option_map (λ all. all ++ lines) (option_map (λ printed. printed ++ out) o)
@@ -43,20 +40,16 @@ part_of_text front gathered out lines n (Some before) c d grown put part =
     sym text ∙ ap (λ (x : List ℕ). front ++ x) (sym (take-append-drop n gathered)) ∙ sym (append_assoc front (take n gathered) (drop n gathered)) in
     let taken : take (length some) (out ++ lines) ≡ some = ap (take (length some)) parts ∙ take-append_seam some (drop n gathered) in (
       length some,
-      one_put front (take n gathered) (Some before) c d grown part ∙ ap (λ (x : List ℕ). Some (before ++ x)) (sym taken),
+      appended_both front (take n gathered) (Some before) c d grown part ∙ ap (λ (x : List ℕ). Some (before ++ x)) (sym taken),
     )
 
--- ---- all of it, or its front
-
-put_after : (out lines : List ℕ) (o : Option (List ℕ)) → option_map (λ all. all ++ lines) (option_map (λ printed. printed ++ out) o) ≡ option_map (λ before. before ++ (out ++ lines)) o
-put_after out lines None = refl
-put_after out lines (Some before) = ap Some (append_assoc before out lines)
+-- ---- all of it, or a prefix
 
 -- what was gathered was printed as far as it went: so was the whole text, whose first line was gathered first
 pub as_far_of_text : (out line text gathered : List ℕ) (a b c d : Outside) → b.printed ≡ a.printed → out ≡ line → PutsOut (put_out b out) (put_out c gathered) text
     → Grows b.printed c.printed → a.out_faults ≤ c.out_faults → PrintsAsFar c d gathered → PrintsAsFar a d (line ++ text)
 as_far_of_text out line text gathered a b c d same is put grown counted (inl all) =
-    inl (all ∙ put ∙ put_after out text b.printed
+    inl (all ∙ put ∙ appended_twice b.printed out text
     ∙ ap (λ (x : List ℕ). option_map (λ before. before ++ (x ++ text)) b.printed) is
     ∙ ap (λ (o : Option (List ℕ)). option_map (λ before. before ++ (line ++ text)) o) same)
 as_far_of_text out line text gathered a b c d same is put grown counted (inr part) =

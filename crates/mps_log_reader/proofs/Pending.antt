@@ -1,4 +1,4 @@
--- What is pending in the room of an input.
+-- What is pending in the buffer of an input.
 use Rattle.std.proofs.Common.{◌≡◌, ℕ, ◌+◌, ◌-◌, ◌≤◌, ◌⊎◌, Bool, true, List, [], ◌++◌, length, take, drop, Option, Some, None, refl, sym, ap, subst, ◌∙◌, append_assoc, arith, inl, inr}
 use Rattle.std.specs.Prelude.{IfSome}
 use Rattle.std.specs.Option.{option_map}
@@ -6,6 +6,7 @@ use Rattle.std.proofs.lemmas.List.{append-nil, drop-drop, drop-take, length-appe
 use Rattle.std.proofs.Math.Seq.{take-add}
 use Rattle.mps_base.specs.Desk.{Outside, HasRisen, OnlyReads}
 use Rattle.mps_log_reader.specs.Input.{Buffered, ReadsMore}
+use Rattle.mps_log_reader.proofs.Left.{nothing_in_front, one_in_front}
 use Rattle.mps_report.proofs.Outside.{risen_later, risen_earlier}
 
 abbrev pub buffered : List ℕ → (ended failed : Bool) → Buffered
@@ -52,19 +53,11 @@ reads_only-then a b c e f = record {
   err_faults = f.err_faults ∙ e.err_faults;
 }
 
-nothing_before : (known : Option (List ℕ)) → known ≡ option_map (λ left. [] ++ left) known
-nothing_before None = refl
-nothing_before (Some text) = refl
-
-both_before : (a b c : Option (List ℕ)) (x y : List ℕ) → a ≡ option_map (λ left. x ++ left) b → b ≡ option_map (λ left. y ++ left) c → a ≡ option_map (λ left. (x ++ y) ++ left) c
-both_before a b None x y e f = rw (e, f) refl
-both_before a b (Some left) x y e f = rw (e, f) (ap Some (sym (append_assoc x y left)))
-
 pub reads-none : (o : Outside) (b : Buffered) → ReadsMore o o b b
 reads-none o b = record {
   read = [];
   pending = sym (append-nil b.pending);
-  input = nothing_before o.input;
+  input = nothing_in_front o.input;
   end = λ h. h;
   fault = λ h. inl h;
   counted = omega arith;
@@ -84,7 +77,7 @@ pub reads-then : (a b c : Outside) (x y z : Buffered) → ReadsMore a b x y → 
 reads-then a b c x y z e f = record {
   read = e.read ++ f.read;
   pending = f.pending ∙ ap (λ (p : List ℕ). p ++ f.read) e.pending ∙ append_assoc x.pending e.read f.read;
-  input = both_before a.input b.input c.input e.read f.read e.input f.input;
+  input = one_in_front e.read f.read a.input b.input c.input e.input f.input;
   end = λ h. f.end (e.end h);
   fault = λ h. later_fault a b c x y z e f (f.fault h);
   counted = omega (arith, e.counted, f.counted);
@@ -132,7 +125,7 @@ reads_fail a b x room at kept input risen counted others =
     record {
       read = [];
       pending = ap (λ (k : ℕ). take k room) at-is ∙ kept ∙ sym (append-nil x.pending);
-      input = sym input ∙ nothing_before b.input;
+      input = sym input ∙ nothing_in_front b.input;
       end = λ h e. subst (λ (o : Option (List ℕ)). IfSome o (λ left. left ≡ [])) (sym input) (h e);
       fault = λ h. inr risen;
       counted = counted;

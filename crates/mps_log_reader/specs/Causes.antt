@@ -47,7 +47,7 @@ StopIsJustified b result = Unit {0}
 abbrev pub IsStatus : ℕ → Type 0
 IsStatus status = (status ≡ 0) ⊎ (status ≡ 3) ⊎ (status ≡ 4) ⊎ (status ≡ 6) ⊎ (status ≡ 7) ⊎ (status ≡ 8)
 
--- what a status says of the outside
+-- what holds of the outside with a status
 pub record StatusIsJustified (old new : Outside) (status : ℕ) : Type 0 where
   pub known : IsStatus status
   pub read_fault : status ≡ 3 → HasRisen old.in_faults new.in_faults

@@ -10,7 +10,7 @@ use Rattle.mps_report.specs.declared.stop.Stop.{Stop}
 use Rattle.mps_report.specs.declared.stop.Stop.TheVariants as stop
 use Rattle.mps_log_reader.specs.Input.{Buffered}
 
--- the desk tells what it opens, and by this name it opens nothing
+-- it is known what the desk opens, and by this name it opens nothing
 abbrev pub OpensNothing : Outside → (name : List ℕ) → Type 0
 OpensNothing o name = IsSome o.input × (o.text name ≡ None)
 

@@ -5,11 +5,11 @@ use Rattle.mps_base.specs.Desk.{Outside, HasRisen}
 use Rattle.mps_report.specs.declared.stop.Stop.{Stop}
 use Rattle.mps_report.specs.declared.stop.Stop.TheVariants as stop
 
--- what was put out: what stands printed, and then what was gathered
+-- what was put out: what was printed, and then what was gathered
 abbrev pub put_out : Outside → List ℕ → Option (List ℕ)
 put_out o gathered = option_map (λ printed. printed ++ gathered) o.printed
 
--- a text more was put out
+-- one more text was put out
 abbrev pub PutsOut : (before after : Option (List ℕ)) → (text : List ℕ) → Type 0
 PutsOut before after text = after ≡ option_map (λ all. all ++ text) before
 

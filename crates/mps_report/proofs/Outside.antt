@@ -5,17 +5,7 @@ use Rattle.std.proofs.lemmas.List.{append-nil, take_all, take_rest}
 use Rattle.std.proofs.Math.Seq.{take-add}
 use Rattle.mps_base.specs.Desk.{Outside, HasRisen, OnlyPrints, OnlyReports, added}
 use Rattle.mps_report.specs.Streams.{Prints, PrintsPart, Reports}
-
--- ---- texts after one another
-
-nothing_after : (known : Option (List ℕ)) → known ≡ option_map (λ before. before ++ []) known
-nothing_after None = refl
-nothing_after (Some text) = ap Some (sym (append-nil text))
-
-both_after : (a b c : Option (List ℕ)) (x y : List ℕ) → b ≡ option_map (λ before. before ++ x) a → c ≡ option_map (λ before. before ++ y) b
-    → c ≡ option_map (λ before. before ++ (x ++ y)) a
-both_after None b c x y e f = rw (f, e) refl
-both_after (Some text) b c x y e f = rw (f, e) (ap Some (append_assoc text x y))
+use Rattle.mps_report.proofs.Appended.{appended_empty, appended_both}
 
 -- ---- counts
 
@@ -54,11 +44,11 @@ prints_only-then a b c e f = record {
 }
 
 pub prints-none : (o : Outside) → Prints o o []
-prints-none o = record { printed = nothing_after o.printed; counted = omega arith; others = prints_only-same o }
+prints-none o = record { printed = appended_empty o.printed; counted = omega arith; others = prints_only-same o }
 
 pub prints-then : (a b c : Outside) (x y : List ℕ) → Prints a b x → Prints b c y → Prints a c (x ++ y)
 prints-then a b c x y e f = record {
-  printed = both_after a.printed b.printed c.printed x y e.printed f.printed;
+  printed = appended_both x y a.printed b.printed c.printed e.printed f.printed;
   counted = omega (arith, e.counted, f.counted);
   others = prints_only-then a b c e.others f.others;
 }
@@ -66,7 +56,7 @@ prints-then a b c x y e f = record {
 pub prints-as : (a b : Outside) (x y : List ℕ) → x ≡ y → Prints a b x → Prints a b y
 prints-as a b x y e p = subst (λ (z : List ℕ). Prints a b z) e p
 
--- a piece more of the bytes was taken
+-- one more piece of the bytes was taken
 pub prints_more : (a b c : Outside) (bytes : List ℕ) (at count : ℕ) → Prints a b (take at bytes)
     → c.printed ≡ added b.printed (take (length bytes - at) (drop at bytes)) count → b.out_faults ≤ c.out_faults → OnlyPrints b c
     → Prints a c (take (at + count) bytes)
@@ -79,7 +69,7 @@ prints_more a b c bytes at count before printed counted others =
 -- a call that failed took nothing
 pub prints_no_more : (a b c : Outside) (text : List ℕ) → Prints a b text → c.printed ≡ b.printed → b.out_faults ≤ c.out_faults → OnlyPrints b c → Prints a c text
 prints_no_more a b c text before printed counted others =
-    let piece : Prints b c [] = record { printed = printed ∙ nothing_after b.printed; counted = counted; others = others } in
+    let piece : Prints b c [] = record { printed = printed ∙ appended_empty b.printed; counted = counted; others = others } in
     prints-as a c _ _ (append-nil text) (prints-then a b c text [] before piece)
 
 -- a fault after a prefix of the bytes was printed
@@ -127,7 +117,7 @@ pub record IsReporting (old new : Outside) (text : List ℕ) : Type 0 where
   pub others : OnlyReports old new
 
 pub reports-none : (o : Outside) → IsReporting o o []
-reports-none o = record { reported = nothing_after o.reported; counted = omega arith; others = reports_only-same o }
+reports-none o = record { reported = appended_empty o.reported; counted = omega arith; others = reports_only-same o }
 
 pub reports_more : (a b c : Outside) (bytes : List ℕ) (at count : ℕ) → IsReporting a b (take at bytes)
     → c.reported ≡ added b.reported (take (length bytes - at) (drop at bytes)) count → b.err_faults ≤ c.err_faults → OnlyReports b c
@@ -136,7 +126,7 @@ reports_more a b c bytes at count before reported counted others =
     let text : take at bytes ++ take count (take (length bytes - at) (drop at bytes)) ≡ take (at + count) bytes =
     ap (λ (x : List ℕ). take at bytes ++ take count x) (take_rest bytes at) ∙ sym (take-add at count bytes) in
     record {
-      reported = both_after a.reported b.reported c.reported (take at bytes) (take count (take (length bytes - at) (drop at bytes))) before.reported reported
+      reported = appended_both (take at bytes) (take count (take (length bytes - at) (drop at bytes))) a.reported b.reported c.reported before.reported reported
           ∙ ap (λ (x : List ℕ). option_map (λ front. front ++ x) a.reported) text;
       counted = omega (arith, before.counted);
       others = reports_only-then a b c before.others others;

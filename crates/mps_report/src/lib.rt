@@ -1,5 +1,5 @@
-//! What a tool prints and reports: a buffer of what is printed next, and the stops of a tool, each with its report and
-//! the status of the program.
+//! What a program prints, logs and reports: whole pieces, a buffer of what is printed next, and the reasons to stop, each
+//! with its report and its status.
 #![tactic(auto)]
 
 mod notice;

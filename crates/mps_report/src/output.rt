@@ -1,4 +1,4 @@
-// What a tool prints, gathered in a buffer.
+// What a program prints, gathered in a buffer.
 
 ghost use Rattle.std.specs.Prelude.{◌≡◌, ◌≤◌, ◌<◌, ◌+◌, ◌++◌, ◌⊎◌, ℕ, [], length, take, decimal, OnOk, OnErr, IfOk};
 ghost use Rattle.mps_numerals.specs.Hexadecimal.{hexadecimal};
@@ -42,8 +42,8 @@ impl Output {
         Ok(Output { room, used: 0 })
     }
 
-    /// Makes room for a line, of 512 bytes. `Failed` where a write failed, after some of the bytes were printed; what was
-    /// gathered then stays.
+    /// Makes room for a line, of 512 bytes. `Failed` where a write failed, after some of the bytes were printed; all that
+    /// was gathered stays so.
     pub fn make_room<D: Desk>(&mut self, desk: &mut D) -> Result<(), Failed>
         ensures fits { OnOk result (length self.new + 512 ≤ 65536) }
         ensures flushed { OnOk result (FlushedPrefix (D.outside desk.old) (D.outside desk.new) self.old self.new) }
@@ -57,8 +57,8 @@ impl Output {
         }
     }
 
-    /// Prints all that was gathered. `Failed` where a write failed, after some of the bytes were printed; what was gathered
-    /// then stays.
+    /// Prints all that was gathered. `Failed` where a write failed, after some of the bytes were printed; all of it then
+    /// stays gathered.
     pub fn flush<D: Desk>(&mut self, desk: &mut D) -> Result<(), Failed>
         ensures empty { OnOk result (self.new ≡ []) }
         ensures printed { OnOk result (Prints (D.outside desk.old) (D.outside desk.new) self.old) }
