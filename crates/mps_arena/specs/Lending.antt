@@ -5,7 +5,7 @@ use Rattle.mps_arena.specs.Arena.{ArenaMemory, with_words}
 use Rattle.mps_base.specs.Address.{word_of}
 use Rattle.mps_arena.specs.contracts.arena.Arena.{the_row}
 
--- when the loan ends, the words that it lent are what the borrower left in them
+-- when the loan ends, the borrowed words are what the borrower left in them
 abbrev pub LendsArenaWords : MutBor ArenaMemory → ℕ → MutBor (List ℕ) → Fml
 LendsArenaWords arena at loan =
     Lends the_row (Array u64 0) arena loan (λ ws. record arena.now { words = with_words arena.now.words (word_of at) ws })

@@ -6,7 +6,7 @@ use Rattle.mps_arena.specs.Arena.{with_words}
 use Rattle.mps_seg.specs.Segs.{SegsState}
 use Rattle.mps_seg.specs.contracts.segs.Segs.{the_row}
 
--- when the loan ends, the words that it lent are what the borrower left in them
+-- when the loan ends, the borrowed words are what the borrower left in them
 abbrev pub LendsSegmentWords : MutBor SegsState → ℕ → MutBor (List ℕ) → Fml
 LendsSegmentWords segs at loan =
     Lends the_row (Array u64 0) segs loan (λ ws. record segs.now { words = with_words segs.now.words (word_of at) ws })
