@@ -13,8 +13,8 @@ use Rattle.mps_report.specs.declared.stop.Stop.TheVariants as stop
 use Rattle.mps_log_reader.specs.Input.{Buffered, ReadsMore, IsAtEnd}
 use Rattle.mps_log_reader.specs.Left.{left_of}
 use Rattle.mps_log_reader.specs.Opening.{first_line}
-use Rattle.mps_log_reader.proofs.Left.{left_same, nothing_in_front}
-use Rattle.mps_log_reader.proofs.Opening.{untouched}
+use Rattle.mps_log_reader.proofs.Left.{left_same}
+use Rattle.mps_log_reader.proofs.Opening.{untouched, untouched_left, untouched_end}
 use Rattle.mps_txt.specs.declared.bad_text_line.BadTextLine.{BadTextLine}
 use Rattle.mps_txt.specs.Separators.{Lacks}
 use Rattle.mps_txt.specs.Line.{max_line_bytes}
@@ -109,12 +109,6 @@ module _ (y : Buffered) (input : Option (List ℕ)) (bytes : List ℕ) (known : 
       none_in (Some more) known end =
           let is : y.pending ++ more ≡ bytes = (let e : Some (y.pending ++ more) ≡ Some bytes = known in cc) in
           subst (λ (x : List ℕ). HasNoFirstLine x) is (no_first y more end enough other)
-
-untouched_left : (a : Outside) (x : Buffered) → x ≡ untouched → left_of a x ≡ a.input
-untouched_left a x e = ap (left_of a) e ∙ sym (nothing_in_front a.input)
-
-untouched_end : (a : Outside) (x : Buffered) → x ≡ untouched → IsAtEnd a x
-untouched_end a x e h = absurd (let f : x.ended ≡ false = ap (λ (b : Buffered). b.ended) e in let g : true ≡ false = sym h ∙ f in cc)
 
 -- a text of these bytes was opened, and a first piece of it was read
 pub record IsOpened (a b : Outside) (x y : Buffered) (bytes : List ℕ) : Type 0 where
