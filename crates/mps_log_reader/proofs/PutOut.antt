@@ -1,7 +1,6 @@
 -- What was put out, whether or not it is known.
 use Rattle.std.proofs.Common.{◌≡◌, ℕ, List, [], ◌++◌, Option, Some, None, refl, sym, ap, append_assoc}
 use Rattle.std.specs.Option.{option_map}
-use Rattle.std.proofs.lemmas.List.{append-nil}
 use Rattle.mps_base.specs.Desk.{Outside}
 use Rattle.mps_report.specs.Streams.{FlushedPrefix}
 use Rattle.mps_report.proofs.Appended.{appended_empty, appended_both}

@@ -1,5 +1,4 @@
 -- The cause of a stop.
-use Rattle.std.specs.Prelude.{ℕ}
 use Rattle.mps_base.specs.Desk.{Outside, HasRisen}
 use Rattle.mps_report.specs.declared.stop.Stop.{Stop}
 use Rattle.mps_report.specs.declared.stop.Stop.TheVariants as stop

@@ -1,6 +1,6 @@
 use Rattle.std.proofs.Common.{ℕ, arith}
 use Rattle.std.proofs.lemmas.List.{length-take, length-drop}
-use Rattle.mps_report.proofs.Logging.{logs_none, logs_more, part_logged, all_logged}
+use Rattle.mps_report.proofs.Logging.{logs_none, logs_more}
 use Rattle.mps_report.proofs.write.log_all.Goals as goal
 
 pub loop-at-init : goal.loop-at-init
