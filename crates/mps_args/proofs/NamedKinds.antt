@@ -22,8 +22,10 @@ joined kinds kind None = refl
 -- the first name, and the names after it
 pub first_named : (kinds : ℕ) (name : List ℕ) (names : List (List ℕ)) (o : Option ℕ)
     → o ≡ option_map (bit_or kinds) (kind_named name)
-    → option_and_then (λ with_first. option_map (bit_or with_first) (all_named names)) o ≡ option_map (bit_or kinds) (all_named (name ∷ names))
-first_named kinds name names o e = ap (option_and_then (λ with_first. option_map (bit_or with_first) (all_named names))) e ∙ by_kind (kind_named name)
+    → option_and_then (λ with_first. option_map (bit_or with_first) (all_named names)) o
+    ≡ option_map (bit_or kinds) (all_named (name ∷ names))
+first_named kinds name names o e = ap (option_and_then (λ with_first. option_map (bit_or with_first) (all_named names))) e
+    ∙ by_kind (kind_named name)
   where
     by_kind : (found : Option ℕ)
         → option_and_then (λ with_first. option_map (bit_or with_first) (all_named names)) (option_map (bit_or kinds) found)
@@ -32,7 +34,8 @@ first_named kinds name names o e = ap (option_and_then (λ with_first. option_ma
     by_kind None = refl
 
 -- one name alone
-pub last_named : (kinds : ℕ) (name : List ℕ) → option_map (bit_or kinds) (kind_named name) ≡ option_map (bit_or kinds) (all_named (name ∷ []))
+pub last_named : (kinds : ℕ) (name : List ℕ) → option_map (bit_or kinds) (kind_named name)
+    ≡ option_map (bit_or kinds) (all_named (name ∷ []))
 last_named kinds name = ap (option_map (bit_or kinds)) (by_kind (kind_named name))
   where
     by_kind : (found : Option ℕ) → found ≡ option_and_then (λ kind. option_map (bit_or kind) (Some 0)) found
@@ -49,12 +52,14 @@ pub cut_named : (kinds : ℕ) (word name later : List ℕ) (o : Option ℕ)
     → option_and_then (λ with_first. option_map (bit_or with_first) (kinds_named later)) o ≡ option_map (bit_or kinds) (kinds_named word)
 cut_named kinds word name later o before after cut e =
     let parts : slice_split comma word ≡ name ∷ slice_split comma later = rw (before, after) (slice_split_first comma word 0 cut) in
-    first_named kinds name (slice_split comma later) o e ∙ ap (λ (names : List (List ℕ)). option_map (bit_or kinds) (all_named names)) (sym parts)
+    first_named kinds name (slice_split comma later) o e
+    ∙ ap (λ (names : List (List ℕ)). option_map (bit_or kinds) (all_named names)) (sym parts)
 
 -- a word without a comma
 pub uncut_named : (kinds : ℕ) (word : List ℕ) → position_or_len (λ b. b == 44) word ≡ length word
     → option_map (bit_or kinds) (kind_named word) ≡ option_map (bit_or kinds) (kinds_named word)
 uncut_named kinds word whole =
     let parts : slice_split comma word ≡ word ∷ [] =
-    slice_split_none comma word (All-from_get_or (λ b. comma b ≡ false) word 0 (λ i h. fails_before_first comma word i 0 (omega (arith, whole)))) in
+    slice_split_none comma word (All-from_get_or (λ b. comma b ≡ false) word 0
+    (λ i h. fails_before_first comma word i 0 (omega (arith, whole)))) in
     last_named kinds word ∙ ap (λ (names : List (List ℕ)). option_map (bit_or kinds) (all_named names)) (sym parts)

@@ -10,7 +10,8 @@ length-texts [] = refl
 length-texts (word ∷ words) = ap suc (length-texts words)
 
 -- where there are neither no, two nor four words, `cnv` has no meaning
-pub cnv_by_length : (words : List (List ℕ)) → (length words ≡ 0 → ⊥) → (length words ≡ 2 → ⊥) → (length words ≡ 4 → ⊥) → None ≡ cnv_meaning words
+pub cnv_by_length : (words : List (List ℕ)) → (length words ≡ 0 → ⊥) → (length words ≡ 2 → ⊥) → (length words ≡ 4 → ⊥)
+    → None ≡ cnv_meaning words
 cnv_by_length [] none two four = absurd (none refl)
 cnv_by_length (a ∷ []) none two four = refl
 cnv_by_length (a ∷ b ∷ []) none two four = absurd (two refl)

@@ -117,7 +117,8 @@ leaves_at why heap n old o1 o2 o3 script line (Some rest) left2 r s = leaves_kno
 pub leaves_line : {heap : HeapState} {n : ℕ} {old o1 o2 : Outside} {script line : List ℕ} {left left2 : Option (List ℕ)}
     (why : Stop BadScriptLine) (o3 : Outside) → NextRead heap n old o1 o2 script left Line line left2
     → Stops why (commands_of_call (n + 1) (call_of_line line)) heap o2 o3 → Leaves (Err why) [] script old o3
-leaves_line {heap} {n} {old} {o1} {o2} {script} {line} {left} {left2} why o3 r s = leaves_at why heap n old o1 o2 o3 script line left left2 r s
+leaves_line {heap} {n} {old} {o1} {o2} {script} {line} {left} {left2} why o3 r s =
+    leaves_at why heap n old o1 o2 o3 script line left left2 r s
 
 -- ---- the whole run, after the header of the log
 

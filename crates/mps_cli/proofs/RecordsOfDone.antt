@@ -93,5 +93,6 @@ number_where true (call.PoolMvff pool) pools line = refl
 number_where true _ pools line = refl
 
 pub numbered_by_the_world : (c : Call) (answer : Answer) (pools line : ℕ)
-    → records_of_command (pool_number (some_if (nat_lt 0 (pools_made_by c answer)) pools)) c answer line ≡ records_of_command pools c answer line
+    → records_of_command (pool_number (some_if (nat_lt 0 (pools_made_by c answer)) pools)) c answer line
+    ≡ records_of_command pools c answer line
 numbered_by_the_world c answer pools line = number_where (is_accepted answer) c pools line

@@ -169,7 +169,13 @@ one_line_more {heap} {heap2} {n} {old} {o1} {o2} {o3} {script} {left} left2 line
 -- the lines so far have run
 pub has_run : {heap : HeapState} {n : ℕ} {old now : Outside} {script rest : List ℕ} (f : SoFar heap n old now (Some script) (Some rest))
     → HasRun script n f.history
-has_run f = record { grammatical = f.read.grammatical; commands = f.read.commands; legal = f.legal; unsupported = f.unsupported; replayed = f.replayed }
+has_run f = record {
+  grammatical = f.read.grammatical;
+  commands = f.read.commands;
+  legal = f.legal;
+  unsupported = f.unsupported;
+  replayed = f.replayed;
+}
 
 -- after them nothing was printed or logged
 abbrev pub leaves_whole : {heap : HeapState} {n : ℕ} {old now : Outside} {script rest : List ℕ} (new : Outside)

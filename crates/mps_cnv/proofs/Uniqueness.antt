@@ -23,8 +23,10 @@ abbrev Ending : Type 0
 Ending = Result (Unit {0}) (Stop BadLog)
 
 module _ (kinds : ℕ) (bytes : List ℕ) (status : ℕ) where
-  ends_so : (ending : Ending) (old new : Outside) → status ≡ status_of_ending ending → Converts kinds bytes ending old new → HasReportedEnding text_of_bad_log ending old new
-      → (prefix : LogPrefix bytes) (other : Ending) → LogEnds prefix other → ProgramEnds text_of_bad_log other (text_of_prefix kinds prefix) status old new
+  ends_so : (ending : Ending) (old new : Outside) → status ≡ status_of_ending ending → Converts kinds bytes ending old new
+      → HasReportedEnding text_of_bad_log ending old new
+      → (prefix : LogPrefix bytes) (other : Ending) → LogEnds prefix other
+      → ProgramEnds text_of_bad_log other (text_of_prefix kinds prefix) status old new
   ends_so ending old new is c reported prefix other h =
       let s = same_reading c.prefix prefix ending other c.ends_at h in
       record {
@@ -35,14 +37,16 @@ module _ (kinds : ℕ) (bytes : List ℕ) (status : ℕ) where
         reported = subst (λ (e : Ending). HasReportedEnding text_of_bad_log e old new) s.ending reported;
       }
 
-  unique_of : (ending : Ending) (old new : Outside) → status ≡ status_of_ending ending → Converts kinds bytes ending old new → HasReportedEnding text_of_bad_log ending old new
+  unique_of : (ending : Ending) (old new : Outside) → status ≡ status_of_ending ending → Converts kinds bytes ending old new
+      → HasReportedEnding text_of_bad_log ending old new
       → IsUnique kinds bytes status old new
   unique_of ending old new is c reported = record {
     with_header = ends_so ending old new is c reported;
     without_header = λ none. absurd (has_header c.prefix none);
   }
 
-  unique_ending : (ending : Ending) (old new : Outside) → is_input_verdict status ≡ true → status ≡ status_of_ending ending → HasConverted kinds bytes ending old new
+  unique_ending : (ending : Ending) (old new : Outside) → is_input_verdict status ≡ true → status ≡ status_of_ending ending
+      → HasConverted kinds bytes ending old new
       → HasReportedEnding text_of_bad_log ending old new → IsUnique kinds bytes status old new
   unique_ending (Err (stop.Bad bad_log.Header)) old new verdict is h reported = record {
     with_header = λ prefix ending e. absurd (has_header prefix h.0);
@@ -53,5 +57,6 @@ module _ (kinds : ℕ) (bytes : List ℕ) (status : ℕ) where
   unique_ending (Err stop.OutOfMemory) old new verdict is h reported = absurd (other_than_verdict status 8 is verdict refl)
   unique_ending ending old new verdict is h reported = unique_of ending old new is h reported
 
-  pub unique : (old new : Outside) → is_input_verdict status ≡ true → ConvertedWith kinds bytes status old new → IsUnique kinds bytes status old new
+  pub unique : (old new : Outside) → is_input_verdict status ≡ true → ConvertedWith kinds bytes status old new
+      → IsUnique kinds bytes status old new
   unique old new verdict w = unique_ending w.ending old new verdict w.status_is w.converted w.reported

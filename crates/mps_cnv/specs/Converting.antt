@@ -27,7 +27,8 @@ pub record ConvertsOne (version : Version) (kinds size : ℕ) (left left_after b
 -- what the record that is pending gave
 abbrev pub PendingGives : Version → (kinds offset : ℕ) → Buffered → (before after : List ℕ) → Result (Option ℕ) (Stop BadLog) → Type 0
 PendingGives version kinds offset b before after (Ok (Some size)) =
-    (r : Record) × IsRecord version r × (size ≡ length (record_bytes r)) × (b.pending ≡ record_bytes r ++ drop size b.pending) × (after ≡ before ++ line_of_kinds version kinds r)
+    (r : Record) × IsRecord version r × (size ≡ length (record_bytes r)) × (b.pending ≡ record_bytes r ++ drop size b.pending)
+    × (after ≡ before ++ line_of_kinds version kinds r)
 PendingGives version kinds offset b before after (Ok None) =
     (first_of version b.ended b.pending ≡ Ok None) × (b.failed ≡ false) × (after ≡ before)
 PendingGives version kinds offset b before after (Err (stop.Bad (bad_log.Record at fault))) =
@@ -36,7 +37,8 @@ PendingGives version kinds offset b before after (Err stop.ReadFailed) = Unit {0
 PendingGives version kinds offset b before after result = ⊥
 
 -- what the next record gave, of what was left
-abbrev pub NextGives : Version → (kinds offset : ℕ) → (left left_after before after : Option (List ℕ)) → Result (Option ℕ) (Stop BadLog) → Type 0
+abbrev pub NextGives : Version → (kinds offset : ℕ) → (left left_after before after : Option (List ℕ)) → Result (Option ℕ) (Stop BadLog)
+    → Type 0
 NextGives version kinds offset left left_after before after (Ok (Some size)) =
     ConvertsOne version kinds size left left_after before after
 NextGives version kinds offset left left_after before after (Ok None) =
@@ -48,11 +50,13 @@ NextGives version kinds offset left left_after before after (Err stop.WriteFaile
 NextGives version kinds offset left left_after before after result = ⊥
 
 -- the lines of these records were put out
-abbrev pub PutsLines : {version : Version} {bytes : List ℕ} → (kinds : ℕ) → RecordsPrefix version bytes → (before after : Option (List ℕ)) → Type 0
+abbrev pub PutsLines : {version : Version} {bytes : List ℕ} → (kinds : ℕ) → RecordsPrefix version bytes → (before after : Option (List ℕ))
+    → Type 0
 PutsLines {version = version} kinds prefix before after = PutsOut before after (flat_map (line_of_kinds version kinds) prefix.records)
 
 -- the records of what was left were converted, up to a rest
-pub record ConvertsAll (version : Version) (kinds : ℕ) (bytes : List ℕ) (before after : Option (List ℕ)) (ending : Result (Unit {0}) (Stop BadLog)) : Type 0 where
+pub record ConvertsAll (version : Version) (kinds : ℕ) (bytes : List ℕ) (before after : Option (List ℕ))
+    (ending : Result (Unit {0}) (Stop BadLog)) : Type 0 where
   pub prefix : RecordsPrefix version bytes
   pub ends_at : RecordsEnd prefix ending
   pub put : PutsLines kinds prefix before after

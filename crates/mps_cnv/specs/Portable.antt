@@ -43,7 +43,8 @@ pub a_collection_that_moves_a_block :
 unfolding digits
 a_collection_that_moves_a_block = refl
 
-pub a_label_of_version_two : portable Two 64 (record { line = 4; code = 97; fields = 0x1000 ∷ 0 ∷ [] } ∷ []) ≡ codes "mpslog 2\n4 97 1000 0\n"
+pub a_label_of_version_two : portable Two 64 (record { line = 4; code = 97; fields = 0x1000 ∷ 0 ∷ [] } ∷ [])
+    ≡ codes "mpslog 2\n4 97 1000 0\n"
 unfolding digits
 a_label_of_version_two = refl
 

@@ -72,7 +72,8 @@ fn convert<D: Desk>(
     ensures broken { result ≡ Err Stop.ReadFailed → (bytes : List ℕ) → (D.outside desk.old).text log.now ≡ Some bytes
         → ConvertsUntilReadFault (bits_of kinds) bytes (D.outside desk.old) (D.outside desk.new) }
     ensures missing { OpensNothing (D.outside desk.old) log.now
-        → ((result ≡ Err Stop.ReadFailed) ⊎ (result ≡ Err Stop.OutOfMemory)) × ((D.outside desk.new).printed ≡ (D.outside desk.old).printed) }
+        → ((result ≡ Err Stop.ReadFailed) ⊎ (result ≡ Err Stop.OutOfMemory))
+        × ((D.outside desk.new).printed ≡ (D.outside desk.old).printed) }
     ensures no_memory { result ≡ Err Stop.OutOfMemory → D.outside desk.new ≡ D.outside desk.old }
     ensures cut { result ≡ Err Stop.WriteFailed → (bytes : List ℕ) → (D.outside desk.old).text log.now ≡ Some bytes
         → ConvertsUntilWriteFault (bits_of kinds) bytes (D.outside desk.old) (D.outside desk.new) }
@@ -106,7 +107,8 @@ fn convert_records<D: Desk>(
     ensures reported { (D.outside desk.new).reported ≡ (D.outside desk.old).reported }
     ensures err_faults { (D.outside desk.new).err_faults ≡ (D.outside desk.old).err_faults }
     ensures broken { result ≡ Err Stop.ReadFailed → (bytes : List ℕ) → left_of (D.outside desk.old) input.old ≡ Some bytes
-        → ConvertsFront version (bits_of kinds) bytes (D.outside desk.new).input (put_out (D.outside desk.old) output.old) (put_out (D.outside desk.new) output.new) }
+        → ConvertsFront version (bits_of kinds) bytes (D.outside desk.new).input (put_out (D.outside desk.old) output.old)
+        (put_out (D.outside desk.new) output.new) }
     ensures memory { result ≢ Err Stop.OutOfMemory }
     ensures grows { Grows (D.outside desk.old).printed (D.outside desk.new).printed }
     ensures cut { result ≡ Err Stop.WriteFailed → (bytes : List ℕ) → left_of (D.outside desk.old) input.old ≡ Some bytes
@@ -136,10 +138,12 @@ fn convert_next<D: Desk>(
     requires { IsAtEnd (D.outside desk.old) input.old }
     ensures works { WorksOnInput (D.outside desk.old) (D.outside desk.new) input.old input.new result }
     ensures size { IfOk result (λ o. IfSome o (λ size. size ≤ 40)) }
-    ensures gives { NextGives version (bits_of kinds) offset (left_of (D.outside desk.old) input.old) (left_of (D.outside desk.new) input.new)
+    ensures gives { NextGives version (bits_of kinds) offset (left_of (D.outside desk.old) input.old)
+        (left_of (D.outside desk.new) input.new)
         (put_out (D.outside desk.old) output.old) (put_out (D.outside desk.new) output.new) result }
     ensures broken { result ≡ Err Stop.ReadFailed → ((bytes : List ℕ) → left_of (D.outside desk.old) input.old ≡ Some bytes
-        → IsCutRecord version bytes (D.outside desk.new).input) × (put_out (D.outside desk.new) output.new ≡ put_out (D.outside desk.old) output.old) }
+        → IsCutRecord version bytes (D.outside desk.new).input)
+        × (put_out (D.outside desk.new) output.new ≡ put_out (D.outside desk.old) output.old) }
     ensures grows { Grows (D.outside desk.old).printed (D.outside desk.new).printed }
     ensures cut { result ≡ Err Stop.WriteFailed → PutsPart (D.outside desk.old).printed (D.outside desk.new).printed output.old }
     ensures at_end { IsAtEnd (D.outside desk.new) input.new }
@@ -164,7 +168,8 @@ fn convert_record(
     requires { length output.old + 512 ≤ 65536 }
     ensures justified { StopIsJustified input.now result }
     ensures size { IfOk result (λ o. IfSome o (λ size. (size ≤ 40) × (size ≤ length input.now.pending))) }
-    ensures broken { result ≡ Err Stop.ReadFailed → (first_of version input.now.ended input.now.pending ≡ Ok None) × (output.new ≡ output.old) }
+    ensures broken { result ≡ Err Stop.ReadFailed → (first_of version input.now.ended input.now.pending ≡ Ok None)
+        × (output.new ≡ output.old) }
     ensures gives { PendingGives version (bits_of kinds) offset input.now output.old output.new result }
 {
     match first(input.pending(), input.has_ended(), version) {

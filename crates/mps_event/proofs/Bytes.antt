@@ -32,7 +32,8 @@ bytes_low_first-suc i zero n = refl
 bytes_low_first-suc i (suc k) n = rw (byte_at-suc i n, bytes_low_first-suc (suc i) k n) refl
 
 -- the bytes of a number that was read from bytes
-pub number_bytes-little_number : (n : ℕ) (bytes : List ℕ) → n ≤ length bytes → IsBytes bytes → number_bytes n (little_number n bytes) ≡ take n bytes
+pub number_bytes-little_number : (n : ℕ) (bytes : List ℕ) → n ≤ length bytes → IsBytes bytes
+    → number_bytes n (little_number n bytes) ≡ take n bytes
 number_bytes-little_number zero bytes le fits = refl
 number_bytes-little_number (suc n) [] le fits = absurd (omega arith)
 number_bytes-little_number (suc n) (byte ∷ bytes) le fits =

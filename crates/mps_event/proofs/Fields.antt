@@ -23,7 +23,8 @@ get_or-fields_in (suc n) (suc i) bytes lt =
 
 -- what is read where a record's field stands
 pub field_at : (bytes : List ℕ) (n i number : ℕ) → i < n → length bytes ≡ 8 + 8 * n
-    → number ≡ little_number 8 (take (length bytes - (8 + 8 * i)) (drop (8 + 8 * i) bytes)) → number ≡ get_or (fields_in n (drop 8 bytes)) i 0
+    → number ≡ little_number 8 (take (length bytes - (8 + 8 * i)) (drop (8 + 8 * i) bytes))
+    → number ≡ get_or (fields_in n (drop 8 bytes)) i 0
 field_at bytes n i number lt size is =
     let all : take (length bytes - (8 + 8 * i)) (drop (8 + 8 * i) bytes) ≡ drop (8 + 8 * i) bytes = take_rest bytes (8 + 8 * i) in
     is ∙ ap (little_number 8) (all ∙ sym (drop-drop (8 * i) 8 bytes)) ∙ sym (get_or-fields_in n i (drop 8 bytes) lt)
@@ -33,7 +34,8 @@ pub fields_in-take : (n m : ℕ) (bytes : List ℕ) → 8 * n ≤ m → fields_i
 fields_in-take zero m bytes le = refl
 fields_in-take (suc n) m bytes le =
     let m-is : m ≡ 8 + (m - 8) = omega arith in
-    let later : drop 8 (take m bytes) ≡ take (m - 8) (drop 8 bytes) = ap (λ (k : ℕ). drop 8 (take k bytes)) m-is ∙ drop-take 8 (m - 8) bytes in
+    let later : drop 8 (take m bytes) ≡ take (m - 8) (drop 8 bytes) = ap (λ (k : ℕ). drop 8 (take k bytes)) m-is
+    ∙ drop-take 8 (m - 8) bytes in
     rw (little_from-take 0 8 m bytes (omega arith), later, fields_in-take n (m - 8) (drop 8 bytes) (omega arith)) refl
 
 take_nil : (n : ℕ) → take {A = ℕ} n [] ≡ []
@@ -49,24 +51,29 @@ take_add (suc m) n (byte ∷ bytes) =
     ap (λ (x : List ℕ). byte ∷ x) (take_add m n bytes) ∙ ap (λ (k : ℕ). take k (byte ∷ bytes)) e
 
 -- the bytes of fields that were read
-pub fields_bytes-fields_in : (n : ℕ) (bytes : List ℕ) → 8 * n ≤ length bytes → IsBytes bytes → fields_bytes (fields_in n bytes) ≡ take (8 * n) bytes
+pub fields_bytes-fields_in : (n : ℕ) (bytes : List ℕ) → 8 * n ≤ length bytes → IsBytes bytes
+    → fields_bytes (fields_in n bytes) ≡ take (8 * n) bytes
 fields_bytes-fields_in zero bytes le fits = refl
 fields_bytes-fields_in (suc n) bytes le fits =
     let later = fields_in n (drop 8 bytes) in
     let first : number_bytes 8 (little_number 8 bytes) ≡ take 8 bytes = number_bytes-little_number 8 bytes (omega arith) fits in
-    let others : fields_bytes later ≡ take (8 * n) (drop 8 bytes) = fields_bytes-fields_in n (drop 8 bytes) (omega (arith, length-drop 8 bytes)) (IsBytes-drop 8 bytes fits) in
+    let others : fields_bytes later ≡ take (8 * n) (drop 8 bytes) =
+    fields_bytes-fields_in n (drop 8 bytes) (omega (arith, length-drop 8 bytes)) (IsBytes-drop 8 bytes fits) in
     let size : 8 + 8 * n ≡ 8 * suc n = omega arith in
     ap (λ (x : List ℕ). x ++ fields_bytes later) first
     ∙ ap (λ (x : List ℕ). take 8 bytes ++ x) others
     ∙ take_add 8 (8 * n) bytes
     ∙ ap (λ (k : ℕ). take k bytes) size
 
-with_first : (field : ℕ) (fields bytes : List ℕ) → field < 2 ^ 64 → fields_in (length fields) bytes ≡ fields → fields_in (suc (length fields)) (number_bytes 8 field ++ bytes) ≡ field ∷ fields
+with_first : (field : ℕ) (fields bytes : List ℕ) → field < 2 ^ 64 → fields_in (length fields) bytes ≡ fields
+    → fields_in (suc (length fields)) (number_bytes 8 field ++ bytes) ≡ field ∷ fields
 with_first field fields bytes lt later =
     let first : little_number 8 (number_bytes 8 field ++ bytes) ≡ field = little_number-reads_back 8 field bytes lt in
     ap (λ (x : ℕ). x ∷ fields_in (length fields) bytes) first ∙ ap (λ (xs : List ℕ). field ∷ xs) later
 
 -- fields that were written are read again
-pub fields_in-fields_bytes : (fields rest : List ℕ) → AllByRecursion (λ field. field < 2 ^ 64) fields → fields_in (length fields) (fields_bytes fields ++ rest) ≡ fields
+pub fields_in-fields_bytes : (fields rest : List ℕ) → AllByRecursion (λ field. field < 2 ^ 64) fields
+    → fields_in (length fields) (fields_bytes fields ++ rest) ≡ fields
 fields_in-fields_bytes [] rest fits = refl
-fields_in-fields_bytes (field ∷ fields) rest fits = with_first field fields (fields_bytes fields ++ rest) fits.0 (fields_in-fields_bytes fields rest fits.1)
+fields_in-fields_bytes (field ∷ fields) rest fits =
+    with_first field fields (fields_bytes fields ++ rest) fits.0 (fields_in-fields_bytes fields rest fits.1)

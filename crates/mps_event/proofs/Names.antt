@@ -23,19 +23,23 @@ last_two bytes size fits =
     let high-is : drop 8 (drop 8 (drop 8 bytes)) ≡ drop 8 rest = ap (λ (x : List ℕ). drop 8 x) low-is in
     let high : number_bytes 8 (little_number 8 (drop 8 (drop 8 (drop 8 bytes)))) ≡ take 8 (drop 8 rest) =
     ap (λ (x : List ℕ). number_bytes 8 (little_number 8 x)) high-is
-    ∙ number_bytes-little_number 8 (drop 8 rest) (omega (arith, length-drop 16 bytes, length-drop 8 rest)) (IsBytes-drop 8 rest (IsBytes-drop 16 bytes fits)) in
-    joined (number_bytes 8 (little_number 8 (drop 8 (drop 8 bytes)))) (number_bytes 8 (little_number 8 (drop 8 (drop 8 (drop 8 bytes))))) rest (omega (arith, length-drop 16 bytes)) low high
+    ∙ number_bytes-little_number 8 (drop 8 rest) (omega (arith, length-drop 16 bytes, length-drop 8 rest))
+    (IsBytes-drop 8 rest (IsBytes-drop 16 bytes fits)) in
+    joined (number_bytes 8 (little_number 8 (drop 8 (drop 8 bytes))))
+    (number_bytes 8 (little_number 8 (drop 8 (drop 8 (drop 8 bytes))))) rest (omega (arith, length-drop 16 bytes)) low high
   where
     joined : (a b rest : List ℕ) → length rest ≡ 16 → a ≡ take 8 rest → b ≡ take 8 (drop 8 rest) → a ++ b ≡ rest
     joined a b rest size ea eb = rw (ea, eb) (take_add 8 8 rest ∙ take_all 16 rest (omega (arith, size)))
 
 -- what a whole record interns stands in its last 16 bytes
-pub interned_is : (bytes : List ℕ) → little_number 2 (drop 2 bytes) ≡ 3 → length bytes ≡ 32 → IsBytes bytes → interned_bytes (record_in bytes).fields ≡ drop 16 bytes
+pub interned_is : (bytes : List ℕ) → little_number 2 (drop 2 bytes) ≡ 3 → length bytes ≡ 32 → IsBytes bytes
+    → interned_bytes (record_in bytes).fields ≡ drop 16 bytes
 interned_is bytes count size fits = ap (λ (k : ℕ). interned_bytes (fields_in k (drop 8 bytes))) count ∙ last_two bytes size fits
 
 -- what the test of the last bytes says of the record
 pub intern_named : (event : Event) (bytes : List ℕ) (named : Bool) → event ≡ Intern → little_number 2 (drop 2 bytes) ≡ field_count_of event
-    → length bytes ≡ size_of_record (field_count_of event) → IsBytes bytes → named ≡ is_padded_name (take (length bytes - 16) (drop 16 bytes))
+    → length bytes ≡ size_of_record (field_count_of event) → IsBytes bytes
+    → named ≡ is_padded_name (take (length bytes - 16) (drop 16 bytes))
     → named ≡ interns_a_name event (record_in bytes).fields
 intern_named event bytes named is count size fits named-is =
     let count-is : little_number 2 (drop 2 bytes) ≡ 3 = count ∙ ap field_count_of is in

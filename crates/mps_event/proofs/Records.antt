@@ -29,7 +29,8 @@ find_passes : {X : Type 0} (p : X → Bool) (xs : List X) (x : X) → find p xs 
 find_passes p [] x e = absurd cc
 find_passes p (y ∷ ys) x e = passes_by_case p y ys x (p y) refl e (λ f. find_passes p ys x f)
   where
-    passes_by_case : {X : Type 0} (p : X → Bool) (y : X) (ys : List X) (x : X) (b : Bool) → p y ≡ b → cond b (Some y) (find p ys) ≡ Some x → (find p ys ≡ Some x → p x ≡ true) → p x ≡ true
+    passes_by_case : {X : Type 0} (p : X → Bool) (y : X) (ys : List X) (x : X) (b : Bool) → p y ≡ b → cond b (Some y) (find p ys) ≡ Some x
+        → (find p ys ≡ Some x → p x ≡ true) → p x ≡ true
     passes_by_case p y ys x true t e ih = let same : y ≡ x = cc in rw (← same) t
     passes_by_case p y ys x false t e ih = ih e
 
@@ -80,7 +81,8 @@ pub record HasEvent (version : Version) (code : ℕ) (fields : List ℕ) : Type 
   pub named : interns_a_name event fields ≡ true
 
 event_in : (code : ℕ) (fields : List ℕ) (version : Version) (o : Option Event) → event_of version code ≡ o
-    → MatchOption o ⊥ (λ event. (length fields ≡ field_count_of event) × IsTrue (interns_a_name event fields)) → HasEvent version code fields
+    → MatchOption o ⊥ (λ event. (length fields ≡ field_count_of event) × IsTrue (interns_a_name event fields))
+    → HasEvent version code fields
 event_in code fields version None e h = absurd h
 event_in code fields version (Some event) e h = record { event = event; known = e; count = h.0; named = h.1 }
 
@@ -89,7 +91,8 @@ event_of_fields version code fields h = event_in code fields version (event_of v
 
 pub fields_of_event : (version : Version) (code : ℕ) (fields : List ℕ) → HasEvent version code fields → AreFields version code fields
 fields_of_event version code fields h =
-    subst (λ (o : Option Event). MatchOption o ⊥ (λ event. (length fields ≡ field_count_of event) × IsTrue (interns_a_name event fields))) (sym h.known) (h.count, h.named)
+    subst (λ (o : Option Event). MatchOption o ⊥ (λ event. (length fields ≡ field_count_of event) × IsTrue (interns_a_name event fields)))
+    (sym h.known) (h.count, h.named)
 
 -- ---- the bytes of a record that was read
 
@@ -101,20 +104,25 @@ record_bytes-record_in n bytes n-is le fits =
     let code : number_bytes 2 (little_number 2 bytes) ≡ take 2 bytes = number_bytes-little_number 2 bytes (omega arith) fits in
     let count-is : length fields ≡ little_number 2 (drop 2 bytes) = length-fields_in (little_number 2 (drop 2 bytes)) (drop 8 bytes) in
     let count : number_bytes 2 (length fields) ≡ take 2 (drop 2 bytes) =
-    ap (number_bytes 2) count-is ∙ number_bytes-little_number 2 (drop 2 bytes) (omega (arith, length-drop 2 bytes)) (IsBytes-drop 2 bytes fits) in
+    ap (number_bytes 2) count-is ∙ number_bytes-little_number 2 (drop 2 bytes) (omega (arith, length-drop 2 bytes))
+    (IsBytes-drop 2 bytes fits) in
     let line : number_bytes 4 (little_number 4 (drop 4 bytes)) ≡ take 4 (drop 4 bytes) =
     number_bytes-little_number 4 (drop 4 bytes) (omega (arith, length-drop 4 bytes)) (IsBytes-drop 4 bytes fits) in
     let rest : fields_bytes fields ≡ take (8 * n) (drop 8 bytes) =
-    ap (λ (k : ℕ). fields_bytes (fields_in k (drop 8 bytes))) n-is ∙ fields_bytes-fields_in n (drop 8 bytes) (omega (arith, length-drop 8 bytes)) (IsBytes-drop 8 bytes fits) in
-    joined (number_bytes 2 (little_number 2 bytes)) (number_bytes 2 (length fields)) (number_bytes 4 (little_number 4 (drop 4 bytes))) (fields_bytes fields) n bytes code count line rest
+    ap (λ (k : ℕ). fields_bytes (fields_in k (drop 8 bytes))) n-is
+    ∙ fields_bytes-fields_in n (drop 8 bytes) (omega (arith, length-drop 8 bytes)) (IsBytes-drop 8 bytes fits) in
+    joined (number_bytes 2 (little_number 2 bytes)) (number_bytes 2 (length fields)) (number_bytes 4 (little_number 4 (drop 4 bytes)))
+    (fields_bytes fields) n bytes code count line rest
   where
-    joined : (a b c d : List ℕ) (n : ℕ) (bytes : List ℕ) → a ≡ take 2 bytes → b ≡ take 2 (drop 2 bytes) → c ≡ take 4 (drop 4 bytes) → d ≡ take (8 * n) (drop 8 bytes)
+    joined : (a b c d : List ℕ) (n : ℕ) (bytes : List ℕ) → a ≡ take 2 bytes → b ≡ take 2 (drop 2 bytes) → c ≡ take 4 (drop 4 bytes)
+        → d ≡ take (8 * n) (drop 8 bytes)
         → a ++ b ++ c ++ d ≡ take (8 + 8 * n) bytes
     joined a b c d n bytes ea eb ec ed =
         let two = take_add 2 2 bytes in
         let three = take_add 4 4 bytes in
         let four = take_add 8 (8 * n) bytes in
-        rw (ea, eb, ec, ed) (ap (λ (x : List ℕ). x ++ take 4 (drop 4 bytes) ++ take (8 * n) (drop 8 bytes)) two ∙ ap (λ (x : List ℕ). x ++ take (8 * n) (drop 8 bytes)) three ∙ four)
+        rw (ea, eb, ec, ed) (ap (λ (x : List ℕ). x ++ take 4 (drop 4 bytes) ++ take (8 * n) (drop 8 bytes)) two
+        ∙ ap (λ (x : List ℕ). x ++ take (8 * n) (drop 8 bytes)) three ∙ four)
 
 -- the numbers of fields that were read
 fields_fit : (n : ℕ) (bytes : List ℕ) → IsBytes bytes → AllByRecursion (λ field. field < 2 ^ 64) (fields_in n bytes)
@@ -136,12 +144,15 @@ record_in-take : (n : ℕ) (bytes : List ℕ) → little_number 2 (drop 2 bytes)
 record_in-take n bytes count =
     let front = take (size_of_record n) bytes in
     let code : little_number 2 front ≡ little_number 2 bytes = little_from-take 0 2 (size_of_record n) bytes (omega arith) in
-    let count-is : little_number 2 (drop 2 front) ≡ little_number 2 (drop 2 bytes) = count_in_prefix (size_of_record n) bytes (omega arith) in
-    let later : drop 4 front ≡ take (4 + 8 * n) (drop 4 bytes) = ap (λ (k : ℕ). drop 4 (take k bytes)) (omega arith) ∙ drop-take 4 (4 + 8 * n) bytes in
+    let count-is : little_number 2 (drop 2 front) ≡ little_number 2 (drop 2 bytes) =
+    count_in_prefix (size_of_record n) bytes (omega arith) in
+    let later : drop 4 front ≡ take (4 + 8 * n) (drop 4 bytes) = ap (λ (k : ℕ). drop 4 (take k bytes)) (omega arith)
+    ∙ drop-take 4 (4 + 8 * n) bytes in
     let line : little_number 4 (drop 4 front) ≡ little_number 4 (drop 4 bytes) =
     ap (little_number 4) later ∙ little_from-take 0 4 (4 + 8 * n) (drop 4 bytes) (omega arith) in
     let last : drop 8 front ≡ take (8 * n) (drop 8 bytes) = drop-take 8 (8 * n) bytes in
-    let fields : fields_in n (drop 8 front) ≡ fields_in n (drop 8 bytes) = ap (fields_in n) last ∙ fields_in-take n (8 * n) (drop 8 bytes) (omega arith) in
+    let fields : fields_in n (drop 8 front) ≡ fields_in n (drop 8 bytes) = ap (fields_in n) last
+    ∙ fields_in-take n (8 * n) (drop 8 bytes) (omega arith) in
     let all : fields_in (little_number 2 (drop 2 front)) (drop 8 front) ≡ fields_in (little_number 2 (drop 2 bytes)) (drop 8 bytes) =
     ap (λ (k : ℕ). fields_in k (drop 8 front)) (count-is ∙ count) ∙ fields ∙ ap (λ (k : ℕ). fields_in k (drop 8 bytes)) (sym count) in
     made (little_number 2 front) (little_number 2 bytes) (little_number 4 (drop 4 front)) (little_number 4 (drop 4 bytes))
@@ -158,7 +169,8 @@ known_is event ended bytes count size =
     let counts : eqb (little_number 2 (drop 2 bytes)) (field_count_of event) ≡ true = eq-eqb _ _ count in
     let long : ltb (length bytes) (size_of_record (field_count_of event)) ≡ false = le-ltb _ _ size in
     ap (whole_of event) (record_in-take (field_count_of event) bytes count)
-    ∙ chosen (eqb (little_number 2 (drop 2 bytes)) (field_count_of event)) (ltb (length bytes) (size_of_record (field_count_of event))) ended (whole_of event (record_in bytes)) counts long
+    ∙ chosen (eqb (little_number 2 (drop 2 bytes)) (field_count_of event))
+    (ltb (length bytes) (size_of_record (field_count_of event))) ended (whole_of event (record_in bytes)) counts long
   where
     chosen : (counts short ended : Bool) (x : Result (Option Record) LogFault) → counts ≡ true → short ≡ false
         → x ≡ cond (not counts) (Err BadCount) (cond short (too_few ended) x)
@@ -181,7 +193,8 @@ whole_gives : (b : Bool) (s r : Record) → cond b (Ok (Some s)) (Err BadString)
 whole_gives true s r e = (refl, cc)
 whole_gives false s r e = absurd cc
 
-sized_gives : (b ended named : Bool) (s r : Record) → cond b (too_few ended) (cond named (Ok (Some s)) (Err BadString)) ≡ Ok (Some r) → (b ≡ false) × (named ≡ true) × (s ≡ r)
+sized_gives : (b ended named : Bool) (s r : Record) → cond b (too_few ended) (cond named (Ok (Some s)) (Err BadString)) ≡ Ok (Some r)
+    → (b ≡ false) × (named ≡ true) × (s ≡ r)
 sized_gives true ended named s r e = absurd (too_few_gives_none ended r e)
 sized_gives false ended named s r e = let w = whole_gives named s r e in (refl, w.0, w.1)
 
@@ -191,9 +204,11 @@ counted_gives : (counts short ended named : Bool) (s r : Record)
 counted_gives false short ended named s r e = absurd cc
 counted_gives true short ended named s r e = let w = sized_gives short ended named s r e in (refl, w.0, w.1, w.2)
 
-known_gives : (event : Event) (ended : Bool) (bytes : List ℕ) (r : Record) → known_of event ended bytes ≡ Ok (Some r) → IsKnownAs event bytes r
+known_gives : (event : Event) (ended : Bool) (bytes : List ℕ) (r : Record) → known_of event ended bytes ≡ Ok (Some r)
+    → IsKnownAs event bytes r
 known_gives event ended bytes r e =
-    let w = counted_gives (eqb (little_number 2 (drop 2 bytes)) (field_count_of event)) (ltb (length bytes) (size_of_record (field_count_of event))) ended
+    let w = counted_gives (eqb (little_number 2 (drop 2 bytes)) (field_count_of event))
+    (ltb (length bytes) (size_of_record (field_count_of event))) ended
     (interns_a_name event (record_in bytes).fields) (record_in bytes) r e in
     record { is = w.3; count = eqb-true _ _ w.0; size = ltb-false _ _ w.1; named = w.2 }
 
@@ -211,7 +226,8 @@ first_gives : (version : Version) (ended : Bool) (bytes : List ℕ) (r : Record)
 first_gives version ended [] r e = absurd cc
 first_gives version ended (byte ∷ bytes) r e =
     coded_gives (event_of version (little_number 2 (byte ∷ bytes))) ended (byte ∷ bytes) r
-    (long_gives (ltb (length (byte ∷ bytes)) 8) ended (coded_of (event_of version (little_number 2 (byte ∷ bytes))) ended (byte ∷ bytes)) r e)
+    (long_gives (ltb (length (byte ∷ bytes)) 8) ended
+    (coded_of (event_of version (little_number 2 (byte ∷ bytes))) ended (byte ∷ bytes)) r e)
 
 -- the bytes begin with this record of the grammar
 pub record BeginsWith (version : Version) (r : Record) (bytes : List ℕ) : Type 0 where
@@ -224,12 +240,15 @@ record_begins : (version : Version) (event : Event) (bytes : List ℕ) → IsByt
 record_begins version event bytes fits known count size named =
     let fields = (record_in bytes).fields in
     let count-is : length fields ≡ field_count_of event = length-fields_in (little_number 2 (drop 2 bytes)) (drop 8 bytes) ∙ count in
-    let event-is : HasEvent version (record_in bytes).code fields = record { event = event; known = known; count = count-is; named = named } in
-    let spelled : record_bytes (record_in bytes) ≡ take (size_of_record (field_count_of event)) bytes = record_bytes-record_in (field_count_of event) bytes count size fits in
+    let event-is : HasEvent version (record_in bytes).code fields =
+    record { event = event; known = known; count = count-is; named = named } in
+    let spelled : record_bytes (record_in bytes) ≡ take (size_of_record (field_count_of event)) bytes =
+    record_bytes-record_in (field_count_of event) bytes count size fits in
     record {
       grammar = record {
         fields = fields_of_event version (record_in bytes).code fields event-is;
-        fields_fit = All-from_recursion (λ field. field < 2 ^ 64) fields (fields_fit (little_number 2 (drop 2 bytes)) (drop 8 bytes) (IsBytes-drop 8 bytes fits));
+        fields_fit = All-from_recursion (λ field. field < 2 ^ 64) fields
+            (fields_fit (little_number 2 (drop 2 bytes)) (drop 8 bytes) (IsBytes-drop 8 bytes fits));
         line_fits = little_from-lt 0 4 (drop 4 bytes) (IsBytes-drop 4 bytes fits);
       };
       spelled = sym (take-append-drop (size_of_record (field_count_of event)) bytes)
@@ -237,15 +256,18 @@ record_begins version event bytes fits known count size named =
           ∙ ap (λ (k : ℕ). record_bytes (record_in bytes) ++ drop (size_of_record k) bytes) (sym count-is);
     }
 
-pub record_read : (version : Version) (ended : Bool) (bytes : List ℕ) (r : Record) → IsBytes bytes → first_of version ended bytes ≡ Ok (Some r) → BeginsWith version r bytes
+pub record_read : (version : Version) (ended : Bool) (bytes : List ℕ) (r : Record) → IsBytes bytes
+    → first_of version ended bytes ≡ Ok (Some r) → BeginsWith version r bytes
 record_read version ended bytes r fits e =
     let g = first_gives version ended bytes r e in
     let k = g.2 in
     subst (λ (s : Record). BeginsWith version s bytes) k.is (record_begins version g.0 bytes fits g.1 k.count k.size k.named)
 
 -- the same for any result
-pub sound_reading : (version : Version) (ended : Bool) (bytes : List ℕ) (result : Result (Option Record) LogFault) → IsBytes bytes → result ≡ first_of version ended bytes
-    → IfOk result (λ read. IfSome read (λ r. IsRecord version r × (bytes ≡ record_bytes r ++ drop (size_of_record (length r.fields)) bytes)))
+pub sound_reading : (version : Version) (ended : Bool) (bytes : List ℕ) (result : Result (Option Record) LogFault) → IsBytes bytes
+    → result ≡ first_of version ended bytes
+    → IfOk result (λ read. IfSome read (λ r. IsRecord version r
+    × (bytes ≡ record_bytes r ++ drop (size_of_record (length r.fields)) bytes)))
 sound_reading version ended bytes (Ok (Some r)) fits e = let f = record_read version ended bytes r fits (sym e) in (f.grammar, f.spelled)
 sound_reading version ended bytes (Ok None) fits e = tt
 sound_reading version ended bytes (Err fault) fits e = tt
@@ -255,16 +277,20 @@ sound_reading version ended bytes (Err fault) fits e = tt
 numbers_make : (bytes : List ℕ) (r : Record) → little_number 2 bytes ≡ r.code → little_number 2 (drop 2 bytes) ≡ length r.fields
     → little_number 4 (drop 4 bytes) ≡ r.line → fields_in (length r.fields) (drop 8 bytes) ≡ r.fields → record_in bytes ≡ r
 numbers_make bytes r code count line fields =
-    let all : fields_in (little_number 2 (drop 2 bytes)) (drop 8 bytes) ≡ r.fields = ap (λ (k : ℕ). fields_in k (drop 8 bytes)) count ∙ fields in
+    let all : fields_in (little_number 2 (drop 2 bytes)) (drop 8 bytes) ≡ r.fields = ap (λ (k : ℕ). fields_in k (drop 8 bytes)) count
+    ∙ fields in
     rw (code, line, all) refl
 
-known_reads : (event : Event) (ended : Bool) (bytes : List ℕ) (r : Record) → record_in bytes ≡ r → little_number 2 (drop 2 bytes) ≡ field_count_of event
+known_reads : (event : Event) (ended : Bool) (bytes : List ℕ) (r : Record) → record_in bytes ≡ r
+    → little_number 2 (drop 2 bytes) ≡ field_count_of event
     → size_of_record (field_count_of event) ≤ length bytes → interns_a_name event r.fields ≡ true → known_of event ended bytes ≡ Ok (Some r)
 known_reads event ended bytes r is count size named =
     let counts : eqb (little_number 2 (drop 2 bytes)) (field_count_of event) ≡ true = rw count (eqb-refl (field_count_of event)) in
     let long : ltb (length bytes) (size_of_record (field_count_of event)) ≡ false = le-ltb _ _ size in
     let named-is : interns_a_name event (record_in bytes).fields ≡ true = ap (λ (s : Record). interns_a_name event s.fields) is ∙ named in
-    chosen (eqb (little_number 2 (drop 2 bytes)) (field_count_of event)) (ltb (length bytes) (size_of_record (field_count_of event))) ended (interns_a_name event (record_in bytes).fields) (record_in bytes) counts long named-is
+    chosen (eqb (little_number 2 (drop 2 bytes)) (field_count_of event))
+    (ltb (length bytes) (size_of_record (field_count_of event))) ended (interns_a_name event (record_in bytes).fields)
+    (record_in bytes) counts long named-is
     ∙ ap (λ (s : Record). Ok (Some s)) is
   where
     eqb-refl : (n : ℕ) → eqb n n ≡ true
@@ -274,7 +300,8 @@ known_reads event ended bytes r is count size named =
         → cond (not counts) (Err BadCount) (cond short (too_few ended) (cond named (Ok (Some s)) (Err BadString))) ≡ Ok (Some s)
     chosen counts short ended named s a b c = rw (a, b, c) refl
 
-first_reads : (version : Version) (event : Event) (ended : Bool) (bytes : List ℕ) (r : Record) → event_of version (little_number 2 bytes) ≡ Some event
+first_reads : (version : Version) (event : Event) (ended : Bool) (bytes : List ℕ) (r : Record)
+    → event_of version (little_number 2 bytes) ≡ Some event
     → 8 ≤ length bytes → known_of event ended bytes ≡ Ok (Some r) → first_of version ended bytes ≡ Ok (Some r)
 first_reads version event ended [] r known size e = absurd (omega arith)
 first_reads version event ended (byte ∷ bytes) r known size e =
@@ -293,7 +320,8 @@ record IsSpelled (r : Record) (bytes : List ℕ) : Type 0 where
   fields : fields_in (length r.fields) (drop 8 bytes) ≡ r.fields
   size : size_of_record (length r.fields) ≤ length bytes
 
-reads_spelled : (version : Version) (ended : Bool) (bytes : List ℕ) (r : Record) → HasEvent version r.code r.fields → IsSpelled r bytes → first_of version ended bytes ≡ Ok (Some r)
+reads_spelled : (version : Version) (ended : Bool) (bytes : List ℕ) (r : Record) → HasEvent version r.code r.fields → IsSpelled r bytes
+    → first_of version ended bytes ≡ Ok (Some r)
 reads_spelled version ended bytes r h s =
     let known : event_of version (little_number 2 bytes) ≡ Some h.event = ap (event_of version) s.code ∙ h.known in
     let size : size_of_record (field_count_of h.event) ≤ length bytes = rw (← h.count) s.size in
@@ -304,9 +332,11 @@ pub length-fields_bytes : (fields : List ℕ) → length (fields_bytes fields) �
 length-fields_bytes [] = refl
 length-fields_bytes (field ∷ fields) = let e = length-fields_bytes fields in omega (arith, e)
 
-spelled_by : (r : Record) (rest : List ℕ) → r.code < 2 ^ 16 → length r.fields < 2 ^ 16 → r.line < 2 ^ 32 → All (λ field. field < 2 ^ 64) r.fields → IsSpelled r (record_bytes r ++ rest)
+spelled_by : (r : Record) (rest : List ℕ) → r.code < 2 ^ 16 → length r.fields < 2 ^ 16 → r.line < 2 ^ 32
+    → All (λ field. field < 2 ^ 64) r.fields → IsSpelled r (record_bytes r ++ rest)
 spelled_by r rest code count line fields = record {
-  code = little_number-reads_back 2 r.code (number_bytes 2 (length r.fields) ++ number_bytes 4 r.line ++ fields_bytes r.fields ++ rest) code;
+  code = little_number-reads_back 2 r.code (number_bytes 2 (length r.fields) ++ number_bytes 4 r.line ++ fields_bytes r.fields
+      ++ rest) code;
   count = little_number-reads_back 2 (length r.fields) (number_bytes 4 r.line ++ fields_bytes r.fields ++ rest) count;
   line = little_number-reads_back 4 r.line (fields_bytes r.fields ++ rest) line;
   fields = fields_in-fields_bytes r.fields rest (recursion_from_All (λ field. field < 2 ^ 64) r.fields fields);
@@ -314,7 +344,8 @@ spelled_by r rest code count line fields = record {
 }
 
 -- a record of the grammar is read, whatever follows it
-pub read_again : (version : Version) (ended : Bool) (r : Record) (rest : List ℕ) → IsRecord version r → first_of version ended (record_bytes r ++ rest) ≡ Ok (Some r)
+pub read_again : (version : Version) (ended : Bool) (r : Record) (rest : List ℕ) → IsRecord version r
+    → first_of version ended (record_bytes r ++ rest) ≡ Ok (Some r)
 read_again version ended r rest h =
     let event = event_of_fields version r.code r.fields h.fields in
     let code : r.code < 2 ^ 16 = rw (← code-is version r.code event.event event.known) (code-lt event.event) in
@@ -328,8 +359,10 @@ read_as r = Ok (Some r)
 same_read : (a b : Record) → read_as a ≡ read_as b → a ≡ b
 same_read a b e = cc
 
-pub one_beginning : (version : Version) (a b : Record) (x y : List ℕ) → IsRecord version a → IsRecord version b → record_bytes a ++ x ≡ record_bytes b ++ y
+pub one_beginning : (version : Version) (a b : Record) (x y : List ℕ) → IsRecord version a → IsRecord version b → record_bytes a
+    ++ x ≡ record_bytes b ++ y
     → (a ≡ b) × (x ≡ y)
 one_beginning version a b x y ga gb e =
-    let same : a ≡ b = same_read a b (sym (read_again version true a x ga) ∙ ap (first_of version true) e ∙ read_again version true b y gb) in
+    let same : a ≡ b = same_read a b (sym (read_again version true a x ga) ∙ ap (first_of version true) e
+    ∙ read_again version true b y gb) in
     (same, append_cancel_left (record_bytes b) x y (ap (λ (r : Record). record_bytes r ++ x) (sym same) ∙ e))

@@ -18,7 +18,12 @@ fields_in (suc count) bytes = little_number 8 bytes ∷ fields_in count (drop 8 
 -- the record that whole bytes of one stand for
 abbrev pub record_in : List ℕ → Record
 record_in bytes =
-    record { line = little_number 4 (drop 4 bytes); code = little_number 2 bytes; fields = fields_in (little_number 2 (drop 2 bytes)) (drop 8 bytes) }
+    record {
+      line = little_number 4 (drop 4 bytes);
+      code = little_number 2 bytes;
+      fields =
+          fields_in (little_number 2 (drop 2 bytes)) (drop 8 bytes);
+    }
 
 -- how many bytes a record of n fields has
 abbrev pub size_of_record : (count : ℕ) → ℕ

@@ -29,7 +29,8 @@ pub fn first<'a>(
     version: Version,
 ) -> Result<Option<RecordRef<'a>>, LogFault>
     // What is read is a record of the grammar, and the bytes begin with its bytes.
-    ensures sound { IfOk result (λ read. IfSome read (λ r. IsRecord version r × (bytes.now ≡ record_bytes r ++ drop (size_of_record (length r.fields)) bytes.now))) }
+    ensures sound { IfOk result (λ read. IfSome read (λ r. IsRecord version r
+        × (bytes.now ≡ record_bytes r ++ drop (size_of_record (length r.fields)) bytes.now))) }
     // A record of the grammar with which the bytes begin is read, whatever follows it.
     ensures complete { (r : Record) (rest : List ℕ) → IsRecord version r → bytes.now ≡ record_bytes r ++ rest → result ≡ Ok (Some r) }
     // Which fault it is.

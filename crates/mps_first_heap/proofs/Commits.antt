@@ -204,7 +204,13 @@ module _ (h : HeapState) (p : Past) (name : Name) (slot : Slot) (n : NamesPoint 
         let e = act_of_commit moved name n.named p.ids slot s.held s.named s.there (slice_index h.words h.reserved)
         (cells_at h.words h.reserved) in
         right_step (world_committing h p) (step_committed h line name slot) (with_object h slot) (past_with_object h p slot)
-        (record { answered = refl; moves_are_legal = (legal_commit, tt); moves_are_due = refl; answer_is_due = sym (ap answer_from e); marked = tt })
+        (record {
+          answered = refl;
+          moves_are_legal = (legal_commit, tt);
+          moves_are_due = refl;
+          answer_is_due = sym (ap answer_from e);
+          marked = tt;
+        })
         (ap (λ r. with_client_remembered (world_from (with_next_address (world_committing h p) (bytes_of_word * h.reserved)) r)) e
         ∙ world_committed h p slot s.table n.point)
         agrees_with_object

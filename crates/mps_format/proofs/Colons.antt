@@ -44,26 +44,32 @@ pub record IsCutAt (text : List ℕ) (a b colon : ℕ) : Type 0 where
   pub before : take colon text ≡ decimal a
   pub after : drop (colon + 1) text ≡ decimal b
 
-pub has_colon : (text : List ℕ) (a b : ℕ) → a < 2 ^ 64 → text ≡ decimal a ++ 58 ∷ decimal b → position is_colon text ≡ Some (length (decimal a))
+pub has_colon : (text : List ℕ) (a b : ℕ) → a < 2 ^ 64 → text ≡ decimal a ++ 58 ∷ decimal b
+    → position is_colon text ≡ Some (length (decimal a))
 has_colon text a b fits e = ap (position is_colon) e ∙ position_of_seam (decimal a) (decimal b) (digits_of_decimal a fits)
 
-pub cut_at_colon : (text : List ℕ) (a b colon : ℕ) → a < 2 ^ 64 → text ≡ decimal a ++ 58 ∷ decimal b → position is_colon text ≡ Some colon → IsCutAt text a b colon
+pub cut_at_colon : (text : List ℕ) (a b colon : ℕ) → a < 2 ^ 64 → text ≡ decimal a ++ 58 ∷ decimal b → position is_colon text ≡ Some colon
+    → IsCutAt text a b colon
 cut_at_colon text a b colon fits e p =
     let found = has_colon text a b fits e in
     let place : colon ≡ length (decimal a) = cc in
     record {
       before = ap (λ (n : ℕ). take n text) place ∙ ap (take (length (decimal a))) e ∙ take-append_seam (decimal a) (58 ∷ decimal b);
-      after = ap (λ (n : ℕ). drop (n + 1) text) place ∙ ap (drop (length (decimal a) + 1)) e ∙ drop-append-add (decimal a) (58 ∷ decimal b) 1;
+      after = ap (λ (n : ℕ). drop (n + 1) text) place ∙ ap (drop (length (decimal a) + 1)) e
+          ∙ drop-append-add (decimal a) (58 ∷ decimal b) 1;
     }
 
 -- a text is what stands before its first colon, the colon, and the rest
-pub joined_at_colon : (text : List ℕ) (colon : ℕ) → position is_colon text ≡ Some colon → text ≡ take colon text ++ 58 ∷ drop (colon + 1) text
+pub joined_at_colon : (text : List ℕ) (colon : ℕ) → position is_colon text ≡ Some colon → text ≡ take colon text ++ 58
+    ∷ drop (colon + 1) text
 joined_at_colon text colon p =
     let at = position-Some is_colon text colon 0 p in
     let byte : get_or text colon 0 ≡ 58 = grind (arith, nat_tests) in
     rw (add-one) (split_at text colon 0 at.0 ∙ ap (λ (x : ℕ). take colon text ++ x ∷ drop (suc colon) text) byte)
 
-pub sound_pair : (text : List ℕ) (colon : ℕ) (r : Option (ℕ × ℕ)) → position is_colon text ≡ Some colon → IfSome r (λ p. (take colon text ≡ decimal p.0) × (take (length text - (colon + 1)) (drop (colon + 1) text) ≡ decimal p.1)) → IfSome r (λ p. text ≡ decimal p.0 ++ 58 ∷ decimal p.1)
+pub sound_pair : (text : List ℕ) (colon : ℕ) (r : Option (ℕ × ℕ)) → position is_colon text ≡ Some colon
+    → IfSome r (λ p. (take colon text ≡ decimal p.0) × (take (length text - (colon + 1)) (drop (colon + 1) text) ≡ decimal p.1))
+    → IfSome r (λ p. text ≡ decimal p.0 ++ 58 ∷ decimal p.1)
 sound_pair text colon (Some p) e h =
     joined_at_colon text colon e ∙ ap (λ (t : List ℕ). t ++ 58 ∷ drop (colon + 1) text) h.0
     ∙ ap (λ (t : List ℕ). decimal p.0 ++ 58 ∷ t) (sym (take_rest text (colon + 1)) ∙ h.1)

@@ -49,10 +49,12 @@ word_of-head_of_word h head e =
     grind (arith, nat_tests, front_word-fields h, mapped_word-fields h, leaf_word-fields h)
 
 -- ---- the head of the word of a head
-front_rules : (size references : ℕ) → front_word size references ≢ 0 → (2 ≤ size) × (size ≤ 65536) × (references < size) × (front_word size references ≡ head_word 1 size references)
+front_rules : (size references : ℕ) → front_word size references ≢ 0 → (2 ≤ size) × (size ≤ 65536) × (references < size)
+    × (front_word size references ≡ head_word 1 size references)
 front_rules size references some = grind (arith, nat_tests)
 
-mapped_rules : (size mask : ℕ) → mapped_word size mask ≢ 0 → (2 ≤ size) × (size ≤ 32) × (mask % 2 ≡ 0) × (mask < 2 ^ size) × (mapped_word size mask ≡ head_word 2 size mask)
+mapped_rules : (size mask : ℕ) → mapped_word size mask ≢ 0 → (2 ≤ size) × (size ≤ 32) × (mask % 2 ≡ 0) × (mask < 2 ^ size)
+    × (mapped_word size mask ≡ head_word 2 size mask)
 mapped_rules size mask some = grind (arith, nat_tests)
 
 leaf_rules : (size : ℕ) → leaf_word size ≢ 0 → (2 ≤ size) × (size ≤ 65536) × (leaf_word size ≡ head_word 3 size 0)
@@ -95,7 +97,8 @@ head_of_word-word_of (Front size references) some =
     let s = size-head_word 1 size references (lit< tt) (omega arith) in
     let x = extra-head_word 1 size references (lit< tt) (omega arith) in
     let found = front_head_of (head_word 1 size references) (is_front-head_word size references r.0 r.1 r.2) in
-    ap head_of_word r.3 ∙ found ∙ ap (λ (n : ℕ). Some (Front n (extra_field (head_word 1 size references)))) s ∙ ap (λ (n : ℕ). Some (Front size n)) x
+    ap head_of_word r.3 ∙ found ∙ ap (λ (n : ℕ). Some (Front n (extra_field (head_word 1 size references)))) s
+    ∙ ap (λ (n : ℕ). Some (Front size n)) x
 head_of_word-word_of (Mapped size mask) some =
     let r = mapped_rules size mask some in
     let t = tag-head_word 2 size mask (lit< tt) in
@@ -103,7 +106,8 @@ head_of_word-word_of (Mapped size mask) some =
     let x = extra-head_word 2 size mask (lit< tt) (omega arith) in
     let other = not_front (head_word 2 size mask) (λ e. omega arith) in
     let found = mapped_head_of (head_word 2 size mask) other (is_mapped-head_word size mask r.0 r.1 r.2 r.3) in
-    ap head_of_word r.4 ∙ found ∙ ap (λ (n : ℕ). Some (Mapped n (extra_field (head_word 2 size mask)))) s ∙ ap (λ (n : ℕ). Some (Mapped size n)) x
+    ap head_of_word r.4 ∙ found ∙ ap (λ (n : ℕ). Some (Mapped n (extra_field (head_word 2 size mask)))) s
+    ∙ ap (λ (n : ℕ). Some (Mapped size n)) x
 head_of_word-word_of (Leaf size) some =
     let r = leaf_rules size some in
     let t = tag-head_word 3 size 0 (lit< tt) in
@@ -114,7 +118,8 @@ head_of_word-word_of (Leaf size) some =
     ap head_of_word r.2 ∙ found ∙ ap (λ (n : ℕ). Some (Leaf n)) s
 
 -- ---- the head of a text: no two heads with numbers below 2 ^ 64 have one text
-pair_from_text : (letter a b c d : ℕ) → a < 2 ^ 64 → b < 2 ^ 64 → c < 2 ^ 64 → d < 2 ^ 64 → labelled_pair letter a b ≡ labelled_pair letter c d → (a ≡ c) × (b ≡ d)
+pair_from_text : (letter a b c d : ℕ) → a < 2 ^ 64 → b < 2 ^ 64 → c < 2 ^ 64 → d < 2 ^ 64
+    → labelled_pair letter a b ≡ labelled_pair letter c d → (a ≡ c) × (b ≡ d)
 pair_from_text letter a b c d fa fb fc fd e =
     let text : List ℕ = decimal a ++ 58 ∷ decimal b in
     let same : text ≡ decimal c ++ 58 ∷ decimal d = ap (drop 2) e in

@@ -27,7 +27,8 @@ pub record IsFirstBit (mask from k : ℕ) : Type 0 where
   pub is_set : bit_at mask k ≡ 1
   pub clear_between : (j : ℕ) → from ≤ j → j < k → bit_at mask j ≡ 0
 
-pub first_from : (mask from : ℕ) → 0 < mask / 2 ^ from → mask / 2 ^ from < 2 ^ 32 → IsFirstBit mask from (from + trailing_zeros w32 (mask / 2 ^ from))
+pub first_from : (mask from : ℕ) → 0 < mask / 2 ^ from → mask / 2 ^ from < 2 ^ 32
+    → IsFirstBit mask from (from + trailing_zeros w32 (mask / 2 ^ from))
 first_from mask from some fits =
     let t = bit_at-trailing_zeros w32 (mask / 2 ^ from) some fits in
     record {

@@ -15,10 +15,12 @@ use Rattle.mps_format.specs.Leaf.{is_leaf, leaf_layout}
 use Rattle.mps_format.specs.Any.{numbered_layout}
 
 -- ---- what a valid head says, as facts on its fields
-pub front_facts : (h : ℕ) → IsTrue (is_front h) → (tag_field h ≡ 1) × (2 ≤ size_field h) × (size_field h ≤ 65536) × (extra_field h < size_field h)
+pub front_facts : (h : ℕ) → IsTrue (is_front h) → (tag_field h ≡ 1) × (2 ≤ size_field h) × (size_field h ≤ 65536)
+    × (extra_field h < size_field h)
 front_facts h v = grind (arith, nat_tests)
 
-pub mapped_facts : (h : ℕ) → IsTrue (is_mapped h) → (tag_field h ≡ 2) × (2 ≤ size_field h) × (size_field h ≤ 32) × (extra_field h % 2 ≡ 0) × (extra_field h < 2 ^ size_field h)
+pub mapped_facts : (h : ℕ) → IsTrue (is_mapped h) → (tag_field h ≡ 2) × (2 ≤ size_field h) × (size_field h ≤ 32) × (extra_field h % 2 ≡ 0)
+    × (extra_field h < 2 ^ size_field h)
 mapped_facts h v = grind (arith, nat_tests)
 
 pub leaf_facts : (h : ℕ) → IsTrue (is_leaf h) → (tag_field h ≡ 3) × (2 ≤ size_field h) × (size_field h ≤ 65536) × (extra_field h ≡ 0)
@@ -32,7 +34,18 @@ tag-pad_word : (n : ℕ) → tag_field (pad_word n) ≡ 5
 tag-pad_word n = omega arith
 
 -- a format whose valid heads are words with a tag below 4, and that shares the other heads, has disjoint heads
-shared_disjoint : (valid : ℕ → Bool) (size : ℕ → ℕ) (is_reference : ℕ → ℕ → Bool) → ((h : ℕ) → IsTrue (valid h) → (h < 2 ^ 64) × (tag_field h < 4)) → AreDisjoint (record { is_valid = valid; size = size; is_reference = is_reference; forwarded_head = forwarded_word; pad_head = pad_word; target = target_of; retarget = with_target })
+shared_disjoint : (valid : ℕ → Bool) (size : ℕ → ℕ) (is_reference : ℕ → ℕ → Bool)
+    → ((h : ℕ) → IsTrue (valid h) → (h < 2 ^ 64) × (tag_field h < 4))
+    → AreDisjoint (record {
+      is_valid = valid;
+      size = size;
+      is_reference = is_reference;
+      forwarded_head = forwarded_word;
+      pad_head =
+          pad_word;
+      target = target_of;
+      retarget = with_target;
+    })
 shared_disjoint valid size is_reference low = record {
   valid_is_word = λ h v. (low h v).0;
   forwarded_is_word = λ n r. omega arith;
@@ -63,7 +76,11 @@ mapped_reference : (h k : ℕ) → IsTrue (is_mapped h) → IsTrue (mapped_layou
 mapped_reference h k v r =
     let f = mapped_facts h v in
     let set : bit_at (extra_field h) k ≡ 1 = grind (arith, nat_tests) in (
-      elim (cases_eq k 0) [ inl e ↦ absurd (omega (arith, bit_at_lowest (extra_field h), ap (λ i. bit_at (extra_field h) i) e)) | inr n ↦ omega arith ],
+      elim (cases_eq k 0) [
+        | inl e ↦ absurd (omega (arith, bit_at_lowest (extra_field h), ap (λ i. bit_at (extra_field h) i) e))
+        | inr n ↦
+            omega arith
+      ],
       elim (cases_lt k (size_field h)) [ inl b ↦ b | inr a ↦ absurd (omega (arith, bit_at_above (extra_field h) (size_field h) k f.4 a)) ],
     )
 
@@ -105,5 +122,6 @@ pub numbered_is_lawful : (n : ℕ) → IsLawful (numbered_layout n)
 numbered_is_lawful n =
     elim (n == 1) as (λ b. IsLawful (if b then front_layout else (if n == 2 then mapped_layout else leaf_layout))) [
       | true ↦ front_is_lawful
-      | false ↦ elim (n == 2) as (λ b. IsLawful (if b then mapped_layout else leaf_layout)) [ true ↦ mapped_is_lawful | false ↦ leaf_is_lawful ]
+      | false ↦ elim (n == 2) as (λ b. IsLawful (if b then mapped_layout else leaf_layout))
+          [ true ↦ mapped_is_lawful | false ↦ leaf_is_lawful ]
     ]

@@ -49,7 +49,8 @@ pub trait Format: Copy {
 
     /// The target of the forwarded block that begins `mem`, or None exactly where no forwarded block begins it.
     fn forwarded(&self, mem: &[u64]) -> Option<Addr>
-        ensures complete { (size : ℕ) → BeginsForwarded (layout self.now) mem.now size → result ≡ Some (record { 0 = slice_index mem.now 1 }) }
+        ensures complete { (size : ℕ) → BeginsForwarded (layout self.now) mem.now size
+            → result ≡ Some (record { 0 = slice_index mem.now 1 }) }
         ensures sound { OnSome result ((size : ℕ) × BeginsForwarded (layout self.now) mem.now size) };
 
     /// Makes 1 to 65,536 words one pad. What the words from word 1 on then hold is open.

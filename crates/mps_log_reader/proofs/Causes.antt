@@ -11,7 +11,16 @@ use Rattle.mps_log_reader.specs.Causes.{IsFaulty, CauseOfReader, IsCaused, Cause
 use Rattle.mps_report.proofs.Outside.{risen_later, risen_earlier}
 
 pub runs-none : (o : Outside) → LeavesLogAlone o o
-runs-none o = record { in_counted = omega arith; out_counted = omega arith; err_counted = omega arith; files = refl; text = refl; logged = refl; log_faults = refl }
+runs-none o = record {
+  in_counted = omega arith;
+  out_counted = omega arith;
+  err_counted = omega arith;
+  files = refl;
+  text = refl;
+  logged =
+      refl;
+  log_faults = refl;
+}
 
 pub runs-then : (a b c : Outside) → LeavesLogAlone a b → LeavesLogAlone b c → LeavesLogAlone a c
 runs-then a b c e f = record {
@@ -69,33 +78,39 @@ cause_later a b c stop.LogFailed h r = absurd h
 cause_later a b c why h r = tt
 
 -- an input that had failed had a fault since the start
-fault_since : (a b c : Outside) (x : Buffered) → LeavesLogAlone a b → (x.failed ≡ true → HasRisen a.in_faults b.in_faults) → LeavesLogAlone b c → IsFaulty b c x → HasRisen a.in_faults c.in_faults
+fault_since : (a b c : Outside) (x : Buffered) → LeavesLogAlone a b → (x.failed ≡ true → HasRisen a.in_faults b.in_faults)
+    → LeavesLogAlone b c → IsFaulty b c x → HasRisen a.in_faults c.in_faults
 fault_since a b c x r h s (inl failed) = risen_later a.in_faults b.in_faults c.in_faults (h failed) s.in_counted
 fault_since a b c x r h s (inr risen) = risen_earlier a.in_faults b.in_faults c.in_faults r.in_counted risen
 
-cause_since : {E : Type 0} (a b c : Outside) (x : Buffered) (why : Stop E) → LeavesLogAlone a b → (x.failed ≡ true → HasRisen a.in_faults b.in_faults) → LeavesLogAlone b c → CauseFrom b c x why → CauseOfReader a c why
+cause_since : {E : Type 0} (a b c : Outside) (x : Buffered) (why : Stop E) → LeavesLogAlone a b
+    → (x.failed ≡ true → HasRisen a.in_faults b.in_faults) → LeavesLogAlone b c → CauseFrom b c x why → CauseOfReader a c why
 cause_since a b c x stop.ReadFailed r h s f = fault_since a b c x r h s f
 cause_since a b c x stop.WriteFailed r h s f = risen_earlier a.out_faults b.out_faults c.out_faults r.out_counted f
 cause_since a b c x stop.LogFailed r h s f = absurd f
 cause_since a b c x why r h s f = tt
 
-pub caused_since : {T E : Type 0} (a b c : Outside) (x : Buffered) (ending : Result T (Stop E)) → LeavesLogAlone a b → (x.failed ≡ true → HasRisen a.in_faults b.in_faults) → LeavesLogAlone b c
+pub caused_since : {T E : Type 0} (a b c : Outside) (x : Buffered) (ending : Result T (Stop E)) → LeavesLogAlone a b
+    → (x.failed ≡ true → HasRisen a.in_faults b.in_faults) → LeavesLogAlone b c
     → IsCausedFrom b c x ending → IsCaused a c ending
 caused_since a b c x (Ok value) r h s f = tt
 caused_since a b c x (Err why) r h s f = cause_since a b c x why r h s f
 
 -- a step over what is pending is justified
-fault_known : {E : Type 0} (T : Type 0) (a b : Outside) (x y : Buffered) (why : Stop E) → (y.failed ≡ true → IsFaulty a b x) → StopIsJustified {T = T} y (Err why) → CauseFrom a b x why
+fault_known : {E : Type 0} (T : Type 0) (a b : Outside) (x y : Buffered) (why : Stop E) → (y.failed ≡ true → IsFaulty a b x)
+    → StopIsJustified {T = T} y (Err why) → CauseFrom a b x why
 fault_known T a b x y stop.ReadFailed f h = f h
 fault_known T a b x y stop.WriteFailed f h = absurd h
 fault_known T a b x y stop.LogFailed f h = absurd h
 fault_known T a b x y why f h = tt
 
-pub caused_known : {T E : Type 0} (a b : Outside) (x y : Buffered) (ending : Result T (Stop E)) → (y.failed ≡ true → IsFaulty a b x) → StopIsJustified y ending → IsCausedFrom a b x ending
+pub caused_known : {T E : Type 0} (a b : Outside) (x y : Buffered) (ending : Result T (Stop E)) → (y.failed ≡ true → IsFaulty a b x)
+    → StopIsJustified y ending → IsCausedFrom a b x ending
 caused_known a b x y (Ok value) f h = tt
 caused_known {T = T} a b x y (Err why) f h = fault_known T a b x y why f h
 
-pub known_of_fault : {T E : Type 0} (a b : Outside) (y : Buffered) (ending : Result T (Stop E)) → (y.failed ≡ true → HasRisen a.in_faults b.in_faults) → StopIsJustified y ending → IsCaused a b ending
+pub known_of_fault : {T E : Type 0} (a b : Outside) (y : Buffered) (ending : Result T (Stop E))
+    → (y.failed ≡ true → HasRisen a.in_faults b.in_faults) → StopIsJustified y ending → IsCaused a b ending
 known_of_fault a b y (Ok value) f h = tt
 known_of_fault a b y (Err stop.ReadFailed) f h = f h
 known_of_fault a b y (Err stop.WriteFailed) f h = absurd h
@@ -103,7 +118,8 @@ known_of_fault a b y (Err stop.LogFailed) f h = absurd h
 known_of_fault a b y ending f h = tt
 
 -- what is still to be read cannot have failed before
-pub faulty_since : (a b c : Outside) (x y z : Buffered) → LeavesLogAlone a b → (y.failed ≡ true → IsFaulty a b x) → LeavesLogAlone b c → (z.failed ≡ true → IsFaulty b c y) → z.failed ≡ true → IsFaulty a c x
+pub faulty_since : (a b c : Outside) (x y z : Buffered) → LeavesLogAlone a b → (y.failed ≡ true → IsFaulty a b x) → LeavesLogAlone b c
+    → (z.failed ≡ true → IsFaulty b c y) → z.failed ≡ true → IsFaulty a c x
 faulty_since a b c x y z r f s g failed = first (g failed)
   where
     earlier : IsFaulty a b x → IsFaulty a c x
@@ -116,18 +132,21 @@ faulty_since a b c x y z r f s g failed = first (g failed)
 
 -- ---- work
 
-cause_after : {E : Type 0} (a b c : Outside) (x y : Buffered) (why : Stop E) → LeavesLogAlone a b → (y.failed ≡ true → IsFaulty a b x) → LeavesLogAlone b c → CauseFrom b c y why → CauseFrom a c x why
+cause_after : {E : Type 0} (a b c : Outside) (x y : Buffered) (why : Stop E) → LeavesLogAlone a b → (y.failed ≡ true → IsFaulty a b x)
+    → LeavesLogAlone b c → CauseFrom b c y why → CauseFrom a c x why
 cause_after a b c x y stop.ReadFailed r f s h = faulty_since a b c x y (record y { failed = true }) r f s (λ _. h) refl
 cause_after a b c x y stop.WriteFailed r f s h = risen_earlier a.out_faults b.out_faults c.out_faults r.out_counted h
 cause_after a b c x y stop.LogFailed r f s h = absurd h
 cause_after a b c x y why r f s h = tt
 
-caused_after : {E : Type 0} (T : Type 0) (a b c : Outside) (x y : Buffered) (ending : Result T (Stop E)) → LeavesLogAlone a b → (y.failed ≡ true → IsFaulty a b x) → LeavesLogAlone b c → IsCausedFrom b c y ending → IsCausedFrom a c x ending
+caused_after : {E : Type 0} (T : Type 0) (a b c : Outside) (x y : Buffered) (ending : Result T (Stop E)) → LeavesLogAlone a b
+    → (y.failed ≡ true → IsFaulty a b x) → LeavesLogAlone b c → IsCausedFrom b c y ending → IsCausedFrom a c x ending
 caused_after T a b c x y (Ok value) r f s h = tt
 caused_after T a b c x y (Err why) r f s h = cause_after a b c x y why r f s h
 
 -- one piece of work after another
-pub works-then : {T U E : Type 0} (a b c : Outside) (x y z : Buffered) (first : Result U (Stop E)) (ending : Result T (Stop E)) → WorksOnInput a b x y first → WorksOnInput b c y z ending → WorksOnInput a c x z ending
+pub works-then : {T U E : Type 0} (a b c : Outside) (x y z : Buffered) (first : Result U (Stop E)) (ending : Result T (Stop E))
+    → WorksOnInput a b x y first → WorksOnInput b c y z ending → WorksOnInput a c x z ending
 works-then {T = T} a b c x y z first ending e f = record {
   runs = runs-then a b c e.runs f.runs;
   fault = faulty_since a b c x y z e.runs e.fault f.runs f.fault;
@@ -138,24 +157,29 @@ pub works-none : {T E : Type 0} (o : Outside) (x : Buffered) (value : T) → Wor
 works-none o x value = record { runs = runs-none o; fault = λ h. inl h; cause = tt }
 
 -- the same stop of a value of another type
-pub works-at : {T U E : Type 0} (a b : Outside) (x y : Buffered) (why : Stop E) → WorksOnInput {T = T} a b x y (Err why) → WorksOnInput {T = U} a b x y (Err why)
+pub works-at : {T U E : Type 0} (a b : Outside) (x y : Buffered) (why : Stop E) → WorksOnInput {T = T} a b x y (Err why)
+    → WorksOnInput {T = U} a b x y (Err why)
 works-at a b x y why e = record { runs = e.runs; fault = e.fault; cause = e.cause }
 
-pub works_value : {T U E : Type 0} (a b : Outside) (x y : Buffered) (v : T) (u : U) → WorksOnInput {E = E} a b x y (Ok v) → WorksOnInput {E = E} a b x y (Ok u)
+pub works_value : {T U E : Type 0} (a b : Outside) (x y : Buffered) (v : T) (u : U) → WorksOnInput {E = E} a b x y (Ok v)
+    → WorksOnInput {E = E} a b x y (Ok u)
 works_value a b x y v u e = record { runs = e.runs; fault = e.fault; cause = tt }
 
-pub works_reading : {T E : Type 0} (a b : Outside) (x y : Buffered) (value : T) → ReadsMore a b x y → WorksOnInput {E = E} a b x y (Ok value)
+pub works_reading : {T E : Type 0} (a b : Outside) (x y : Buffered) (value : T) → ReadsMore a b x y
+    → WorksOnInput {E = E} a b x y (Ok value)
 works_reading a b x y value r = record { runs = runs_reading a b r.counted r.others; fault = r.fault; cause = tt }
 
 -- what does not touch the input
 pub works_beside : {T E : Type 0} (a b : Outside) (x : Buffered) (value : T) → LeavesLogAlone a b → WorksOnInput {E = E} a b x x (Ok value)
 works_beside a b x value r = record { runs = r; fault = λ h. inl h; cause = tt }
 
-pub works_write_failed : {T E : Type 0} (a b : Outside) (x : Buffered) → LeavesLogAlone a b → HasRisen a.out_faults b.out_faults → WorksOnInput {T = T} {E = E} a b x x (Err stop.WriteFailed)
+pub works_write_failed : {T E : Type 0} (a b : Outside) (x : Buffered) → LeavesLogAlone a b → HasRisen a.out_faults b.out_faults
+    → WorksOnInput {T = T} {E = E} a b x x (Err stop.WriteFailed)
 works_write_failed a b x r h = record { runs = r; fault = λ f. inl f; cause = h }
 
 -- the same of a step that leaves the input as it is, or takes something from it
-pub works_known : {T E : Type 0} (o : Outside) (x y : Buffered) (ending : Result T (Stop E)) → y.failed ≡ x.failed → StopIsJustified x ending → WorksOnInput o o x y ending
+pub works_known : {T E : Type 0} (o : Outside) (x y : Buffered) (ending : Result T (Stop E)) → y.failed ≡ x.failed
+    → StopIsJustified x ending → WorksOnInput o o x y ending
 works_known o x y ending same is_known = record {
   runs = runs-none o;
   fault = λ f. inl (sym same ∙ f);
@@ -181,7 +205,8 @@ write_status a b stop.WriteFailed h e = h
 write_status a b why h e = absurd (omega (arith, e))
 
 -- what the status of the program says after an ending and its report
-pub status_is_justified : {T E : Type 0} (a b c : Outside) (text : E → List ℕ) (ending : Result T (Stop E)) (status : ℕ) → LeavesLogAlone a b → IsCaused a b ending → OnOk ending (status ≡ 0) → OnOk ending (c ≡ b)
+pub status_is_justified : {T E : Type 0} (a b c : Outside) (text : E → List ℕ) (ending : Result T (Stop E)) (status : ℕ)
+    → LeavesLogAlone a b → IsCaused a b ending → OnOk ending (status ≡ 0) → OnOk ending (c ≡ b)
     → IfErr ending (λ why. status ≡ status_of why) → IfErr ending (λ why. Reports b c (report_of text why)) → StatusIsJustified a c status
 status_is_justified a b c text (Ok value) status r f zero same is reports = record {
   known = inl zero;

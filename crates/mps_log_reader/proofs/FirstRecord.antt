@@ -15,7 +15,8 @@ at_most_four version r h =
 pub length-record_bytes : (r : Record) → length (record_bytes r) ≡ size_of_record (length r.fields)
 length-record_bytes r = omega (arith, length-fields_bytes r.fields)
 
-pub lies_within : (r : Record) (pending rest : List ℕ) → pending ≡ record_bytes r ++ rest → size_of_record (length r.fields) ≤ length pending
+pub lies_within : (r : Record) (pending rest : List ℕ) → pending ≡ record_bytes r ++ rest
+    → size_of_record (length r.fields) ≤ length pending
 lies_within r pending rest e = omega (arith, ap length e, length-append (fields_bytes r.fields) rest, length-fields_bytes r.fields)
 
 -- the same where the bytes are equal

@@ -24,7 +24,8 @@ pub split_pending : (front pending after : List ℕ) (input : Option (List ℕ))
 split_pending front pending after None e = refl
 split_pending front pending after (Some rest) e = rw e (ap Some (append_assoc front after rest))
 
-pub nothing_left : (version : Version) (ended : Bool) (pending : List ℕ) (input : Option (List ℕ)) → first_of version ended pending ≡ Ok None → (ended ≡ false → 40 ≤ length pending)
+pub nothing_left : (version : Version) (ended : Bool) (pending : List ℕ) (input : Option (List ℕ))
+    → first_of version ended pending ≡ Ok None → (ended ≡ false → 40 ≤ length pending)
     → (ended ≡ true → IfSome input (λ left. left ≡ [])) → IfSome (option_map (λ rest. pending ++ rest) input) (λ bytes. bytes ≡ [])
 nothing_left version ended pending None e enough end = tt
 nothing_left version ended pending (Some rest) e enough end =
@@ -33,8 +34,10 @@ nothing_left version ended pending (Some rest) e enough end =
     let b : pending ≡ [] = g.1 in
     rw (a, b) refl
 
-pub fault_left : (version : Version) (ended : Bool) (pending : List ℕ) (input : Option (List ℕ)) (fault : LogFault) → first_of version ended pending ≡ Err fault
-    → (ended ≡ true → IfSome input (λ left. left ≡ [])) → IfSome (option_map (λ rest. pending ++ rest) input) (λ bytes. first_of version true bytes ≡ Err fault)
+pub fault_left : (version : Version) (ended : Bool) (pending : List ℕ) (input : Option (List ℕ)) (fault : LogFault)
+    → first_of version ended pending ≡ Err fault
+    → (ended ≡ true → IfSome input (λ left. left ≡ []))
+    → IfSome (option_map (λ rest. pending ++ rest) input) (λ bytes. first_of version true bytes ≡ Err fault)
 fault_left version ended pending None fault e end = tt
 fault_left version ended pending (Some rest) fault e end = fault_stays version ended pending rest fault end e
 
@@ -42,12 +45,14 @@ pub nothing_in_front : (left : Option (List ℕ)) → left ≡ option_map (λ re
 nothing_in_front None = refl
 nothing_in_front (Some left) = refl
 
-pub one_in_front : (x y : List ℕ) (a b c : Option (List ℕ)) → a ≡ option_map (λ rest. x ++ rest) b → b ≡ option_map (λ rest. y ++ rest) c → a ≡ option_map (λ rest. (x ++ y) ++ rest) c
+pub one_in_front : (x y : List ℕ) (a b c : Option (List ℕ)) → a ≡ option_map (λ rest. x ++ rest) b → b ≡ option_map (λ rest. y ++ rest) c
+    → a ≡ option_map (λ rest. (x ++ y) ++ rest) c
 one_in_front x y a b None e f = rw (e, f) refl
 one_in_front x y a b (Some rest) e f = rw (e, f) (ap Some (sym (append_assoc x y rest)))
 
 -- what is left after a piece, where all that was left is known
-pub left_after_known : (x bytes : List ℕ) (left left_after : Option (List ℕ)) → left ≡ option_map (λ rest. x ++ rest) left_after → left ≡ Some bytes
+pub left_after_known : (x bytes : List ℕ) (left left_after : Option (List ℕ)) → left ≡ option_map (λ rest. x ++ rest) left_after
+    → left ≡ Some bytes
     → (rest : List ℕ) × (left_after ≡ Some rest) × (bytes ≡ x ++ rest)
 left_after_known x bytes left None e f = absurd (let g : None ≡ Some bytes = sym e ∙ f in cc)
 left_after_known x bytes left (Some rest) e f = (rest, refl, (let g : Some bytes ≡ Some (x ++ rest) = sym f ∙ e in cc))

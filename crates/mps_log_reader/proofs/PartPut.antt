@@ -20,8 +20,13 @@ grows_then o p q e f = (e.0 ++ f.0, appended_both e.0 f.0 o p q e.1 f.1)
 pub grows_by : (text : List ℕ) (o p q : Option (List ℕ)) → p ≡ o → q ≡ option_map (λ before. before ++ text) p → Grows o q
 grows_by text o p q same e = (text, e ∙ ap (λ (x : Option (List ℕ)). option_map (λ before. before ++ text) x) same)
 
-pub puts_part : (a b c : Outside) (gathered : List ℕ) → b.printed ≡ a.printed → PrintsPart b c gathered → PutsPart a.printed c.printed gathered
-puts_part a b c gathered same p = (p.count, p.part.printed ∙ ap (λ (x : Option (List ℕ)). option_map (λ before. before ++ take p.count gathered) x) same)
+pub puts_part : (a b c : Outside) (gathered : List ℕ) → b.printed ≡ a.printed → PrintsPart b c gathered
+    → PutsPart a.printed c.printed gathered
+puts_part a b c gathered same p = (
+  p.count,
+  p.part.printed
+      ∙ ap (λ (x : Option (List ℕ)). option_map (λ before. before ++ take p.count gathered) x) same,
+)
 
 -- ---- a prefix of the whole text
 
@@ -34,10 +39,12 @@ part_of_text front gathered out lines n (Some before) c d grown put part =
     ap (λ (x : Option (List ℕ)). option_map (λ printed. printed ++ gathered) x) (sym grown) ∙ put in
     let text : front ++ gathered ≡ out ++ lines =
     append_cancel_left before (front ++ gathered) (out ++ lines)
-    (sym (append_assoc before front gathered) ∙ some_is ((before ++ front) ++ gathered) ((before ++ out) ++ lines) all ∙ append_assoc before out lines) in
+    (sym (append_assoc before front gathered) ∙ some_is ((before ++ front) ++ gathered) ((before ++ out) ++ lines) all
+    ∙ append_assoc before out lines) in
     let some = front ++ take n gathered in
     let parts : out ++ lines ≡ some ++ drop n gathered =
-    sym text ∙ ap (λ (x : List ℕ). front ++ x) (sym (take-append-drop n gathered)) ∙ sym (append_assoc front (take n gathered) (drop n gathered)) in
+    sym text ∙ ap (λ (x : List ℕ). front ++ x) (sym (take-append-drop n gathered))
+    ∙ sym (append_assoc front (take n gathered) (drop n gathered)) in
     let taken : take (length some) (out ++ lines) ≡ some = ap (take (length some)) parts ∙ take-append_seam some (drop n gathered) in (
       length some,
       appended_both front (take n gathered) (Some before) c d grown part ∙ ap (λ (x : List ℕ). Some (before ++ x)) (sym taken),
@@ -46,7 +53,8 @@ part_of_text front gathered out lines n (Some before) c d grown put part =
 -- ---- all of it, or a prefix
 
 -- what was gathered was printed as far as it went: so was the whole text, whose first line was gathered first
-pub as_far_of_text : (out line text gathered : List ℕ) (a b c d : Outside) → b.printed ≡ a.printed → out ≡ line → PutsOut (put_out b out) (put_out c gathered) text
+pub as_far_of_text : (out line text gathered : List ℕ) (a b c d : Outside) → b.printed ≡ a.printed → out ≡ line
+    → PutsOut (put_out b out) (put_out c gathered) text
     → Grows b.printed c.printed → a.out_faults ≤ c.out_faults → PrintsAsFar c d gathered → PrintsAsFar a d (line ++ text)
 as_far_of_text out line text gathered a b c d same is put grown counted (inl all) =
     inl (all ∙ put ∙ appended_twice b.printed out text
@@ -61,5 +69,6 @@ as_far_of_text out line text gathered a b c d same is put grown counted (inr par
     )
 
 -- the same up to an outside with as much printed
-pub as_far_later : (text : List ℕ) (a b c : Outside) → PrintsAsFar a b text → c.printed ≡ b.printed → c.out_faults ≡ b.out_faults → PrintsAsFar a c text
+pub as_far_later : (text : List ℕ) (a b c : Outside) → PrintsAsFar a b text → c.printed ≡ b.printed → c.out_faults ≡ b.out_faults
+    → PrintsAsFar a c text
 as_far_later text a b c h printed faults = rw (printed, faults) h

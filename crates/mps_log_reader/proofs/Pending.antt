@@ -21,11 +21,13 @@ pub pending-take : (room : List ℕ) (from to count : ℕ) → count ≤ to - fr
     → take (to - (from + count)) (drop (from + count) room) ≡ drop count (take (to - from) (drop from room))
 pending-take room from to count le =
     let n : to - from ≡ count + (to - (from + count)) = omega arith in
-    sym (ap (λ (k : ℕ). drop count (take k (drop from room))) n ∙ drop-take count (to - (from + count)) (drop from room) ∙ ap (take (to - (from + count))) (drop-drop count from room))
+    sym (ap (λ (k : ℕ). drop count (take k (drop from room))) n ∙ drop-take count (to - (from + count)) (drop from room)
+    ∙ ap (take (to - (from + count))) (drop-drop count from room))
 
 -- ---- reading more
 
-rest_empty : (read : List ℕ) (x : Option (List ℕ)) → IfSome (option_map (λ left. read ++ left) x) (λ left. left ≡ []) → IfSome x (λ left. left ≡ [])
+rest_empty : (read : List ℕ) (x : Option (List ℕ)) → IfSome (option_map (λ left. read ++ left) x) (λ left. left ≡ [])
+    → IfSome x (λ left. left ≡ [])
 rest_empty read None h = tt
 rest_empty read (Some left) h = nil_from_length left (omega (arith, ap length h, length-append read left))
 
@@ -64,7 +66,8 @@ reads-none o b = record {
   others = reads_only-same o;
 }
 
-later_fault : (a b c : Outside) (x y z : Buffered) → ReadsMore a b x y → ReadsMore b c y z → (y.failed ≡ true) ⊎ HasRisen b.in_faults c.in_faults
+later_fault : (a b c : Outside) (x y z : Buffered) → ReadsMore a b x y → ReadsMore b c y z → (y.failed ≡ true)
+    ⊎ HasRisen b.in_faults c.in_faults
     → (x.failed ≡ true) ⊎ HasRisen a.in_faults c.in_faults
 later_fault a b c x y z e f (inl failed) = first_fault (e.fault failed)
   where
@@ -94,7 +97,8 @@ reads_some a b x room at count kept input counted others =
       read = take count (drop at room);
       pending = ap (λ (k : ℕ). take k room) count-is ∙ take-add at count room ∙ ap (λ (p : List ℕ). p ++ take count (drop at room)) kept;
       input = input;
-      end = λ h e. rest_empty (take count (drop at room)) b.input (subst (λ (o : Option (List ℕ)). IfSome o (λ left. left ≡ [])) input (h e));
+      end = λ h e. rest_empty (take count (drop at room)) b.input
+          (subst (λ (o : Option (List ℕ)). IfSome o (λ left. left ≡ [])) input (h e));
       fault = λ h. inl h;
       counted = counted;
       others = others;
@@ -134,10 +138,12 @@ reads_fail a b x room at kept input risen counted others =
 
 -- what is pending lies before `to`
 pub pending-before : (room : List ℕ) (from to : ℕ) → from ≤ to → take (to - from) (drop from room) ≡ drop from (take to room)
-pending-before room from to le = let e : to ≡ from + (to - from) = omega arith in sym (ap (λ (k : ℕ). drop from (take k room)) e ∙ drop-take from (to - from) room)
+pending-before room from to le = let e : to ≡ from + (to - from) = omega arith in
+    sym (ap (λ (k : ℕ). drop from (take k room)) e ∙ drop-take from (to - from) room)
 
 -- after the bytes up to `to` were rotated by `from`
-pub moved_to_front : (room rotated : List ℕ) (from to : ℕ) → from ≤ to → to ≤ length room → rotated ≡ drop from (take to room) ++ take from (take to room)
+pub moved_to_front : (room rotated : List ℕ) (from to : ℕ) → from ≤ to → to ≤ length room → rotated ≡ drop from (take to room)
+    ++ take from (take to room)
     → take (to - from) (rotated ++ drop to room) ≡ take (to - from) (drop from room)
 moved_to_front room rotated from to le within is =
     let front = drop from (take to room) in

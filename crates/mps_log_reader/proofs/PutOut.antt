@@ -6,7 +6,8 @@ use Rattle.mps_report.specs.Streams.{FlushedPrefix}
 use Rattle.mps_report.proofs.Appended.{appended_empty, appended_both}
 use Rattle.mps_log_reader.specs.PutOut.{put_out}
 
-puts_kept : (text gathered_before gathered : List ℕ) (p q : Option (List ℕ)) → q ≡ option_map (λ before. before ++ text) p → gathered_before ≡ text ++ gathered
+puts_kept : (text gathered_before gathered : List ℕ) (p q : Option (List ℕ)) → q ≡ option_map (λ before. before ++ text) p
+    → gathered_before ≡ text ++ gathered
     → option_map (λ printed. printed ++ gathered) q ≡ option_map (λ printed. printed ++ gathered_before) p
 puts_kept text gathered_before gathered None q e f = rw e refl
 puts_kept text gathered_before gathered (Some before) q e f = rw (e, f) (ap Some (append_assoc before text gathered))
@@ -23,5 +24,6 @@ put_more gathered text (Some before) = ap Some (sym (append_assoc before gathere
 pub nothing_put : (known : Option (List ℕ)) → known ≡ option_map (λ all. all ++ []) known
 nothing_put known = appended_empty known
 
-pub one_put : (x y : List ℕ) (a b c : Option (List ℕ)) → b ≡ option_map (λ all. all ++ x) a → c ≡ option_map (λ all. all ++ y) b → c ≡ option_map (λ all. all ++ (x ++ y)) a
+pub one_put : (x y : List ℕ) (a b c : Option (List ℕ)) → b ≡ option_map (λ all. all ++ x) a → c ≡ option_map (λ all. all ++ y) b
+    → c ≡ option_map (λ all. all ++ (x ++ y)) a
 one_put x y a b c e f = appended_both x y a b c e f

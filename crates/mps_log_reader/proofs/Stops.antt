@@ -14,10 +14,12 @@ pub err_is : {E : Type 0} (T : Type 0) (x y : Stop E) → stopped T x ≡ stoppe
 err_is T x y e = cc
 
 -- a stop that was handed on
-pub handed_on : {E : Type 0} (T U : Type 0) (r : Result T (Stop E)) (y why other : Stop E) → r ≡ stopped T y → y ≡ why → r ≡ stopped T other → stopped U why ≡ stopped U other
+pub handed_on : {E : Type 0} (T U : Type 0) (r : Result T (Stop E)) (y why other : Stop E) → r ≡ stopped T y → y ≡ why
+    → r ≡ stopped T other → stopped U why ≡ stopped U other
 handed_on T U r y why other e f g = ap (stopped U) (sym f ∙ err_is T y other (sym e ∙ g))
 
-pub not_at_the_end : {E : Type 0} (P : Type 0) (left : Option (List ℕ)) (result : Result (Unit {0}) (Stop E)) → LastGives left result → result ≡ Err stop.WriteFailed → P
+pub not_at_the_end : {E : Type 0} (P : Type 0) (left : Option (List ℕ)) (result : Result (Unit {0}) (Stop E)) → LastGives left result
+    → result ≡ Err stop.WriteFailed → P
 not_at_the_end {E = E} P left result h e = absurd (subst (λ (r : Result (Unit {0}) (Stop E)). LastGives left r) e h)
 
 pub is_read_failed : {E : Type 0} (why : Stop E) → status_of why ≡ 3 → why ≡ stop.ReadFailed

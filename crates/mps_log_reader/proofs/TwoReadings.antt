@@ -31,7 +31,8 @@ pub record Extends (version : Version) (first second : List Record) (x y : List 
   pub longer : second ≡ first ++ more
   pub rest : x ≡ records_bytes more ++ y
 
-after_one_more : (version : Version) (a b : Record) (first second : List Record) (x y : List ℕ) → a ≡ b → Extends version first second x y → Extends version (a ∷ first) (b ∷ second) x y
+after_one_more : (version : Version) (a b : Record) (first second : List Record) (x y : List ℕ) → a ≡ b → Extends version first second x y
+    → Extends version (a ∷ first) (b ∷ second) x y
 after_one_more version a b first second x y same h = record {
   more = h.more;
   each = h.each;
@@ -39,12 +40,14 @@ after_one_more version a b first second x y same h = record {
   rest = h.rest;
 }
 
-both_one_more : (version : Version) (a b : Record) (first second : List Record) (x y : List ℕ) → a ≡ b → Extends version first second x y ⊎ Extends version second first y x
+both_one_more : (version : Version) (a b : Record) (first second : List Record) (x y : List ℕ) → a ≡ b → Extends version first second x y
+    ⊎ Extends version second first y x
     → Extends version (a ∷ first) (b ∷ second) x y ⊎ Extends version (b ∷ second) (a ∷ first) y x
 both_one_more version a b first second x y same (inl h) = inl (after_one_more version a b first second x y same h)
 both_one_more version a b first second x y same (inr h) = inr (after_one_more version b a second first y x (sym same) h)
 
-pub split : (version : Version) (first second : List Record) (x y : List ℕ) → AllByRecursion (IsRecord version) first → AllByRecursion (IsRecord version) second
+pub split : (version : Version) (first second : List Record) (x y : List ℕ) → AllByRecursion (IsRecord version) first
+    → AllByRecursion (IsRecord version) second
     → records_bytes first ++ x ≡ records_bytes second ++ y → Extends version first second x y ⊎ Extends version second first y x
 split version [] second x y f s e = inl (record { more = second; each = s; longer = refl; rest = e })
 split version (a ∷ first) [] x y f s e = inr (record { more = a ∷ first; each = f; longer = refl; rest = sym e })
@@ -59,7 +62,12 @@ split version (a ∷ first) (b ∷ second) x y f s e =
 pub no_record : (version : Version) (ending : Ending) (count offset : ℕ) (r : Record) (rs : List Record) (y : List ℕ) → IsRecord version r
     → EndsAt version ending count offset (records_bytes (r ∷ rs) ++ y) → count + length (r ∷ rs) ≤ max_records → ⊥
 no_record version (Ok value) count offset r rs y h e few =
-    omega (arith, ap (λ (x : List ℕ). length x) e, length-append (records_bytes (r ∷ rs)) y, length-append (record_bytes r) (records_bytes rs))
+    omega (
+      arith,
+      ap (λ (x : List ℕ). length x) e,
+      length-append (records_bytes (r ∷ rs)) y,
+      length-append (record_bytes r) (records_bytes rs),
+    )
 no_record version (Err (stop.Bad (bad_log.Record at fault))) count offset r rs y h e few =
     let read : first_of version true (records_bytes (r ∷ rs) ++ y) ≡ Ok (Some r) =
     ap (first_of version true) (append_assoc (record_bytes r) (records_bytes rs) y) ∙ read_again version true r (records_bytes rs ++ y) h in
@@ -73,19 +81,27 @@ no_record version (Err (stop.Bad (bad_log.Record at fault))) count offset r rs y
 no_record version (Err stop.TooLong) count offset r rs y h e few = omega (arith, e.0, few)
 no_record version ending count offset r rs y h e few = e
 
-pub no_more : (version : Version) (ending : Ending) (count offset : ℕ) (more : List Record) (y : List ℕ) → AllByRecursion (IsRecord version) more
+pub no_more : (version : Version) (ending : Ending) (count offset : ℕ) (more : List Record) (y : List ℕ)
+    → AllByRecursion (IsRecord version) more
     → EndsAt version ending count offset (records_bytes more ++ y) → count + length more ≤ max_records → more ≡ []
 no_more version ending count offset [] y h e few = refl
 no_more version ending count offset (r ∷ rs) y h e few = absurd (no_record version ending count offset r rs y h.0 e few)
 
-same_of_after : (version : Version) (ending : Ending) (offset : ℕ) (first second : List Record) (x y : List ℕ) → Extends version first second x y
+same_of_after : (version : Version) (ending : Ending) (offset : ℕ) (first second : List Record) (x y : List ℕ)
+    → Extends version first second x y
     → EndsAt version ending (length first) offset x → length second ≤ max_records → (second ≡ first) × (x ≡ y)
 same_of_after version ending offset first second x y h e few =
-    let size : length first + length h.more ≤ max_records = omega (arith, few, ap (λ (rs : List Record). length rs) h.longer, length-append first h.more) in
-    let none = no_more version ending (length first) offset h.more y h.each (subst (λ (z : List ℕ). EndsAt version ending (length first) offset z) h.rest e) size in
-    (h.longer ∙ ap (λ (rs : List Record). first ++ rs) none ∙ append-nil first, h.rest ∙ ap (λ (rs : List Record). records_bytes rs ++ y) none)
+    let size : length first + length h.more ≤ max_records =
+    omega (arith, few, ap (λ (rs : List Record). length rs) h.longer, length-append first h.more) in
+    let none = no_more version ending (length first) offset h.more y h.each
+    (subst (λ (z : List ℕ). EndsAt version ending (length first) offset z) h.rest e) size in (
+      h.longer ∙ ap (λ (rs : List Record). first ++ rs) none ∙ append-nil first,
+      h.rest
+          ∙ ap (λ (rs : List Record). records_bytes rs ++ y) none,
+    )
 
-pub same_records : (version : Version) (e f : Ending) (m n : ℕ) (first second : List Record) (x y : List ℕ) → Extends version first second x y ⊎ Extends version second first y x
+pub same_records : (version : Version) (e f : Ending) (m n : ℕ) (first second : List Record) (x y : List ℕ)
+    → Extends version first second x y ⊎ Extends version second first y x
     → EndsAt version e (length first) m x → EndsAt version f (length second) n y → length first ≤ max_records → length second ≤ max_records
     → (second ≡ first) × (x ≡ y)
 same_records version e f m n first second x y (inl h) a b few fewer = same_of_after version e m first second x y h a fewer
@@ -109,7 +125,8 @@ pub record IsTooLong (ending : Ending) (count : ℕ) (x : List ℕ) : Type 0 whe
 abbrev pub IsOneOf : Version → Ending → (count offset : ℕ) → List ℕ → Type 0
 IsOneOf version ending count offset x = ((ending ≡ Ok tt) × (x ≡ [])) ⊎ (IsWrongAt version ending count offset x ⊎ IsTooLong ending count x)
 
-pub one_of : (version : Version) (ending : Ending) (count offset : ℕ) (x : List ℕ) → EndsAt version ending count offset x → IsOneOf version ending count offset x
+pub one_of : (version : Version) (ending : Ending) (count offset : ℕ) (x : List ℕ) → EndsAt version ending count offset x
+    → IsOneOf version ending count offset x
 one_of version (Ok value) count offset x e = inl (refl, e)
 one_of version (Err (stop.Bad (bad_log.Record at fault))) count offset x e =
     inr (inl (record { fault = fault; is = ap (λ (n : ℕ). Err (stop.Bad (bad_log.Record n fault))) e.0; read = e.1; few = e.2 }))
@@ -129,7 +146,8 @@ same_fault version x f g a b = fault_is f g (sym a ∙ b)
     fault_is : (f g : LogFault) → failed f ≡ failed g → f ≡ g
     fault_is f g e = cc
 
-pub one_ending : (version : Version) (e f : Ending) (count offset : ℕ) (x : List ℕ) → IsOneOf version e count offset x → IsOneOf version f count offset x → e ≡ f
+pub one_ending : (version : Version) (e f : Ending) (count offset : ℕ) (x : List ℕ) → IsOneOf version e count offset x
+    → IsOneOf version f count offset x → e ≡ f
 one_ending version e f count offset x (inl a) (inl b) = a.0 ∙ sym b.0
 one_ending version e f count offset x (inl a) (inr (inl b)) = absurd (not_wrong version x b.fault a.1 b.read)
 one_ending version e f count offset x (inl a) (inr (inr b)) = absurd (omega (arith, ap (λ (z : List ℕ). length z) a.1, b.some))
@@ -143,7 +161,8 @@ one_ending version e f count offset x (inr (inr a)) (inr (inr b)) = a.is ∙ sym
 
 -- ---- one version
 
-pub same_version : (v w : Version) (p q : List ℕ) → header_bytes (number_of_version v) ++ p ≡ header_bytes (number_of_version w) ++ q → v ≡ w
+pub same_version : (v w : Version) (p q : List ℕ) → header_bytes (number_of_version v) ++ p ≡ header_bytes (number_of_version w) ++ q
+    → v ≡ w
 same_version One One p q e = refl
 same_version Two Two p q e = refl
 same_version One Two p q e = absurd (let h : 1 ≡ 2 = ap (λ (bytes : List ℕ). get_or bytes 6 0) e in omega (arith, h))
@@ -158,9 +177,11 @@ pub record IsSameReading {bytes : List ℕ} (a b : LogPrefix bytes) (e f : Endin
   pub ending : e ≡ f
 
 same_in_version : (version : Version) (first second : List Record) (e f : Ending) (x y : List ℕ)
-    → AllByRecursion (IsRecord version) first → AllByRecursion (IsRecord version) second → length first ≤ max_records → length second ≤ max_records
+    → AllByRecursion (IsRecord version) first → AllByRecursion (IsRecord version) second → length first ≤ max_records
+    → length second ≤ max_records
     → log_bytes version first ++ x ≡ log_bytes version second ++ y
-    → EndsAt version e (length first) (length (log_bytes version first)) x → EndsAt version f (length second) (length (log_bytes version second)) y
+    → EndsAt version e (length first) (length (log_bytes version first)) x
+    → EndsAt version f (length second) (length (log_bytes version second)) y
     → (first ≡ second) × (e ≡ f)
 same_in_version version first second e f x y each other at_most fits same ends stop =
     let header = header_bytes (number_of_version version) in
@@ -168,18 +189,21 @@ same_in_version version first second e f x y each other at_most fits same ends s
     append_cancel_left header (records_bytes first ++ x) (records_bytes second ++ y)
     (sym (append_assoc header (records_bytes first) x) ∙ same ∙ append_assoc header (records_bytes second) y) in
     let h = split version first second x y each other after in
-    let s = same_records version e f (length (log_bytes version first)) (length (log_bytes version second)) first second x y h ends stop at_most fits in
+    let s = same_records version e f (length (log_bytes version first))
+    (length (log_bytes version second)) first second x y h ends stop at_most fits in
     let also : EndsAt version f (length first) (length (log_bytes version first)) x =
     subst (λ (z : List ℕ). EndsAt version f (length first) (length (log_bytes version first)) z) (sym s.1)
     (subst (λ (rs : List Record). EndsAt version f (length rs) (length (log_bytes version rs)) y) s.0 stop) in (
       sym s.0,
       one_ending version e f (length first) (length (log_bytes version first)) x
-          (one_of version e (length first) (length (log_bytes version first)) x ends) (one_of version f (length first) (length (log_bytes version first)) x also),
+          (one_of version e (length first) (length (log_bytes version first)) x ends)
+          (one_of version f (length first) (length (log_bytes version first)) x also),
     )
 
 pub same_reading : {bytes : List ℕ} (a b : LogPrefix bytes) (e f : Ending) → LogEnds a e → LogEnds b f → IsSameReading a b e f
 same_reading {bytes = bytes} a b e f ends stop =
-    let version : a.version ≡ b.version = same_version a.version b.version (records_bytes a.records ++ a.rest) (records_bytes b.records ++ b.rest) (sym (header_first a) ∙ header_first b) in
+    let version : a.version ≡ b.version = same_version a.version b.version (records_bytes a.records ++ a.rest) (records_bytes b.records
+    ++ b.rest) (sym (header_first a) ∙ header_first b) in
     let v = sym version in
     let s = same_in_version a.version a.records b.records e f a.rest b.rest
     (recursion_from_All (IsRecord a.version) a.records a.each)

@@ -26,7 +26,8 @@ pub record LogPrefix (bytes : List ℕ) : Type 0 where
 
 -- the reading of these records ends so at their rest, where they follow a header
 abbrev pub RecordsEnd : {T : Type 0} {version : Version} {bytes : List ℕ} → RecordsPrefix version bytes → Result T (Stop BadLog) → Type 0
-RecordsEnd {version = version} prefix ending = EndsAt version ending (length prefix.records) (8 + length (records_bytes prefix.records)) prefix.rest
+RecordsEnd {version = version} prefix ending =
+    EndsAt version ending (length prefix.records) (8 + length (records_bytes prefix.records)) prefix.rest
 
 -- the reading of a log ends so at the rest
 abbrev pub LogEnds : {T : Type 0} {bytes : List ℕ} → LogPrefix bytes → Result T (Stop BadLog) → Type 0

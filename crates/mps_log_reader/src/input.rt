@@ -133,7 +133,8 @@ fn read_after<D: Desk>(room: &mut [u8], to: usize, desk: &mut D) -> Result<usize
     ensures fits { IfOk result (λ count. to + count ≤ length room.old) }
     ensures size { length room.new ≡ length room.old }
     ensures unchanged { take to room.new ≡ take to room.old }
-    ensures read { IfOk result (λ count. (D.outside desk.old).input ≡ option_map (λ left. take count (drop to room.new) ++ left) (D.outside desk.new).input) }
+    ensures read { IfOk result (λ count. (D.outside desk.old).input
+        ≡ option_map (λ left. take count (drop to room.new) ++ left) (D.outside desk.new).input) }
     ensures end { IfOk result (λ count. count ≡ 0 → IfSome (D.outside desk.old).input (λ left. left ≡ [])) }
     ensures failed { OnErr result ((D.outside desk.new).input ≡ (D.outside desk.old).input) }
     ensures counted { (D.outside desk.old).in_faults ≤ (D.outside desk.new).in_faults }

@@ -26,7 +26,8 @@ pub fn open_log<E: Copy, D: Desk>(
     desk: &mut D,
 ) -> Result<Version, Stop<E>>
     requires { input.old ≡ record { pending = []; ended = false; failed = false } }
-    ensures opened { (bytes : List ℕ) → (D.outside desk.old).text log.now ≡ Some bytes → OpensWith bytes (left_of (D.outside desk.new) input.new) result }
+    ensures opened { (bytes : List ℕ) → (D.outside desk.old).text log.now ≡ Some bytes
+        → OpensWith bytes (left_of (D.outside desk.new) input.new) result }
     // There are no other stops.
     ensures stops { IfErr result (λ why. (why ≡ Stop.ReadFailed) ⊎ (why ≡ Stop.Bad no_header)) }
     // Where it is known what the desk opens, a name that opens nothing could not be opened.
@@ -141,10 +142,12 @@ pub fn flush_after<E: Copy, D: Desk>(
     // Where a read had failed, a write may fail too: then a prefix of what was gathered was printed.
     ensures front { result ≡ Err Stop.ReadFailed → PrintsAsFar (D.outside desk.old) (D.outside desk.new) output.old }
     // Where a write fails, a prefix of what was gathered was printed; where one had failed before, nothing more.
-    ensures part { result ≡ Err Stop.WriteFailed → ending ≢ Err Stop.WriteFailed → PrintsPart (D.outside desk.old) (D.outside desk.new) output.old }
+    ensures part { result ≡ Err Stop.WriteFailed → ending ≢ Err Stop.WriteFailed
+        → PrintsPart (D.outside desk.old) (D.outside desk.new) output.old }
     ensures no_more { ending ≡ Err Stop.WriteFailed → D.outside desk.new ≡ D.outside desk.old }
     ensures input { (D.outside desk.new).input ≡ (D.outside desk.old).input }
-    ensures first { (result ≡ ending) ⊎ ((result ≡ Err Stop.WriteFailed) × HasRisen (D.outside desk.old).out_faults (D.outside desk.new).out_faults) }
+    ensures first { (result ≡ ending) ⊎ ((result ≡ Err Stop.WriteFailed)
+        × HasRisen (D.outside desk.old).out_faults (D.outside desk.new).out_faults) }
     ensures runs { LeavesLogAlone (D.outside desk.old) (D.outside desk.new) }
 {
     match ending {

@@ -44,15 +44,19 @@ linked_is_legal = (
                           answered (record { placement = (refl, refl); of_pool = refl; of_generation = refl }, tt)
                               (record { poll = refl; segment = refl }) refl tt refl refl refl refl refl,
                           (
-                            answered (record { at_address = refl; of_words = refl; of_pool = refl },
-                                tt) refl refl tt refl refl refl refl refl,
+                            answered (
+                              record { at_address = refl; of_words = refl; of_pool = refl },
+                              tt,
+                            ) refl refl tt refl refl refl refl refl,
                             (
                               answered tt (record { poll = refl; segment = refl }) refl tt refl refl refl refl refl,
                               (
                                 answered tt refl refl tt refl refl refl refl refl,
                                 (
-                                  answered (record { at_address = refl; of_words = refl; of_pool = refl },
-                                      tt) refl refl tt refl refl refl refl refl,
+                                  answered (
+                                    record { at_address = refl; of_words = refl; of_pool = refl },
+                                    tt,
+                                  ) refl refl tt refl refl refl refl refl,
                                   (
                                     answered tt refl refl tt refl refl refl refl refl,
                                     tt,
@@ -90,15 +94,23 @@ collected_is_legal = (
               phase = refl;
               weak = refl;
               scanned = inr (inr (inl (begins refl)));
-              target_is_gone = record { condemned = refl; not_settled = refl; not_reachable =
-                  λ path. false_is_not_true (PathLeads-closed _ _ (0 ∷ 1 ∷ 3 ∷ []) refl refl path) };
+              target_is_gone = record {
+                condemned = refl;
+                not_settled = refl;
+                not_reachable =
+                    λ path. false_is_not_true (PathLeads-closed _ _ (0 ∷ 1 ∷ 3 ∷ []) refl refl path);
+              };
             },
             (
               record { empty = refl; due = refl },
               (
                 record {
-                  gone = record { condemned = refl; not_settled = refl; not_reachable =
-                      λ path. false_is_not_true (PathLeads-closed _ _ (0 ∷ 1 ∷ 3 ∷ []) refl refl path) };
+                  gone = record {
+                    condemned = refl;
+                    not_settled = refl;
+                    not_reachable =
+                        λ path. false_is_not_true (PathLeads-closed _ _ (0 ∷ 1 ∷ 3 ∷ []) refl refl path);
+                  };
                   not_registered = refl;
                 },
                 (record { survivors = (inl refl, (inl refl, (inr (inl (begins refl)), tt))); copied = refl; segments = refl }, tt),
@@ -129,11 +141,26 @@ collected_is_legal = (
               splats_one (0x2010, refl),
               refl,
               (
-                reclaims (record { base = 0x1000; freed = []; condemned = refl; in_turn = refl; ascending = refl; in_segment = refl;
-                    whole = refl }),
+                reclaims (record {
+                  base = 0x1000;
+                  freed = [];
+                  condemned = refl;
+                  in_turn = refl;
+                  ascending = refl;
+                  in_segment = refl;
+                  whole = refl;
+                }),
                 refl,
-                reclaims (record { base = 0x2000; freed = 0x2000 ∷ []; condemned = refl; in_turn = refl; ascending = refl; in_segment =
-                    refl; whole = refl }),
+                reclaims (record {
+                  base = 0x2000;
+                  freed = 0x2000 ∷ [];
+                  condemned = refl;
+                  in_turn = refl;
+                  ascending = refl;
+                  in_segment =
+                      refl;
+                  whole = refl;
+                }),
               ),
             ),
           );

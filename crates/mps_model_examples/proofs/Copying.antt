@@ -35,8 +35,15 @@ copying_is_legal =
               later_ends = record {
                 pieces = (moves.Unseg (address 0x1000) ∷ moves.End ∷ []) ∷ [];
                 cut = refl;
-                row = reclaims (record { base = 0x1000; freed = []; condemned = refl; in_turn = refl; ascending = refl; in_segment = refl;
-                    whole = refl });
+                row = reclaims (record {
+                  base = 0x1000;
+                  freed = [];
+                  condemned = refl;
+                  in_turn = refl;
+                  ascending = refl;
+                  in_segment = refl;
+                  whole = refl;
+                });
                 ends = refl;
               };
             })

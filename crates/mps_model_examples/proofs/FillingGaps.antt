@@ -64,8 +64,12 @@ lowest_is_legal = (
     record { none_runs = refl; of_zones = refl },
     (
       record {
-        gone = record { condemned = refl; not_settled = refl; not_reachable =
-            λ path. false_is_not_true (PathLeads-closed _ _ (1 ∷ []) refl refl path) };
+        gone = record {
+          condemned = refl;
+          not_settled = refl;
+          not_reachable =
+              λ path. false_is_not_true (PathLeads-closed _ _ (1 ∷ []) refl refl path);
+        };
         not_registered = refl;
       },
       (record { survivors = (inr (inl (begins refl)), tt); copied = refl; segments = refl }, tt),
@@ -85,8 +89,15 @@ lowest_is_legal = (
           row = (
             scans (record { id = 1; live = refl; not_weak = refl; scanned = inr (inr (inl (begins refl))); keeps_targets = refl }),
             refl,
-            reclaims (record { base = 0x1000; freed = 0x1000 ∷ []; condemned = refl; in_turn = refl; ascending = refl; in_segment = refl;
-                whole = refl }),
+            reclaims (record {
+              base = 0x1000;
+              freed = 0x1000 ∷ [];
+              condemned = refl;
+              in_turn = refl;
+              ascending = refl;
+              in_segment = refl;
+              whole = refl;
+            }),
           );
           ends = refl;
         };

@@ -107,8 +107,16 @@ first_message_is_legal = (
           row = (
             examines refl,
             refl,
-            reclaims (record { base = 0x1000; freed = []; condemned = refl; in_turn = refl; ascending = refl; in_segment = refl; whole =
-                refl }),
+            reclaims (record {
+              base = 0x1000;
+              freed = [];
+              condemned = refl;
+              in_turn = refl;
+              ascending = refl;
+              in_segment = refl;
+              whole =
+                  refl;
+            }),
           );
           ends = refl;
         };
@@ -162,8 +170,16 @@ second_message_is_legal = (
           row = (
             examines refl,
             refl,
-            reclaims (record { base = 0x2000; freed = []; condemned = refl; in_turn = refl; ascending = refl; in_segment = refl; whole =
-                refl }),
+            reclaims (record {
+              base = 0x2000;
+              freed = [];
+              condemned = refl;
+              in_turn = refl;
+              ascending = refl;
+              in_segment = refl;
+              whole =
+                  refl;
+            }),
           );
           ends = refl;
         };
@@ -181,8 +197,12 @@ freeing_is_legal = (
     record { none_runs = refl; of_zones = refl },
     (
       record {
-        gone = record { condemned = refl; not_settled = refl; not_reachable =
-            λ path. false_is_not_true (PathLeads-closed _ _ [] refl refl path) };
+        gone = record {
+          condemned = refl;
+          not_settled = refl;
+          not_reachable =
+              λ path. false_is_not_true (PathLeads-closed _ _ [] refl refl path);
+        };
         not_registered = refl;
       },
       (
@@ -199,8 +219,16 @@ freeing_is_legal = (
         later_ends = record {
           pieces = (moves.Free (address 0x1000) ∷ moves.Unseg (address 0x1000) ∷ moves.End ∷ []) ∷ [];
           cut = refl;
-          row = reclaims (record { base = 0x1000; freed = 0x1000 ∷ []; condemned = refl; in_turn = refl; ascending = refl; in_segment =
-              refl; whole = refl });
+          row = reclaims (record {
+            base = 0x1000;
+            freed = 0x1000 ∷ [];
+            condemned = refl;
+            in_turn = refl;
+            ascending = refl;
+            in_segment =
+                refl;
+            whole = refl;
+          });
           ends = refl;
         };
       })

@@ -114,7 +114,7 @@ dropped_is_legal = (
 pub other_commands_is_legal : OtherCommandsIsLegal
 other_commands_is_legal =
     IsLegalFrom-then empty_world made one_mapped (commands.written
-        ++ (commands.read ++ (area_written ++ roots_dropped))) made_leaves made_is_legal
+    ++ (commands.read ++ (area_written ++ roots_dropped))) made_leaves made_is_legal
     (IsLegalFrom-then made written commands.written (commands.read ++ (area_written ++ roots_dropped)) written_leaves written_is_legal
     (IsLegalFrom-then written written commands.read (area_written ++ roots_dropped) read_leaves read_is_legal
     (IsLegalFrom-then written pinned area_written roots_dropped pinned_leaves pinned_is_legal dropped_is_legal)))

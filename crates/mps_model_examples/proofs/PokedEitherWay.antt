@@ -74,8 +74,15 @@ block_is_legal = (
               (moves.End ∷ [])
               ∷ [];
           cut = refl;
-          row = reclaims (record { base = 0x1000; freed = []; condemned = refl; in_turn = refl; ascending = refl; in_segment = refl;
-              whole = refl });
+          row = reclaims (record {
+            base = 0x1000;
+            freed = [];
+            condemned = refl;
+            in_turn = refl;
+            ascending = refl;
+            in_segment = refl;
+            whole = refl;
+          });
           enough = inr (omega arith, refl);
         })
         refl tt refl refl refl refl refl,
@@ -92,8 +99,12 @@ number_is_legal = (
   (
     answered (
       record {
-        gone = record { condemned = refl; not_settled = refl; not_reachable =
-            λ path. false_is_not_true (PathLeads-closed _ _ (1 ∷ []) refl refl path) };
+        gone = record {
+          condemned = refl;
+          not_settled = refl;
+          not_reachable =
+              λ path. false_is_not_true (PathLeads-closed _ _ (1 ∷ []) refl refl path);
+        };
         not_registered = refl;
       },
       (record { survivors = (inl refl, tt); copied = refl; segments = refl }, tt),
@@ -103,8 +114,16 @@ number_is_legal = (
               (moves.Free (address 0x1000) ∷ moves.End ∷ [])
               ∷ [];
           cut = refl;
-          row = reclaims (record { base = 0x1000; freed = 0x1000 ∷ []; condemned = refl; in_turn = refl; ascending = refl; in_segment =
-              refl; whole = refl });
+          row = reclaims (record {
+            base = 0x1000;
+            freed = 0x1000 ∷ [];
+            condemned = refl;
+            in_turn = refl;
+            ascending = refl;
+            in_segment =
+                refl;
+            whole = refl;
+          });
           enough = inr (omega arith, refl);
         })
         refl tt refl refl refl refl refl,

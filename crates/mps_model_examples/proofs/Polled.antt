@@ -115,8 +115,12 @@ units_are_legal : IsLegalFrom committed units_polled
 units_are_legal = (
   answered (
     record {
-      gone = record { condemned = refl; not_settled = refl; not_reachable =
-          λ path. false_is_not_true (PathLeads-closed _ _ (2 ∷ []) refl refl path) };
+      gone = record {
+        condemned = refl;
+        not_settled = refl;
+        not_reachable =
+            λ path. false_is_not_true (PathLeads-closed _ _ (2 ∷ []) refl refl path);
+      };
       not_registered = refl;
     },
     (
@@ -146,11 +150,26 @@ units_are_legal = (
               scans (record { id = 2; live = refl; not_weak = refl; scanned = inl refl; keeps_targets = refl }),
               refl,
               (
-                reclaims (record { base = 0x1000; freed = 0x1000 ∷ []; condemned = refl; in_turn = refl; ascending = refl; in_segment =
-                    refl; whole = refl }),
+                reclaims (record {
+                  base = 0x1000;
+                  freed = 0x1000 ∷ [];
+                  condemned = refl;
+                  in_turn = refl;
+                  ascending = refl;
+                  in_segment =
+                      refl;
+                  whole = refl;
+                }),
                 refl,
-                reclaims (record { base = 0x3000; freed = []; condemned = refl; in_turn = refl; ascending = refl; in_segment = refl;
-                    whole = refl }),
+                reclaims (record {
+                  base = 0x3000;
+                  freed = [];
+                  condemned = refl;
+                  in_turn = refl;
+                  ascending = refl;
+                  in_segment = refl;
+                  whole = refl;
+                }),
               ),
             ),
           );

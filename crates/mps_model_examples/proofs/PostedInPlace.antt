@@ -53,8 +53,16 @@ posted_in_place_is_legal = (
                           row = (
                             examines refl,
                             refl,
-                            reclaims (record { base = 0x1000; freed = []; condemned = refl; in_turn = refl; ascending = refl; in_segment =
-                                refl; whole = refl }),
+                            reclaims (record {
+                              base = 0x1000;
+                              freed = [];
+                              condemned = refl;
+                              in_turn = refl;
+                              ascending = refl;
+                              in_segment =
+                                  refl;
+                              whole = refl;
+                            }),
                           );
                           ends = refl;
                         };

@@ -71,8 +71,10 @@ read_is_legal = (
   answered (
     record { tracing = refl; condemned = refl; not_settled = refl; copying = refl; at_placement = refl },
     (record { tracing = refl; condemned = refl; not_settled = refl; copying = refl; at_placement = refl }, tt),
-  ) (inl (record { holder = 2; in_segment = refl; scanned = inr (inl refl); refers = refl },
-      (record { holder = 1; in_segment = refl; scanned = inr (inl refl); refers = refl }, tt))) refl tt refl refl refl refl refl,
+  ) (inl (
+    record { holder = 2; in_segment = refl; scanned = inr (inl refl); refers = refl },
+    (record { holder = 1; in_segment = refl; scanned = inr (inl refl); refers = refl }, tt),
+  )) refl tt refl refl refl refl refl,
   (
     answered tt (inl tt) refl tt refl refl refl refl refl,
     (

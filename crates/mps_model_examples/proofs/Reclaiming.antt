@@ -72,8 +72,12 @@ lower_is_legal : IsLegalFrom begun lower_first
 lower_is_legal = (
   answered (
     record {
-      gone = record { condemned = refl; not_settled = refl; not_reachable =
-          λ path. false_is_not_true (PathLeads-closed _ _ [] refl refl path) };
+      gone = record {
+        condemned = refl;
+        not_settled = refl;
+        not_reachable =
+            λ path. false_is_not_true (PathLeads-closed _ _ [] refl refl path);
+      };
       not_registered = refl;
     },
     (record { empty = refl; due = refl }, tt),
@@ -81,8 +85,16 @@ lower_is_legal = (
       (record {
         pieces = (moves.Free (address 0x1000) ∷ moves.Unseg (address 0x1000) ∷ []) ∷ [];
         cut = refl;
-        row = reclaims (record { base = 0x1000; freed = 0x1000 ∷ []; condemned = refl; in_turn = refl; ascending = refl; in_segment =
-            refl; whole = refl });
+        row = reclaims (record {
+          base = 0x1000;
+          freed = 0x1000 ∷ [];
+          condemned = refl;
+          in_turn = refl;
+          ascending = refl;
+          in_segment =
+              refl;
+          whole = refl;
+        });
         enough = inl refl;
       })
       refl tt refl refl refl refl refl,
@@ -102,8 +114,12 @@ upper_is_legal : IsLegalFrom half_reclaimed upper_last
 upper_is_legal = (
   answered (
     record {
-      gone = record { condemned = refl; not_settled = refl; not_reachable =
-          λ path. false_is_not_true (PathLeads-closed _ _ [] refl refl path) };
+      gone = record {
+        condemned = refl;
+        not_settled = refl;
+        not_reachable =
+            λ path. false_is_not_true (PathLeads-closed _ _ [] refl refl path);
+      };
       not_registered = refl;
     },
     (record { empty = refl; due = refl }, (record { survivors = tt; copied = refl; segments = refl }, tt)),
@@ -111,8 +127,16 @@ upper_is_legal = (
       (record {
         pieces = (moves.Free (address 0x2000) ∷ moves.Unseg (address 0x2000) ∷ moves.End ∷ []) ∷ [];
         cut = refl;
-        row = reclaims (record { base = 0x2000; freed = 0x2000 ∷ []; condemned = refl; in_turn = refl; ascending = refl; in_segment =
-            refl; whole = refl });
+        row = reclaims (record {
+          base = 0x2000;
+          freed = 0x2000 ∷ [];
+          condemned = refl;
+          in_turn = refl;
+          ascending = refl;
+          in_segment =
+              refl;
+          whole = refl;
+        });
         enough = inl refl;
       })
       refl tt refl refl refl refl refl,

@@ -37,8 +37,16 @@ staying_is_legal = (
                       row = (
                         scans (record { id = 0; live = refl; not_weak = refl; scanned = inr (inl refl); keeps_targets = refl }),
                         refl,
-                        reclaims (record { base = 0x1000; freed = []; condemned = refl; in_turn = refl; ascending = refl; in_segment =
-                            refl; whole = refl }),
+                        reclaims (record {
+                          base = 0x1000;
+                          freed = [];
+                          condemned = refl;
+                          in_turn = refl;
+                          ascending = refl;
+                          in_segment =
+                              refl;
+                          whole = refl;
+                        }),
                       );
                       ends = refl;
                     };

@@ -62,8 +62,15 @@ ended_is_legal = (
               (moves.Unseg (address 0x1000) ∷ moves.End ∷ [])
               ∷ [];
           cut = refl;
-          row = reclaims (record { base = 0x1000; freed = []; condemned = refl; in_turn = refl; ascending = refl; in_segment = refl;
-              whole = refl });
+          row = reclaims (record {
+            base = 0x1000;
+            freed = [];
+            condemned = refl;
+            in_turn = refl;
+            ascending = refl;
+            in_segment = refl;
+            whole = refl;
+          });
           enough = inl refl;
         })
         refl tt refl refl refl refl refl,

@@ -76,8 +76,15 @@ dropped_is_legal = (
         later_ends = record {
           pieces = (moves.End ∷ []) ∷ [];
           cut = refl;
-          row = reclaims (record { base = 0x2000; freed = []; condemned = refl; in_turn = refl; ascending = refl; in_segment = refl;
-              whole = refl });
+          row = reclaims (record {
+            base = 0x2000;
+            freed = [];
+            condemned = refl;
+            in_turn = refl;
+            ascending = refl;
+            in_segment = refl;
+            whole = refl;
+          });
           ends = refl;
         };
       })
@@ -106,13 +113,21 @@ splatted_is_legal = (
         phase = refl;
         weak = refl;
         scanned = inr (inr (inl (begins refl)));
-        target_is_gone = record { condemned = refl; not_settled = refl; not_reachable =
-            λ path. false_is_not_true (PathLeads-closed _ _ (1 ∷ []) refl refl path) };
+        target_is_gone = record {
+          condemned = refl;
+          not_settled = refl;
+          not_reachable =
+              λ path. false_is_not_true (PathLeads-closed _ _ (1 ∷ []) refl refl path);
+        };
       },
       (
         record {
-          gone = record { condemned = refl; not_settled = refl; not_reachable =
-              λ path. false_is_not_true (PathLeads-closed _ _ (1 ∷ []) refl refl path) };
+          gone = record {
+            condemned = refl;
+            not_settled = refl;
+            not_reachable =
+                λ path. false_is_not_true (PathLeads-closed _ _ (1 ∷ []) refl refl path);
+          };
           not_registered = refl;
         },
         (
@@ -138,11 +153,27 @@ splatted_is_legal = (
             splats_one (0x2000, refl),
             refl,
             (
-              reclaims (record { base = 0x1000; freed = 0x1000 ∷ []; condemned = refl; in_turn = refl; ascending = refl; in_segment =
-                  refl; whole = refl }),
+              reclaims (record {
+                base = 0x1000;
+                freed = 0x1000 ∷ [];
+                condemned = refl;
+                in_turn = refl;
+                ascending = refl;
+                in_segment =
+                    refl;
+                whole = refl;
+              }),
               refl,
-              reclaims (record { base = 0x2000; freed = []; condemned = refl; in_turn = refl; ascending = refl; in_segment = refl; whole =
-                  refl }),
+              reclaims (record {
+                base = 0x2000;
+                freed = [];
+                condemned = refl;
+                in_turn = refl;
+                ascending = refl;
+                in_segment = refl;
+                whole =
+                    refl;
+              }),
             ),
           );
           ends = refl;

@@ -19,7 +19,7 @@ begun = weakly_world (weakly_graph None (Some 0)) (grain_segment 0x1000 0 ∷ we
 abbrev moved : World
 moved =
     weakly_world (weakly_graph (Some 0) (Some 0)) (grain_segment 0x1000 0 ∷ weak_segment ∷ grain_segment 0x3000 0 ∷ []) 0x3000
-        (tail 1538 510)
+    (tail 1538 510)
     (0 ∷ []) (0 ∷ 1 ∷ []) Tracing
 
 abbrev splatted : World
@@ -106,11 +106,27 @@ kept_is_legal = (
             scans (record { id = 0; live = refl; not_weak = refl; scanned = inr (inl refl); keeps_targets = refl }),
             refl,
             (
-              reclaims (record { base = 0x1000; freed = []; condemned = refl; in_turn = refl; ascending = refl; in_segment = refl; whole =
-                  refl }),
+              reclaims (record {
+                base = 0x1000;
+                freed = [];
+                condemned = refl;
+                in_turn = refl;
+                ascending = refl;
+                in_segment = refl;
+                whole =
+                    refl;
+              }),
               refl,
-              reclaims (record { base = 0x2000; freed = []; condemned = refl; in_turn = refl; ascending = refl; in_segment = refl; whole =
-                  refl }),
+              reclaims (record {
+                base = 0x2000;
+                freed = [];
+                condemned = refl;
+                in_turn = refl;
+                ascending = refl;
+                in_segment = refl;
+                whole =
+                    refl;
+              }),
             ),
           );
           enough = inr (omega arith, refl);
@@ -127,8 +143,12 @@ splatted_is_legal = (
       phase = refl;
       weak = refl;
       scanned = inr (inl refl);
-      target_is_gone = record { condemned = refl; not_settled = refl; not_reachable =
-          λ path. false_is_not_true (PathLeads-closed _ _ (1 ∷ []) refl refl path) };
+      target_is_gone = record {
+        condemned = refl;
+        not_settled = refl;
+        not_reachable =
+            λ path. false_is_not_true (PathLeads-closed _ _ (1 ∷ []) refl refl path);
+      };
     },
     tt,
   ) (inr refl) refl tt refl refl refl refl refl,
@@ -141,8 +161,12 @@ gone_is_legal = (
   (
     answered (
       record {
-        gone = record { condemned = refl; not_settled = refl; not_reachable =
-            λ path. false_is_not_true (PathLeads-closed _ _ (1 ∷ []) refl refl path) };
+        gone = record {
+          condemned = refl;
+          not_settled = refl;
+          not_reachable =
+              λ path. false_is_not_true (PathLeads-closed _ _ (1 ∷ []) refl refl path);
+        };
         not_registered = refl;
       },
       (
@@ -157,11 +181,26 @@ gone_is_legal = (
               ∷ [];
           cut = refl;
           row = (
-            reclaims (record { base = 0x1000; freed = 0x1000 ∷ []; condemned = refl; in_turn = refl; ascending = refl; in_segment = refl;
-                whole = refl }),
+            reclaims (record {
+              base = 0x1000;
+              freed = 0x1000 ∷ [];
+              condemned = refl;
+              in_turn = refl;
+              ascending = refl;
+              in_segment = refl;
+              whole = refl;
+            }),
             refl,
-            reclaims (record { base = 0x2000; freed = []; condemned = refl; in_turn = refl; ascending = refl; in_segment = refl; whole =
-                refl }),
+            reclaims (record {
+              base = 0x2000;
+              freed = [];
+              condemned = refl;
+              in_turn = refl;
+              ascending = refl;
+              in_segment = refl;
+              whole =
+                  refl;
+            }),
           );
           enough = inr (omega arith, refl);
         })

@@ -105,7 +105,7 @@ pub reclaimed_downwards : ReclaimedDownwards
 reclaimed_downwards =
     cannot_follow upper_first steps.lower_reclaimed
     (λ s. begins_with_free _ _ _ _ (λ c is r. above _ c r.base refl is r.in_turn (own_base _ _ r.freed r.base _ _ r.whole))
-        (one_unit _ _ _ s.moves_are_due))
+    (one_unit _ _ _ s.moves_are_due))
 
 -- a reclaim takes no segment
 takes_none : (base : Addr) (grains pool generation : ℕ) (rest : List Move) (freed : List ℕ) (at : ℕ) (empty last : Bool)

@@ -32,7 +32,7 @@ registered_once =
 abbrev pub registered_anew : History
 registered_anew =
     step 11 call.Start (moves.Flip (zones 2) 16 0 ∷ moves.Seg (address 0x2000) 1 0 0 ∷ moves.Moved (address 0x1000) (address 0x2000)
-        ∷ []) reply.Ok
+    ∷ []) reply.Ok
     ∷ step 12 (call.Definalize (at_index t 0)) [] reply.Ok
     ∷ step 13 (call.Finalize (at_index t 0)) [] reply.Ok
     ∷ step 14 (call.Clear (at_index t 0)) [] reply.Ok

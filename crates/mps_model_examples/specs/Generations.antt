@@ -32,7 +32,7 @@ in_generation_zero =
 abbrev pub first_collected : History
 first_collected =
     step 8 (call.StartChain q 0) (moves.Flip (zones 2) 0 0 ∷ moves.Seg (address 0x2000) 1 0 1
-        ∷ moves.Moved (address 0x1000) (address 0x2000) ∷ []) reply.Ok
+    ∷ moves.Moved (address 0x1000) (address 0x2000) ∷ []) reply.Ok
     ∷ step 9 call.Start [] (reply.Refused refusal.Running)
     ∷ step 10 call.Park (moves.Unseg (address 0x1000) ∷ moves.End ∷ []) reply.Ok
     ∷ []
@@ -43,7 +43,7 @@ second_begun =
     step 11 (call.StartChain q 0) (moves.Flip (zones 0) 0 0 ∷ moves.End ∷ []) reply.Ok
     ∷ step 12 (call.StartChain q 2) [] (reply.Refused refusal.BadIndex)
     ∷ step 13 (call.StartChain q 1) (moves.Flip (zones 4) 0 1 ∷ moves.Seg (address 0x1000) 1 0 1
-        ∷ moves.Moved (address 0x2000) (address 0x1000) ∷ []) reply.Ok
+    ∷ moves.Moved (address 0x2000) (address 0x1000) ∷ []) reply.Ok
     ∷ []
 
 -- `collect` ends the running collection, and then does a whole one

@@ -33,7 +33,7 @@ linked =
 abbrev pub start_step : Step
 start_step =
     step 11 call.Start (moves.Flip (zones 2) 16 0 ∷ moves.Seg (address 0x2000) 1 0 0 ∷ moves.Moved (address 0x1018) (address 0x2000)
-        ∷ []) reply.Ok
+    ∷ []) reply.Ok
 
 abbrev pub linked_started : History
 linked_started = linked ++ start_step ∷ []

@@ -31,7 +31,7 @@ three_in_a_row =
 abbrev pub row_started : History
 row_started =
     step 14 call.Start (moves.Flip (zones 2) 16 0 ∷ moves.Seg (address 0x2000) 1 0 0 ∷ moves.Moved (address 0x1030) (address 0x2000)
-        ∷ []) reply.Ok
+    ∷ []) reply.Ok
     ∷ []
 
 -- both other blocks move into the segment that is read

@@ -57,7 +57,7 @@ poked_history =
 abbrev pub move_of_pinned : Step
 move_of_pinned =
     step 11 call.Start (moves.Flip (zones 2) 16 0 ∷ moves.Seg (address 0x2000) 1 0 0 ∷ moves.Moved (address 0x1000) (address 0x2000)
-        ∷ []) reply.Ok
+    ∷ []) reply.Ok
 
 abbrev pub MoveOfPinned : Type 0
 MoveOfPinned = CannotFollow poked_history move_of_pinned

@@ -20,7 +20,8 @@ onto_step : (fuel n : ℕ) (after : List ℕ)
 onto_step fuel n after = refl
 
 -- one digit more
-digit_more : (rest at : ℕ) (after : List ℕ) → eqb rest 0 ≡ false → completed rest (at + 1) after ≡ completed (rest / 16) at (digit_glyph false (rest % 16) ∷ after)
+digit_more : (rest at : ℕ) (after : List ℕ) → eqb rest 0 ≡ false
+    → completed rest (at + 1) after ≡ completed (rest / 16) at (digit_glyph false (rest % 16) ∷ after)
 unfolding completed
 digit_more rest at after some =
     let fuel : 48 + (at + 1) ≡ suc (48 + at) = omega arith in

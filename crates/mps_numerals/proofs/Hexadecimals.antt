@@ -29,7 +29,8 @@ one_digit digit small = hex_one_digit false digit small
 
 pub value_of_digit : (digit : ℕ) → digit < 16 → digit_value (digit_glyph false digit) ≡ digit
 value_of_digit digit small =
-    let read : digits_value 16 (hexadecimal digit) ≡ digit = (digits_is_IsNumeral 16 false (omega arith) (omega arith) digit (omega arith)).1 in
+    let read : digits_value 16 (hexadecimal digit) ≡ digit =
+    (digits_is_IsNumeral 16 false (omega arith) (omega arith) digit (omega arith)).1 in
     let same : digits_value 16 (digit_glyph false digit ∷ []) ≡ digit = ap (digits_value 16) (sym (one_digit digit small)) ∙ read in
     omega (arith, same)
 
@@ -43,11 +44,13 @@ after_either : (last : Bool) (x y : List ℕ) (digit : ℕ) → cond last (x ++ 
 after_either true x y digit = refl
 after_either false x y digit = refl
 
-onto_after : (fuel n digit : ℕ) (front : List ℕ) → digits_onto fuel 16 false n (front ++ digit ∷ []) ≡ digits_onto fuel 16 false n front ++ digit ∷ []
+onto_after : (fuel n digit : ℕ) (front : List ℕ) → digits_onto fuel 16 false n (front ++ digit ∷ []) ≡ digits_onto fuel 16 false n front
+    ++ digit ∷ []
 onto_after zero n digit front = refl
 onto_after (suc fuel) n digit front =
     let next = digit_glyph false (n % 16) ∷ front in
-    either (eqb (n / 16) 0) (next ++ digit ∷ []) (digits_onto fuel 16 false (n / 16) (next ++ digit ∷ [])) (next ++ digit ∷ []) (digits_onto fuel 16 false (n / 16) next ++ digit ∷ [])
+    either (eqb (n / 16) 0) (next ++ digit ∷ []) (digits_onto fuel 16 false (n / 16) (next ++ digit ∷ [])) (next ++ digit ∷ [])
+    (digits_onto fuel 16 false (n / 16) next ++ digit ∷ [])
     refl (onto_after fuel (n / 16) digit next)
     ∙ after_either (eqb (n / 16) 0) next (digits_onto fuel 16 false (n / 16) next) digit
 
@@ -59,7 +62,8 @@ none_or_more n x y z h =
       | inr more ↦ ap (λ (w : List ℕ). cond (eqb (n / 16) 0) x w) (h (omega (arith, more)))
     ]
 
-onto_enough : (fuel n : ℕ) (front : List ℕ) → n < 16 ^ fuel → 0 < fuel → digits_onto (suc fuel) 16 false n front ≡ digits_onto fuel 16 false n front
+onto_enough : (fuel n : ℕ) (front : List ℕ) → n < 16 ^ fuel → 0 < fuel
+    → digits_onto (suc fuel) 16 false n front ≡ digits_onto fuel 16 false n front
 onto_enough zero n front fits some = absurd (omega arith)
 onto_enough (suc zero) n front fits some =
     let next = digit_glyph false (n % 16) ∷ front in
@@ -77,7 +81,8 @@ last_digit n large fits =
     ∙ onto_after 63 (n / 16) (digit_glyph false (n % 16)) []
     ∙ ap (λ (front : List ℕ). front ++ digit_glyph false (n % 16) ∷ []) (sym (onto_enough 63 (n / 16) [] (omega arith) (omega arith)))
   where
-    onto_rest : (last : Bool) → last ≡ false → cond last (digit_glyph false (n % 16) ∷ []) (digits_onto 63 16 false (n / 16) (digit_glyph false (n % 16) ∷ []))
+    onto_rest : (last : Bool) → last ≡ false → cond last (digit_glyph false (n % 16) ∷ [])
+        (digits_onto 63 16 false (n / 16) (digit_glyph false (n % 16) ∷ []))
         ≡ digits_onto 63 16 false (n / 16) (digit_glyph false (n % 16) ∷ [])
     onto_rest true e = absurd cc
     onto_rest false e = refl
@@ -98,7 +103,8 @@ onto_digits : (fuel n : ℕ) (front : List ℕ) → are_digits 16 front ≡ true
 onto_digits zero n front h = h
 onto_digits (suc fuel) n front h =
     let next : are_digits 16 (digit_glyph false (n % 16) ∷ front) ≡ true = rw (is_digit (n % 16) (omega arith), h) refl in
-    either_digits (eqb (n / 16) 0) (digit_glyph false (n % 16) ∷ front) (digits_onto fuel 16 false (n / 16) (digit_glyph false (n % 16) ∷ front)) next
+    either_digits (eqb (n / 16) 0) (digit_glyph false (n % 16) ∷ front)
+    (digits_onto fuel 16 false (n / 16) (digit_glyph false (n % 16) ∷ front)) next
     (onto_digits fuel (n / 16) (digit_glyph false (n % 16) ∷ front) next)
 
 all_digits : (n : ℕ) → are_digits 16 (hexadecimal n) ≡ true
@@ -129,8 +135,10 @@ value_of_hexadecimal n fits = (digits_is_IsNumeral 16 false (omega arith) (omega
 
 -- ---- one digit more
 
-pub written_more : (text : List ℕ) (i number digit : ℕ) → IsPlain text → i < length text → digits_value 16 (take i text) ≡ number → (0 < i → take i text ≡ hexadecimal number)
-    → digit < 16 → get_or text i 0 ≡ digit_glyph false digit → number * 16 + digit < 2 ^ 64 → take (i + 1) text ≡ hexadecimal (number * 16 + digit)
+pub written_more : (text : List ℕ) (i number digit : ℕ) → IsPlain text → i < length text → digits_value 16 (take i text) ≡ number
+    → (0 < i → take i text ≡ hexadecimal number)
+    → digit < 16 → get_or text i 0 ≡ digit_glyph false digit → number * 16 + digit < 2 ^ 64
+    → take (i + 1) text ≡ hexadecimal (number * 16 + digit)
 written_more text zero number digit plain within value written small is fits =
     let none : number ≡ 0 = omega (arith, value) in
     let same : number * 16 + digit ≡ digit = omega (arith, none) in
@@ -151,12 +159,14 @@ written_more text (suc i) number digit plain within value written small is fits 
     ∙ sym (last_digit (number * 16 + digit) (omega arith) fits)
   where
     first_of_zero : (text : List ℕ) (i number : ℕ) → take (suc i) text ≡ hexadecimal number → number ≡ 0 → get_or text 0 0 ≡ 48
-    first_of_zero [] i number e none = absurd (let e' : [] ≡ 48 ∷ [] = e ∙ ap hexadecimal none ∙ one_digit 0 (omega arith) in let l : 0 ≡ 1 = ap (λ (x : List ℕ). length x) e' in omega (arith, l))
+    first_of_zero [] i number e none = absurd (let e' : [] ≡ 48 ∷ [] = e ∙ ap hexadecimal none ∙ one_digit 0 (omega arith) in
+        let l : 0 ≡ 1 = ap (λ (x : List ℕ). length x) e' in omega (arith, l))
     first_of_zero (byte ∷ bytes) i number e none =
         let e' : byte ∷ take i bytes ≡ 48 ∷ [] = e ∙ ap hexadecimal none ∙ one_digit 0 (omega arith) in
         ap (λ (x : List ℕ). get_or x 0 0) e'
 
-pub value_more : (text : List ℕ) (i number digit : ℕ) → i < length text → digits_value 16 (take i text) ≡ number → digit < 16 → get_or text i 0 ≡ digit_glyph false digit
+pub value_more : (text : List ℕ) (i number digit : ℕ) → i < length text → digits_value 16 (take i text) ≡ number → digit < 16
+    → get_or text i 0 ≡ digit_glyph false digit
     → digits_value 16 (take (i + 1) text) ≡ number * 16 + digit
 value_more text i number digit within value small is =
     omega (arith, digits_value_more 16 text i within, ap digit_value is, value_of_digit digit small, value)
@@ -192,7 +202,8 @@ hexadecimal_plain n fits = (
 
 -- ---- what a reader answers
 
-written_to : (text : List ℕ) (i : ℕ) → IsPlain text → are_digits 16 text ≡ true → digits_value 16 text < 2 ^ 64 → i ≤ length text → 0 < i → take i text ≡ hexadecimal (digits_value 16 (take i text))
+written_to : (text : List ℕ) (i : ℕ) → IsPlain text → are_digits 16 text ≡ true → digits_value 16 text < 2 ^ 64 → i ≤ length text → 0 < i
+    → take i text ≡ hexadecimal (digits_value 16 (take i text))
 written_to text zero plain are fits within some = absurd (omega arith)
 written_to text (suc i) plain are fits within some =
     let there : i < length text = omega arith in
@@ -200,7 +211,8 @@ written_to text (suc i) plain are fits within some =
     let more = value_more text i (digits_value 16 (take i text)) (digit_of (get_or text i 0)) there refl g.0 g.1 in
     let bound = digits_value-take-le 16 text (i + 1) (omega arith) in
     let next : take (i + 1) text ≡ hexadecimal (digits_value 16 (take (i + 1) text)) =
-    written_more text i (digits_value 16 (take i text)) (digit_of (get_or text i 0)) plain there refl (λ up. written_to text i plain are fits (omega arith) up) g.0 g.1
+    written_more text i (digits_value 16 (take i text)) (digit_of (get_or text i 0)) plain there refl
+    (λ up. written_to text i plain are fits (omega arith) up) g.0 g.1
     (omega (arith, more, bound, fits)) ∙ ap hexadecimal (sym more) in
     subst (λ (k : ℕ). take k text ≡ hexadecimal (digits_value 16 (take k text))) (add-one i) next
 
@@ -211,7 +223,8 @@ read_was_written text n e =
     let plain = plain_from text k.0 in
     let value : digits_value 16 text ≡ n = same_value text k.1 ∙ k.2 in
     let all : take (length text) text ≡ text = take_all (length text) text (omega arith) in
-    sym all ∙ written_to text (length text) plain k.1 (omega (arith, value, k.3, k.2)) (omega arith) plain.0 ∙ ap (λ (t : List ℕ). hexadecimal (digits_value 16 t)) all ∙ ap hexadecimal value
+    sym all ∙ written_to text (length text) plain k.1 (omega (arith, value, k.3, k.2)) (omega arith) plain.0
+    ∙ ap (λ (t : List ℕ). hexadecimal (digits_value 16 t)) all ∙ ap hexadecimal value
 
 -- what is written for a number is read as this number
 written_is_read : (n : ℕ) → n < 2 ^ 64 → number_in 16 (hexadecimal n) ≡ Some n

@@ -45,7 +45,8 @@ at_least a b h = omega arith
 -- ---- digit by digit
 
 -- digits up to one more
-pub digits_more : (base i : ℕ) (bs : List ℕ) → i < length bs → are_digits base (take i bs) ≡ true → digit_of (get_or bs i 0) < base → are_digits base (take (i + 1) bs) ≡ true
+pub digits_more : (base i : ℕ) (bs : List ℕ) → i < length bs → are_digits base (take i bs) ≡ true → digit_of (get_or bs i 0) < base
+    → are_digits base (take (i + 1) bs) ≡ true
 digits_more base i bs within seen lt =
     let test : nat_lt (digit_of (get_or bs i 0)) base ≡ true = grind (arith, common_steps) in
     list_all_more (λ b. nat_lt (digit_of b) base) bs i 0 within ∙ rw (seen, test) refl
@@ -66,7 +67,8 @@ too_large base bs large = either (are_digits base bs) (below_word (digits_value 
     either false x e = refl
 
 -- all were digits
-pub all_digits : (base i : ℕ) (bs : List ℕ) (r : Option ℕ) → length bs ≤ i → are_digits base (take i bs) ≡ true → r ≡ below_word (digits_value base bs) → r ≡ value_in base bs
+pub all_digits : (base i : ℕ) (bs : List ℕ) (r : Option ℕ) → length bs ≤ i → are_digits base (take i bs) ≡ true
+    → r ≡ below_word (digits_value base bs) → r ≡ value_in base bs
 all_digits base i bs r over seen e =
     let all : are_digits base bs ≡ true = ap (are_digits base) (sym (take_all i bs over)) ∙ seen in
     rw all e

@@ -5,7 +5,8 @@ use Rattle.std.specs.List.{list_all}
 -- what a digit stands for, up to 15 for `f`; 16 for a byte that is no digit. The codes of the digits are 48 to 57 for `0` to `9`,
 -- and 97 to 102 for `a` to `f`.
 abbrev pub digit_of : ℕ → ℕ
-digit_of b = if nat_lt b 48 then 16 else (if nat_lt b 58 then b - 48 else (if nat_lt b 97 then 16 else (if nat_lt b 103 then b - 87 else 16)))
+digit_of b = if nat_lt b 48 then 16 else (if nat_lt b 58 then b - 48
+    else (if nat_lt b 97 then 16 else (if nat_lt b 103 then b - 87 else 16)))
 
 -- the number that digits write after those of n
 abbrev pub value_after : ℕ → ℕ → List ℕ → ℕ

@@ -17,7 +17,8 @@ pub gathers-then : (a b c : Outside) (x y z t u : List ℕ) → Gathers a b x y 
 gathers-then a b c x y z t u e f = record {
   front = e.front ++ f.front;
   printed = prints-then a b c e.front f.front e.printed f.printed;
-  same = sym (append_assoc x t u) ∙ ap (λ (p : List ℕ). p ++ u) e.same ∙ append_assoc e.front y u ∙ ap (λ (p : List ℕ). e.front ++ p) f.same ∙ sym (append_assoc e.front f.front z);
+  same = sym (append_assoc x t u) ∙ ap (λ (p : List ℕ). p ++ u) e.same ∙ append_assoc e.front y u
+      ∙ ap (λ (p : List ℕ). e.front ++ p) f.same ∙ sym (append_assoc e.front f.front z);
 }
 
 -- room was made, and a text was gathered
@@ -45,9 +46,11 @@ gathered_more a b c x y z all left rest line e is f = record {
   lines = e.lines ∙ ap (λ (ls : List (List ℕ)). e.text ++ joined ls) is ∙ sym (append_assoc e.text line (joined rest));
 }
 
-pub gathered_all : (a b : Outside) (x y : List ℕ) (all left : List (List ℕ)) → IsGathered a b x y all left → left ≡ [] → Gathers a b x y (joined all)
+pub gathered_all : (a b : Outside) (x y : List ℕ) (all left : List (List ℕ)) → IsGathered a b x y all left → left ≡ []
+    → Gathers a b x y (joined all)
 gathered_all a b x y all left e is =
-    subst (λ (t : List ℕ). Gathers a b x y t) (sym (e.lines ∙ ap (λ (ls : List (List ℕ)). e.text ++ joined ls) is ∙ append-nil e.text)) e.gathers
+    subst (λ (t : List ℕ). Gathers a b x y t) (sym (e.lines ∙ ap (λ (ls : List (List ℕ)). e.text ++ joined ls) is ∙ append-nil e.text))
+    e.gathers
 
 -- all that was gathered was printed
 pub gathers_printed : (a b c : Outside) (x y text : List ℕ) → x ≡ [] → Gathers a b x y text → Prints b c y → Prints a c text

@@ -92,7 +92,13 @@ pub logs_then : (a b c : Outside) (first second : List ℕ) → Logs a b first �
 unfolding takes_then takes_of_logs
 logs_then a b c first second f g =
     let both = takes_then a b c (takes_of_logs a b first f) (takes_of_logs b c second g) in
-    record { logged = both.logged; filed = both.filed; counted = omega (arith, f.counted, g.counted); others = only_logs_then a b c f.others g.others }
+    record {
+      logged = both.logged;
+      filed = both.filed;
+      counted = omega (arith, f.counted, g.counted);
+      others =
+          only_logs_then a b c f.others g.others;
+    }
 
 logs_as : (a b : Outside) (first second : List ℕ) → first ≡ second → Logs a b first → Logs a b second
 logs_as a b first second e l = subst (λ (piece : List ℕ). Logs a b piece) e l
@@ -126,7 +132,8 @@ part_of_first a b first second p =
     let some = take p.count first in
     let parts : first ++ second ≡ some ++ (drop p.count first ++ second) =
     ap (λ (xs : List ℕ). xs ++ second) (sym (take-append-drop p.count first)) ∙ append_assoc some (drop p.count first) second in
-    let taken : take (length some) (first ++ second) ≡ some = ap (take (length some)) parts ∙ take-append_seam some (drop p.count first ++ second) in
+    let taken : take (length some) (first ++ second) ≡ some = ap (take (length some)) parts
+    ∙ take-append_seam some (drop p.count first ++ second) in
     record { count = length some; part = logs_as a b _ _ (sym taken) p.part; fault = p.fault }
 
 -- the first was logged whole, and then a prefix of the second
@@ -134,7 +141,8 @@ pub part_of_second : (a b c : Outside) (first second : List ℕ) → Logs a b fi
 part_of_second a b c first second l p =
     let some = first ++ take p.count second in
     let parts : first ++ second ≡ some ++ drop p.count second =
-    ap (λ (xs : List ℕ). first ++ xs) (sym (take-append-drop p.count second)) ∙ sym (append_assoc first (take p.count second) (drop p.count second)) in
+    ap (λ (xs : List ℕ). first ++ xs) (sym (take-append-drop p.count second))
+    ∙ sym (append_assoc first (take p.count second) (drop p.count second)) in
     let taken : take (length some) (first ++ second) ≡ some = ap (take (length some)) parts ∙ take-append_seam some (drop p.count second) in
     record {
       count = length some;

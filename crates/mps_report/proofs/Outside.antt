@@ -61,19 +61,22 @@ pub prints_more : (a b c : Outside) (bytes : List ℕ) (at count : ℕ) → Prin
     → c.printed ≡ added b.printed (take (length bytes - at) (drop at bytes)) count → b.out_faults ≤ c.out_faults → OnlyPrints b c
     → Prints a c (take (at + count) bytes)
 prints_more a b c bytes at count before printed counted others =
-    let piece : Prints b c (take count (take (length bytes - at) (drop at bytes))) = record { printed = printed; counted = counted; others = others } in
+    let piece : Prints b c (take count (take (length bytes - at) (drop at bytes))) =
+    record { printed = printed; counted = counted; others = others } in
     let text : take at bytes ++ take count (take (length bytes - at) (drop at bytes)) ≡ take (at + count) bytes =
     ap (λ (x : List ℕ). take at bytes ++ take count x) (take_rest bytes at) ∙ sym (take-add at count bytes) in
     prints-as a c _ _ text (prints-then a b c (take at bytes) _ before piece)
 
 -- a call that failed took nothing
-pub prints_no_more : (a b c : Outside) (text : List ℕ) → Prints a b text → c.printed ≡ b.printed → b.out_faults ≤ c.out_faults → OnlyPrints b c → Prints a c text
+pub prints_no_more : (a b c : Outside) (text : List ℕ) → Prints a b text → c.printed ≡ b.printed → b.out_faults ≤ c.out_faults
+    → OnlyPrints b c → Prints a c text
 prints_no_more a b c text before printed counted others =
     let piece : Prints b c [] = record { printed = printed ∙ appended_empty b.printed; counted = counted; others = others } in
     prints-as a c _ _ (append-nil text) (prints-then a b c text [] before piece)
 
 -- a fault after a prefix of the bytes was printed
-pub part_printed : (a b c : Outside) (bytes : List ℕ) (at : ℕ) → Prints a b (take at bytes) → c.printed ≡ b.printed → b.out_faults ≤ c.out_faults → OnlyPrints b c
+pub part_printed : (a b c : Outside) (bytes : List ℕ) (at : ℕ) → Prints a b (take at bytes) → c.printed ≡ b.printed
+    → b.out_faults ≤ c.out_faults → OnlyPrints b c
     → HasRisen b.out_faults c.out_faults → PrintsPart a c bytes
 part_printed a b c bytes at before printed counted others fault = record {
   count = at;
@@ -126,7 +129,8 @@ reports_more a b c bytes at count before reported counted others =
     let text : take at bytes ++ take count (take (length bytes - at) (drop at bytes)) ≡ take (at + count) bytes =
     ap (λ (x : List ℕ). take at bytes ++ take count x) (take_rest bytes at) ∙ sym (take-add at count bytes) in
     record {
-      reported = appended_both (take at bytes) (take count (take (length bytes - at) (drop at bytes))) a.reported b.reported c.reported before.reported reported
+      reported = appended_both (take at bytes) (take count (take (length bytes - at) (drop at bytes))) a.reported b.reported c.reported
+          before.reported reported
           ∙ ap (λ (x : List ℕ). option_map (λ front. front ++ x) a.reported) text;
       counted = omega (arith, before.counted);
       others = reports_only-then a b c before.others others;
@@ -139,7 +143,8 @@ reported_all a b bytes at le r = record {
   others = r.others;
 }
 
-pub report_failed : (a b c : Outside) (bytes front : List ℕ) → IsReporting a b front → OnlyReports b c → HasRisen b.err_faults c.err_faults → b.err_faults ≤ c.err_faults → Reports a c bytes
+pub report_failed : (a b c : Outside) (bytes front : List ℕ) → IsReporting a b front → OnlyReports b c
+    → HasRisen b.err_faults c.err_faults → b.err_faults ≤ c.err_faults → Reports a c bytes
 report_failed a b c bytes front r others fault counted = record {
   reported = inl (risen_earlier a.err_faults b.err_faults c.err_faults r.counted fault);
   counted = omega (arith, r.counted);

@@ -41,7 +41,8 @@ pub record ReportsStatus {E : Type 0} (text : E → List ℕ) (status : ℕ) (ol
   pub reported : HasReportedEnding text ending old new
 
 -- the program ends so: with the status of this ending, with this text printed, and with the line of the ending reported
-pub record ProgramEnds {E : Type 0} (text_of : E → List ℕ) (ending : Result (Unit {0}) (Stop E)) (text : List ℕ) (status : ℕ) (old new : Outside) : Type 0 where
+pub record ProgramEnds {E : Type 0} (text_of : E → List ℕ) (ending : Result (Unit {0}) (Stop E)) (text : List ℕ) (status : ℕ)
+    (old new : Outside) : Type 0 where
   pub status_is : status ≡ status_of_ending ending
   pub printed : new.printed ≡ option_map (λ before. before ++ text) old.printed
   pub reported : HasReportedEnding text_of ending old new

@@ -58,21 +58,24 @@ pair_written text r e =
     let before : take at text ≡ decimal first.0 = ap (λ (x : List ℕ × List ℕ). x.0) there.1 ∙ front.0 in
     let after : drop (at + 1) text ≡ decimal second.0 = ap (λ (x : List ℕ × List ℕ). x.1) there.1 ∙ back.0 in
     let whole : text ≡ decimal first.0 ++ 58 ∷ decimal second.0
-    = joined_at_colon text at there.0 ∙ ap (λ (t : List ℕ). t ++ 58 ∷ drop (at + 1) text) before ∙ ap (λ (t : List ℕ). decimal first.0 ++ 58 ∷ t) after in
+    = joined_at_colon text at there.0 ∙ ap (λ (t : List ℕ). t ++ 58 ∷ drop (at + 1) text) before
+    ∙ ap (λ (t : List ℕ). decimal first.0 ++ 58 ∷ t) after in
     subst (λ (s : ℕ × ℕ). (text ≡ decimal s.0 ++ 58 ∷ decimal s.1) × (s.0 < 2 ^ 64) × (s.1 < 2 ^ 64)) same (whole, front.1, back.1)
 
 -- ---- heads
 abbrev IsRead : List ℕ → Head → Type 0
 IsRead text h = (text ≡ text_of h) × IsInWords h
 
-front_written : (rest : List ℕ) (h : Head) → option_and_then (λ p. Some (Front p.0 p.1)) (two_numbers rest) ≡ Some h → IsRead (102 ∷ 58 ∷ rest) h
+front_written : (rest : List ℕ) (h : Head) → option_and_then (λ p. Some (Front p.0 p.1)) (two_numbers rest) ≡ Some h
+    → IsRead (102 ∷ 58 ∷ rest) h
 front_written rest h e =
     let k = some_of _ (two_numbers rest) h e in
     let w = pair_written rest k.0 k.1 in
     let same : Front k.0.0 k.0.1 ≡ h = cc in
     subst (IsRead (102 ∷ 58 ∷ rest)) same (ap (λ (t : List ℕ). 102 ∷ 58 ∷ t) w.0, (w.1, w.2))
 
-mapped_written : (rest : List ℕ) (h : Head) → option_and_then (λ p. Some (Mapped p.0 p.1)) (two_numbers rest) ≡ Some h → IsRead (109 ∷ 58 ∷ rest) h
+mapped_written : (rest : List ℕ) (h : Head) → option_and_then (λ p. Some (Mapped p.0 p.1)) (two_numbers rest) ≡ Some h
+    → IsRead (109 ∷ 58 ∷ rest) h
 mapped_written rest h e =
     let k = some_of _ (two_numbers rest) h e in
     let w = pair_written rest k.0 k.1 in
@@ -93,7 +96,8 @@ chosen false true v x y z h e = inr (inl (refl, e))
 chosen false false true x y z h e = inr (inr (refl, e))
 chosen false false false x y z h e = absurd cc
 
-letter_is : (letter this : ℕ) (rest : List ℕ) (h : Head) → (letter == this) ≡ true → IsRead (this ∷ 58 ∷ rest) h → IsRead (letter ∷ 58 ∷ rest) h
+letter_is : (letter this : ℕ) (rest : List ℕ) (h : Head) → (letter == this) ≡ true → IsRead (this ∷ 58 ∷ rest) h
+    → IsRead (letter ∷ 58 ∷ rest) h
 letter_is letter this rest h e k =
     let same : this ≡ letter = grind (arith, common_steps) in
     subst (λ (l : ℕ). IsRead (l ∷ 58 ∷ rest) h) same k

@@ -59,7 +59,8 @@ pub fn two_words(bytes: &[u8]) -> Option<(&[u8], &[u8])>
 
 /// Three words and no other.
 pub fn three_words(bytes: &[u8]) -> Option<(&[u8], &[u8], &[u8])>
-    ensures { MatchOption result (three_words (words bytes.now) ≡ None) (λ p. three_words (words bytes.now) ≡ Some (p.0.now, p.1.now, p.2.now)) }
+    ensures { MatchOption result (three_words (words bytes.now) ≡ None)
+        (λ p. three_words (words bytes.now) ≡ Some (p.0.now, p.1.now, p.2.now)) }
 {
     let (first, rest) = next_word(bytes)?;
     let (second, rest) = next_word(rest)?;

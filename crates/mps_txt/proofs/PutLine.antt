@@ -26,14 +26,17 @@ module _ (version : Version) (line : List ℕ) (entry : RecordLine) (is : IsRead
   -- its record does what its event does
   after_entry : after_record version before (record_of entry) ≡ after_event entry.event entry.fields before
   after_entry =
-      ap (λ (o : Option Event). option_and_then (λ event. after_event event (take (field_count_of entry.event) entry.fields) before) o) is.known
+      ap (λ (o : Option Event). option_and_then (λ event. after_event event (take (field_count_of entry.event) entry.fields) before) o)
+      is.known
       ∙ after_event-take entry.event entry.fields before is.size
 
   line_of_entry : (after : Naming)
-      → readable_line version before after (record_of entry) ≡ decimal entry.line ++ event_text before after entry.event entry.fields ++ codes "\n"
+      → readable_line version before after (record_of entry) ≡ decimal entry.line ++ event_text before after entry.event entry.fields
+      ++ codes "\n"
   line_of_entry after =
       ap (λ (o : Option Event). decimal entry.line
-      ++ option_map_or (λ event. event_text before after event (take (field_count_of entry.event) entry.fields)) o [] ++ codes "\n") is.known
+      ++ option_map_or (λ event. event_text before after event (take (field_count_of entry.event) entry.fields)) o []
+      ++ codes "\n") is.known
       ∙ ap (λ (text : List ℕ). decimal entry.line ++ text ++ codes "\n") (event_text-take before after entry.event entry.fields is.size)
 
   pub puts_line : (after : Naming) (label : Option (List ℕ)) (old new : List ℕ) → after_event entry.event entry.fields before ≡ Some after

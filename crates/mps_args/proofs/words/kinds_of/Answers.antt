@@ -10,13 +10,18 @@ returns-in_err-kinds c =
     let cut = c.in-Some.ensures.byte (lit< tt) (λ w o h. h) in
     let failed : None ≡ option_map (bit_or (bits_of c.loop-name.kinds)) (kind_named c.in-Some.name.now) = search rules in
     let none : option_map bits_of c.from_residual.result ≡ None = search rules in
-    none ∙ cut_named (bits_of c.loop-name.kinds) c.loop-name.rest.now c.in-Some.name.now c.in-Some.later.now None cut.0 cut.1 cut.2 failed ∙ c.loop-name.invariant.1
+    none ∙ cut_named (bits_of c.loop-name.kinds) c.loop-name.rest.now c.in-Some.name.now c.in-Some.later.now None cut.0 cut.1 cut.2 failed
+    ∙ c.loop-name.invariant.1
 
 pub loop-name-preserved : goal.loop-name-preserved
 loop-name-preserved c =
     let cut = c.in-Some.ensures.byte (lit< tt) (λ w o h. h) in
-    let found : Some (bits_of c.in_ok-kinds.kinds) ≡ option_map (bit_or (bits_of c.loop-name.kinds)) (kind_named c.in-Some.name.now) = search rules in
-    (search rules, cut_named (bits_of c.loop-name.kinds) c.loop-name.rest.now c.in-Some.name.now c.in-Some.later.now (Some (bits_of c.in_ok-kinds.kinds)) cut.0 cut.1 cut.2 found ∙ c.loop-name.invariant.1)
+    let found : Some (bits_of c.in_ok-kinds.kinds) ≡ option_map (bit_or (bits_of c.loop-name.kinds)) (kind_named c.in-Some.name.now) =
+    search rules in (
+      search rules,
+      cut_named (bits_of c.loop-name.kinds) c.loop-name.rest.now c.in-Some.name.now c.in-Some.later.now
+          (Some (bits_of c.in_ok-kinds.kinds)) cut.0 cut.1 cut.2 found ∙ c.loop-name.invariant.1,
+    )
 
 pub returns : goal.returns
 returns c =

@@ -4,4 +4,5 @@ use Rattle.mps_base.proofs.Positions.{position_or_length}
 use Rattle.mps_base.proofs.bytes.length_before.Goals as goal
 
 pub returns-clause-length : goal.returns-clause-length
-returns-clause-length c = c.unwrap_or.ensures ∙ ap (λ o. unwrap_or o (length c.args.bytes.now)) c.find_byte.ensures.index ∙ position_or_length (λ other. other == c.args.byte) c.args.bytes.now
+returns-clause-length c = c.unwrap_or.ensures ∙ ap (λ o. unwrap_or o (length c.args.bytes.now)) c.find_byte.ensures.index
+    ∙ position_or_length (λ other. other == c.args.byte) c.args.bytes.now

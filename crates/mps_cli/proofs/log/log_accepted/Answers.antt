@@ -44,5 +44,6 @@ returns-in-PoolMvff-clause-failed g c = rw c.in-PoolMvff.is (simp append-nil c.l
 pub returns-in_default-clause-logged : goal.returns-in_default-clause-logged
 returns-in_default-clause-logged g c =
     let d = c.in_default in
-    rw (none_of_another c.args.call.now c.args.pool c.args.line d.not-Arena d.not-Limit d.not-Pool d.not-PoolOnChain d.not-PoolMfs d.not-PoolMvff)
+    rw (none_of_another c.args.call.now c.args.pool c.args.line d.not-Arena d.not-Limit d.not-Pool d.not-PoolOnChain d.not-PoolMfs
+    d.not-PoolMvff)
     (logs_none (g.D.Desk.outside c.args.desk.now))

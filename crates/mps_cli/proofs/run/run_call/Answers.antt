@@ -10,15 +10,32 @@ pub returns-clause-steps : goal.returns-clause-steps
 returns-clause-steps g c =
     let e = c.in-Ok.ensures in
     let is : IsDone c.args.heap.now c.call.new.self c.args.call.now c.in-Ok.done =
-    record { legal = e.legal; stands = e.stands; replayed = e.replayed; unsupported = e.unsupported; number = e.pool; counted = e.counted } in
+    record {
+      legal = e.legal;
+      stands = e.stands;
+      replayed = e.replayed;
+      unsupported = e.unsupported;
+      number = e.pool;
+      counted =
+          e.counted;
+    } in
     steps_of c.args.line c.args.call.now c.in-Ok.done c.args.heap.now c.call.new.self is c.log_then_print.result
-    (g.D.Desk.outside c.args.desk.now) (g.D.Desk.outside c.log_then_print.new.desk) c.log_then_print.ensures.input c.log_then_print.ensures.does
+    (g.D.Desk.outside c.args.desk.now) (g.D.Desk.outside c.log_then_print.new.desk) c.log_then_print.ensures.input
+    c.log_then_print.ensures.does
 
 pub returns-clause-stops : goal.returns-clause-stops
 returns-clause-stops g c =
     let e = c.in-Ok.ensures in
     let is : IsDone c.args.heap.now c.call.new.self c.args.call.now c.in-Ok.done =
-    record { legal = e.legal; stands = e.stands; replayed = e.replayed; unsupported = e.unsupported; number = e.pool; counted = e.counted } in
+    record {
+      legal = e.legal;
+      stands = e.stands;
+      replayed = e.replayed;
+      unsupported = e.unsupported;
+      number = e.pool;
+      counted =
+          e.counted;
+    } in
     stops_of c.args.line c.args.call.now c.in-Ok.done c.args.heap.now c.call.new.self is c.log_then_print.result
     (g.D.Desk.outside c.args.desk.now) (g.D.Desk.outside c.log_then_print.new.desk) c.log_then_print.ensures.does
 

@@ -15,7 +15,8 @@ returns-clause-runs g c =
     let ending = c.run-ending.result in
     let run = c.run-ending.ensures in
     let report : IsReported ending c.report_ending.result mid new =
-    is_reported ending c.report_ending.result mid new c.report_ending.ensures.done c.report_ending.ensures.quiet c.report_ending.ensures.status c.report_ending.ensures.reported in
+    is_reported ending c.report_ending.result mid new c.report_ending.ensures.done c.report_ending.ensures.quiet
+    c.report_ending.ensures.status c.report_ending.ensures.reported in
     let reported = reported_after ending old mid new run.runs report.reported in
     record {
       reported = record { ending = ending; status_is = report.status_is; reported = reported };

@@ -9,7 +9,8 @@ pub returns-in-Ok-Some-clause-size : goal.returns-in-Ok-Some-clause-size
 returns-in-Ok-Some-clause-size c =
     let r = c.in-Ok-Some.entry in
     let bytes = c.pending.result.now in
-    let found : IsRecord c.args.version r × (bytes ≡ record_bytes r ++ drop (size_of_record (length r.fields)) bytes) = rw c.in-Ok-Some.field-0-is at c.in-Ok-Some.ensures.sound in
+    let found : IsRecord c.args.version r × (bytes ≡ record_bytes r ++ drop (size_of_record (length r.fields)) bytes) =
+    rw c.in-Ok-Some.field-0-is at c.in-Ok-Some.ensures.sound in
     let count = at_most_four c.args.version r found.0 in
     let within = lies_within r bytes (drop (size_of_record (length r.fields)) bytes) found.1 in
     let same : length bytes ≡ length c.args.input.now.pending = ap (λ (x : List ℕ). length x) c.pending.ensures in
@@ -19,7 +20,8 @@ pub returns-in-Ok-Some-clause-gives : goal.returns-in-Ok-Some-clause-gives
 returns-in-Ok-Some-clause-gives c =
     let r = c.in-Ok-Some.entry in
     let bytes = c.pending.result.now in
-    let found : IsRecord c.args.version r × (bytes ≡ record_bytes r ++ drop (size_of_record (length r.fields)) bytes) = rw c.in-Ok-Some.field-0-is at c.in-Ok-Some.ensures.sound in (
+    let found : IsRecord c.args.version r × (bytes ≡ record_bytes r ++ drop (size_of_record (length r.fields)) bytes) =
+    rw c.in-Ok-Some.field-0-is at c.in-Ok-Some.ensures.sound in (
       r,
       found.0,
       c.size.ensures ∙ sym (length-record_bytes r),

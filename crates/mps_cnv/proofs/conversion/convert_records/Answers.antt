@@ -16,7 +16,8 @@ use Rattle.mps_cnv.proofs.conversion.convert_records.Goals as goal
 
 pub loop-preserved : goal.loop-preserved
 loop-preserved g c =
-    let works : WorksOnInput {T = Unit {0}} {E = BadLog} (g.D.Desk.outside c.args.desk.now) (g.D.Desk.outside c.loop.desk) c.args.input.now c.loop.input (Ok tt) = c.loop.invariant.works in
+    let works : WorksOnInput {T = Unit {0}} {E = BadLog} (g.D.Desk.outside c.args.desk.now)
+    (g.D.Desk.outside c.loop.desk) c.args.input.now c.loop.input (Ok tt) = c.loop.invariant.works in
     let next = rw c.in-Some.is at c.in_ok-convert_next.ensures.gives in
     let step = c.in_ok-convert_next.ensures.works in
     record {
@@ -25,10 +26,13 @@ loop-preserved g c =
       reported = c.in_ok-convert_next.ensures.reported ∙ c.loop.invariant.reported;
       err_faults = c.in_ok-convert_next.ensures.err_faults ∙ c.loop.invariant.err_faults;
       at_end = c.in_ok-convert_next.ensures.at_end;
-      grows = grows_then (g.D.Desk.outside c.args.desk.now).printed (g.D.Desk.outside c.loop.desk).printed (g.D.Desk.outside c.convert_next.new.desk).printed c.loop.invariant.grows c.convert_next.ensures.grows;
+      grows = grows_then (g.D.Desk.outside c.args.desk.now).printed (g.D.Desk.outside c.loop.desk).printed
+          (g.D.Desk.outside c.convert_next.new.desk).printed c.loop.invariant.grows c.convert_next.ensures.grows;
       so_far = one_more c.args.version (bits_of c.args.kinds) c.loop.counter c.loop.offset c.in-Some.size
-          (left_of (g.D.Desk.outside c.args.desk.now) c.args.input.now) (left_of (g.D.Desk.outside c.loop.desk) c.loop.input) (left_of (g.D.Desk.outside c.convert_next.new.desk) c.convert_next.new.input)
-          (put_out (g.D.Desk.outside c.args.desk.now) c.args.output.now) (put_out (g.D.Desk.outside c.loop.desk) c.loop.output) (put_out (g.D.Desk.outside c.convert_next.new.desk) c.convert_next.new.output)
+          (left_of (g.D.Desk.outside c.args.desk.now) c.args.input.now) (left_of (g.D.Desk.outside c.loop.desk) c.loop.input)
+          (left_of (g.D.Desk.outside c.convert_next.new.desk) c.convert_next.new.input)
+          (put_out (g.D.Desk.outside c.args.desk.now) c.args.output.now) (put_out (g.D.Desk.outside c.loop.desk) c.loop.output)
+          (put_out (g.D.Desk.outside c.convert_next.new.desk) c.convert_next.new.output)
           c.loop.invariant.so_far next;
     }
 
@@ -36,44 +40,57 @@ pub returns-in_err-convert_next-clause-broken : goal.returns-in_err-convert_next
 returns-in_err-convert_next-clause-broken g c failed bytes known =
     let p = err_from_is_err_and c.from_residual.result c.from_residual.ensures.1 in
     front_breaks c.args.version (bits_of c.args.kinds) c.loop.counter c.loop.offset
-    (left_of (g.D.Desk.outside c.args.desk.now) c.args.input.now) (left_of (g.D.Desk.outside c.loop.desk) c.loop.input) (g.D.Desk.outside c.convert_next.new.desk).input
-    (put_out (g.D.Desk.outside c.args.desk.now) c.args.output.now) (put_out (g.D.Desk.outside c.loop.desk) c.loop.output) (put_out (g.D.Desk.outside c.convert_next.new.desk) c.convert_next.new.output)
-    bytes (omega (arith, c.loop-test.true)) c.loop.invariant.so_far (c.in_err-convert_next.ensures.broken (handed_on _ _ c.from_residual.result p.0 _ _ p.1 p.2 failed)) known
+    (left_of (g.D.Desk.outside c.args.desk.now) c.args.input.now) (left_of (g.D.Desk.outside c.loop.desk) c.loop.input)
+    (g.D.Desk.outside c.convert_next.new.desk).input
+    (put_out (g.D.Desk.outside c.args.desk.now) c.args.output.now) (put_out (g.D.Desk.outside c.loop.desk) c.loop.output)
+    (put_out (g.D.Desk.outside c.convert_next.new.desk) c.convert_next.new.output)
+    bytes (omega (arith, c.loop-test.true)) c.loop.invariant.so_far
+    (c.in_err-convert_next.ensures.broken (handed_on _ _ c.from_residual.result p.0 _ _ p.1 p.2 failed)) known
 
 pub returns-clause-broken : goal.returns-clause-broken
 returns-clause-broken g c failed bytes known =
     front_breaks c.args.version (bits_of c.args.kinds) c.loop.counter c.loop.offset
-    (left_of (g.D.Desk.outside c.args.desk.now) c.args.input.now) (left_of (g.D.Desk.outside c.loop.desk) c.loop.input) (g.D.Desk.outside c.after_the_last.new.desk).input
-    (put_out (g.D.Desk.outside c.args.desk.now) c.args.output.now) (put_out (g.D.Desk.outside c.loop.desk) c.loop.output) (put_out (g.D.Desk.outside c.after_the_last.new.desk) c.loop.output)
+    (left_of (g.D.Desk.outside c.args.desk.now) c.args.input.now) (left_of (g.D.Desk.outside c.loop.desk) c.loop.input)
+    (g.D.Desk.outside c.after_the_last.new.desk).input
+    (put_out (g.D.Desk.outside c.args.desk.now) c.args.output.now) (put_out (g.D.Desk.outside c.loop.desk) c.loop.output)
+    (put_out (g.D.Desk.outside c.after_the_last.new.desk) c.loop.output)
     bytes (omega (arith, c.loop-test.false, c.loop.auto.counter-end)) c.loop.invariant.so_far
     (last_breaks c.args.version (left_of (g.D.Desk.outside c.loop.desk) c.loop.input) (g.D.Desk.outside c.after_the_last.new.desk).input
     (put_out (g.D.Desk.outside c.loop.desk) c.loop.output) (put_out (g.D.Desk.outside c.after_the_last.new.desk) c.loop.output)
-    (c.after_the_last.ensures.unread failed) (ap (λ (o : Option (List ℕ)). option_map (λ printed. printed ++ c.loop.output) o) c.after_the_last.ensures.printed)) known
+    (c.after_the_last.ensures.unread failed) (ap
+    (λ (o : Option (List ℕ)). option_map (λ printed. printed ++ c.loop.output) o) c.after_the_last.ensures.printed)) known
 
 pub returns-in_err-convert_next-clause-grows : goal.returns-in_err-convert_next-clause-grows
 returns-in_err-convert_next-clause-grows g c =
-    grows_then (g.D.Desk.outside c.args.desk.now).printed (g.D.Desk.outside c.loop.desk).printed (g.D.Desk.outside c.convert_next.new.desk).printed c.loop.invariant.grows c.convert_next.ensures.grows
+    grows_then (g.D.Desk.outside c.args.desk.now).printed (g.D.Desk.outside c.loop.desk).printed
+    (g.D.Desk.outside c.convert_next.new.desk).printed c.loop.invariant.grows c.convert_next.ensures.grows
 
 pub returns-in-None-clause-grows : goal.returns-in-None-clause-grows
 returns-in-None-clause-grows g c =
-    grows_then (g.D.Desk.outside c.args.desk.now).printed (g.D.Desk.outside c.loop.desk).printed (g.D.Desk.outside c.convert_next.new.desk).printed c.loop.invariant.grows c.convert_next.ensures.grows
+    grows_then (g.D.Desk.outside c.args.desk.now).printed (g.D.Desk.outside c.loop.desk).printed
+    (g.D.Desk.outside c.convert_next.new.desk).printed c.loop.invariant.grows c.convert_next.ensures.grows
 
 pub returns-clause-grows : goal.returns-clause-grows
 returns-clause-grows g c =
-    grows_then (g.D.Desk.outside c.args.desk.now).printed (g.D.Desk.outside c.loop.desk).printed (g.D.Desk.outside c.after_the_last.new.desk).printed c.loop.invariant.grows
-    (grows_none (g.D.Desk.outside c.loop.desk).printed (g.D.Desk.outside c.after_the_last.new.desk).printed c.after_the_last.ensures.printed)
+    grows_then (g.D.Desk.outside c.args.desk.now).printed (g.D.Desk.outside c.loop.desk).printed
+    (g.D.Desk.outside c.after_the_last.new.desk).printed c.loop.invariant.grows
+    (grows_none (g.D.Desk.outside c.loop.desk).printed
+    (g.D.Desk.outside c.after_the_last.new.desk).printed c.after_the_last.ensures.printed)
 
 pub returns-in_err-convert_next-clause-cut : goal.returns-in_err-convert_next-clause-cut
 returns-in_err-convert_next-clause-cut g c failed bytes known =
     let p = err_from_is_err_and c.from_residual.result c.from_residual.ensures.1 in
     records_cut c.args.version (bits_of c.args.kinds) c.loop.counter c.loop.offset
     (left_of (g.D.Desk.outside c.args.desk.now) c.args.input.now) (left_of (g.D.Desk.outside c.loop.desk) c.loop.input)
-    (g.D.Desk.outside c.args.desk.now) (g.D.Desk.outside c.loop.desk) (g.D.Desk.outside c.convert_next.new.desk) c.args.output.now c.loop.output bytes
-    (omega (arith, c.loop-test.true)) c.loop.invariant.so_far c.loop.invariant.grows (c.in_err-convert_next.ensures.cut (handed_on _ _ c.from_residual.result p.0 _ _ p.1 p.2 failed)) known
+    (g.D.Desk.outside c.args.desk.now) (g.D.Desk.outside c.loop.desk)
+    (g.D.Desk.outside c.convert_next.new.desk) c.args.output.now c.loop.output bytes
+    (omega (arith, c.loop-test.true)) c.loop.invariant.so_far c.loop.invariant.grows
+    (c.in_err-convert_next.ensures.cut (handed_on _ _ c.from_residual.result p.0 _ _ p.1 p.2 failed)) known
 
 pub returns-clause-cut : goal.returns-clause-cut
 returns-clause-cut g c failed bytes known =
-    not_at_the_end _ (left_of (g.D.Desk.outside c.loop.desk) c.loop.input) c.after_the_last.result (c.after_the_last.ensures.gives c.loop.invariant.at_end) failed
+    not_at_the_end _ (left_of (g.D.Desk.outside c.loop.desk) c.loop.input) c.after_the_last.result
+    (c.after_the_last.ensures.gives c.loop.invariant.at_end) failed
 
 pub returns-in_err-convert_next-clause-all : goal.returns-in_err-convert_next-clause-all
 returns-in_err-convert_next-clause-all g c bytes known =
@@ -82,7 +99,8 @@ returns-in_err-convert_next-clause-all g c bytes known =
     (all_stop c.args.version (bits_of c.args.kinds) c.loop.counter c.loop.offset
     (left_of (g.D.Desk.outside c.args.desk.now) c.args.input.now) (left_of (g.D.Desk.outside c.loop.desk) c.loop.input)
     (put_out (g.D.Desk.outside c.args.desk.now) c.args.output.now) (put_out (g.D.Desk.outside c.loop.desk) c.loop.output) bytes
-    (left_of (g.D.Desk.outside c.convert_next.new.desk) c.convert_next.new.input) (put_out (g.D.Desk.outside c.convert_next.new.desk) c.convert_next.new.output) _
+    (left_of (g.D.Desk.outside c.convert_next.new.desk) c.convert_next.new.input)
+    (put_out (g.D.Desk.outside c.convert_next.new.desk) c.convert_next.new.output) _
     (omega (arith, c.loop-test.true)) c.loop.invariant.so_far c.in_err-convert_next.ensures.gives known)
 
 pub returns-in-None-clause-all : goal.returns-in-None-clause-all
@@ -91,7 +109,8 @@ returns-in-None-clause-all g c bytes known =
     all_read c.args.version (bits_of c.args.kinds) c.loop.counter c.loop.offset
     (left_of (g.D.Desk.outside c.args.desk.now) c.args.input.now) (left_of (g.D.Desk.outside c.loop.desk) c.loop.input)
     (put_out (g.D.Desk.outside c.args.desk.now) c.args.output.now) (put_out (g.D.Desk.outside c.loop.desk) c.loop.output) bytes
-    (left_of (g.D.Desk.outside c.convert_next.new.desk) c.convert_next.new.input) (put_out (g.D.Desk.outside c.convert_next.new.desk) c.convert_next.new.output)
+    (left_of (g.D.Desk.outside c.convert_next.new.desk) c.convert_next.new.input)
+    (put_out (g.D.Desk.outside c.convert_next.new.desk) c.convert_next.new.output)
     (omega (arith, c.loop-test.true)) c.loop.invariant.so_far next known
 
 pub returns-clause-all : goal.returns-clause-all
@@ -101,4 +120,5 @@ returns-clause-all g c bytes known =
     (all_counted c.args.version (bits_of c.args.kinds) c.loop.counter c.loop.offset
     (left_of (g.D.Desk.outside c.args.desk.now) c.args.input.now) (left_of (g.D.Desk.outside c.loop.desk) c.loop.input)
     (put_out (g.D.Desk.outside c.args.desk.now) c.args.output.now) (put_out (g.D.Desk.outside c.loop.desk) c.loop.output) bytes
-    c.after_the_last.result (omega (arith, c.loop-test.false, c.loop.auto.counter-end)) c.loop.invariant.so_far (c.after_the_last.ensures.gives c.loop.invariant.at_end) known)
+    c.after_the_last.result (omega (arith, c.loop-test.false, c.loop.auto.counter-end)) c.loop.invariant.so_far
+    (c.after_the_last.ensures.gives c.loop.invariant.at_end) known)

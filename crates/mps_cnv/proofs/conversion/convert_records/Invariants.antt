@@ -10,12 +10,14 @@ use Rattle.mps_cnv.proofs.conversion.convert_records.Given as goal
 
 abbrev pub invariant-loop : goal.invariant-loop
 invariant-loop g l = record {
-  works : WorksOnInput {T = Unit {0}} {E = BadLog} (g.D.Desk.outside l.initial.desk) (g.D.Desk.outside l.desk) l.initial.input l.input (Ok tt);
+  works : WorksOnInput {T = Unit {0}} {E = BadLog} (g.D.Desk.outside l.initial.desk) (g.D.Desk.outside l.desk) l.initial.input l.input
+      (Ok tt);
   offset : l.offset ≤ 8 + 40 * l.counter;
   reported : (g.D.Desk.outside l.desk).reported ≡ (g.D.Desk.outside l.initial.desk).reported;
   err_faults : (g.D.Desk.outside l.desk).err_faults ≡ (g.D.Desk.outside l.initial.desk).err_faults;
   at_end : IsAtEnd (g.D.Desk.outside l.desk) l.input;
   grows : Grows (g.D.Desk.outside l.initial.desk).printed (g.D.Desk.outside l.desk).printed;
-  so_far : SoFar l.version (bits_of l.kinds) l.counter l.offset (left_of (g.D.Desk.outside l.initial.desk) l.initial.input) (left_of (g.D.Desk.outside l.desk) l.input)
+  so_far : SoFar l.version (bits_of l.kinds) l.counter l.offset (left_of (g.D.Desk.outside l.initial.desk) l.initial.input)
+      (left_of (g.D.Desk.outside l.desk) l.input)
       (put_out (g.D.Desk.outside l.initial.desk) l.initial.output) (put_out (g.D.Desk.outside l.desk) l.output);
 }

@@ -11,6 +11,8 @@ returns-clause-bytes c =
     let count = number_bytes 2 (length c.args.fields.now) in
     let line = number_bytes 4 c.args.line in
     let fields = c.args.fields.now in
-    let second = write_more code count old c.write_u16.new.buf c.write_u16-2.new.buf 2 2 refl refl c.write_u16.ensures c.write_u16-2.ensures in
+    let second = write_more code count old c.write_u16.new.buf c.write_u16-2.new.buf 2 2 refl refl c.write_u16.ensures
+    c.write_u16-2.ensures in
     let third = write_more (code ++ count) line old _ c.write_u32.new.buf 4 4 refl refl second c.write_u32.ensures in
-    write_more (code ++ count ++ line) (fields_bytes fields) old _ c.put_fields.new.out 8 (8 * length fields) refl (length-fields_bytes fields) third c.put_fields.ensures
+    write_more (code ++ count ++ line) (fields_bytes fields) old _ c.put_fields.new.out 8 (8 * length fields) refl
+    (length-fields_bytes fields) third c.put_fields.ensures

@@ -5,7 +5,8 @@ use Rattle.mps_format.proofs.Colons.{has_colon, cut_at_colon, sound_pair}
 use Rattle.mps_format.proofs.pair.two_numbers.Goals as goal
 
 pub returns-in-Some-clause-sound : goal.returns-in-Some-clause-sound
-returns-in-Some-clause-sound c = sound_pair c.args.text.now c.in-Some.colon c.two_texts.result (sym c.in-Some.ensures.index) c.two_texts.ensures.sound
+returns-in-Some-clause-sound c = sound_pair c.args.text.now c.in-Some.colon c.two_texts.result
+    (sym c.in-Some.ensures.index) c.two_texts.ensures.sound
 
 pub returns-in-Some-clause-complete : goal.returns-in-Some-clause-complete
 returns-in-Some-clause-complete c = λ a b fa fb e.

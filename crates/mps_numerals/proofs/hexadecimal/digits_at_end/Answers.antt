@@ -20,10 +20,12 @@ loop-rest-preserved c =
       within = omega arith;
       fits = rest_fits c.loop-rest.rest c.loop-rest.at i.fits some;
       text = rw c.glyph-in-loop-rest.ensures
-          (sym (one_more c.loop-rest.rest c.loop-rest.at c.loop-rest.room (eqb_zero c.loop-rest.rest some) (some_room c.loop-rest.rest c.loop-rest.at i.fits some) (omega arith)) ∙ i.text);
+          (sym (one_more c.loop-rest.rest c.loop-rest.at c.loop-rest.room (eqb_zero c.loop-rest.rest some)
+          (some_room c.loop-rest.rest c.loop-rest.at i.fits some) (omega arith)) ∙ i.text);
     }
 
 pub returns-clause-digits : goal.returns-clause-digits
 returns-clause-digits c =
     let after = drop c.loop-rest.at c.loop-rest.room in
-    sym (completed-none c.loop-rest.at after) ∙ ap (λ (k : ℕ). completed k c.loop-rest.at after) (sym c.loop-rest-test.false) ∙ c.loop-rest.invariant.text
+    sym (completed-none c.loop-rest.at after) ∙ ap (λ (k : ℕ). completed k c.loop-rest.at after) (sym c.loop-rest-test.false)
+    ∙ c.loop-rest.invariant.text

@@ -7,14 +7,16 @@ pub returns-in_err-checked_mul : goal.returns-in_err-checked_mul
 returns-in_err-checked_mul c =
     let large : 2 ^ 64 ≤ c.loop-b.n * c.args.base = at_least _ _ c.in_err-checked_mul.ensures in
     c.from_residual.ensures
-    ∙ too_large c.args.base c.args.digits.now (overflows c.args.base c.loop-b.n c.loop-b.b-index c.args.digits.now c.requires (omega arith) c.loop-b.invariant.so_far (omega arith))
+    ∙ too_large c.args.base c.args.digits.now (overflows c.args.base c.loop-b.n c.loop-b.b-index c.args.digits.now c.requires
+    (omega arith) c.loop-b.invariant.so_far (omega arith))
 
 pub returns-in_err-n : goal.returns-in_err-n
 returns-in_err-n c =
     let large : 2 ^ 64 ≤ c.in_ok-checked_mul.field-0 + c.digit_of-next.result = at_least _ _ c.in_err-n.ensures in
     let value : c.digit_of-next.result ≡ digit_of (get_or c.args.digits.now c.loop-b.b-index 0) = c.digit_of-next.ensures.value in
     c.from_residual-in_err-n.ensures
-    ∙ too_large c.args.base c.args.digits.now (overflows c.args.base c.loop-b.n c.loop-b.b-index c.args.digits.now c.requires (omega arith) c.loop-b.invariant.so_far (omega arith))
+    ∙ too_large c.args.base c.args.digits.now (overflows c.args.base c.loop-b.n c.loop-b.b-index c.args.digits.now c.requires
+    (omega arith) c.loop-b.invariant.so_far (omega arith))
 
 pub returns-then-next-base : goal.returns-then-next-base
 returns-then-next-base c =

@@ -11,5 +11,10 @@ loop-at-preserved g c =
     let i = c.loop-at.invariant in (
       omega (arith, i.0, c.in_ok-count.ensures.at_most, length-take {A = ℕ}, length-drop {A = ℕ}),
       logs_more _ _ _ c.args.bytes.now c.loop-at.at c.in_ok-count.count i.1
-          (record { logged = c.in_ok-count.ensures.logged; filed = c.in_ok-count.ensures.filed; counted = c.in_ok-count.ensures.counted; others = c.in_ok-count.ensures.others }),
+          (record {
+            logged = c.in_ok-count.ensures.logged;
+            filed = c.in_ok-count.ensures.filed;
+            counted = c.in_ok-count.ensures.counted;
+            others = c.in_ok-count.ensures.others;
+          }),
     )

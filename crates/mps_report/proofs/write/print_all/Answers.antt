@@ -7,5 +7,6 @@ pub loop-at-preserved : goal.loop-at-preserved
 loop-at-preserved g c =
     let i = c.loop-at.invariant in (
       omega (arith, i.0, c.in_ok-count.ensures.at_most, length-take {A = ℕ}, length-drop {A = ℕ}),
-      prints_more _ _ _ c.args.bytes.now c.loop-at.at c.in_ok-count.count i.1 c.in_ok-count.ensures.printed c.in_ok-count.ensures.counted c.in_ok-count.ensures.others,
+      prints_more _ _ _ c.args.bytes.now c.loop-at.at c.in_ok-count.count i.1 c.in_ok-count.ensures.printed c.in_ok-count.ensures.counted
+          c.in_ok-count.ensures.others,
     )

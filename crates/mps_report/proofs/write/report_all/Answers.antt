@@ -7,5 +7,6 @@ pub loop-at-preserved : goal.loop-at-preserved
 loop-at-preserved g c =
     let i = c.loop-at.invariant in (
       omega (arith, i.0, c.in-Ok.ensures.at_most, length-take {A = ℕ}, length-drop {A = ℕ}),
-      reports_more _ _ _ c.args.bytes.now c.loop-at.at c.in-Ok.count i.1 c.in-Ok.ensures.reported c.in-Ok.ensures.counted c.in-Ok.ensures.others,
+      reports_more _ _ _ c.args.bytes.now c.loop-at.at c.in-Ok.count i.1 c.in-Ok.ensures.reported c.in-Ok.ensures.counted
+          c.in-Ok.ensures.others,
     )

@@ -3,7 +3,8 @@ use Rattle.mps_report.proofs.Outside.{IsReporting}
 use Rattle.mps_report.proofs.write.report_all.Given as goal
 
 abbrev pub invariant-loop-at : goal.invariant-loop-at
-invariant-loop-at g l = (l.at ≤ length l.bytes) × IsReporting (g.D.Desk.outside l.initial.desk) (g.D.Desk.outside l.desk) (take l.at l.bytes)
+invariant-loop-at g l = (l.at ≤ length l.bytes)
+    × IsReporting (g.D.Desk.outside l.initial.desk) (g.D.Desk.outside l.desk) (take l.at l.bytes)
 
 abbrev pub decreases-loop-at : goal.decreases-loop-at
 decreases-loop-at g l = length l.bytes - l.at

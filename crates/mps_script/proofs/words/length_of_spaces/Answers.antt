@@ -6,4 +6,5 @@ use Rattle.mps_script.proofs.words.length_of_spaces.Goals as goal
 
 pub returns-clause-length : goal.returns-clause-length
 returns-clause-length c =
-    c.unwrap_or.ensures ∙ ap (λ o. unwrap_or o (length c.args.bytes.now)) c.start_of_word.ensures.index ∙ position_or_length (λ byte. not (is_space byte)) c.args.bytes.now
+    c.unwrap_or.ensures ∙ ap (λ o. unwrap_or o (length c.args.bytes.now)) c.start_of_word.ensures.index
+    ∙ position_or_length (λ byte. not (is_space byte)) c.args.bytes.now

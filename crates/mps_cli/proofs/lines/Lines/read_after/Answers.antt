@@ -7,7 +7,8 @@ pub returns-clause-read : goal.returns-clause-read
 returns-clause-read g c = record {
   chunk = take c.in_ok-count.count c.read.new.buf;
   counted = grind (arith, common_steps, c.in_ok-count.ensures.at_most);
-  waits = rw c.deref_mut.ensures.value (between_grown c.self.inside.bytes.items c.read.new.buf _ _ c.self.inside.start c.self.inside.end c.in_ok-count.count
+  waits = rw c.deref_mut.ensures.value (between_grown c.self.inside.bytes.items c.read.new.buf _ _ c.self.inside.start c.self.inside.end
+      c.in_ok-count.count
       c.self.inside.bytes.len (grind arith) (grind (arith, common_steps)) (grind (arith, common_steps, c.in_ok-count.ensures.at_most))
       (grind (arith, common_steps, c.in_ok-count.ensures.at_most)))
       ∙ ap (λ v. v.waiting ++ take c.in_ok-count.count c.read.new.buf) c.self.view_is;

@@ -18,5 +18,6 @@ pub returns : goal.returns
 returns c =
     let bytes = c.self.inside.bytes.now in
     let n = little_number 2 (drop 2 bytes) in
-    let count : length c.args.self.now.fields ≡ n = ap (λ (r : Record). length r.fields) (sym c.self.view_is) ∙ length-fields_in n (drop 8 bytes) in
+    let count : length c.args.self.now.fields ≡ n = ap (λ (r : Record). length r.fields) (sym c.self.view_is)
+    ∙ length-fields_in n (drop 8 bytes) in
     rw (← c.self.view_is) (field_at bytes n c.args.i c.read_u64.result (omega (arith, count)) c.self.invariant c.read_u64.ensures)

@@ -23,6 +23,9 @@ returns-in-Ok-clause-read g c =
     ∙ ap (λ (x : List ℕ). take at (drop i.from x)) c.deref_mut.ensures.value in
     let before = buffered (take at (drop i.from room.items)) i.ended i.failed in
     rw (← c.self.view_is)
-    (subst (λ (r : List ℕ). ReadsMore (g.D.Desk.outside c.args.desk.now) (g.D.Desk.outside c.read_after.new.desk) before (buffered (take (at + c.in-Ok.count - 0) (drop 0 r)) i.ended i.failed))
+    (subst (λ (r : List ℕ). ReadsMore (g.D.Desk.outside c.args.desk.now) (g.D.Desk.outside c.read_after.new.desk) before
+    (buffered (take (at + c.in-Ok.count - 0) (drop 0 r)) i.ended i.failed))
     (sym now-is)
-    (reads_some (g.D.Desk.outside c.args.desk.now) (g.D.Desk.outside c.read_after.new.desk) before now at c.in-Ok.count kept c.in-Ok.ensures.read c.read_after.ensures.counted c.read_after.ensures.others))
+    (reads_some (g.D.Desk.outside c.args.desk.now)
+    (g.D.Desk.outside c.read_after.new.desk) before now at c.in-Ok.count kept c.in-Ok.ensures.read c.read_after.ensures.counted
+    c.read_after.ensures.others))
