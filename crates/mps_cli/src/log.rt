@@ -1,5 +1,5 @@
 // The records of a command.
-ghost use Rattle.std.specs.Prelude.{◌≡◌, ◌≤◌, length, take, OnOk, OnErr};
+ghost use Rattle.std.specs.Prelude.{◌≡◌, ◌≤◌, ◌∷◌, [], length, take, OnOk, OnErr};
 ghost use Rattle.mps_base.specs.Record.{record_bytes, records_bytes};
 ghost use Rattle.mps_event.specs.Grammar.{AreFields};
 ghost use Rattle.mps_event.specs.Event.{code_of};
@@ -10,7 +10,7 @@ ghost use Rattle.mps_cli.specs.Records.{pool_number as number_of_pool, records_o
 ghost use Rattle.mps_cli.specs.Script.{log_header as header_of_log};
 ghost use Rattle.mps_report.specs.Streams.{Logs, LogsPart};
 
-use mps_base::{Desk, Failed, Move};
+use mps_base::{Addr, Desk, Failed, Move};
 use mps_event::{Event, MFS_NUMBER, MVFF_NUMBER, Version, header_of, kind_number, put};
 use mps_first_heap::Done;
 use mps_model::{Call, Reply};
@@ -85,20 +85,28 @@ fn log_move<D: Desk>(desk: &mut D, line: u32, moved: &Move) -> Result<(), Failed
             log_record(desk, line, Event::Splat, &[holder.0, cell as u64])
         }
         Move::Post { at } => log_record(desk, line, Event::Post, &[at.0]),
-        Move::Commit { at, words, pool } => log_record(
-            desk,
-            line,
-            Event::Commit,
-            &[at.0, words as u64, pool as u64],
-        ),
-        Move::Alloc { at, words, pool } => log_record(
-            desk,
-            line,
-            Event::Alloc,
-            &[at.0, words as u64, pool as u64],
-        ),
+        Move::Commit { at, words, pool } => log_block(desk, line, Event::Commit, at, words, pool),
+        Move::Alloc { at, words, pool } => log_block(desk, line, Event::Alloc, at, words, pool),
         Move::Free { at } => log_record(desk, line, Event::Free, &[at.0]),
     }
+}
+
+/// Writes the record of an event that makes a block.
+fn log_block<D: Desk>(
+    desk: &mut D,
+    line: u32,
+    event: Event,
+    at: Addr,
+    words: u32,
+    pool: u32,
+) -> Result<(), Failed>
+    requires { AreFields One (code_of event) (at.0 ∷ words ∷ pool ∷ []) }
+    ensures logged { OnOk result (Logs (D.outside desk.old) (D.outside desk.new)
+        (record_bytes (record { line = line; code = code_of event; fields = at.0 ∷ words ∷ pool ∷ [] }))) }
+    ensures failed { OnErr result (LogsPart (D.outside desk.old) (D.outside desk.new)
+        (record_bytes (record { line = line; code = code_of event; fields = at.0 ∷ words ∷ pool ∷ [] }))) }
+{
+    log_record(desk, line, event, &[at.0, words as u64, pool as u64])
 }
 
 /// Writes the record that a command has by its reply. The number is that of the pool that it made.

@@ -22,10 +22,10 @@ pub returns-in-Post-clause-logged : goal.returns-in-Post-clause-logged
 returns-in-Post-clause-logged g c = rw c.in-Post.is c.log_record-in-Post.ensures.logged
 
 pub returns-in-Commit-clause-logged : goal.returns-in-Commit-clause-logged
-returns-in-Commit-clause-logged g c = rw c.in-Commit.is c.log_record-in-Commit.ensures.logged
+returns-in-Commit-clause-logged g c = rw c.in-Commit.is c.log_block.ensures.logged
 
 pub returns-in-Alloc-clause-logged : goal.returns-in-Alloc-clause-logged
-returns-in-Alloc-clause-logged g c = rw c.in-Alloc.is c.log_record-in-Alloc.ensures.logged
+returns-in-Alloc-clause-logged g c = rw c.in-Alloc.is c.log_block-in-Alloc.ensures.logged
 
 pub returns-in-Free-clause-logged : goal.returns-in-Free-clause-logged
 returns-in-Free-clause-logged g c = rw c.in-Free.is c.log_record-in-Free.ensures.logged
@@ -52,10 +52,10 @@ pub returns-in-Post-clause-failed : goal.returns-in-Post-clause-failed
 returns-in-Post-clause-failed g c = rw c.in-Post.is c.log_record-in-Post.ensures.failed
 
 pub returns-in-Commit-clause-failed : goal.returns-in-Commit-clause-failed
-returns-in-Commit-clause-failed g c = rw c.in-Commit.is c.log_record-in-Commit.ensures.failed
+returns-in-Commit-clause-failed g c = rw c.in-Commit.is c.log_block.ensures.failed
 
 pub returns-in-Alloc-clause-failed : goal.returns-in-Alloc-clause-failed
-returns-in-Alloc-clause-failed g c = rw c.in-Alloc.is c.log_record-in-Alloc.ensures.failed
+returns-in-Alloc-clause-failed g c = rw c.in-Alloc.is c.log_block-in-Alloc.ensures.failed
 
 pub returns-in-Free-clause-failed : goal.returns-in-Free-clause-failed
 returns-in-Free-clause-failed g c = rw c.in-Free.is c.log_record-in-Free.ensures.failed
