@@ -39,7 +39,8 @@ pub a_collection_that_moves_a_block :
     ∷ record { line = 10; code = 32; fields = 2 ∷ 16 ∷ 0 ∷ [] } ∷ record { line = 10; code = 48; fields = 0x2000 ∷ 1 ∷ 0 ∷ 0 ∷ [] }
     ∷ record { line = 10; code = 82; fields = 0x1000 ∷ 0x2000 ∷ [] } ∷ record { line = 10; code = 49; fields = 0x1000 ∷ [] }
     ∷ record { line = 10; code = 33; fields = [] } ∷ [])
-    ≡ codes "mpslog 1\n1 1 8 8\n3 16 0 1 1\n5 48 1000 1 0 0\n7 80 1000 3 0\n10 32 2 10 0\n10 48 2000 1 0 0\n10 82 1000 2000\n10 49 1000\n10 33\n"
+    ≡ codes "mpslog 1\n1 1 8 8\n3 16 0 1 1\n5 48 1000 1 0 0\n7 80 1000 3 0\n"
+    ++ codes "10 32 2 10 0\n10 48 2000 1 0 0\n10 82 1000 2000\n10 49 1000\n10 33\n"
 unfolding digits
 a_collection_that_moves_a_block = refl
 

@@ -17,15 +17,15 @@ pub trait BadPlace: Copy {
         ensures { result ≡ text self };
 }
 
-/// What is bad in the input of a program that reads none: nothing.
+/// The bad place of a program that reads no input. No program stops at it.
 #[derive(Clone, Copy, Debug, PartialEq, Eq)]
-pub enum NoBadPlace {}
+pub struct NoBadPlace;
 
 impl BadPlace for NoBadPlace {
     ghost text = { λ place. [] };
 
     fn notice(self) -> Notice {
-        match self {}
+        Notice::plain(b"")
     }
 }
 
