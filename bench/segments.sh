@@ -23,6 +23,7 @@ cat > $program/src/main.rt <<'P'
 #![tactic(auto)]
 
 ghost use Rattle.std.specs.Prelude.{◌<◌, ◌≤◌};
+ghost use Rattle.mps_seg.specs.Segs.{max_block_words};
 
 use mps_base::{Addr, Rank, Refusal, Trail};
 use mps_seg::Segs;
@@ -34,7 +35,7 @@ fn measure(rt: &HostRuntime, grains: u32, count: u32, least: u64, most: u64) -> 
 {
     let mut segs = Segs::new(rt.alloc(), grains, grains)?;
     let mut trail = Trail::new(rt.alloc(), 1)?;
-    let mut places = Vec::new(rt.alloc());
+    let mut addresses = Vec::new(rt.alloc());
     let mut seed = 1u64;
     let began = Instant::now(rt)?;
     for _ in 0..count {
@@ -42,19 +43,19 @@ fn measure(rt: &HostRuntime, grains: u32, count: u32, least: u64, most: u64) -> 
         let words = (least + (seed >> 33) % (most - least + 1)) as u32;
         let mut trail = Trail::new(rt.alloc(), 1)?;
         match fill(&mut segs, &mut trail, 0, words) {
-            Ok(at) => places.push(at)?,
+            Ok(at) => addresses.push(at)?,
             Err(_) => break,
         }
     }
     let filled = began.elapsed(rt)?.as_nanos();
     let began = Instant::now(rt)?;
-    for at in &places {
+    for at in &addresses {
         let _ = free_over(&mut segs, at.0);
     }
     let freed = began.elapsed(rt)?.as_nanos();
     trail.clear();
-    let blocks = places.len().max(1) as u128;
-    println!(rt; "{} blocks of {} to {} words in {} grains: made in {} ns each, freed in {} ns each", places.len(), least, most, segs.committed(), filled / blocks, freed / blocks)
+    let blocks = addresses.len().max(1) as u128;
+    println!(rt; "{} blocks of {} to {} words in {} grains: made in {} ns each, freed in {} ns each", addresses.len(), least, most, segs.committed(), filled / blocks, freed / blocks)
 }
 
 fn main(rt: HostRuntime) -> io::Result<()> {
