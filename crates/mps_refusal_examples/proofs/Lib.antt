@@ -1,0 +1,5 @@
+pub mod Making
+pub mod Allocating
+pub mod Accessing
+pub mod Collecting
+pub mod Placing

@@ -1,0 +1,5 @@
+use Rattle.mps_refusal_examples.proofs.Making as table
+use Rattle.mps_refusal_examples.proofs.points_answer.Goals as goal
+
+pub returns : goal.returns
+returns c = table.points_answer

@@ -1,0 +1,7 @@
+pub mod Row
+pub mod SmallWorld
+pub mod Making
+pub mod Allocating
+pub mod Accessing
+pub mod Collecting
+pub mod Placing
