@@ -6,18 +6,18 @@ use Rattle.mps_base.proofs.Runs.{with_run_first, with_run_later, without_run_fir
 use Rattle.mps_base.specs.Run.{Run, IsAscending, with_run, without_run, end_of, runs_within, total, gaps, lowest_fitting}
 use Rattle.mps_base.specs.Segment.{Segment, end_of_segment, grains_of_segment}
 use Rattle.mps_arena.specs.Arena.{ArenaMemory}
-use Rattle.mps_seg.specs.Extents.{has_word, ExtentLists}
+use Rattle.mps_extents.specs.Extents.{has_word, ExtentLists}
 use Rattle.mps_seg.specs.Segs.{SegsState, LiesIn}
 use Rattle.mps_seg.specs.Table.{segments_in, segs_state, IsHeld, IsCounted, IsCountAt, first_over, or_zero, covered_words_in}
 use Rattle.mps_seg.specs.declared.entry.Entry.{Entry}
 use Rattle.mps_seg.specs.declared.entry.Entry.TheVariants.{Free, First}
 use Rattle.mps_seg.specs.declared.segs.Segs.TheInside.{Inside}
-use Rattle.mps_seg.proofs.ApartRuns.{contains_put, apart_from_put, apart_each, has_word-true, has_word-below, has_word-above}
-use Rattle.mps_seg.proofs.ContainedRuns.{contains_put_cases, contains_without, same_count}
+use Rattle.mps_extents.proofs.ApartRuns.{contains_put, apart_from_put, apart_each, has_word-true, has_word-below, has_word-above}
+use Rattle.mps_extents.proofs.ContainedRuns.{contains_put_cases, contains_without, same_count}
 use Rattle.mps_seg.proofs.Entries.{entry_is_held, entry_at_base}
 use Rattle.mps_seg.proofs.HeldSegments.{whole_in}
-use Rattle.mps_seg.proofs.LowestGap.{runs_within_ascending}
-use Rattle.mps_seg.proofs.RunOver.{run_over_in, run_over_put_other, run_over_taken_other, run_over_taken_has}
+use Rattle.mps_extents.proofs.LowestGap.{runs_within_ascending}
+use Rattle.mps_extents.proofs.RunOver.{run_over_in, run_over_put_other, run_over_taken_other, run_over_taken_has}
 use Rattle.mps_base.specs.Address.{words_of_grain, grain_of, word_of}
 
 -- the words of a run, where it begins between the bounds

@@ -7,7 +7,7 @@ use Rattle.mps_base.specs.Run.{Run, with_run, without_run}
 use Rattle.mps_base.specs.Segment.{Segment, without_segment, grains_of_segment, with_segment}
 use Rattle.mps_base.specs.declared.names.Rank.{Rank}
 use Rattle.mps_arena.specs.Arena.{ArenaMemory}
-use Rattle.mps_seg.specs.Extents.{ExtentLists}
+use Rattle.mps_extents.specs.Extents.{ExtentLists}
 use Rattle.mps_seg.specs.Segs.{SegsState}
 use Rattle.mps_seg.specs.Table.{segments_in, segs_state, segments_of_entries}
 use Rattle.mps_seg.specs.declared.entry.Entry.{Entry}

@@ -8,15 +8,15 @@ use Rattle.mps_base.specs.Run.{Run, IsAscending, with_run, without_run, end_of, 
 use Rattle.mps_base.specs.Segment.{Segment, same_rank, grains_of_segment, with_segment}
 use Rattle.mps_base.specs.declared.names.Rank.{Rank}
 use Rattle.mps_arena.specs.Arena.{ArenaMemory, max_grains, new_arena}
-use Rattle.mps_seg.specs.Extents.{nothing_covered, ExtentLists, AreWhole}
+use Rattle.mps_extents.specs.Extents.{nothing_covered, ExtentLists, AreWhole}
 use Rattle.mps_seg.specs.Segs.{CanCover, LiesIn}
 use Rattle.mps_seg.specs.Table.{gaps_in_grains, segments_in, segs_state, IsHeld, segments_of_entries, gaps_at, IsWholeAt}
 use Rattle.mps_seg.specs.declared.entry.Entry.{Entry}
 use Rattle.mps_seg.specs.declared.entry.Entry.TheVariants.{Free, First}
-use Rattle.mps_seg.proofs.ApartRuns.{contains_put, apart_from_put, apart_each}
-use Rattle.mps_seg.proofs.ContainedRuns.{contains_put_cases, contains_put_other, contains_without, contains_still, taken_and_put, begins_within, same_count, put_apart, side_of}
+use Rattle.mps_extents.proofs.ApartRuns.{contains_put, apart_from_put, apart_each}
+use Rattle.mps_extents.proofs.ContainedRuns.{contains_put_cases, contains_put_other, contains_without, contains_still, taken_and_put, begins_within, same_count, put_apart, side_of}
 use Rattle.mps_seg.proofs.Entries.{held_from, segments_put, held_put, entry_is_held, new_segments_in, held_taken, entry_cases}
-use Rattle.mps_seg.proofs.LowestGap.{runs_within_ascending}
+use Rattle.mps_extents.proofs.LowestGap.{runs_within_ascending}
 
 module _ (arena : ArenaMemory) (table : List Entry) (ex : ExtentLists) (held : IsHeld arena table ex) where
   pub held_after_cover : (r : Run) (blocks reservations : List Run) → 0 < r.count → IsAscending 0 ex.size (with_run r ex.covered)

@@ -7,7 +7,7 @@ use Rattle.mps_base.specs.Address.{address_of_grain, words_of_grain, word_of}
 use Rattle.mps_base.specs.Run.{Run, runs_within, gaps, lowest_fitting}
 use Rattle.mps_base.specs.Segment.{Segment, end_of_segment, is_open_to, gaps_in, gaps_of}
 use Rattle.mps_base.specs.declared.names.Rank.{Rank}
-use Rattle.mps_seg.specs.Extents.{ExtentLists}
+use Rattle.mps_extents.specs.Extents.{ExtentLists}
 use Rattle.mps_seg.specs.Table.{gaps_in_grains, segments_in, segments_of_entries, gaps_at}
 use Rattle.mps_seg.specs.declared.entry.Entry.{Entry}
 use Rattle.mps_seg.specs.declared.entry.Entry.TheVariants.{Free, First}

@@ -7,13 +7,13 @@ use Rattle.mps_base.specs.Run.{Run, IsAscending}
 use Rattle.mps_base.specs.Segment.{Segment, end_of_segment, grains_of_segment, segment_over, is_in_segment}
 use Rattle.mps_base.specs.declared.address.Addr.{Addr}
 use Rattle.mps_arena.specs.Arena.{ArenaMemory}
-use Rattle.mps_seg.specs.Extents.{has_word, ExtentLists, run_over}
+use Rattle.mps_extents.specs.Extents.{has_word, ExtentLists, run_over}
 use Rattle.mps_seg.specs.Segs.{SegsState, base_address}
 use Rattle.mps_seg.specs.Table.{segs_state, segments_in, IsHeld, segments_of_entries, first_over, or_zero}
 use Rattle.mps_seg.specs.declared.entry.Entry.{Entry}
 use Rattle.mps_seg.specs.declared.entry.Entry.TheVariants.{Free, First}
-use Rattle.mps_seg.proofs.ApartRuns.{has_word-true, has_word-below, has_word-above}
-use Rattle.mps_seg.proofs.RunOver.{run_over_none, run_over-contains}
+use Rattle.mps_extents.proofs.ApartRuns.{has_word-true, has_word-below, has_word-above}
+use Rattle.mps_extents.proofs.RunOver.{run_over_none, run_over-contains}
 use Rattle.mps_seg.specs.declared.segs.Segs.TheInside.{Inside}
 use Rattle.mps_seg.proofs.Covering.{IsSoundInside}
 use Rattle.std.proofs.lemmas.List.{get_or_read}

@@ -1,5 +1,3 @@
-pub mod Extents
-pub mod Inside
 pub mod Lending
 pub mod Segs
 pub mod Table

@@ -8,7 +8,7 @@ use Rattle.mps_arena.specs.Arena.{ArenaMemory, max_grains}
 use Rattle.mps_seg.specs.declared.entry.Entry.{Entry}
 use Rattle.mps_seg.specs.declared.entry.Entry.TheVariants.{Free, First}
 use Rattle.mps_seg.specs.Segs.{SegsState, LiesIn}
-use Rattle.mps_seg.specs.Extents.{ExtentLists, run_over, AreWhole}
+use Rattle.mps_extents.specs.Extents.{ExtentLists, run_over, AreWhole}
 
 -- the segments of the entries, where the first entry is that of a grain
 unfoldable pub segments_of_entries : ℕ → List Entry → List Segment

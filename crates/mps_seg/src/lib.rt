@@ -2,11 +2,9 @@
 #![tactic(auto)]
 
 mod entry;
-mod extents;
 mod first_grains;
 mod segs;
 
-pub use extents::Extents;
 pub use segs::Segs;
 
 #[cfg(test)]

@@ -7,17 +7,17 @@ ghost use Rattle.mps_base.specs.Address.{bytes_of_word, word_of};
 ghost use Rattle.mps_base.specs.Segment.{Segment, end_of_segment, same_rank, segment_over, without_segment, gaps_of};
 ghost use Rattle.mps_base.specs.Trail.{with_move};
 ghost use Rattle.mps_arena.specs.Arena.{max_grains, answer_of_placement};
-ghost use Rattle.mps_seg.specs.Extents.{run_over, first_run, AreWhole};
+ghost use Rattle.mps_extents.specs.Extents.{run_over, first_run, AreWhole};
 ghost use Rattle.mps_seg.specs.Table.{IsWholeAt, IsCountAt, gaps_at};
 ghost use Rattle.mps_seg.specs.Segs.{SegsState, max_block_words, new_segments, placement_for, segments_after, moves_after, held_runs, at_word, base_address, IsEmptyAt, IsUsed, CanCover};
 ghost use Rattle.std.specs.Borrow.{sem};
 ghost use Rattle.mps_seg.specs.Lending.{LendsSegmentWords};
 
-use crate::Extents;
 use crate::entry::Entry;
 use crate::first_grains::note_first;
 use mps_arena::Arena;
 use mps_base::{Addr, BYTES_OF_GRAIN, BYTES_OF_WORD, Move, Rank, Refusal, Trail, WORDS_OF_GRAIN};
+use mps_extents::Extents;
 use std::alloc::{AllocError, Global};
 use std::marker::Model;
 

@@ -7,7 +7,7 @@ use mps_base::{Addr, Rank, Refusal, Trail};
 use std::alloc::{AllocError, Global};
 
 /// Makes a block in the lowest gap of a pool, or else at the base of a new segment.
-fn fill(segs: &mut Segs, trail: &mut Trail, pool: u32, words: u32) -> Result<Addr, Refusal>
+fn fill_with(segs: &mut Segs, trail: &mut Trail, pool: u32, words: u32) -> Result<Addr, Refusal>
     requires nonzero { 0 < words }
     requires at_most { words ≤ max_block_words }
     requires fits { 0 < trail.old.spare }
@@ -21,6 +21,15 @@ fn fill(segs: &mut Segs, trail: &mut Trail, pool: u32, words: u32) -> Result<Add
     Ok(at)
 }
 
+/// Makes a block as `fill_with` does, and refuses a number of words that no block has.
+fn fill(alloc: Global, segs: &mut Segs, pool: u32, words: u32) -> Result<Addr, Refusal> {
+    let mut trail = Trail::new(alloc, 1).map_err(|_| Refusal::OutOfMemory)?;
+    if words == 0 || words > 65536 {
+        return Err(Refusal::BadSize);
+    }
+    fill_with(segs, &mut trail, pool, words)
+}
+
 /// Frees the block over a byte, and returns where it began.
 fn free_over(segs: &mut Segs, n: u64) -> Option<Addr> {
     let at = segs.block_at(n)?;
@@ -29,8 +38,8 @@ fn free_over(segs: &mut Segs, n: u64) -> Option<Addr> {
     Some(at)
 }
 
-/// Gives back the segment over an address if there is one and it is empty, and returns whether it did.
-fn give_over(segs: &mut Segs, trail: &mut Trail, at: Addr) -> bool
+/// Gives back the segment at a base.
+fn give_with(segs: &mut Segs, trail: &mut Trail, at: Addr) -> bool
     requires { 0 < trail.old.spare }
 {
     let Some(base) = segs.segment_of(at) else {
@@ -43,6 +52,14 @@ fn give_over(segs: &mut Segs, trail: &mut Trail, at: Addr) -> bool
     true
 }
 
+/// Gives back the segment over an address if there is one and it is empty, and returns whether it did.
+fn give_over(alloc: Global, segs: &mut Segs, at: Addr) -> bool {
+    match Trail::new(alloc, 1) {
+        Ok(mut trail) => give_with(segs, &mut trail, at),
+        Err(_) => false,
+    }
+}
+
 /// The lowest block of the segment over an address that begins at that address or above.
 fn walk_over(segs: &Segs, at: Addr) -> Option<Addr> {
     let base = segs.segment_of(at)?;
@@ -50,7 +67,7 @@ fn walk_over(segs: &Segs, at: Addr) -> Option<Addr> {
 }
 
 /// Reserves `words` words in a new segment, ends the reservation, and makes a block of them.
-fn reserve_and_commit(segs: &mut Segs, trail: &mut Trail, words: u32) -> Result<Addr, Refusal>
+fn reserve_with(segs: &mut Segs, trail: &mut Trail, words: u32) -> Result<Addr, Refusal>
     requires nonzero { 0 < words }
     requires at_most { words ≤ max_block_words }
     requires fits { 0 < trail.old.spare }
@@ -62,20 +79,23 @@ fn reserve_and_commit(segs: &mut Segs, trail: &mut Trail, words: u32) -> Result<
     Ok(at)
 }
 
+/// Makes a block of 600 words by way of a reservation.
+fn reserve_and_commit(alloc: Global, segs: &mut Segs) -> Result<Addr, Refusal> {
+    let mut trail = Trail::new(alloc, 1).map_err(|_| Refusal::OutOfMemory)?;
+    reserve_with(segs, &mut trail, 600)
+}
+
 #[test]
 fn a_reservation_becomes_a_block(rt: HostRuntime) -> Result<(), AllocError> {
     let mut segs = Segs::new(rt.alloc(), 4, 4)?;
-    let mut trail = Trail::new(rt.alloc(), 1)?;
-    assert!(rt; reserve_and_commit(&mut segs, &mut trail, 600) == Ok(Addr(0x1000)));
+    assert!(rt; reserve_and_commit(rt.alloc(), &mut segs) == Ok(Addr(0x1000)));
     assert!(rt; walk_over(&segs, Addr(0x1000)) == Some(Addr(0x1000)));
     assert!(rt; walk_over(&segs, Addr(0x1008)) == None);
     assert!(rt; segs.segment_of(Addr(0x2fff)) == Some(Addr(0x1000)));
     assert!(rt; segs.segment_of(Addr(0x3000)) == None);
-    let mut trail = Trail::new(rt.alloc(), 1)?;
-    assert!(rt; !give_over(&mut segs, &mut trail, Addr(0x2000)));
+    assert!(rt; !give_over(rt.alloc(), &mut segs, Addr(0x2000)));
     assert!(rt; free_over(&mut segs, 0x1ff8) == Some(Addr(0x1000)));
-    let mut trail = Trail::new(rt.alloc(), 1)?;
-    assert!(rt; give_over(&mut segs, &mut trail, Addr(0x2000)));
+    assert!(rt; give_over(rt.alloc(), &mut segs, Addr(0x2000)));
     assert_eq!(rt; segs.committed(), 0);
     Ok(())
 }
@@ -89,43 +109,30 @@ fn lends_the_asked_words(rt: HostRuntime) -> Result<(), AllocError> {
     Ok(())
 }
 
+/// Whether these blocks, which fill gaps, new segments and the whole limit, come to lie where they should.
+fn fills_in_order(alloc: Global, segs: &mut Segs) -> bool {
+    fill(alloc, segs, 0, 500) == Ok(Addr(0x1000))
+        && fill(alloc, segs, 0, 10) == Ok(Addr(0x1fa0))
+        && fill(alloc, segs, 0, 3) == Ok(Addr(0x2000))
+        && fill(alloc, segs, 0, 2) == Ok(Addr(0x1ff0))
+        && fill(alloc, segs, 1, 513) == over_limit(2, 2)
+        && fill(alloc, segs, 1, 512) == Ok(Addr(0x3000))
+        && fill(alloc, segs, 1, 1) == over_limit(3, 1)
+}
+
+/// The refusal where this many grains are held and needed and the limit is 3.
+fn over_limit(committed: u32, need: u32) -> Result<Addr, Refusal> {
+    Err(Refusal::CommitLimit {
+        committed,
+        need,
+        limit: 3,
+    })
+}
+
 #[test]
 fn places_blocks_at_the_lowest_gap(rt: HostRuntime) -> Result<(), AllocError> {
     let mut segs = Segs::new(rt.alloc(), 4, 3)?;
-    let mut trail = Trail::new(rt.alloc(), 1)?;
-    assert!(rt; fill(&mut segs, &mut trail, 0, 500) == Ok(Addr(0x1000)));
-    for (pool, words, want) in [
-        (0u32, 10u32, Ok(Addr(0x1fa0))),
-        (0, 3, Ok(Addr(0x2000))),
-        (0, 2, Ok(Addr(0x1ff0))),
-        (
-            1,
-            513,
-            Err(Refusal::CommitLimit {
-                committed: 2,
-                need: 2,
-                limit: 3,
-            }),
-        ),
-        (1, 512, Ok(Addr(0x3000))),
-        (
-            1,
-            1,
-            Err(Refusal::CommitLimit {
-                committed: 3,
-                need: 1,
-                limit: 3,
-            }),
-        ),
-    ] {
-        let mut trail = Trail::new(rt.alloc(), 1)?;
-        if words > 0 && words <= 65536 {
-            assert!(rt;
-                fill(&mut segs, &mut trail, pool, words) == want,
-                "{words} words"
-            );
-        }
-    }
+    assert!(rt; fills_in_order(rt.alloc(), &mut segs));
     assert_eq!(rt; segs.committed(), 3);
     assert!(rt; segs.block_at(0x1f9f) == Some(Addr(0x1000)));
     assert!(rt; segs.block_at(0x1fa0) == Some(Addr(0x1fa0)));
@@ -139,85 +146,137 @@ fn places_blocks_at_the_lowest_gap(rt: HostRuntime) -> Result<(), AllocError> {
     Ok(())
 }
 
-/// The first word from `low` on and below `high` from which on `words` words have no owner.
-fn plain_gap(owners: &[u64], low: usize, high: usize, words: usize) -> Option<usize> {
-    let mut free = 0usize;
-    for word in low..high {
-        if owners.get(word).copied() == Some(0) {
-            free = free.saturating_add(1);
+/// What a plain table says: where the block begins that owns a word, how many words the block has that begins at a word, and which
+/// grains are held, each as a segment of one grain.
+#[derive(Drop)]
+struct Plain {
+    owners: Vec<u64>,
+    sizes: Vec<u64>,
+    held: Vec<u64>,
+}
+
+impl Plain {
+    fn new(alloc: Global) -> Result<Plain, AllocError> {
+        Ok(Plain {
+            owners: vec![in alloc; 0u64; 2560]?,
+            sizes: vec![in alloc; 0u64; 2560]?,
+            held: vec![in alloc; 0u64; 5]?,
+        })
+    }
+
+    /// Where a block is to lie: in the lowest gap, or else at the lowest free grain, which is then held. 0 where neither is.
+    fn place(&mut self, words: u64) -> u64 {
+        let gap = self.lowest_gap(words);
+        if gap != 0 {
+            return gap;
+        }
+        self.hold_lowest()
+    }
+
+    /// The lowest gap in the grains that are held, or 0.
+    fn lowest_gap(&self, words: u64) -> u64 {
+        for grain in 1..5 {
+            if entry(&self.held, grain) == 1 {
+                let at = plain_gap(&self.owners, 512 * grain, words);
+                if at != 0 {
+                    return at;
+                }
+            }
+        }
+        0
+    }
+
+    /// Holds the lowest grain that isn't, and returns its first word; 0 where all are.
+    fn hold_lowest(&mut self) -> u64 {
+        for grain in 1..5u64 {
+            if entry(&self.held, grain) == 0 {
+                write(&mut self.held, grain, 1, 1);
+                return 512 * grain;
+            }
+        }
+        0
+    }
+
+    /// Whether a grain was held and no block owns a word of it; then it is held no longer.
+    fn give(&mut self, grain: u64) -> bool {
+        if entry(&self.held, grain) == 0 || plain_gap(&self.owners, grain.wrapping_mul(512), 512) == 0 {
+            return false;
+        }
+        write(&mut self.held, grain, 1, 0);
+        true
+    }
+}
+
+/// An entry of a table, or 0 past its end.
+fn entry(table: &[u64], index: u64) -> u64 {
+    table.get(index as usize).copied().unwrap_or(0)
+}
+
+/// Writes `count` entries of a table from an index on.
+fn write(table: &mut [u64], index: u64, count: u64, value: u64) {
+    for e in table.iter_mut().skip(index as usize).take(count as usize) {
+        *e = value;
+    }
+}
+
+/// The first of the 512 words from `low` on from which on `words` of them have no owner, or 0.
+fn plain_gap(owners: &[u64], low: u64, words: u64) -> u64 {
+    let mut free = 0u64;
+    for word in 0..512u64 {
+        if entry(owners, low.wrapping_add(word)) == 0 {
+            free = free.wrapping_add(1);
             if free == words {
-                return Some((word - low).saturating_sub(words - 1).saturating_add(low));
+                return low.wrapping_add(word).wrapping_sub(words).wrapping_add(1);
             }
         } else {
             free = 0;
         }
     }
-    None
+    0
 }
 
-/// Makes `owner` the owner of some words.
-fn own(owners: &mut [u64], from: usize, words: usize, owner: u64) {
-    for word in owners.iter_mut().skip(from).take(words) {
-        *word = owner;
+/// Makes a block in both, and says whether they agree.
+fn agree_on_fill(alloc: Global, plain: &mut Plain, segs: &mut Segs, words: u32) -> bool {
+    let want = plain.place(words as u64);
+    let got = fill(alloc, segs, 7, words).map_or(0, |at| at.0 / 8);
+    if want != 0 {
+        write(&mut plain.owners, want, words as u64, want);
+        write(&mut plain.sizes, want, 1, words as u64);
+    }
+    got == want
+}
+
+/// Frees the block over a word in both, and gives back its segment where it is empty; says whether they agree.
+fn agree_on_free(alloc: Global, plain: &mut Plain, segs: &mut Segs, word: u64) -> bool {
+    let owner = entry(&plain.owners, word);
+    let got = free_over(segs, word.wrapping_mul(8)).map_or(0, |at| at.0 / 8);
+    if owner != 0 {
+        let words = entry(&plain.sizes, owner);
+        write(&mut plain.owners, owner, words, 0);
+    }
+    let given = plain.give(word / 512);
+    got == owner && give_over(alloc, segs, Addr(word.wrapping_mul(8))) == given
+}
+
+/// One step of the number's choice in both, and whether they agree.
+fn agree_once(alloc: Global, plain: &mut Plain, segs: &mut Segs, seed: u64) -> bool {
+    if seed >> 63 == 0 {
+        agree_on_fill(alloc, plain, segs, ((seed >> 33) % 64) as u32 + 1)
+    } else {
+        agree_on_free(alloc, plain, segs, (seed >> 40) % 2560)
     }
 }
 
 #[test]
 fn agrees_with_a_plain_table(rt: HostRuntime) -> Result<(), AllocError> {
     let mut segs = Segs::new(rt.alloc(), 4, 4)?;
-    let mut owners = vec![in rt.alloc(); 0u64; 2560]?;
-    let mut sizes = vec![in rt.alloc(); 0usize; 2560]?;
+    let mut plain = Plain::new(rt.alloc())?;
     let mut seed = 1u64;
-    let mut held = vec![in rt.alloc(); false; 5]?;
     for _ in 0..2000 {
         seed = seed
             .wrapping_mul(6364136223846793005)
             .wrapping_add(1442695040888963407);
-        let words = (seed >> 33) % 64 + 1;
-        let word = ((seed >> 40) % 2560) as usize;
-        if seed >> 63 == 0 {
-            let mut trail = Trail::new(rt.alloc(), 1)?;
-            let mut want = None;
-            for grain in 1..5 {
-                if want.is_none() && held.get(grain).copied() == Some(true) {
-                    want = plain_gap(&owners, 512 * grain, 512 * grain + 512, words as usize);
-                }
-            }
-            for grain in 1..5 {
-                if want.is_none() && held.get(grain).copied() == Some(false) {
-                    want = Some(512 * grain);
-                    if grain < held.len() {
-                        held[grain] = true;
-                    }
-                }
-            }
-            let got = fill(&mut segs, &mut trail, 7, words as u32)
-                .ok()
-                .map(|at| (at.0 / 8) as usize);
-            assert!(rt; got == want, "{words} words");
-            if let Some(at) = got {
-                own(&mut owners, at, words as usize, at as u64);
-                if at < sizes.len() {
-                    sizes[at] = words as usize;
-                }
-            }
-        } else {
-            let owner = owners.get(word).copied().unwrap_or(0);
-            let got = free_over(&mut segs, 8 * word as u64).map_or(0, |at| at.0 / 8);
-            assert_eq!(rt; got, owner);
-            if owner != 0 {
-                let words = sizes.get(owner as usize).copied().unwrap_or(0);
-                own(&mut owners, owner as usize, words, 0);
-            }
-            let mut trail = Trail::new(rt.alloc(), 1)?;
-            let grain = word / 512;
-            let empty = plain_gap(&owners, 512 * grain, 512 * grain + 512, 512).is_some();
-            let given = empty && held.get(grain).copied() == Some(true);
-            assert!(rt; give_over(&mut segs, &mut trail, Addr(8 * word as u64)) == given);
-            if given && grain < held.len() {
-                held[grain] = false;
-            }
-        }
+        assert!(rt; agree_once(rt.alloc(), &mut plain, &mut segs, seed), "{seed}");
     }
     Ok(())
 }

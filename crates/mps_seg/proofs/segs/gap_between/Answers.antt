@@ -1,5 +1,5 @@
 use Rattle.std.proofs.Common.{refl, sym, inr, arith}
-use Rattle.mps_seg.proofs.LowestGap.{runs_within_ascending, no_gap_fits}
+use Rattle.mps_extents.proofs.LowestGap.{runs_within_ascending, no_gap_fits}
 use Rattle.mps_base.specs.Run.{runs_within}
 use Rattle.mps_seg.proofs.segs.gap_between.Goals as goal
 

@@ -1,5 +1,5 @@
 use Rattle.std.proofs.Common.{◌/◌}
-use Rattle.mps_seg.proofs.RunOver.{block_found}
+use Rattle.mps_seg.proofs.BlockOver.{block_found}
 use Rattle.mps_seg.proofs.tests.free_over.Goals as goal
 use Rattle.mps_base.specs.Address.{word_of}
 

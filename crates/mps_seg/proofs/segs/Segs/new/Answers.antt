@@ -2,7 +2,7 @@ use Rattle.std.proofs.Common.{ℕ, ◌+◌, ◌≡◌, List, [], replicate, sym,
 use Rattle.mps_arena.specs.Arena.{ArenaMemory, new_arena}
 use Rattle.mps_seg.specs.declared.entry.Entry.{Entry}
 use Rattle.mps_seg.specs.declared.entry.Entry.TheVariants.{Free}
-use Rattle.mps_seg.specs.Extents.{ExtentLists}
+use Rattle.mps_extents.specs.Extents.{ExtentLists}
 use Rattle.mps_seg.specs.Segs.{new_segments}
 use Rattle.mps_seg.specs.Table.{segs_state, IsHeld, IsCounted}
 use Rattle.mps_seg.proofs.CoveredWords.{new_is_counted}

@@ -3,10 +3,10 @@ use Rattle.std.proofs.lemmas.List.{get_or_read}
 use Rattle.mps_base.specs.Address.{words_of_grain, grain_of, word_of}
 use Rattle.mps_base.specs.Segment.{end_of_segment}
 use Rattle.mps_seg.specs.declared.entry.Entry.TheVariants.{Free, First}
-use Rattle.mps_seg.specs.Extents.{first_run}
+use Rattle.mps_extents.specs.Extents.{first_run}
 use Rattle.mps_seg.specs.Segs.{SegsState, at_word}
 use Rattle.mps_seg.proofs.Entries.{entry_at_seen_base}
-use Rattle.mps_seg.proofs.FirstRun.{first_run-below}
+use Rattle.mps_extents.proofs.FirstRun.{first_run-below}
 use Rattle.mps_seg.proofs.HeldSegments.{segment_end_fits}
 use Rattle.mps_seg.proofs.Giving.{grains_read}
 use Rattle.mps_seg.proofs.segs.Segs.walk.Goals as goal

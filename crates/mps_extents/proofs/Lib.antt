@@ -1,0 +1,12 @@
+pub mod ApartRuns
+pub mod BitRuns
+pub mod ContainedRuns
+pub mod ExtentBits
+pub mod ExtentLengths
+pub mod FirstRun
+pub mod LowestGap
+pub mod NewTables
+pub mod PutExtent
+pub mod RunOver
+pub mod TakenExtent
+pub mod WrittenBits

@@ -1,0 +1,147 @@
+// Which words are covered, as tables of bits.
+#![tactic(auto)]
+
+ghost use Rattle.std.specs.Prelude.{◌≡◌, ℕ, ◌+◌, ◌^◌, ◌<◌, ◌≤◌, IfOk, IfSome, Contains};
+ghost use Rattle.mps_base.specs.Run.{IsAscending, with_run, without_run, gaps, lowest_fitting, runs_within};
+ghost use Rattle.mps_extents.specs.Extents.{ExtentLists, nothing_covered, run_over, first_run, AreWhole};
+
+use mps_bits::Bits;
+use std::alloc::{AllocError, Global};
+use std::marker::Model;
+
+/// Which words blocks and reservations cover, by the numbers of the words. Clauses see lists of runs of words, in ascending order.
+#[derive(Drop)]
+pub struct Extents {
+    covered: Bits,
+    begins: Bits,
+    ends: Bits,
+    blocks: Bits,
+}
+
+impl Model for Extents {
+    ghost use Rattle.mps_extents.specs.Extents.{ExtentLists};
+    ghost use Rattle.mps_extents.specs.Inside.{lists_of, AreSoundTables};
+
+    ghost Value = { ExtentLists };
+
+    ghost view = { λ e. lists_of e.begins e.ends e.blocks };
+
+    ghost invariant = { λ e. AreSoundTables e.covered e.begins e.ends e.blocks };
+}
+
+impl Extents {
+    /// `size` words, of which none is covered. This is the only call that allocates.
+    pub fn new(alloc: Global, size: usize) -> Result<Extents, AllocError>
+        requires { size < 2 ^ 32 }
+        ensures { IfOk result (λ extents. extents ≡ nothing_covered size) }
+    {
+        Ok(Extents {
+            covered: Bits::new(alloc, size)?,
+            begins: Bits::new(alloc, size)?,
+            ends: Bits::new(alloc, size)?,
+            blocks: Bits::new(alloc, size)?,
+        })
+    }
+
+    /// Covers `words` words from `at` on by a reservation.
+    pub fn cover(&mut self, at: usize, words: usize)
+        requires nonzero { 0 < words }
+        requires free { IsAscending 0 self.old.size (with_run (record { from = at; count = words }) self.old.covered) }
+        ensures { self.new ≡ record self.old {
+          covered = with_run (record { from = at; count = words }) self.old.covered;
+          reservations = with_run (record { from = at; count = words }) self.old.reservations;
+        } }
+    {
+        self.covered.set_range(at, at + words);
+        self.begins.set(at);
+        self.ends.set(at + words - 1);
+    }
+
+    /// Removes the reservation of `words` words that begins at `at`.
+    pub fn uncover(&mut self, at: usize, words: usize)
+        requires { Contains self.old.reservations (record { from = at; count = words }) }
+        ensures state { self.new ≡ record self.old {
+          covered = without_run at self.old.covered;
+          reservations = without_run at self.old.reservations;
+        } }
+        ensures was_covered { Contains self.old.covered (record { from = at; count = words }) }
+    {
+        self.covered.clear_range(at, at + words); // a gap again
+        self.begins.clear(at);
+        self.ends.clear(at + words - 1);
+    }
+
+    /// Covers `words` words from `at` on by a block.
+    pub fn commit_block(&mut self, at: usize, words: usize)
+        requires nonzero { 0 < words }
+        requires free { IsAscending 0 self.old.size (with_run (record { from = at; count = words }) self.old.covered) }
+        ensures { self.new ≡ record self.old {
+          covered = with_run (record { from = at; count = words }) self.old.covered;
+          blocks = with_run (record { from = at; count = words }) self.old.blocks;
+        } }
+    {
+        self.covered.set_range(at, at + words);
+        self.begins.set(at);
+        self.ends.set(at + words - 1);
+        self.blocks.set(at);
+    }
+
+    /// Removes the block of `words` words that begins at `at`.
+    pub fn drop_block(&mut self, at: usize, words: usize)
+        requires { Contains self.old.blocks (record { from = at; count = words }) }
+        ensures state { self.new ≡ record self.old {
+          covered = without_run at self.old.covered;
+          blocks = without_run at self.old.blocks;
+        } }
+        ensures was_covered { Contains self.old.covered (record { from = at; count = words }) }
+    {
+        self.covered.clear_range(at, at + words);
+        self.begins.clear(at);
+        self.ends.clear(at + words - 1);
+        self.blocks.clear(at);
+    }
+
+    /// How many words the block has that begins at `at`.
+    pub fn block_words(&self, at: usize) -> usize
+        requires { (words : ℕ) × Contains self.now.blocks (record { from = at; count = words }) }
+        ensures sound { Contains self.now.blocks (record { from = at; count = result }) }
+        ensures at_most { at + result ≤ self.now.size }
+    {
+        let last = self.ends.next_set(at).unwrap();
+        last - at + 1
+    }
+
+    /// Where the block begins that covers a word.
+    pub fn block_over(&self, word: usize) -> Option<usize>
+        ensures { result ≡ run_over self.now.blocks word }
+    {
+        if word >= self.covered.len() {
+            return None;
+        }
+        if !self.covered.test(word) {
+            return None;
+        }
+        let at = self.begins.previous_set(word).unwrap();
+        if self.blocks.test(at) { Some(at) } else { None }
+    }
+
+    /// Where the lowest block begins among those that begin from `low` on and below `high`.
+    pub fn first_block(&self, low: usize, high: usize) -> Option<usize>
+        requires { high ≤ self.now.size }
+        ensures { result ≡ first_run low high self.now.blocks }
+    {
+        self.blocks.next_set_below(low, high)
+    }
+
+    /// Where the lowest gap of at least `words` words begins among the words from `low` on and below `high`.
+    pub fn lowest_gap(&self, low: usize, high: usize, words: usize) -> Option<usize>
+        requires nonzero { 0 < words }
+        requires ordered { low ≤ high }
+        requires in_table { high ≤ self.now.size }
+        requires whole { AreWhole low high self.now.covered }
+        ensures value { result ≡ lowest_fitting words (gaps low high (runs_within low high self.now.covered)) }
+        ensures fits { IfSome result (λ at. at + words ≤ high) }
+    {
+        self.covered.lowest_clear_run(low, high, words)
+    }
+}
