@@ -6,17 +6,17 @@ home=$(cd "$(dirname "$0")/.." && pwd)
 folder=$(mktemp -d)
 cd "$folder" || exit 1
 mkdir crates
-for crate in mps_base mps_bits mps_arena mps_seg; do
+for crate in mps_base mps_bits mps_arena mps_extents mps_seg; do
     mkdir "crates/$crate"
     for part in src specs proofs; do
         [ -d "$home/crates/$crate/$part" ] && cp -r "$home/crates/$crate/$part" "crates/$crate/$part"
     done
 done
-grep -E '^mps_(base|bits|arena|seg):' "$home/crates.txt" > crates.txt
+grep -E '^mps_(base|bits|arena|extents|seg):' "$home/crates.txt" > crates.txt
 echo 'segment_times: mps_base mps_seg' >> crates.txt
 program=crates/segment_times
 mkdir -p $program/src $program/proofs/free_over
-sed -n '/^fn fill(/,/^}/p; /^fn free_over(/,/^}/p' "$home/crates/mps_seg/src/tests.rt" > functions
+sed -n '/^fn fill_with(/,/^}/p; /^fn free_over(/,/^}/p' "$home/crates/mps_seg/src/tests.rt" > functions
 sed 's/mps_seg\.proofs\.tests\.free_over/segment_times.proofs.free_over/' "$home/crates/mps_seg/proofs/tests/free_over/Answers.antt" > $program/proofs/free_over/Answers.antt
 cat > $program/src/main.rt <<'P'
 // How long a block takes in the segments.
@@ -42,7 +42,7 @@ fn measure(rt: &HostRuntime, grains: u32, count: u32, least: u64, most: u64) -> 
         seed = seed.wrapping_mul(6364136223846793005).wrapping_add(1442695040888963407);
         let words = (least + (seed >> 33) % (most - least + 1)) as u32;
         let mut trail = Trail::new(rt.alloc(), 1)?;
-        match fill(&mut segs, &mut trail, 0, words) {
+        match fill_with(&mut segs, &mut trail, 0, words) {
             Ok(at) => addresses.push(at)?,
             Err(_) => break,
         }

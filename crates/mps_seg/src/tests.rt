@@ -199,7 +199,9 @@ impl Plain {
 
     /// Whether a grain was held and no block owns a word of it; then it is held no longer.
     fn give(&mut self, grain: u64) -> bool {
-        if entry(&self.held, grain) == 0 || plain_gap(&self.owners, grain.wrapping_mul(512), 512) == 0 {
+        if entry(&self.held, grain) == 0
+            || plain_gap(&self.owners, grain.wrapping_mul(512), 512) == 0
+        {
             return false;
         }
         write(&mut self.held, grain, 1, 0);
@@ -276,7 +278,10 @@ fn agrees_with_a_plain_table(rt: HostRuntime) -> Result<(), AllocError> {
         seed = seed
             .wrapping_mul(6364136223846793005)
             .wrapping_add(1442695040888963407);
-        assert!(rt; agree_once(rt.alloc(), &mut plain, &mut segs, seed), "{seed}");
+        assert!(rt;
+            agree_once(rt.alloc(), &mut plain, &mut segs, seed),
+            "{seed}"
+        );
     }
     Ok(())
 }
