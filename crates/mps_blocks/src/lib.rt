@@ -6,8 +6,6 @@ mod command;
 mod laws;
 mod listing;
 mod replay;
-#[cfg(test)]
-mod tests;
 
 pub use bad_replay::BadReplay;
 pub use command::blocks;

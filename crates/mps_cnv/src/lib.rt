@@ -2,7 +2,5 @@
 #![tactic(auto)]
 
 mod conversion;
-#[cfg(test)]
-mod tests;
 
 pub use conversion::cnv;

@@ -25,6 +25,3 @@ pub use reading::first;
 pub use record::RecordRef;
 pub use version::Version;
 pub use writing::put;
-
-#[cfg(test)]
-mod tests;

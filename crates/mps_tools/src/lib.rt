@@ -2,6 +2,9 @@
 //! are generated. Each has a crate of its own, and is passed on from there.
 #![tactic(auto)]
 
+#[cfg(test)]
+mod tests;
+
 pub use mps_blocks::blocks;
 pub use mps_cnv::cnv;
 pub use mps_event::Kinds;

@@ -12,6 +12,3 @@ mod words;
 pub use bad_text_line::BadTextLine;
 pub use laws::labels_are_a_map;
 pub use text_reader::txt;
-
-#[cfg(test)]
-mod tests;

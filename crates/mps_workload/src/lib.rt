@@ -4,8 +4,6 @@
 mod generator;
 mod lines;
 mod script_lines;
-#[cfg(test)]
-mod tests;
 
 pub use generator::generate;
 pub use lines::GenLines;

@@ -1,4 +1,5 @@
-use super::*;
+// The records of a log, read and written.
+use mps_event::{BadMagic, LogFault, Version, first, header, put};
 use std::test::Fail;
 
 // A log of version 1: one object is made, moved, and its old segment given back.

@@ -1,26 +1,8 @@
-// Whole and damaged logs over a desk in memory.
-ghost use Rattle.std.specs.Prelude.{◌<◌};
-
-use crate::command::blocks;
-use mps_base::{DeskCall, MemDesk};
-use std::alloc::{AllocError, Global};
-use std::process::Abort;
+// The live blocks of whole and damaged logs.
+use super::answers::{Case, Tool, compare, compare_in_pieces, damaged};
+use super::logs::MOVED;
+use mps_base::DeskCall;
 use std::test::Fail;
-
-// A block of 3 words is committed at 0x1000 and moves to 0x2000. After the header there are ArenaCreate at 8, PoolCreate at
-// 32, SegAlloc at 64, Commit at 104, Flip at 136, SegAlloc at 168, Move at 208, SegFree at 232 and End at 248.
-const MOVED: &[u8; 256] = b"MPSLOG\x01\x00\
-    \x01\x00\x02\x00\x01\x00\x00\x00\x08\x00\x00\x00\x00\x00\x00\x00\x08\x00\x00\x00\x00\x00\x00\x00\
-    \x10\x00\x03\x00\x03\x00\x00\x00\x00\x00\x00\x00\x00\x00\x00\x00\x01\x00\x00\x00\x00\x00\x00\x00\x01\x00\x00\x00\x00\x00\x00\x00\
-    \x30\x00\x04\x00\x05\x00\x00\x00\x00\x10\x00\x00\x00\x00\x00\x00\x01\x00\x00\x00\
-    \x00\x00\x00\x00\x00\x00\x00\x00\x00\x00\x00\x00\x00\x00\x00\x00\x00\x00\x00\x00\
-    \x50\x00\x03\x00\x07\x00\x00\x00\x00\x10\x00\x00\x00\x00\x00\x00\x03\x00\x00\x00\x00\x00\x00\x00\x00\x00\x00\x00\x00\x00\x00\x00\
-    \x20\x00\x03\x00\x0a\x00\x00\x00\x02\x00\x00\x00\x00\x00\x00\x00\x10\x00\x00\x00\x00\x00\x00\x00\x00\x00\x00\x00\x00\x00\x00\x00\
-    \x30\x00\x04\x00\x0a\x00\x00\x00\x00\x20\x00\x00\x00\x00\x00\x00\x01\x00\x00\x00\
-    \x00\x00\x00\x00\x00\x00\x00\x00\x00\x00\x00\x00\x00\x00\x00\x00\x00\x00\x00\x00\
-    \x52\x00\x02\x00\x0a\x00\x00\x00\x00\x10\x00\x00\x00\x00\x00\x00\x00\x20\x00\x00\x00\x00\x00\x00\
-    \x31\x00\x01\x00\x0a\x00\x00\x00\x00\x10\x00\x00\x00\x00\x00\x00\
-    \x21\x00\x00\x00\x0a\x00\x00\x00";
 
 // Two blocks are labelled. After the header there are Commit at 8, Alloc at 40, Intern at 72, Label at 104 and Label at 128.
 const LABELLED: &[u8; 152] = b"MPSLOG\x02\x00\
@@ -61,77 +43,23 @@ const BAD: [(&[u8], usize, usize, u8, &[u8]); 19] = [
     (LABELLED, 152, 136, 8, b"mps: log offset 128: bad replay\n"),
 ];
 
-// What the program answers for a log.
-#[derive(Clone, Copy)]
-struct Answers<'a> {
-    status: u8,
-    printed: &'a [u8],
-    reported: &'a [u8],
-}
-
-// A log, cut to a size and with one byte changed.
-fn damaged(
-    alloc: Global,
-    log: &[u8],
-    size: usize,
-    at: usize,
-    byte: u8,
-) -> Result<Vec<u8>, AllocError> {
-    let mut log = Vec::from_slice(alloc, log)?;
-    if let Some(place) = log.get_mut(at) {
-        *place = byte;
-    }
-    log.truncate(size);
-    Ok(log)
-}
-
-// A desk with a log, which reads and writes at most n bytes at once.
-fn desk_with(alloc: Global, log: &[u8], most: usize) -> Result<MemDesk, AllocError>
-    requires { 0 < most }
-{
-    let mut desk = MemDesk::new(alloc);
-    desk.add_file("heap.log", log)?;
-    desk.pieces(most);
-    Ok(desk)
-}
-
-fn compare(
-    rt: &impl Abort,
-    alloc: Global,
-    desk: &mut MemDesk,
-    wanted: &Answers<'_>,
-) -> Result<(), AllocError> {
-    assert_eq!(rt; blocks(alloc, "heap.log", desk), wanted.status);
-    assert_eq!(rt; desk.printed(), wanted.printed);
-    assert_eq!(rt; desk.reported(), wanted.reported);
-    Ok(())
-}
-
-// Read and printed at once and in pieces of any size, a log gives the same.
-fn compare_in_pieces(
-    rt: &impl Abort,
-    alloc: Global,
-    log: &[u8],
-    wanted: &Answers<'_>,
-) -> Result<(), AllocError> {
-    for most in [usize::MAX, 1, 7, 255] {
-        let mut desk = desk_with(alloc, log, most)?;
-        compare(rt, alloc, &mut desk, wanted)?;
-    }
-    Ok(())
-}
+// The bytes that the desk reads and writes at once.
+const PIECES: [usize; 4] = [usize::MAX, 1, 7, 255];
 
 /// Each whole log gives its live blocks.
 #[test]
 fn whole_logs(rt: HostRuntime) -> Result<(), Fail> {
     for (log, size, printed) in WHOLE {
         let log = damaged(rt.alloc(), log, size, 0, b'M')?;
-        let wanted = Answers {
+        let case = Case {
+            tool: Tool::Blocks,
+            input: &log,
+            failing: &[],
             status: 0,
             printed,
             reported: b"",
         };
-        compare_in_pieces(&rt, rt.alloc(), &log, &wanted)?;
+        compare_in_pieces(&rt, rt.alloc(), &case, &PIECES)?;
     }
     Ok(())
 }
@@ -141,12 +69,15 @@ fn whole_logs(rt: HostRuntime) -> Result<(), Fail> {
 fn damaged_logs(rt: HostRuntime) -> Result<(), Fail> {
     for (log, size, at, byte, reported) in BAD {
         let log = damaged(rt.alloc(), log, size, at, byte)?;
-        let wanted = Answers {
+        let case = Case {
+            tool: Tool::Blocks,
+            input: &log,
+            failing: &[],
             status: 6,
             printed: b"",
             reported,
         };
-        compare_in_pieces(&rt, rt.alloc(), &log, &wanted)?;
+        compare_in_pieces(&rt, rt.alloc(), &case, &PIECES)?;
     }
     Ok(())
 }
@@ -169,14 +100,15 @@ fn each_call_of_the_desk_may_fail(rt: HostRuntime) -> Result<(), Fail> {
         (DeskCall::Err, 2, 250, 6, b"", b"mps: "),
     ] {
         let log = damaged(rt.alloc(), MOVED, size, 0, b'M')?;
-        let mut desk = desk_with(rt.alloc(), &log, 5)?;
-        desk.fail(call, number)?;
-        let wanted = Answers {
+        let case = Case {
+            tool: Tool::Blocks,
+            input: &log,
+            failing: &[(call, number)],
             status,
             printed,
             reported,
         };
-        compare(&rt, rt.alloc(), &mut desk, &wanted)?;
+        compare(&rt, rt.alloc(), &case, 5)?;
     }
     Ok(())
 }
