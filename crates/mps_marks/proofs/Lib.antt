@@ -1,0 +1,2 @@
+pub mod Grey
+pub mod Tally

@@ -1,0 +1,11 @@
+-- How the grey blocks of a rank are kept.
+use Rattle.std.specs.Prelude.{ℕ, ◌≡◌, ◌*◌, ◌/◌, ◌^◌, ◌<◌, Bool, true, List, length, count_by}
+use Rattle.mps_base.specs.Address.{words_of_grain}
+use Rattle.mps_bits.specs.Table.{bit}
+
+-- A table by word and one by grain of where grey blocks begin. The count is that of the blocks.
+pub record IsTallied (blocks grains : List Bool) (count : ℕ) : Type 0 where
+  pub size : length blocks ≡ words_of_grain * length grains
+  pub small : length blocks < 2 ^ 32
+  pub counted : count_by (λ b. b) blocks ≡ count
+  pub grain_of_block : (word : ℕ) → bit blocks word ≡ true → bit grains (word / words_of_grain) ≡ true

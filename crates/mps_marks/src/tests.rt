@@ -1,0 +1,127 @@
+// Searches at the edges of grains, and many pseudo-random marks that are compared with plain lists.
+use crate::Marks;
+use mps_base::Rank;
+use std::alloc::AllocError;
+use std::process::Abort;
+
+/// The lowest grey block in a range, None where the table has no such range.
+fn lowest(marks: &Marks, rank: Rank, from: usize, to: usize) -> Option<usize> {
+    if to <= marks.words() {
+        marks.grey_in(rank, from, to)
+    } else {
+        None
+    }
+}
+
+#[test]
+fn searches_at_the_edges_of_grains(rt: HostRuntime) -> Result<(), AllocError> {
+    let mut marks = Marks::new(rt.alloc(), 100)?;
+    marks.set_grey(511, Rank::Exact);
+    marks.set_grey(51_199, Rank::Exact);
+    marks.set_grey(600, Rank::Weak);
+    for (rank, from, to, want) in [
+        (Rank::Exact, 0, 51_200, Some(511)),
+        (Rank::Exact, 0, 511, None),
+        (Rank::Exact, 511, 512, Some(511)),
+        (Rank::Exact, 512, 51_200, Some(51_199)),
+        (Rank::Exact, 512, 51_199, None),
+        (Rank::Exact, 600, 600, None),
+        (Rank::Weak, 0, 51_200, Some(600)),
+        (Rank::Weak, 601, 51_200, None),
+    ] {
+        let got = lowest(&marks, rank, from, to);
+        assert_eq!(rt; got, want, "from {from} to {to}");
+    }
+    Ok(())
+}
+
+#[test]
+fn marks_come_and_go(rt: HostRuntime) -> Result<(), AllocError> {
+    let mut marks = Marks::new(rt.alloc(), 2)?;
+    assert!(rt; marks.next_grey(Rank::Weak).is_none());
+    marks.set_grey(600, Rank::Weak);
+    marks.keep(600);
+    assert!(rt; marks.is_kept(600) && marks.is_grey(600));
+    assert!(rt; marks.next_grey(Rank::Exact).is_none());
+    marks.blacken(600);
+    assert!(rt; marks.is_kept(600) && !marks.is_grey(600));
+    marks.clear(600);
+    marks.set_grey(7, Rank::Exact);
+    assert!(rt; !marks.is_kept(600));
+    marks.clear_all();
+    assert_eq!(rt; marks.grey_count(Rank::Exact), 0);
+    Ok(())
+}
+
+/// The index of the first `true`, if there is one.
+fn first_set(bits: &[bool]) -> Option<usize> {
+    bits.iter().position(|bit| *bit)
+}
+
+/// Checks what the marks answer at a rank against a plain list of the grey blocks.
+fn agrees(rt: &impl Abort, marks: &mut Marks, rank: Rank, plain: &[bool]) {
+    let count = plain.iter().filter(|bit| **bit).count();
+    assert_eq!(rt; marks.grey_count(rank), count);
+    match marks.next_grey(rank) {
+        Some(word) => assert_eq!(rt; plain.get(word).copied(), Some(true)),
+        None => assert_eq!(rt; count, 0),
+    }
+}
+
+/// Writes an entry of a plain list.
+fn write(plain: &mut [bool], word: usize, value: bool) {
+    if word < plain.len() {
+        plain[word] = value;
+    }
+}
+
+/// Marks as plain lists.
+#[derive(Drop)]
+struct Plain {
+    exact: Vec<bool>,
+    weak: Vec<bool>,
+}
+
+/// One pseudo-random change of the marks and of the plain lists.
+fn change(marks: &mut Marks, plain: &mut Plain, kind: u64, word: usize) {
+    if word >= marks.words() {
+        return;
+    }
+    match kind {
+        0 => {
+            marks.set_grey(word, Rank::Exact);
+            write(&mut plain.exact, word, true);
+        }
+        1 => {
+            marks.set_grey(word, Rank::Weak);
+            write(&mut plain.weak, word, true);
+        }
+        _ => {
+            marks.blacken(word);
+            write(&mut plain.exact, word, false);
+            write(&mut plain.weak, word, false);
+        }
+    }
+}
+
+#[test]
+fn agrees_with_plain_lists(rt: HostRuntime) -> Result<(), AllocError> {
+    let mut marks = Marks::new(rt.alloc(), 3)?;
+    let mut plain = Plain {
+        exact: vec![in rt.alloc(); false; 1536]?,
+        weak: vec![in rt.alloc(); false; 1536]?,
+    };
+    let mut seed = 1u64;
+    for _ in 0..2000 {
+        seed = seed
+            .wrapping_mul(6364136223846793005)
+            .wrapping_add(1442695040888963407);
+        let word = ((seed >> 40) % 96 * 16) as usize;
+        change(&mut marks, &mut plain, (seed >> 33) % 4, word);
+        agrees(&rt, &mut marks, Rank::Exact, &plain.exact);
+        agrees(&rt, &mut marks, Rank::Weak, &plain.weak);
+        let got = lowest(&marks, Rank::Exact, 0, 1536);
+        assert_eq!(rt; got, first_set(&plain.exact));
+    }
+    Ok(())
+}
