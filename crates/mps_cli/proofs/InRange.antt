@@ -1,18 +1,16 @@
 -- The calls of lines have their numbers in the ranges of the script.
-use Rattle.std.proofs.Common.{◌≡◌, ℕ, ◌≤◌, Bool, true, false, Option, Some, None, List, [], ◌∷◌, length, refl, subst, arith, option_and_then, unwrap_or, if◌then◌else◌, nat_lt, nat_le}
+use Rattle.std.proofs.Common.{◌≡◌, ℕ, ◌≤◌, Bool, true, false, Option, Some, None, List, [], ◌∷◌, length, refl, ap, subst, arith, option_and_then, option_map, unwrap_or, if◌then◌else◌, nat_lt, nat_le}
 use Rattle.std.specs.Prelude.{Ok, Err, ◌&&◌, codes, bytes_eq, IsTrue}
 use Rattle.std.proofs.lemmas.Bool.Decides.{nat_tests}
-use Rattle.mps_base.specs.declared.names.Kind.TheVariants.{Amc}
-use Rattle.mps_base.specs.declared.names.Rank.TheVariants.{Exact}
 use Rattle.mps_model.specs.declared.call.Call.{Call}
 use Rattle.mps_model.specs.declared.call.Call.TheVariants as call
-use Rattle.mps_script.specs.Word.{words, two_words, three_words}
+use Rattle.mps_script.specs.Word.{words}
+use Rattle.mps_script.specs.Reading.{first_of_two, both, named_in, single, onto, pair, none, one, two, three, four, or}
 use Rattle.mps_numerals.specs.Decimal.{decimal_number}
-use Rattle.mps_script.specs.Number.{number_of, number_within}
+use Rattle.mps_script.specs.Number.{number_of, number_within, prefixed_hexadecimal}
 use Rattle.mps_script.specs.Name.{name_of, slot_of}
 use Rattle.mps_script.specs.Head.{head_of}
-use Rattle.mps_base.specs.declared.names.Name.{Name}
-use Rattle.mps_script.specs.Form.{arena_call, table_call, pool_call, point_call, reserve_call, init_call, commit_call, number_call, built_call, begins_comment, call_of_words}
+use Rattle.mps_script.specs.Form.{Form, kinds, kinds_on_chains, formats, ranks, keyword, grains_from, length_of_root, capacities, padded, chain, automatic_pool, pool_on_chain, pool_mfs, pool_mvff, pool, init, start, cell_forms, allocation_forms, slot_forms, area_forms, collection_forms, dependency_forms, root_forms, making_forms, call_in, command_call, begins_comment, call_of_words}
 use Rattle.mps_script.specs.Line.{call_of_line, max_line_bytes}
 use Rattle.mps_script.specs.declared.line.BadLine.{BadLine}
 use Rattle.mps_first_heap.specs.Unsupported.{IsInRange}
@@ -21,20 +19,19 @@ use Rattle.mps_first_heap.specs.Unsupported.{IsInRange}
 abbrev AreInRange : Option Call → Type 0
 AreInRange o = (c : Call) → o ≡ Some c → IsInRange c
 
-none_in_range : AreInRange None
-none_in_range c e = absurd (let a : None ≡ Some c = e in cc)
+-- a form gives no other
+abbrev FormInRange : (List (List ℕ) → Option Call) → Type 0
+FormInRange form = (ws : List (List ℕ)) → AreInRange (form ws)
 
-some_in_range : (d : Call) → IsInRange d → AreInRange (Some d)
-some_in_range d h c e = subst IsInRange (let a : d ≡ c = cc in a) h
+nothing_in_range : AreInRange None
+nothing_in_range c e = absurd (let a : None ≡ Some c = e in cc)
+
+call_is_in_range : (d : Call) → IsInRange d → AreInRange (Some d)
+call_is_in_range d h c e = subst IsInRange (let a : d ≡ c = cc in a) h
 
 either_in_range : (b : Bool) (x y : Option Call) → AreInRange x → AreInRange y → AreInRange (if b then x else y)
 either_in_range true x y h k = h
 either_in_range false x y h k = k
-
-then_in_range : {A : Type 0} (f : A → Option Call) (o : Option A) → ((a : A) → o ≡ Some a → AreInRange (f a))
-    → AreInRange (option_and_then f o)
-then_in_range f None h = none_in_range
-then_in_range f (Some a) h = h a refl
 
 -- ---- numbers
 
@@ -55,131 +52,190 @@ bounded low high (Some n) m e =
 within_range : (low high : ℕ) (word : List ℕ) (m : ℕ) → number_within low high word ≡ Some m → (low ≤ m) × (m ≤ high)
 within_range low high word m e = bounded low high (decimal_number word) m e
 
--- ---- forms
+-- ---- readings
 
-arena_in_range : (ws : List (List ℕ)) → AreInRange (arena_call ws)
+and_then_in_range : {A : Type 0} (f : A → Call) (o : Option A) → ((x : A) → o ≡ Some x → IsInRange (f x)) → AreInRange (option_map f o)
+and_then_in_range f None h = nothing_in_range
+and_then_in_range f (Some x) h = call_is_in_range (f x) (h x refl)
+
+first_in_range : (o other : Option Call) → AreInRange o → AreInRange other → AreInRange (first_of_two o other)
+first_in_range None other h k = k
+first_in_range (Some c) other h k = h
+
+none_in_range : (c : Call) → IsInRange c → FormInRange (none c)
+none_in_range c h [] = call_is_in_range c h
+none_in_range c h (word ∷ ws) = nothing_in_range
+
+one_in_range : {A : Type 0} (a : List ℕ → Option A) (f : A → Call) → ((x : A) → IsInRange (f x)) → FormInRange (one a f)
+one_in_range a f h ws = and_then_in_range f (single a ws) (λ x e. h x)
+
+two_in_range : {A B : Type 0} (a : List ℕ → Option A) (b : List ℕ → Option B) (f : A → B → Call)
+    → ((x : A) (y : B) → IsInRange (f x y)) → FormInRange (two a b f)
+two_in_range a b f h ws = and_then_in_range (λ p. f p.0 p.1) (pair a b ws) (λ p e. h p.0 p.1)
+
+three_in_range : {A B C : Type 0} (a : List ℕ → Option A) (b : List ℕ → Option B) (c : List ℕ → Option C) (f : A → B → C → Call)
+    → ((x : A) (y : B) (z : C) → IsInRange (f x y z)) → FormInRange (three a b c f)
+three_in_range a b c f h ws = and_then_in_range (λ p. f p.0 p.1.0 p.1.1) (onto a (pair b c) ws) (λ p e. h p.0 p.1.0 p.1.1)
+
+four_in_range : {A B C D : Type 0} (a : List ℕ → Option A) (b : List ℕ → Option B) (c : List ℕ → Option C) (d : List ℕ → Option D)
+    (f : A → B → C → D → Call) → ((x : A) (y : B) (z : C) (u : D) → IsInRange (f x y z u)) → FormInRange (four a b c d f)
+four_in_range a b c d f h ws =
+    and_then_in_range (λ p. f p.0 p.1.0 p.1.1.0 p.1.1.1) (onto a (onto b (pair c d)) ws) (λ p e. h p.0 p.1.0 p.1.1.0 p.1.1.1)
+
+or_in_range : (a b : List (List ℕ) → Option Call) → FormInRange a → FormInRange b → FormInRange (or a b)
+or_in_range a b h k ws = first_in_range (a ws) (b ws) (h ws) (k ws)
+
+-- ---- the forms whose numbers have ranges
+
+both_there : {A B : Type 0} (x : Option A) (y : Option B) (p : A × B) → both x y ≡ Some p → (x ≡ Some p.0) × (y ≡ Some p.1)
+both_there (Some x) (Some y) p e =
+    let same : (x, y) ≡ p = (let whole : Some (x, y) ≡ Some p = e in cc) in
+    (ap (λ q. Some q.0) same, ap (λ q. Some q.1) same)
+both_there (Some x) None p e = absurd (let wrong : None ≡ Some p = e in cc)
+both_there None y p e = absurd (let wrong : None ≡ Some p = e in cc)
+
+-- what a pair of readings gives, where the first gives this and the second that
+module _ {A B : Type 0} (This : A → Type 0) (That : B → Type 0) (a : List ℕ → Option A) (b : List ℕ → Option B)
+    (gives_this : (word : List ℕ) (x : A) → a word ≡ Some x → This x)
+    (gives_that : (word : List ℕ) (y : B) → b word ≡ Some y → That y) where
+  pair_gives : (ws : List (List ℕ)) (p : A × B) → pair a b ws ≡ Some p → This p.0 × That p.1
+  pair_gives [] p e = absurd (let wrong : None ≡ Some p = e in cc)
+  pair_gives (v ∷ []) p e = absurd (let wrong : None ≡ Some p.1 = (both_there (a v) None p e).1 in cc)
+  pair_gives (v ∷ w ∷ []) p e =
+      let there = both_there (a v) (b w) p e in (gives_this v p.0 there.0, gives_that w p.1 there.1)
+  pair_gives (v ∷ w ∷ u ∷ ws) p e = absurd (let wrong : None ≡ Some p.1 = (both_there (a v) None p e).1 in cc)
+
+arena_in_range : FormInRange (two (grains_from 1) (grains_from 0) call.Arena)
 arena_in_range ws =
-    then_in_range _ (two_words ws) (λ p e.
-    then_in_range (λ grains. option_and_then (λ limit. Some (call.Arena grains limit)) (number_within 0 2048 p.1))
-    (number_within 1 2048 p.0) (λ grains some.
-    then_in_range (λ limit. Some (call.Arena grains limit)) (number_within 0 2048 p.1) (λ limit most.
-    some_in_range (call.Arena grains limit)
-    ((within_range 1 2048 p.0 grains some).0, (within_range 1 2048 p.0 grains some).1, (within_range 0 2048 p.1 limit most).1))))
+    and_then_in_range (λ p. call.Arena p.0 p.1) (pair (grains_from 1) (grains_from 0) ws) (λ p e.
+    let within = pair_gives (λ n. (1 ≤ n) × (n ≤ 2048)) (λ n. (0 ≤ n) × (n ≤ 2048)) (grains_from 1) (grains_from 0)
+      (within_range 1 2048) (within_range 0 2048) ws p e in
+    (within.0.0, within.0.1, within.1.1))
 
-table_in_range : (ws : List (List ℕ)) → AreInRange (table_call ws)
+table_in_range : FormInRange (two name_of length_of_root call.Table)
 table_in_range ws =
-    then_in_range _ (two_words ws) (λ p e.
-    then_in_range (λ table. option_and_then (λ slots. Some (call.Table table slots)) (number_within 1 65536 p.1)) (name_of p.0)
-    (λ table named.
-    then_in_range (λ slots. Some (call.Table table slots)) (number_within 1 65536 p.1) (λ slots some.
-    some_in_range (call.Table table slots) (within_range 1 65536 p.1 slots some))))
+    and_then_in_range (λ p. call.Table p.0 p.1) (pair name_of length_of_root ws) (λ p e.
+    (pair_gives (λ name. Unit {0}) (λ n. (1 ≤ n) × (n ≤ 65536)) name_of length_of_root
+      (λ word name e. tt) (within_range 1 65536) ws p e).1)
 
-abbrev front_pool_call : (kind format : List ℕ) → Name → Option Call
-front_pool_call kind format pool =
-    if bytes_eq kind (codes "amc") then (if bytes_eq format (codes "front") then Some (call.Pool pool Amc 1) else None) else None
+chain_in_range : FormInRange chain
+chain_in_range ws = and_then_in_range (λ p. call.Chain p.0 (length p.1) (padded p.1)) (onto name_of capacities ws) (λ p e. tt)
 
-pool_in_range : (ws : List (List ℕ)) → AreInRange (pool_call ws)
-pool_in_range ws =
-    then_in_range _ (three_words ws) (λ p e.
-    then_in_range (front_pool_call p.1 p.2) (name_of p.0) (λ pool named.
-    either_in_range (bytes_eq p.1 (codes "amc")) (if bytes_eq p.2 (codes "front") then Some (call.Pool pool Amc 1) else None) None
-    (either_in_range (bytes_eq p.2 (codes "front")) (Some (call.Pool pool Amc 1)) None
-    (some_in_range (call.Pool pool Amc 1) tt) none_in_range)
-    none_in_range))
+pool_in_range : FormInRange pool
+pool_in_range =
+    or_in_range automatic_pool (or pool_on_chain (or pool_mfs pool_mvff))
+    (three_in_range name_of (named_in kinds) (named_in formats) call.Pool (λ x y z. tt))
+    (or_in_range pool_on_chain (or pool_mfs pool_mvff)
+    (four_in_range name_of (named_in kinds_on_chains) (named_in formats) name_of call.PoolOnChain (λ x y z u. tt))
+    (or_in_range pool_mfs pool_mvff
+    (three_in_range name_of (keyword (codes "mfs")) decimal_number (λ name mfs size. call.PoolMfs name size) (λ x y z. tt))
+    (two_in_range name_of (keyword (codes "mvff")) (λ name mvff. call.PoolMvff name) (λ x y. tt))))
 
-abbrev exact_point_call : (rank : List ℕ) → Name → Name → Option Call
-exact_point_call rank point pool = if bytes_eq rank (codes "exact") then Some (call.Point point pool Exact) else None
+init_in_range : FormInRange init
+init_in_range =
+    or_in_range (three name_of decimal_number number_of call.InitNumber) (three name_of decimal_number slot_of call.InitReference)
+    (three_in_range name_of decimal_number number_of call.InitNumber (λ x y z. tt))
+    (three_in_range name_of decimal_number slot_of call.InitReference (λ x y z. tt))
 
-point_in_range : (ws : List (List ℕ)) → AreInRange (point_call ws)
-point_in_range ws =
-    then_in_range _ (three_words ws) (λ p e.
-    then_in_range (λ point. option_and_then (exact_point_call p.2 point) (name_of p.1)) (name_of p.0) (λ point named.
-    then_in_range (exact_point_call p.2 point) (name_of p.1) (λ pool at.
-    either_in_range (bytes_eq p.2 (codes "exact")) (Some (call.Point point pool Exact)) None
-    (some_in_range (call.Point point pool Exact) tt) none_in_range)))
+start_in_range : FormInRange start
+start_in_range =
+    or_in_range (none call.Start) (two name_of decimal_number call.StartChain) (none_in_range call.Start tt)
+    (two_in_range name_of decimal_number call.StartChain (λ x y. tt))
 
-reserve_in_range : (ws : List (List ℕ)) → AreInRange (reserve_call ws)
-reserve_in_range ws =
-    then_in_range _ (two_words ws) (λ p e.
-    then_in_range (λ point. option_and_then (λ head. Some (call.Reserve point head)) (head_of p.1)) (name_of p.0) (λ point named.
-    then_in_range (λ head. Some (call.Reserve point head)) (head_of p.1) (λ head at. some_in_range (call.Reserve point head) tt)))
+-- ---- all forms
 
-init_in_range : (ws : List (List ℕ)) → AreInRange (init_call ws)
-init_in_range ws =
-    then_in_range _ (three_words ws) (λ p e.
-    then_in_range
-    (λ point. option_and_then (λ cell. option_and_then (λ value. Some (call.InitNumber point cell value)) (number_of p.2))
-    (decimal_number p.1))
-    (name_of p.0)
-    (λ point named.
-    then_in_range (λ cell. option_and_then (λ value. Some (call.InitNumber point cell value)) (number_of p.2)) (decimal_number p.1)
-    (λ cell at.
-    then_in_range (λ value. Some (call.InitNumber point cell value)) (number_of p.2) (λ value is.
-    some_in_range (call.InitNumber point cell value) tt))))
+abbrev AllInRange : List Form → Type 0
+AllInRange [] = Unit {0}
+AllInRange (form ∷ forms) = FormInRange form.1 × AllInRange forms
 
-commit_in_range : (ws : List (List ℕ)) → AreInRange (commit_call ws)
-commit_in_range ws =
-    then_in_range _ (two_words ws) (λ p e.
-    then_in_range (λ point. option_and_then (λ target. Some (call.Commit point target)) (slot_of p.1)) (name_of p.0) (λ point named.
-    then_in_range (λ target. Some (call.Commit point target)) (slot_of p.1) (λ target at. some_in_range (call.Commit point target) tt)))
+forms_in_range : (forms : List Form) → AllInRange forms → (word : List ℕ) (ws : List (List ℕ)) → AreInRange (call_in forms word ws)
+forms_in_range [] h word ws = nothing_in_range
+forms_in_range (form ∷ forms) h word ws =
+    either_in_range (bytes_eq word form.0) (form.1 ws) (call_in forms word ws) (h.0 ws) (forms_in_range forms h.1 word ws)
 
-number_in_range : (ws : List (List ℕ)) → AreInRange (number_call ws)
-number_in_range ws =
-    then_in_range _ (two_words ws) (λ p e.
-    then_in_range (λ slot. option_and_then (λ cell. Some (call.Number slot cell)) (decimal_number p.1)) (slot_of p.0) (λ slot named.
-    then_in_range (λ cell. Some (call.Number slot cell)) (decimal_number p.1) (λ cell at. some_in_range (call.Number slot cell) tt)))
+cell_in_range : AllInRange cell_forms
+cell_in_range =
+    (three_in_range slot_of slot_of decimal_number call.Get (λ x y z. tt),
+    (three_in_range slot_of decimal_number slot_of call.Put (λ x y z. tt),
+    (two_in_range slot_of decimal_number call.Number (λ x y. tt),
+    (three_in_range slot_of decimal_number number_of call.SetNumber (λ x y z. tt), tt))))
 
-abbrev from_point : List ℕ → List (List ℕ) → Option Call
-from_point word ws = if bytes_eq word (codes "ap") then point_call ws else None
+allocation_in_range : AllInRange allocation_forms
+allocation_in_range =
+    (two_in_range name_of head_of call.Reserve (λ x y. tt),
+    (init_in_range,
+    (two_in_range name_of slot_of call.Commit (λ x y. tt),
+    (three_in_range name_of decimal_number slot_of call.Alloc (λ x y z. tt),
+    (one_in_range slot_of call.Free (λ x. tt),
+    (two_in_range slot_of decimal_number call.Load (λ x y. tt),
+    (three_in_range slot_of decimal_number number_of call.Store (λ x y z. tt), tt)))))))
 
-from_point_in_range : (word : List ℕ) (ws : List (List ℕ)) → AreInRange (from_point word ws)
-from_point_in_range word ws = either_in_range (bytes_eq word (codes "ap")) (point_call ws) None (point_in_range ws) none_in_range
+slot_in_range : AllInRange slot_forms
+slot_in_range =
+    (two_in_range slot_of slot_of call.Copy (λ x y. tt),
+    (one_in_range slot_of call.Clear (λ x. tt),
+    (two_in_range slot_of slot_of call.Same (λ x y. tt),
+    (one_in_range slot_of call.Null (λ x. tt),
+    (one_in_range slot_of call.Head (λ x. tt),
+    (one_in_range slot_of call.Address (λ x. tt), tt))))))
 
-abbrev from_pool : List ℕ → List (List ℕ) → Option Call
-from_pool word ws = if bytes_eq word (codes "pool") then pool_call ws else (from_point word ws)
+area_in_range : AllInRange area_forms
+area_in_range =
+    (two_in_range slot_of number_of call.Poke (λ x y. tt),
+    (one_in_range slot_of call.Peek (λ x. tt),
+    (two_in_range slot_of slot_of call.Pin (λ x y. tt),
+    (two_in_range slot_of slot_of call.Take (λ x y. tt), tt))))
 
-from_pool_in_range : (word : List ℕ) (ws : List (List ℕ)) → AreInRange (from_pool word ws)
-from_pool_in_range word ws = either_in_range (bytes_eq word (codes "pool")) (pool_call ws) (from_point word ws) (pool_in_range ws)
-    (from_point_in_range word ws)
+collection_in_range : AllInRange collection_forms
+collection_in_range =
+    (start_in_range,
+    (one_in_range decimal_number call.Step (λ x. tt),
+    (none_in_range call.Collect tt,
+    (none_in_range call.Clamp tt,
+    (none_in_range call.Park tt,
+    (none_in_range call.Release tt,
+    (one_in_range slot_of call.Finalize (λ x. tt),
+    (one_in_range slot_of call.Definalize (λ x. tt),
+    (one_in_range slot_of call.Message (λ x. tt), tt)))))))))
 
-abbrev from_table : List ℕ → List (List ℕ) → Option Call
-from_table word ws = if bytes_eq word (codes "table") then table_call ws else (from_pool word ws)
+dependency_in_range : AllInRange dependency_forms
+dependency_in_range =
+    (one_in_range name_of call.DependencyReset (λ x. tt),
+    (two_in_range name_of slot_of call.DependencyAdd (λ x y. tt),
+    (two_in_range name_of name_of call.DependencyMerge (λ x y. tt),
+    (one_in_range name_of call.DependencyStale (λ x. tt),
+    (none_in_range call.Live tt,
+    (one_in_range prefixed_hexadecimal call.Dump (λ x. tt), tt))))))
 
-from_table_in_range : (word : List ℕ) (ws : List (List ℕ)) → AreInRange (from_table word ws)
-from_table_in_range word ws = either_in_range (bytes_eq word (codes "table")) (table_call ws) (from_pool word ws) (table_in_range ws)
-    (from_pool_in_range word ws)
+root_in_range : AllInRange root_forms
+root_in_range =
+    (table_in_range,
+    (two_in_range name_of length_of_root call.Area (λ x y. tt),
+    (two_in_range name_of length_of_root call.Blocks (λ x y. tt),
+    (one_in_range name_of call.DropRoot (λ x. tt),
+    (three_in_range name_of name_of (named_in ranks) call.Point (λ x y z. tt),
+    (one_in_range name_of call.DropPoint (λ x. tt),
+    (one_in_range name_of call.Dependency (λ x. tt), tt)))))))
 
-abbrev from_arena : List ℕ → List (List ℕ) → Option Call
-from_arena word ws = if bytes_eq word (codes "arena") then arena_call ws else (from_table word ws)
+making_in_range : AllInRange making_forms
+making_in_range =
+    (arena_in_range,
+    (one_in_range (grains_from 0) call.Limit (λ x. tt),
+    (none_in_range call.Committed tt,
+    (chain_in_range,
+    (pool_in_range, tt)))))
 
-from_arena_in_range : (word : List ℕ) (ws : List (List ℕ)) → AreInRange (from_arena word ws)
-from_arena_in_range word ws = either_in_range (bytes_eq word (codes "arena")) (arena_call ws) (from_table word ws) (arena_in_range ws)
-    (from_table_in_range word ws)
 
-abbrev from_commit : List ℕ → List (List ℕ) → Option Call
-from_commit word ws = if bytes_eq word (codes "commit") then commit_call ws else (from_arena word ws)
-
-from_commit_in_range : (word : List ℕ) (ws : List (List ℕ)) → AreInRange (from_commit word ws)
-from_commit_in_range word ws = either_in_range (bytes_eq word (codes "commit")) (commit_call ws) (from_arena word ws) (commit_in_range ws)
-    (from_arena_in_range word ws)
-
-abbrev from_init : List ℕ → List (List ℕ) → Option Call
-from_init word ws = if bytes_eq word (codes "init") then init_call ws else (from_commit word ws)
-
-from_init_in_range : (word : List ℕ) (ws : List (List ℕ)) → AreInRange (from_init word ws)
-from_init_in_range word ws = either_in_range (bytes_eq word (codes "init")) (init_call ws) (from_commit word ws) (init_in_range ws)
-    (from_commit_in_range word ws)
-
-abbrev from_reserve : List ℕ → List (List ℕ) → Option Call
-from_reserve word ws = if bytes_eq word (codes "reserve") then reserve_call ws else (from_init word ws)
-
-from_reserve_in_range : (word : List ℕ) (ws : List (List ℕ)) → AreInRange (from_reserve word ws)
-from_reserve_in_range word ws = either_in_range (bytes_eq word (codes "reserve")) (reserve_call ws) (from_init word ws)
-    (reserve_in_range ws) (from_init_in_range word ws)
-
-built_in_range : (word : List ℕ) (ws : List (List ℕ)) → AreInRange (built_call word ws)
-built_in_range word ws = either_in_range (bytes_eq word (codes "num")) (number_call ws) (from_reserve word ws) (number_in_range ws)
-    (from_reserve_in_range word ws)
+command_in_range : (word : List ℕ) (ws : List (List ℕ)) → AreInRange (command_call word ws)
+command_in_range word ws =
+    first_in_range (call_in cell_forms word ws) _ (forms_in_range cell_forms cell_in_range word ws)
+    (first_in_range (call_in allocation_forms word ws) _ (forms_in_range allocation_forms allocation_in_range word ws)
+    (first_in_range (call_in slot_forms word ws) _ (forms_in_range slot_forms slot_in_range word ws)
+    (first_in_range (call_in area_forms word ws) _ (forms_in_range area_forms area_in_range word ws)
+    (first_in_range (call_in collection_forms word ws) _ (forms_in_range collection_forms collection_in_range word ws)
+    (first_in_range (call_in dependency_forms word ws) _ (forms_in_range dependency_forms dependency_in_range word ws)
+    (first_in_range (call_in root_forms word ws) _ (forms_in_range root_forms root_in_range word ws)
+    (forms_in_range making_forms making_in_range word ws)))))))
 
 -- ---- lines
 
@@ -188,10 +244,10 @@ or_other None h = tt
 or_other (Some c) h = h c refl
 
 words_in_range : (ws : List (List ℕ)) → AreInRange (call_of_words ws)
-words_in_range [] = none_in_range
+words_in_range [] = nothing_in_range
 words_in_range (word ∷ ws) =
-    either_in_range (begins_comment word) None (Some (unwrap_or (built_call word ws) call.Other)) none_in_range
-    (some_in_range (unwrap_or (built_call word ws) call.Other) (or_other (built_call word ws) (built_in_range word ws)))
+    either_in_range (begins_comment word) None (Some (unwrap_or (command_call word ws) call.Other)) nothing_in_range
+    (call_is_in_range (unwrap_or (command_call word ws) call.Other) (or_other (command_call word ws) (command_in_range word ws)))
 
 line_in_range : (b : Bool) (bad : BadLine) (o : Option Call) (c : Call) → AreInRange o → (if b then Err bad else Ok o) ≡ Ok (Some c)
     → IsInRange c

@@ -4,11 +4,16 @@ use Rattle.std.specs.List.{position_or_len}
 use Rattle.std.proofs.lemmas.Grind.{common_steps}
 use Rattle.mps_format.specs.declared.head.Head.{Head}
 use Rattle.mps_format.specs.declared.head.Head.TheVariants.{Front, Mapped, Leaf}
-use Rattle.mps_format.specs.HeadText.{is_colon, text_of, IsInWords}
+use Rattle.mps_format.specs.Fields.{size_field, extra_field}
+use Rattle.mps_format.specs.Front.{is_front}
+use Rattle.mps_format.specs.Mapped.{is_mapped}
+use Rattle.mps_format.specs.Leaf.{is_leaf}
+use Rattle.mps_format.specs.HeadText.{is_colon, text_of, head_text, word_of, head_of_word, IsInWords}
+use Rattle.mps_format.proofs.Heads.{word_of-head_of_word, head_text-head_of_word}
 use Rattle.mps_format.proofs.Colons.{has_colon, cut_at_colon, joined_at_colon}
 use Rattle.mps_script.specs.Word.{cut_at}
 use Rattle.mps_numerals.specs.Decimal.{decimal_number}
-use Rattle.mps_script.specs.Head.{two_numbers, head_after, head_in}
+use Rattle.mps_script.specs.Head.{two_numbers, head_after, head_in, head_of}
 use Rattle.mps_numerals.proofs.Decimals.{read_was_written, written_is_read}
 
 some_of : {A B : Type 0} (f : A → Option B) (o : Option A) (r : B) → option_and_then f o ≡ Some r → (x : A) × (o ≡ Some x) × (f x ≡ Some r)
@@ -139,3 +144,24 @@ pub reader_answers : (text : List ℕ) (r : Option Head) → IfSome r IsInWords 
 reader_answers text (Some h) fits sound complete = sym (ap head_in sound ∙ head_read h fits)
 reader_answers text None fits sound complete =
     none_where (head_in text) (λ h e. let k = head_written text h e in let wrong = complete h k.1 k.0 in absurd cc)
+
+-- ---- the text of a head word is read as that word
+fields_fit : (word : ℕ) → word < 2 ^ 64 → (size_field word < 2 ^ 64) × (extra_field word < 2 ^ 64)
+fields_fit word small = (omega arith, omega arith)
+
+head_fits : (word : ℕ) (head : Head) → word < 2 ^ 64 → head_of_word word ≡ Some head → IsInWords head
+head_fits word head small e =
+    let fits = fields_fit word small in
+    elim (chosen (is_front word) (is_mapped word) (is_leaf word) _ _ _ head e) [
+      | inl k ↦ (let same : Front (size_field word) (extra_field word) ≡ head = cc in subst IsInWords same fits)
+      | inr other ↦ elim other [
+        | inl k ↦ (let same : Mapped (size_field word) (extra_field word) ≡ head = cc in subst IsInWords same fits)
+        | inr k ↦ (let same : Leaf (size_field word) ≡ head = cc in subst IsInWords same fits.0)
+      ]
+    ]
+
+pub head_text_read : (word : ℕ) (head : Head) → word < 2 ^ 64 → head_of_word word ≡ Some head → head_of (head_text word) ≡ Some word
+head_text_read word head small e =
+    ap head_of (head_text-head_of_word word head e)
+    ∙ ap (λ (o : Option Head). option_and_then (λ (h : Head). Some (word_of h)) o) (head_read head (head_fits word head small e))
+    ∙ ap Some (word_of-head_of_word word head e)

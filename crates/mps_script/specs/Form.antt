@@ -1,109 +1,203 @@
--- The forms of commands: the call that a line of words makes. A line in no form that is built makes none.
-use Rattle.std.specs.Prelude.{ℕ, ◌==◌, Bool, false, if◌then◌else◌, codes, Option, Some, None, option_and_then, unwrap_or, List, [], ◌∷◌}
+-- The forms of commands: the command word, and after it the words, each in its form and with its range. A command word stands
+-- once; where it has several forms, `or` stands between them. A name, a slot, a head, a decimal number and a number in either
+-- form are read by `name_of`, `slot_of`, `head_of`, `decimal_number` and `number_of`.
+use Rattle.std.specs.Prelude.{ℕ, ◌==◌, ◌-◌, Bool, false, nat_le, ◌&&◌, if◌then◌else◌, codes, Option, Some, None, option_map, unwrap_or, List, [], ◌∷◌, ◌++◌, length, replicate}
 use Rattle.std.specs.Str.{bytes_eq}
-use Rattle.mps_base.specs.declared.names.Kind.TheVariants.{Amc}
-use Rattle.mps_base.specs.declared.names.Rank.TheVariants.{Exact}
+use Rattle.mps_base.specs.declared.names.Kind.{Kind}
+use Rattle.mps_base.specs.declared.names.Kind.TheVariants as kind
+use Rattle.mps_base.specs.declared.names.Rank.{Rank}
+use Rattle.mps_base.specs.declared.names.Rank.TheVariants as rank
 use Rattle.mps_model.specs.declared.call.Call.{Call}
-use Rattle.mps_model.specs.declared.call.Call.TheVariants as variant
-use Rattle.mps_script.specs.Word.{two_words, three_words}
+use Rattle.mps_model.specs.declared.call.Call.TheVariants as call
 use Rattle.mps_numerals.specs.Decimal.{decimal_number}
-use Rattle.mps_script.specs.Number.{number_of, number_within}
+use Rattle.mps_script.specs.Reading.{first_of_two, named_in, onto, each, none, one, two, three, four, or}
+use Rattle.mps_script.specs.Number.{number_of, number_within, prefixed_hexadecimal}
 use Rattle.mps_script.specs.Name.{name_of, slot_of}
 use Rattle.mps_script.specs.Head.{head_of}
+
+-- ---- words of few values
+
+-- the kinds of automatic pools
+abbrev pub kinds : List (List ℕ × Kind)
+kinds = (codes "amc", kind.Amc) ∷ (codes "amcz", kind.Amcz) ∷ (codes "ams", kind.Ams) ∷ (codes "awl", kind.Awl) ∷ (codes "lo", kind.Lo) ∷ []
+
+-- those that may stand on a chain
+abbrev pub kinds_on_chains : List (List ℕ × Kind)
+kinds_on_chains = (codes "amc", kind.Amc) ∷ (codes "amcz", kind.Amcz) ∷ []
+
+-- the formats, with their numbers
+abbrev pub formats : List (List ℕ × ℕ)
+formats = (codes "front", 1) ∷ (codes "mapped", 2) ∷ (codes "leaf", 3) ∷ []
+
+-- the ranks of allocation points
+abbrev pub ranks : List (List ℕ × Rank)
+ranks = (codes "exact", rank.Exact) ∷ (codes "weak", rank.Weak) ∷ []
+
+-- this word
+abbrev pub keyword : List ℕ → List ℕ → Option (List ℕ)
+keyword text word = if bytes_eq word text then Some word else None
+
+-- ---- numbers in ranges
 
 -- the most grains of an arena
 abbrev pub max_grains : ℕ
 max_grains = 2048
 
--- the most slots of a table
+-- the most slots of a table, words of an area and places of a table of blocks
 abbrev pub max_slots : ℕ
 max_slots = 65536
 
--- `arena GRAINS LIMIT`
-abbrev pub arena_call : List (List ℕ) → Option Call
-arena_call ws =
-    option_and_then (λ p.
-    option_and_then (λ grains.
-    option_and_then (λ limit. Some (variant.Arena grains limit)) (number_within 0 max_grains p.1))
-    (number_within 1 max_grains p.0))
-    (two_words ws)
+-- the most generations of a chain
+abbrev pub max_generations : ℕ
+max_generations = 8
 
--- `table T N`
-abbrev pub table_call : List (List ℕ) → Option Call
-table_call ws =
-    option_and_then (λ p.
-    option_and_then (λ table.
-    option_and_then (λ slots. Some (variant.Table table slots)) (number_within 1 max_slots p.1))
-    (name_of p.0))
-    (two_words ws)
+-- a number of grains, from 0 or from 1 on
+abbrev pub grains_from : ℕ → List ℕ → Option ℕ
+grains_from least = number_within least max_grains
 
--- `pool P amc front`
-abbrev pub pool_call : List (List ℕ) → Option Call
-pool_call ws =
-    option_and_then (λ p.
-    option_and_then (λ pool.
-    if bytes_eq p.1 (codes "amc")
-    then (if bytes_eq p.2 (codes "front") then Some (variant.Pool pool Amc 1) else None) else None)
-    (name_of p.0))
-    (three_words ws)
+-- the length of a root
+abbrev pub length_of_root : List ℕ → Option ℕ
+length_of_root = number_within 1 max_slots
 
--- `ap X P exact`
-abbrev pub point_call : List (List ℕ) → Option Call
-point_call ws =
-    option_and_then (λ p.
-    option_and_then (λ point.
-    option_and_then (λ pool. if bytes_eq p.2 (codes "exact") then Some (variant.Point point pool Exact) else None)
-    (name_of p.1))
-    (name_of p.0))
-    (three_words ws)
+-- the capacities of a chain, one to eight
+abbrev pub capacities : List (List ℕ) → Option (List ℕ)
+capacities ws = if nat_le 1 (length ws) && nat_le (length ws) max_generations then each (grains_from 0) ws else None
 
--- `reserve X HEAD`
-abbrev pub reserve_call : List (List ℕ) → Option Call
-reserve_call ws =
-    option_and_then (λ p.
-    option_and_then (λ point. option_and_then (λ head. Some (variant.Reserve point head)) (head_of p.1))
-    (name_of p.0))
-    (two_words ws)
+-- eight capacities, of which these are the first and the others are 0
+abbrev pub padded : List ℕ → List ℕ
+padded numbers = numbers ++ replicate (max_generations - length numbers) 0
 
--- `init X K VALUE`
-abbrev pub init_call : List (List ℕ) → Option Call
-init_call ws =
-    option_and_then (λ p.
-    option_and_then (λ point.
-    option_and_then (λ cell.
-    option_and_then (λ value. Some (variant.InitNumber point cell value)) (number_of p.2))
-    (decimal_number p.1))
-    (name_of p.0))
-    (three_words ws)
+-- a name, and after it the capacities of a chain
+abbrev pub chain : List (List ℕ) → Option Call
+chain ws = option_map (λ p. call.Chain p.0 (length p.1) (padded p.1)) (onto name_of capacities ws)
 
--- `commit X SLOT`
-abbrev pub commit_call : List (List ℕ) → Option Call
-commit_call ws =
-    option_and_then (λ p.
-    option_and_then (λ point. option_and_then (λ target. Some (variant.Commit point target)) (slot_of p.1))
-    (name_of p.0))
-    (two_words ws)
+-- ---- commands with several forms
 
--- `num S K`
-abbrev pub number_call : List (List ℕ) → Option Call
-number_call ws =
-    option_and_then (λ p.
-    option_and_then (λ slot. option_and_then (λ cell. Some (variant.Number slot cell)) (decimal_number p.1))
-    (slot_of p.0))
-    (two_words ws)
+abbrev pub automatic_pool : List (List ℕ) → Option Call
+automatic_pool = three name_of (named_in kinds) (named_in formats) call.Pool
 
--- the call of a command word and the words after it, where they are in a built form
-abbrev pub built_call : List ℕ → List (List ℕ) → Option Call
-built_call word ws =
-    if bytes_eq word (codes "num") then number_call ws
-    else (if bytes_eq word (codes "reserve") then reserve_call ws
-    else (if bytes_eq word (codes "init") then init_call ws
-    else (if bytes_eq word (codes "commit") then commit_call ws
-    else (if bytes_eq word (codes "arena") then arena_call ws
-    else (if bytes_eq word (codes "table") then table_call ws
-    else (if bytes_eq word (codes "pool") then pool_call ws
-    else (if bytes_eq word (codes "ap") then point_call ws
-    else None)))))))
+abbrev pub pool_on_chain : List (List ℕ) → Option Call
+pool_on_chain = four name_of (named_in kinds_on_chains) (named_in formats) name_of call.PoolOnChain
+
+abbrev pub pool_mfs : List (List ℕ) → Option Call
+pool_mfs = three name_of (keyword (codes "mfs")) decimal_number (λ name mfs size. call.PoolMfs name size)
+
+abbrev pub pool_mvff : List (List ℕ) → Option Call
+pool_mvff = two name_of (keyword (codes "mvff")) (λ name mvff. call.PoolMvff name)
+
+abbrev pub pool : List (List ℕ) → Option Call
+pool = or automatic_pool (or pool_on_chain (or pool_mfs pool_mvff))
+
+abbrev pub init : List (List ℕ) → Option Call
+init = or (three name_of decimal_number number_of call.InitNumber) (three name_of decimal_number slot_of call.InitReference)
+
+abbrev pub start : List (List ℕ) → Option Call
+start = or (none call.Start) (two name_of decimal_number call.StartChain)
+
+-- ---- the forms
+
+-- a command word, and the call of the words after it
+abbrev pub Form : Type 0
+Form = List ℕ × (List (List ℕ) → Option Call)
+
+abbrev pub making_forms : List Form
+making_forms =
+    (codes "arena", two (grains_from 1) (grains_from 0) call.Arena)
+    ∷ (codes "limit", one (grains_from 0) call.Limit)
+    ∷ (codes "committed", none call.Committed)
+    ∷ (codes "chain", chain)
+    ∷ (codes "pool", pool)
+    ∷ []
+
+abbrev pub root_forms : List Form
+root_forms =
+    (codes "table", two name_of length_of_root call.Table)
+    ∷ (codes "area", two name_of length_of_root call.Area)
+    ∷ (codes "blocks", two name_of length_of_root call.Blocks)
+    ∷ (codes "droproot", one name_of call.DropRoot)
+    ∷ (codes "ap", three name_of name_of (named_in ranks) call.Point)
+    ∷ (codes "dropap", one name_of call.DropPoint)
+    ∷ (codes "ld", one name_of call.Dependency)
+    ∷ []
+
+abbrev pub allocation_forms : List Form
+allocation_forms =
+    (codes "reserve", two name_of head_of call.Reserve)
+    ∷ (codes "init", init)
+    ∷ (codes "commit", two name_of slot_of call.Commit)
+    ∷ (codes "alloc", three name_of decimal_number slot_of call.Alloc)
+    ∷ (codes "free", one slot_of call.Free)
+    ∷ (codes "load", two slot_of decimal_number call.Load)
+    ∷ (codes "store", three slot_of decimal_number number_of call.Store)
+    ∷ []
+
+abbrev pub cell_forms : List Form
+cell_forms =
+    (codes "get", three slot_of slot_of decimal_number call.Get)
+    ∷ (codes "put", three slot_of decimal_number slot_of call.Put)
+    ∷ (codes "num", two slot_of decimal_number call.Number)
+    ∷ (codes "setnum", three slot_of decimal_number number_of call.SetNumber)
+    ∷ []
+
+abbrev pub slot_forms : List Form
+slot_forms =
+    (codes "copy", two slot_of slot_of call.Copy)
+    ∷ (codes "clear", one slot_of call.Clear)
+    ∷ (codes "same", two slot_of slot_of call.Same)
+    ∷ (codes "null", one slot_of call.Null)
+    ∷ (codes "head", one slot_of call.Head)
+    ∷ (codes "addr", one slot_of call.Address)
+    ∷ []
+
+abbrev pub area_forms : List Form
+area_forms =
+    (codes "poke", two slot_of number_of call.Poke)
+    ∷ (codes "peek", one slot_of call.Peek)
+    ∷ (codes "pin", two slot_of slot_of call.Pin)
+    ∷ (codes "take", two slot_of slot_of call.Take)
+    ∷ []
+
+abbrev pub collection_forms : List Form
+collection_forms =
+    (codes "start", start)
+    ∷ (codes "step", one decimal_number call.Step)
+    ∷ (codes "collect", none call.Collect)
+    ∷ (codes "clamp", none call.Clamp)
+    ∷ (codes "park", none call.Park)
+    ∷ (codes "release", none call.Release)
+    ∷ (codes "finalize", one slot_of call.Finalize)
+    ∷ (codes "definalize", one slot_of call.Definalize)
+    ∷ (codes "message", one slot_of call.Message)
+    ∷ []
+
+abbrev pub dependency_forms : List Form
+dependency_forms =
+    (codes "ldreset", one name_of call.DependencyReset)
+    ∷ (codes "ldadd", two name_of slot_of call.DependencyAdd)
+    ∷ (codes "ldmerge", two name_of name_of call.DependencyMerge)
+    ∷ (codes "ldstale", one name_of call.DependencyStale)
+    ∷ (codes "live", none call.Live)
+    ∷ (codes "dump", one prefixed_hexadecimal call.Dump)
+    ∷ []
+
+-- ---- the call of a line
+
+-- the call of a command word and the words after it, by these forms
+abbrev pub call_in : List Form → List ℕ → List (List ℕ) → Option Call
+call_in [] word ws = None
+call_in (form ∷ forms) word ws = if bytes_eq word form.0 then form.1 ws else call_in forms word ws
+
+-- the call of a command word and the words after it, by all forms
+abbrev pub command_call : List ℕ → List (List ℕ) → Option Call
+command_call word ws =
+    first_of_two (call_in cell_forms word ws)
+    (first_of_two (call_in allocation_forms word ws)
+    (first_of_two (call_in slot_forms word ws)
+    (first_of_two (call_in area_forms word ws)
+    (first_of_two (call_in collection_forms word ws)
+    (first_of_two (call_in dependency_forms word ws)
+    (first_of_two (call_in root_forms word ws)
+    (call_in making_forms word ws)))))))
 
 -- the word begins with `#`
 abbrev pub begins_comment : List ℕ → Bool
@@ -113,5 +207,4 @@ begins_comment (b ∷ bs) = b == 35
 -- the call of a line's words: none where there are no words or they are a comment
 abbrev pub call_of_words : List (List ℕ) → Option Call
 call_of_words [] = None
-call_of_words (word ∷ ws) =
-    if begins_comment word then None else Some (unwrap_or (built_call word ws) variant.Other)
+call_of_words (word ∷ ws) = if begins_comment word then None else Some (unwrap_or (command_call word ws) call.Other)

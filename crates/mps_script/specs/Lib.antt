@@ -1,7 +1,9 @@
 pub mod Word
+pub mod Reading
 pub mod Number
 pub mod Name
 pub mod Head
 pub mod Form
+pub mod Examples
 pub mod Line
 pub mod Text

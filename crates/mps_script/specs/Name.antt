@@ -1,5 +1,5 @@
 -- Names and slots as words.
-use Rattle.std.specs.Prelude.{ℕ, ◌≡◌, ◌==◌, nat_le, Bool, true, false, ◌&&◌, ◌||◌, if◌then◌else◌, codes, Option, Some, None, option_and_then, List, [], ◌∷◌, ◌++◌, length, drop, replicate, refl}
+use Rattle.std.specs.Prelude.{ℕ, ◌≡◌, if◌then◌else◌, codes, Option, Some, None, option_and_then, List, ◌++◌, length, drop, replicate, refl}
 use Rattle.mps_base.specs.Name.{is_name, max_name_bytes}
 use Rattle.mps_base.specs.declared.names.Name.{Name}
 use Rattle.mps_base.specs.declared.names.Slot.{Slot}

@@ -3,17 +3,13 @@
 use Rattle.std.specs.Prelude.{ℕ, ◌≡◌, ◌==◌, nat_le, ◌&&◌, if◌then◌else◌, codes, Option, Some, None, option_and_then, List, [], ◌∷◌, refl}
 use Rattle.mps_numerals.specs.Decimal.{decimal_number}
 use Rattle.mps_numerals.specs.Reading.{number_in}
+use Rattle.mps_script.specs.Reading.{first_of_two}
 
 -- a hexadecimal number, after `0x`
 abbrev pub prefixed_hexadecimal : List ℕ → Option ℕ
 prefixed_hexadecimal [] = None
 prefixed_hexadecimal (a ∷ []) = None
 prefixed_hexadecimal (a ∷ b ∷ digits) = if (a == 48) && (b == 120) then number_in 16 digits else None
-
--- the first of two that is there
-abbrev pub first_of_two : Option ℕ → Option ℕ → Option ℕ
-first_of_two (Some n) other = Some n
-first_of_two None other = other
 
 -- a number in either form
 abbrev pub number_of : List ℕ → Option ℕ

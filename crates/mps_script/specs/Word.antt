@@ -27,21 +27,6 @@ only_word [] = None
 only_word (a ∷ []) = Some a
 only_word (a ∷ _ ∷ _) = None
 
--- two words and no other
-abbrev pub two_words : List (List ℕ) → Option (List ℕ × List ℕ)
-two_words [] = None
-two_words (a ∷ []) = None
-two_words (a ∷ b ∷ []) = Some (a, b)
-two_words (a ∷ b ∷ _ ∷ _) = None
-
--- three words and no other
-abbrev pub three_words : List (List ℕ) → Option (List ℕ × List ℕ × List ℕ)
-three_words [] = None
-three_words (a ∷ []) = None
-three_words (a ∷ b ∷ []) = None
-three_words (a ∷ b ∷ c ∷ []) = Some (a, b, c)
-three_words (a ∷ b ∷ c ∷ _ ∷ _) = None
-
 pub spaces_around_and_between : words (codes "  num  t.0 2 ") ≡ codes "num" ∷ codes "t.0" ∷ codes "2" ∷ []
 spaces_around_and_between = refl
 

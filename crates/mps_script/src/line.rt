@@ -3,7 +3,7 @@ ghost use Rattle.std.specs.Prelude.{◌≡◌};
 ghost use Rattle.mps_script.specs.Form.{begins_comment};
 ghost use Rattle.mps_script.specs.Line.{call_of_line};
 
-use crate::forms::call_of_form;
+use crate::forms::command_call;
 use crate::words::next_word;
 use mps_model::Call;
 
@@ -38,7 +38,7 @@ pub fn call_of(line: &[u8]) -> Result<Option<Call>, BadLine>
             if is_comment(word) {
                 Ok(None)
             } else {
-                Ok(Some(call_of_form(word, arguments).unwrap_or(Call::Other)))
+                Ok(Some(command_call(word, arguments).unwrap_or(Call::Other)))
             }
         }
     }

@@ -5,7 +5,7 @@ ghost use Rattle.mps_script.specs.Number.{prefixed_hexadecimal, number_of, numbe
 use mps_numerals::{decimal_number, hexadecimal_number};
 
 /// A hexadecimal number, after `0x`.
-fn prefixed_hexadecimal(word: &[u8]) -> Option<u64>
+pub fn prefixed_hexadecimal(word: &[u8]) -> Option<u64>
     ensures { result ≡ prefixed_hexadecimal word.now }
 {
     match word {

@@ -1,7 +1,7 @@
 // The words of a line, one after another.
 ghost use Rattle.std.specs.Prelude.{◌≡◌, ◌==◌, ◌∷◌, ◌<◌, ◌≤◌, [], length, not, position, IfSome, Some, None, MatchOption};
 ghost use Rattle.std.specs.List.{position_or_len};
-ghost use Rattle.mps_script.specs.Word.{words, is_space, cut_at, two_words, three_words};
+ghost use Rattle.mps_script.specs.Word.{words, is_space, cut_at, only_word};
 
 use mps_base::length_before;
 
@@ -45,28 +45,13 @@ pub fn next_word(bytes: &[u8]) -> Option<(&[u8], &[u8])>
     Some((&line[..end], &line[end..]))
 }
 
-/// Two words and no other.
-pub fn two_words(bytes: &[u8]) -> Option<(&[u8], &[u8])>
-    ensures { MatchOption result (two_words (words bytes.now) ≡ None) (λ p. two_words (words bytes.now) ≡ Some (p.0.now, p.1.now)) }
+/// The one word, where there is one and no other.
+pub fn only_word(bytes: &[u8]) -> Option<&[u8]>
+    ensures { MatchOption result (only_word (words bytes.now) ≡ None) (λ word. only_word (words bytes.now) ≡ Some word.now) }
 {
-    let (first, rest) = next_word(bytes)?;
-    let (second, rest) = next_word(rest)?;
+    let (word, rest) = next_word(bytes)?;
     match next_word(rest) {
-        None => Some((first, second)),
-        Some(_) => None,
-    }
-}
-
-/// Three words and no other.
-pub fn three_words(bytes: &[u8]) -> Option<(&[u8], &[u8], &[u8])>
-    ensures { MatchOption result (three_words (words bytes.now) ≡ None)
-        (λ p. three_words (words bytes.now) ≡ Some (p.0.now, p.1.now, p.2.now)) }
-{
-    let (first, rest) = next_word(bytes)?;
-    let (second, rest) = next_word(rest)?;
-    let (third, rest) = next_word(rest)?;
-    match next_word(rest) {
-        None => Some((first, second, third)),
+        None => Some(word),
         Some(_) => None,
     }
 }
