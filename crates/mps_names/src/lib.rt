@@ -1,0 +1,9 @@
+//! The names of a client's things. All names share one name space, and a name stands for at most one thing.
+#![tactic(auto)]
+
+mod names;
+
+pub use names::{Names, Thing};
+
+#[cfg(test)]
+mod tests;
