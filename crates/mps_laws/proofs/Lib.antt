@@ -1,0 +1,3 @@
+pub mod RecordsOfMoves
+pub mod Lines
+pub mod OneHistory
