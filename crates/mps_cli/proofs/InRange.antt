@@ -109,14 +109,14 @@ arena_in_range : FormInRange (two (grains_from 1) (grains_from 0) call.Arena)
 arena_in_range ws =
     and_then_in_range (λ p. call.Arena p.0 p.1) (pair (grains_from 1) (grains_from 0) ws) (λ p e.
     let within = pair_gives (λ n. (1 ≤ n) × (n ≤ 2048)) (λ n. (0 ≤ n) × (n ≤ 2048)) (grains_from 1) (grains_from 0)
-      (within_range 1 2048) (within_range 0 2048) ws p e in
+    (within_range 1 2048) (within_range 0 2048) ws p e in
     (within.0.0, within.0.1, within.1.1))
 
 table_in_range : FormInRange (two name_of length_of_root call.Table)
 table_in_range ws =
     and_then_in_range (λ p. call.Table p.0 p.1) (pair name_of length_of_root ws) (λ p e.
     (pair_gives (λ name. Unit {0}) (λ n. (1 ≤ n) × (n ≤ 65536)) name_of length_of_root
-      (λ word name e. tt) (within_range 1 65536) ws p e).1)
+    (λ word name e. tt) (within_range 1 65536) ws p e).1)
 
 chain_in_range : FormInRange chain
 chain_in_range ws = and_then_in_range (λ p. call.Chain p.0 (length p.1) (padded p.1)) (onto name_of capacities ws) (λ p e. tt)
@@ -154,77 +154,148 @@ forms_in_range (form ∷ forms) h word ws =
     either_in_range (bytes_eq word form.0) (form.1 ws) (call_in forms word ws) (h.0 ws) (forms_in_range forms h.1 word ws)
 
 cell_in_range : AllInRange cell_forms
-cell_in_range =
-    (three_in_range slot_of slot_of decimal_number call.Get (λ x y z. tt),
-    (three_in_range slot_of decimal_number slot_of call.Put (λ x y z. tt),
-    (two_in_range slot_of decimal_number call.Number (λ x y. tt),
-    (three_in_range slot_of decimal_number number_of call.SetNumber (λ x y z. tt), tt))))
+cell_in_range = (
+  three_in_range slot_of slot_of decimal_number call.Get (λ x y z. tt),
+  (
+    three_in_range slot_of decimal_number slot_of call.Put (λ x y z. tt),
+    (
+      two_in_range slot_of decimal_number call.Number (λ x y. tt),
+      (three_in_range slot_of decimal_number number_of call.SetNumber (λ x y z. tt), tt),
+    ),
+  ),
+)
 
 allocation_in_range : AllInRange allocation_forms
-allocation_in_range =
-    (two_in_range name_of head_of call.Reserve (λ x y. tt),
-    (init_in_range,
-    (two_in_range name_of slot_of call.Commit (λ x y. tt),
-    (three_in_range name_of decimal_number slot_of call.Alloc (λ x y z. tt),
-    (one_in_range slot_of call.Free (λ x. tt),
-    (two_in_range slot_of decimal_number call.Load (λ x y. tt),
-    (three_in_range slot_of decimal_number number_of call.Store (λ x y z. tt), tt)))))))
+allocation_in_range = (
+  two_in_range name_of head_of call.Reserve (λ x y. tt),
+  (
+    init_in_range,
+    (
+      two_in_range name_of slot_of call.Commit (λ x y. tt),
+      (
+        three_in_range name_of decimal_number slot_of call.Alloc (λ x y z. tt),
+        (
+          one_in_range slot_of call.Free (λ x. tt),
+          (
+            two_in_range slot_of decimal_number call.Load (λ x y. tt),
+            (three_in_range slot_of decimal_number number_of call.Store (λ x y z. tt), tt),
+          ),
+        ),
+      ),
+    ),
+  ),
+)
 
 slot_in_range : AllInRange slot_forms
-slot_in_range =
-    (two_in_range slot_of slot_of call.Copy (λ x y. tt),
-    (one_in_range slot_of call.Clear (λ x. tt),
-    (two_in_range slot_of slot_of call.Same (λ x y. tt),
-    (one_in_range slot_of call.Null (λ x. tt),
-    (one_in_range slot_of call.Head (λ x. tt),
-    (one_in_range slot_of call.Address (λ x. tt), tt))))))
+slot_in_range = (
+  two_in_range slot_of slot_of call.Copy (λ x y. tt),
+  (
+    one_in_range slot_of call.Clear (λ x. tt),
+    (
+      two_in_range slot_of slot_of call.Same (λ x y. tt),
+      (
+        one_in_range slot_of call.Null (λ x. tt),
+        (
+          one_in_range slot_of call.Head (λ x. tt),
+          (one_in_range slot_of call.Address (λ x. tt), tt),
+        ),
+      ),
+    ),
+  ),
+)
 
 area_in_range : AllInRange area_forms
-area_in_range =
-    (two_in_range slot_of number_of call.Poke (λ x y. tt),
-    (one_in_range slot_of call.Peek (λ x. tt),
-    (two_in_range slot_of slot_of call.Pin (λ x y. tt),
-    (two_in_range slot_of slot_of call.Take (λ x y. tt), tt))))
+area_in_range = (
+  two_in_range slot_of number_of call.Poke (λ x y. tt),
+  (
+    one_in_range slot_of call.Peek (λ x. tt),
+    (
+      two_in_range slot_of slot_of call.Pin (λ x y. tt),
+      (two_in_range slot_of slot_of call.Take (λ x y. tt), tt),
+    ),
+  ),
+)
 
 collection_in_range : AllInRange collection_forms
-collection_in_range =
-    (start_in_range,
-    (one_in_range decimal_number call.Step (λ x. tt),
-    (none_in_range call.Collect tt,
-    (none_in_range call.Clamp tt,
-    (none_in_range call.Park tt,
-    (none_in_range call.Release tt,
-    (one_in_range slot_of call.Finalize (λ x. tt),
-    (one_in_range slot_of call.Definalize (λ x. tt),
-    (one_in_range slot_of call.Message (λ x. tt), tt)))))))))
+collection_in_range = (
+  start_in_range,
+  (
+    one_in_range decimal_number call.Step (λ x. tt),
+    (
+      none_in_range call.Collect tt,
+      (
+        none_in_range call.Clamp tt,
+        (
+          none_in_range call.Park tt,
+          (
+            none_in_range call.Release tt,
+            (
+              one_in_range slot_of call.Finalize (λ x. tt),
+              (
+                one_in_range slot_of call.Definalize (λ x. tt),
+                (one_in_range slot_of call.Message (λ x. tt), tt),
+              ),
+            ),
+          ),
+        ),
+      ),
+    ),
+  ),
+)
 
 dependency_in_range : AllInRange dependency_forms
-dependency_in_range =
-    (one_in_range name_of call.DependencyReset (λ x. tt),
-    (two_in_range name_of slot_of call.DependencyAdd (λ x y. tt),
-    (two_in_range name_of name_of call.DependencyMerge (λ x y. tt),
-    (one_in_range name_of call.DependencyStale (λ x. tt),
-    (none_in_range call.Live tt,
-    (one_in_range prefixed_hexadecimal call.Dump (λ x. tt), tt))))))
+dependency_in_range = (
+  one_in_range name_of call.DependencyReset (λ x. tt),
+  (
+    two_in_range name_of slot_of call.DependencyAdd (λ x y. tt),
+    (
+      two_in_range name_of name_of call.DependencyMerge (λ x y. tt),
+      (
+        one_in_range name_of call.DependencyStale (λ x. tt),
+        (
+          none_in_range call.Live tt,
+          (one_in_range prefixed_hexadecimal call.Dump (λ x. tt), tt),
+        ),
+      ),
+    ),
+  ),
+)
 
 root_in_range : AllInRange root_forms
-root_in_range =
-    (table_in_range,
-    (two_in_range name_of length_of_root call.Area (λ x y. tt),
-    (two_in_range name_of length_of_root call.Blocks (λ x y. tt),
-    (one_in_range name_of call.DropRoot (λ x. tt),
-    (three_in_range name_of name_of (named_in ranks) call.Point (λ x y z. tt),
-    (one_in_range name_of call.DropPoint (λ x. tt),
-    (one_in_range name_of call.Dependency (λ x. tt), tt)))))))
+root_in_range = (
+  table_in_range,
+  (
+    two_in_range name_of length_of_root call.Area (λ x y. tt),
+    (
+      two_in_range name_of length_of_root call.Blocks (λ x y. tt),
+      (
+        one_in_range name_of call.DropRoot (λ x. tt),
+        (
+          three_in_range name_of name_of (named_in ranks) call.Point (λ x y z. tt),
+          (
+            one_in_range name_of call.DropPoint (λ x. tt),
+            (one_in_range name_of call.Dependency (λ x. tt), tt),
+          ),
+        ),
+      ),
+    ),
+  ),
+)
 
 making_in_range : AllInRange making_forms
-making_in_range =
-    (arena_in_range,
-    (one_in_range (grains_from 0) call.Limit (λ x. tt),
-    (none_in_range call.Committed tt,
-    (chain_in_range,
-    (pool_in_range, tt)))))
-
+making_in_range = (
+  arena_in_range,
+  (
+    one_in_range (grains_from 0) call.Limit (λ x. tt),
+    (
+      none_in_range call.Committed tt,
+      (
+        chain_in_range,
+        (pool_in_range, tt),
+      ),
+    ),
+  ),
+)
 
 command_in_range : (word : List ℕ) (ws : List (List ℕ)) → AreInRange (command_call word ws)
 command_in_range word ws =
