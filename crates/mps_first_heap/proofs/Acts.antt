@@ -1,6 +1,7 @@
 -- What the model does with each call that it accepts or refuses, in the worlds for which the heap stands.
 use Rattle.std.proofs.Common.{◌≡◌, ℕ, ◌+◌, true, false, refl, List, [], ◌∷◌, length, None, Some, Err, Option}
 use Rattle.std.specs.Prelude.{slice_get, slice_set, replicate, nat_lt}
+use Rattle.std.specs.Option.{option_map_or}
 use Rattle.mps_base.specs.declared.names.Name.{Name}
 use Rattle.mps_base.specs.declared.names.Slot.{Slot}
 use Rattle.mps_base.specs.declared.names.Kind.TheVariants as kind
@@ -85,6 +86,7 @@ module _ (w : Parts) (name : Name) (named : thing_in w.names name ≡ Some (Poin
         → act_commit (world_with (record w { tables = Some ids ∷ []; points = reserving_points head cells })) name slot
         ≡ done (world_with (record w {
           objects = with_last w.objects (object_with head cells);
+          addresses = with_last w.addresses (Some (option_map_or (λ memory. memory.reserved_at) (slice_get w.point_memories 0) 0));
           tables = Some (slice_set ids slot.index (Some (length w.objects))) ∷ [];
           points = free_points;
         }))

@@ -5,6 +5,7 @@ use Rattle.std.specs.List.{list_all}
 use Rattle.std.proofs.lemmas.List.{length-map, map_push, map-set, length_push}
 use Rattle.std.proofs.lemmas.Bool.{false≢true, and_parts, and_from, ltb-true, lt-ltb, cond-true}
 use Rattle.mps_base.specs.Address.{bytes_of_word}
+use Rattle.mps_base.specs.declared.moves.Move.TheVariants as moves
 use Rattle.mps_base.specs.declared.names.Name.{Name}
 use Rattle.mps_base.specs.declared.names.Slot.{Slot}
 use Rattle.mps_format.specs.Fields.{size_field}
@@ -12,13 +13,12 @@ use Rattle.mps_format.specs.Front.{is_front}
 use Rattle.mps_model.specs.declared.call.Call.TheVariants as call
 use Rattle.mps_model.specs.Checked.{Checked, Numbered, point_named}
 use Rattle.mps_model.specs.Graph.{Object, Point}
-use Rattle.mps_model.specs.LegalMove.{ForOne, ForChecked, IsReserved, IsLegalCommit}
+use Rattle.mps_model.specs.Flip.{at_address}
 use Rattle.mps_model.specs.Log.{records_of_step}
 use Rattle.mps_model.specs.Replay.{replay_from, after_making}
 use Rattle.mps_model.specs.World.{World}
-use Rattle.mps_model.specs.History.{live_blocks, with_client_remembered}
+use Rattle.mps_model.specs.History.{moves_of_commit, live_blocks, with_client_remembered}
 use Rattle.mps_model.specs.Reply.{answer_from, world_from}
-use Rattle.mps_model.specs.Effect.{with_next_address}
 use Rattle.mps_first_heap.specs.HeapState.{HeapState, is_point, has_slot, head_at, words_of_head}
 use Rattle.mps_first_heap.specs.Outcome.{Outcome, ok_with_move, unsupported, commit_move, after_commit}
 use Rattle.mps_first_heap.specs.StandsFor.{Past, Agrees, world_of, world_with, step_of, object_of_words, cells_at, some_address, point_with, reservation_of_words, address_in_slot, is_null_or_below, end_of_objects}
@@ -158,7 +158,7 @@ module _ (h : HeapState) (p : Past) (name : Name) (slot : Slot) (n : NamesPoint 
         before_point = λ none. absurd (false≢true (sym (ap is_some none) ∙ n.point));
       }
 
-  -- ---- the move is legal
+  -- ---- the move is due
 
   reserved_block : length (cells_at h.words h.reserved) ≡ words_of_head (head_at h h.reserved)
   reserved_block =
@@ -175,13 +175,10 @@ module _ (h : HeapState) (p : Past) (name : Name) (slot : Slot) (n : NamesPoint 
       ≡ Ok (record { number = 0; value = point_with (Some (reservation_of_words h.words h.reserved)) })
   point_there = let e = n.named in rw e refl
 
-  legal_commit : IsLegalCommit (call.Commit name slot) (world_committing h p) (bytes_of_word * h.reserved)
-      (words_of_head (head_at h h.reserved)) 0
-  legal_commit =
-      subst (λ (c : Checked (Numbered Point)). ForChecked c (λ at. ForOne at.value.reservation
-      (IsReserved (world_committing h p) (bytes_of_word * h.reserved) (words_of_head (head_at h h.reserved)) 0 at)))
-      (sym point_there)
-      (record { at_address = refl; of_words = reserved_block; of_pool = refl })
+  commit_due : commit_move h ∷ [] ≡ moves_of_commit (world_committing h p) (point_named (world_committing h p) name)
+  commit_due =
+      ap (λ words. moves.Commit (at_address (bytes_of_word * h.reserved)) words 0 ∷ []) (sym reserved_block)
+      ∙ ap (moves_of_commit (world_committing h p)) (sym point_there)
 
   -- ---- the step is right
 
@@ -197,21 +194,17 @@ module _ (h : HeapState) (p : Past) (name : Name) (slot : Slot) (n : NamesPoint 
 
     right_with_object : IsRightStep (world_committing h p) (step_committed h line name slot) (with_object h slot)
     right_with_object =
-        let moved = record (parts_by h p true true (is_some h.pool) true) {
-          addresses = map some_address p.addresses
-              ++ some_address h.reserved ∷ [];
-        } in
-        let e = act_of_commit moved name n.named p.ids slot s.held s.named s.there (slice_index h.words h.reserved)
-        (cells_at h.words h.reserved) in
+        let e = act_of_commit (parts_by h p true true (is_some h.pool) true) name n.named p.ids slot s.held s.named s.there
+        (slice_index h.words h.reserved) (cells_at h.words h.reserved) in
         right_step (world_committing h p) (step_committed h line name slot) (with_object h slot) (past_with_object h p slot)
         (record {
           answered = refl;
-          moves_are_legal = (legal_commit, tt);
-          moves_are_due = refl;
+          moves_are_legal = tt;
+          moves_are_due = commit_due;
           answer_is_due = sym (ap answer_from e);
           marked = tt;
         })
-        (ap (λ r. with_client_remembered (world_from (with_next_address (world_committing h p) (bytes_of_word * h.reserved)) r)) e
+        (ap (λ r. with_client_remembered (world_from (world_committing h p) r)) e
         ∙ world_committed h p slot s.table n.point)
         agrees_with_object
         replayed

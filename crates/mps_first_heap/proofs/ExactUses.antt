@@ -10,9 +10,9 @@ use Rattle.mps_model.specs.declared.call.Call.TheVariants as call
 use Rattle.mps_model.specs.declared.reply.Reply.{Reply}
 use Rattle.mps_model.specs.declared.reply.Reply.TheVariants as reply
 use Rattle.mps_model.specs.Graph.{NumberCell, Point}
-use Rattle.mps_model.specs.Checked.{Act, Checked, Found, Numbered, required, slot_in, point_named, object_in, cells_of_body, number_at, says, ◌>>=◌, ◌>>◌}
+use Rattle.mps_model.specs.Checked.{Act, Checked, Found, Numbered, required, slot_in, point_named, object_in, cells_of_body, number_at, says, done, ◌>>=◌, ◌>>◌}
 use Rattle.mps_model.specs.Accessing.{act_number}
-use Rattle.mps_model.specs.Allocating.{act_init_number, act_commit, graph_committed, with_reserved_cells, with_reservation}
+use Rattle.mps_model.specs.Allocating.{act_init_number, act_commit, world_committed, with_reserved_cells, with_reservation}
 use Rattle.mps_model.specs.World.{World}
 use Rattle.mps_first_heap.specs.HeapState.{HeapState, is_point, has_slot, is_number_cell, head_at}
 use Rattle.mps_first_heap.specs.Outcome.{accepted_if, may_init, after_init, after_commit, number_reply_at, number_reply}
@@ -162,7 +162,7 @@ abbrev commit_with : World → Numbered Point → Found (Option ℕ) → Checked
 commit_with w point slot =
     required point.value.reservation refusal.NotOpen
     >>= (λ r. if r.is_doomed then says reply.Flipped (record w { graph = with_reservation w.graph point None })
-    else says reply.Ok (record w { graph = graph_committed w.graph point r slot }))
+    else done (world_committed w point r slot))
 
 abbrev commit_from : World → Slot → Numbered Point → Checked Act
 commit_from w slot point = slot_in w slot >>= commit_with w point

@@ -18,13 +18,11 @@ use Rattle.mps_model.specs.Checked.{Checked, Act, Numbered, done, point_named, a
 use Rattle.mps_model.specs.Graph.{Object, Cell, Thing, PointThing, Point, Reservation, thing_in, new_cells}
 use Rattle.mps_model.specs.Allocating.{Reserving, check_reserve, act_reserve, with_reserved, refuse_without_place, address_of_placement}
 use Rattle.mps_model.specs.Placement.{ForReserve, placement_of}
-use Rattle.mps_model.specs.LegalMove.{ForChecked, IsNewSegmentAt, IsSegmentForReserve, IsOwnSegment}
 use Rattle.mps_model.specs.Policy.{polls}
 use Rattle.mps_base.specs.Segment.{Segment}
 use Rattle.mps_model.specs.World.{World}
-use Rattle.mps_model.specs.Effect.{world_after_moves, after_segment_for}
 use Rattle.mps_model.specs.Step.{Step}
-use Rattle.mps_model.specs.History.{IsPoll, segment_taken, segment_of_reserve, live_blocks, with_client_remembered}
+use Rattle.mps_model.specs.History.{moved_world, after_own_segment, IsPoll, segment_taken, segment_of_reserve, live_blocks, with_client_remembered}
 use Rattle.mps_model.specs.Reply.{answer_from, world_from}
 use Rattle.mps_first_heap.specs.HeapState.{HeapState, is_point}
 use Rattle.mps_first_heap.specs.Outcome.{Outcome, with_segment_taken, with_reply, ok_with_move, reply_only, unsupported, reserved_in_buffer, segment_move, reserve_after, reserve_placed, after_reserve}
@@ -160,10 +158,10 @@ either true P Q p q = p
 either false P Q p q = q
 
 no_poll : (h : HeapState) (p : Past) (name : Name) (head : ℕ)
-    → MatchBool (polls (world_at_rest h p) (call.Reserve name head)) (IsPoll (call.Reserve name head) (world_at_rest h p) [])
+    → MatchBool (polls (world_at_rest h p) (call.Reserve name head)) (IsPoll (world_at_rest h p) [])
     (◌≡◌ {A = List Move} [] [])
 no_poll h p name head = either (polls (world_at_rest h p) (call.Reserve name head))
-    (IsPoll (call.Reserve name head) (world_at_rest h p) []) (◌≡◌ {A = List Move} [] []) refl refl
+    (IsPoll (world_at_rest h p) []) (◌≡◌ {A = List Move} [] []) refl refl
 
 -- ---- what the model does, by where the block is placed
 
@@ -342,32 +340,16 @@ taken_with h p segments from count =
 
 -- the world after the segment was taken
 pub world_taken : (h : HeapState) (p : Past) (name : Name) (head need : ℕ) → Agrees h p → thing_in p.names name ≡ Some (PointThing 0)
-    → world_after_moves (call.Reserve name head) (world_at_rest h p) (segment_move h need ∷ [])
+    → moved_world (world_at_rest h p) (call.Reserve name head) (segment_move h need ∷ [])
     ≡ world_at_rest (with_segment_taken h need) (past_taken p need)
 world_taken h p name head need a named =
-    let segment = segment_from (h.held + 1) need in
-    ap (λ (t : Option Thing). after_segment_for (world_at_rest h p) segment (option_and_then as_point t)) named
+    ap (λ (t : Option Thing). after_own_segment (world_at_rest h p) (segment_move h need ∷ []) (option_and_then as_point t)) named
     ∙ ap (λ segments. taken_with h p segments (bytes_of_grain * (h.held + 1) / 8) (words_of_grain * need))
     (segments_push p.segments h.held need a.held)
     ∙ ap (λ from. taken_with h p (segments_from 1 (p.segments ++ need ∷ [])) from (words_of_grain * need))
     (let e : bytes_of_grain * (h.held + 1) / 8 ≡ words_of_grain * (h.held + 1) = omega arith in e)
     ∙ ap (λ count. taken_with h p (segments_from 1 (p.segments ++ need ∷ [])) (words_of_grain * (h.held + 1)) count)
     (let e : words_of_grain * need ≡ words_of_grain * (h.held + 1 + need) - words_of_grain * (h.held + 1) = omega arith in e)
-
--- the segment that is taken is the reserve's own
-legal_segment : (h : HeapState) (p : Past) (name : Name) (head need : ℕ)
-    → thing_in p.names name ≡ Some (PointThing 0) → is_front head ≡ true
-    → placement_of (world_at_rest h p) (ForReserve 0 (length (new_cells front_layout head))) ≡ NewSegment (h.held + 1) need
-    → IsOwnSegment (call.Reserve name head) (world_at_rest h p) (bytes_of_grain * (h.held + 1)) need 0 0
-legal_segment h p name head need named valid placed =
-    subst (λ (c : Checked Reserving). ForChecked c (IsSegmentForReserve (world_at_rest h p) (bytes_of_grain * (h.held + 1)) need 0 0))
-    (sym (check_there h p name head named valid))
-    (record {
-      placement = subst (λ (placement : Placement). IsNewSegmentAt placement (bytes_of_grain * (h.held + 1)) need)
-          (sym placed) (refl, refl);
-      of_pool = refl;
-      of_generation = refl;
-    })
 
 abbrev step_after : (h : HeapState) → (line : ℕ) → (name : Name) → (head need : ℕ) → Step
 step_after h line name head need = step_of line (call.Reserve name head) (ok_with_move (segment_move h need))
@@ -396,7 +378,7 @@ right_taken h p line name head m fits limit inside =
     right_step (world_at_rest h p) (step_after h line name head need) (reserved_in_buffer taken head) later
     (record {
       answered = refl;
-      moves_are_legal = (legal_segment h p name head need m.at.named m.valid placed, tt);
+      moves_are_legal = tt;
       moves_are_due = record {
         poll = no_poll h p name head;
         segment = segment_due h p name head (NewSegment (h.held + 1) need) m.at.named m.valid placed;
@@ -405,7 +387,7 @@ right_taken h p line name head m fits limit inside =
       marked = tt;
     })
     (ap (λ r. with_client_remembered
-    (world_from (world_after_moves (call.Reserve name head) (world_at_rest h p) (segment_move h need ∷ [])) r)) e
+    (world_from (moved_world (world_at_rest h p) (call.Reserve name head) (segment_move h need ∷ [])) r)) e
     ∙ world_reserved taken later head a' m.at.point m.not_open m.valid room)
     (agrees_reserved taken later head a' m.at.point m.not_open m.valid room (omega arith))
     (λ pools. ap Some (ap live_blocks (sym (is_world_at_rest h p m.at.agrees m.at.point m.not_open)) ∙ live_blocks-world_of h p

@@ -10,7 +10,7 @@ use Rattle.mps_model.specs.Log.{records_of_step}
 use Rattle.mps_model.specs.Replay.{replay_from}
 use Rattle.mps_model.specs.Reply.{reply_to}
 use Rattle.mps_model.specs.LegalMove.{AreLegalMoves}
-use Rattle.mps_model.specs.History.{IsAnsweredStep, AreMovesOf, HeldAreLive, IsPossiblyMarked, judged_world, moved_world, world_after, live_blocks, are_held_kept, has_units_left}
+use Rattle.mps_model.specs.History.{IsAnsweredStep, AreMovesOf, moves_of_collector, HeldAreLive, IsPossiblyMarked, judged_world, moved_world, world_after, live_blocks, are_held_kept, has_units_left}
 use Rattle.mps_first_heap.specs.HeapState.{HeapState}
 use Rattle.mps_first_heap.specs.Outcome.{reply_only}
 use Rattle.mps_first_heap.specs.StandsFor.{Past, Agrees, world_of, step_of}
@@ -20,7 +20,7 @@ use Rattle.mps_first_heap.proofs.Worlds.{held_are_live, stored, live_blocks-worl
 -- the step was answered, and its moves and its answer are due
 pub record IsDue (w : World) (s : Step) : Type 0 where
   pub answered : is_unsupported s.answer ≡ false
-  pub moves_are_legal : AreLegalMoves s.call w None s.moves
+  pub moves_are_legal : AreLegalMoves w None (moves_of_collector s.call s.moves)
   pub moves_are_due : AreMovesOf w s.call s.answer s.moves
   pub answer_is_due : s.answer ≡ reply_to (is_block s.answer) (judged_world w s.call s.moves) (moved_world w s.call s.moves) s.call
   pub marked : IsPossiblyMarked w s.call s.answer

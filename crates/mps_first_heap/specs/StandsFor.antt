@@ -112,6 +112,11 @@ world_with w = record {
     registered = [];
     messages = [];
     names = w.names;
+    labels = [];
+    dependents = [];
+    transforms = [];
+    caches = [];
+    frames = [];
   };
   grains = w.grains;
   limit = w.limit;

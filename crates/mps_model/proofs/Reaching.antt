@@ -30,3 +30,10 @@ PathLeads-closed next seeds ids first closed (goes_on {from} {to} path h) =
     list_all-contains (contains ids) (next from) to
     (list_all-contains (λ f. list_all (contains ids) (next f)) ids from closed (PathLeads-closed next seeds ids first closed path))
     h
+
+-- what holds of the ids where paths begin, and is passed on by each step, holds wherever a path leads
+pub PathLeads-holds : (next : ℕ → List ℕ) (seeds : List ℕ) (Holds : ℕ → Type 0) → ((id : ℕ) → IsTrue (contains seeds id) → Holds id)
+    → ((from to : ℕ) → Holds from → IsTrue (contains (next from) to) → Holds to) → {id : ℕ} → PathLeads next seeds id → Holds id
+PathLeads-holds next seeds Holds first step (begins {id} h) = first id h
+PathLeads-holds next seeds Holds first step (goes_on {from} {to} path h) =
+    step from to (PathLeads-holds next seeds Holds first step path) h

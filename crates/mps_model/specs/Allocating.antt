@@ -9,7 +9,7 @@ use Rattle.mps_base.specs.declared.names.Slot.{Slot}
 use Rattle.mps_base.specs.declared.refusal.Refusal.TheVariants as refusal
 use Rattle.mps_format.specs.Layout.{Layout}
 use Rattle.mps_model.specs.declared.reply.Reply.TheVariants as reply
-use Rattle.mps_model.specs.Graph.{Graph, Cell, NumberCell, Body, Automatic, Manual, Object, Point, Reservation, object_at, with_last, with_target_cell, new_cells, has_references}
+use Rattle.mps_model.specs.Graph.{Graph, Cell, NumberCell, Body, Automatic, Manual, Object, Point, Reservation, for_object, with_last, with_target_cell, new_cells, has_references}
 use Rattle.mps_model.specs.World.{World, Pool, PoolKind, Collected, OneSize, AnySize, is_automatic_kind, is_copying_pool, is_leaf_kind, pool_at}
 use Rattle.mps_model.specs.Placement.{ForReserve, ForAlloc, placement_of, buffer_of}
 use Rattle.mps_model.specs.Making.{is_block_size, is_weak_rank}
@@ -131,6 +131,17 @@ abbrev pub graph_committed : Graph → Numbered Point → Reservation → Found 
 graph_committed g point r slot =
     with_slot (with_object (with_reservation g point None) (committed_object point.value r)) slot (Some (length g.objects))
 
+-- the address of the reservation of a point
+abbrev pub reserved_address : World → (point : ℕ) → Address
+reserved_address w point = option_map_or (λ memory. memory.reserved_at) (slice_get w.point_memories point) 0
+
+-- the world after that commit: the new object lies where the reservation did
+abbrev pub world_committed : World → Numbered Point → Reservation → Found (Option ℕ) → World
+world_committed w point r slot = record w {
+  graph = graph_committed w.graph point r slot;
+  addresses = with_last w.addresses (Some (reserved_address w point.number));
+}
+
 -- `flipped` exactly where a flip ended the reservation
 abbrev pub act_commit : World → Name → Slot → Checked Act
 act_commit w name target = do
@@ -138,7 +149,7 @@ act_commit w name target = do
   slot ← slot_in w target
   r ← required point.value.reservation refusal.NotOpen
   if r.is_doomed then says reply.Flipped (with_graph w (with_reservation w.graph point None))
-      else done (with_graph w (graph_committed w.graph point r slot))
+      else done (world_committed w point r slot)
 
 -- ---- manual blocks
 
@@ -161,7 +172,10 @@ act_alloc judged after pool words into = do
   refuse_when (not (allows_size from.value.kind words)) refusal.BadSize
   refuse_when (is_some place.value) refusal.NameTaken
   refuse_without_place (placement_of judged (ForAlloc from.number words))
-  done (with_graph after (graph_allocated after.graph from.number words place))
+  done (record after {
+    graph = graph_allocated after.graph from.number words place;
+    addresses = with_last after.addresses (Some (address_of_placement (placement_of judged (ForAlloc from.number words))));
+  })
 
 -- the id of the block in a place
 abbrev pub block_in : Found (Option ℕ) → Checked ℕ
@@ -174,7 +188,7 @@ act_free w from = do
   done (with_graph w (with_block_place w.graph place None))
 
 abbrev pub words_at : Graph → (id : Id) → List ℕ
-words_at g id = option_map_or (λ o. words_of_body o.body) (object_at g id) []
+words_at g id = for_object g id (λ o. words_of_body o.body) []
 
 abbrev pub act_load : World → Slot → (k : ℕ) → Checked Act
 act_load w from k = do
@@ -190,7 +204,7 @@ body_with_word (Manual words) k value = Manual (slice_set words k value)
 -- a graph with one word of a manual block changed
 abbrev pub graph_with_word : Graph → (id k value : ℕ) → Graph
 graph_with_word g id k value = record g {
-  objects = option_map_or (λ o. slice_set g.objects id (record o { body = body_with_word o.body k value })) (object_at g id) g.objects;
+  objects = for_object g id (λ o. slice_set g.objects id (record o { body = body_with_word o.body k value })) g.objects;
 }
 
 abbrev pub act_store : World → Slot → (k value : ℕ) → Checked Act

@@ -1,15 +1,14 @@
 -- The commands of collection: what they answer and leave, beside what their moves do.
 use Rattle.std.specs.Prelude.{ℕ, ◌+◌, ◌-◌, nat_lt, nat_le, if◌then◌else◌, Option, Some, option_map, List, [], ◌∷◌, length, sum_by, Ok}
-use Rattle.std.specs.Option.{option_map_or}
-use Rattle.mps_base.specs.Address.{Id, Address}
+use Rattle.mps_base.specs.Address.{Address}
 use Rattle.mps_base.specs.declared.names.Name.{Name}
 use Rattle.mps_base.specs.declared.names.Slot.{Slot}
 use Rattle.mps_base.specs.declared.refusal.Refusal.TheVariants as refusal
 use Rattle.mps_model.specs.declared.reply.Reply.TheVariants as reply
 use Rattle.mps_model.specs.Answer.{Dumped}
-use Rattle.mps_model.specs.Graph.{with_last, position_of_first, without_first, object_at, size_of}
+use Rattle.mps_model.specs.Graph.{with_last, position_of_first, without_first}
 use Rattle.mps_model.specs.Collection.{Collection}
-use Rattle.mps_model.specs.World.{World, ArenaState, Unclamped, Clamped, Parked, is_running, is_unclamped, live_ids, id_at}
+use Rattle.mps_model.specs.World.{World, ArenaState, Unclamped, Clamped, Parked, is_running, live_ids, id_at, words_of}
 use Rattle.mps_model.specs.Image.{image_of}
 use Rattle.mps_model.specs.Checked.{Act, Checked, Found, ◌>>=◌, ◌>>◌, required, refuse_when, says, done, chain_named, slot_in, object_in, with_graph}
 use Rattle.mps_model.specs.Allocating.{with_slot}
@@ -31,21 +30,8 @@ act_start_chain judged after chain generation = do
   refuse_when (is_running judged) refusal.Running
   done (with_state after Unclamped)
 
--- a collection of which n units more were asked
-abbrev pub asked_more : (units : ℕ) → Collection → Collection
-asked_more units c = record c { spent = c.spent + units }
-
--- units that were asked of the running collection, where there is one
-abbrev pub with_spent : (units : ℕ) → World → World
-with_spent units w = record w { collection = option_map (asked_more units) w.collection }
-
--- the units that a `step` asks of a running collection: none in a clamped or parked arena
-abbrev pub units_asked : World → (units : ℕ) → ℕ
-units_asked w units = if is_unclamped w then units else 0
-
-abbrev pub act_step : (judged after : World) → (units : ℕ) → Checked Act
-act_step judged after units =
-    if is_running after then says reply.More (with_spent (units_asked judged units) after) else says reply.Idle after
+abbrev pub act_step : (after : World) → Checked Act
+act_step after = says (if is_running after then reply.More else reply.Idle) after
 
 abbrev pub act_collect : (after : World) → Checked Act
 act_collect after = done (with_state after Parked)
@@ -105,12 +91,9 @@ act_message w slot = do
 
 -- ---- what lives
 
-abbrev pub words_of_id : World → (id : Id) → ℕ
-words_of_id w id = option_map_or size_of (object_at w.graph id) 0
-
 -- how many blocks live, and the sum of their words
 abbrev pub act_live : World → Checked Act
-act_live w = says (reply.Pair (length (live_ids w)) (sum_by (words_of_id w) (live_ids w))) w
+act_live w = says (reply.Pair (length (live_ids w)) (sum_by (words_of w) (live_ids w))) w
 
 abbrev pub act_dump : World → (address : Address) → Checked Act
 act_dump w address = do

@@ -1,5 +1,5 @@
 -- What a running collection remembers.
-use Rattle.std.specs.Prelude.{ℕ, Bool, ◌||◌, ◌⊎◌, List, [], ◌∷◌}
+use Rattle.std.specs.Prelude.{ℕ, Bool, not, ◌||◌, List}
 use Rattle.mps_base.specs.Address.{Id, Address}
 use Rattle.mps_model.specs.Graph.{Graph, contains}
 use Rattle.mps_model.specs.Reachable.{IsLinked}
@@ -12,11 +12,6 @@ pub data Phase : Type 0 where
   Splatting : Phase
   Reclaiming : Phase
 
--- a graph as it was, and ids in it
-pub record Origin : Type 0 where
-  pub graph : Graph
-  pub ids : List ℕ
-
 pub record Collection : Type 0 where
   -- the bases of the condemned segments that are still held
   pub condemned_segments : List Address
@@ -28,8 +23,9 @@ pub record Collection : Type 0 where
   pub placed : List Id
   -- the objects that were posted, and those that the client held after some call since the flip
   pub had : List Id
-  -- from where what may survive is linked: the roots at the flip, and then each posted object at its post
-  pub origins : List Origin
+  -- the graph at the flip, and the objects from which what may survive is linked in it: the roots, and those that were posted
+  pub graph_at_flip : Graph
+  pub origins : List Id
   -- of the registrations, n from the front on were made before the flip
   pub registered_before : ℕ
   -- of the registrations, n from the front on were examined
@@ -53,12 +49,11 @@ is_kept_in_place c id = contains c.pinned id || contains c.placed id
 abbrev pub is_settled : Collection → (id : Id) → Bool
 is_settled c id = contains c.pinned id || (contains c.placed id || contains c.had id)
 
--- an id to which some origin links
-abbrev pub IsLinkedFromSome : List Origin → (id : Id) → Type 0
-IsLinkedFromSome [] id = ⊥
-IsLinkedFromSome (o ∷ os) id = IsLinked o.graph o.ids id ⊎ IsLinkedFromSome os id
+-- whether a collection is known to keep an object: it isn't condemned, or it is settled
+abbrev pub is_surely_kept : Collection → (id : Id) → Bool
+is_surely_kept c id = not (is_condemned c id) || is_settled c id
 
--- what may survive this collection: whatever a path led to, through any references, from the roots at the flip or from a
--- posted object at its post. All else that was condemned must be gone at the end
+-- what may survive this collection: whatever a path led to, in the graph at the flip and through any references, from the
+-- roots or from an object that was posted. All else that was condemned must be gone at the end
 abbrev pub MaySurvive : Collection → (id : Id) → Type 0
-MaySurvive c id = IsLinkedFromSome c.origins id
+MaySurvive c id = IsLinked c.graph_at_flip c.origins id

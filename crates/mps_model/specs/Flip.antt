@@ -1,15 +1,14 @@
 -- The act of a flip: its moves are a function of the world.
-use Rattle.std.specs.Prelude.{ℕ, Bool, true, false, not, ◌&&◌, if◌then◌else◌, None, List, [], ◌∷◌, ◌++◌}
+use Rattle.std.specs.Prelude.{ℕ, Bool, true, false, not, ◌&&◌, if◌then◌else◌, List, [], ◌∷◌, ◌++◌}
 use Rattle.std.specs.Option.{option_map_or}
-use Rattle.mps_base.specs.Address.{Id, address_of_word, address_of_grain}
+use Rattle.mps_base.specs.Address.{Id, Address, address_of_word, address_of_grain}
 use Rattle.mps_base.specs.Placement.{Placement, Place, NewSegment, OverLimit, NoFreeRun}
 use Rattle.mps_base.specs.declared.address.Addr.{Addr}
 use Rattle.mps_base.specs.declared.moves.Move.{Move}
 use Rattle.mps_base.specs.declared.moves.Move.TheVariants as moves
-use Rattle.mps_model.specs.declared.call.Call.{Call}
-use Rattle.mps_model.specs.Graph.{ids_in_slots, object_at}
-use Rattle.mps_model.specs.Collection.{is_condemned, is_settled}
-use Rattle.mps_model.specs.World.{World, is_copying_object, target_generation_of, generation_of}
+use Rattle.mps_model.specs.Graph.{ids_in_slots}
+use Rattle.mps_model.specs.Collection.{is_surely_kept}
+use Rattle.mps_model.specs.World.{World, pool_of, is_copying_object, target_generation_for}
 use Rattle.mps_model.specs.Placement.{ForMove, placement_of}
 use Rattle.mps_model.specs.Accessing.{address_or_null}
 use Rattle.mps_model.specs.Effect.{Condemnation, chain_of, oldest_of, condemned_by, condemned_zones, world_after_move, world_after_moves}
@@ -20,30 +19,28 @@ at_address address = record { 0 = address }
 
 -- whether an object has to be moved before the client may hold it: condemned, of a copying pool, and not settled
 abbrev pub must_be_fixed : World → (id : Id) → Bool
-must_be_fixed w id = option_map_or (λ c. is_condemned c id && not (is_settled c id)) w.collection false && is_copying_object w id
+must_be_fixed w id = option_map_or (λ c. not (is_surely_kept c id)) w.collection false && is_copying_object w id
 
--- the number of an object's pool
-abbrev pub pool_of : World → (id : Id) → ℕ
-pool_of w id = option_map_or (λ o. o.pool) (object_at w.graph id) 0
+-- the segment that is taken for an object that moves
+abbrev pub segment_for_move : World → (id : Id) → (base grains : ℕ) → Move
+segment_for_move w id base grains = moves.Seg (at_address base) grains (pool_of w id) (target_generation_for w id)
 
--- how an object is kept, by its placement: it moves, where need be into a new segment, or it stays
-abbrev pub moves_to : World → (id : Id) → Placement → List Move
-moves_to w id (Place word) = moves.Moved (at_address (address_or_null w id)) (at_address (address_of_word word)) ∷ []
-moves_to w id (NewSegment grain grains) =
-    moves.Seg (at_address (address_of_grain grain)) grains (pool_of w id) (target_generation_of w (pool_of w id) (generation_of w id))
-    ∷ moves.Moved (at_address (address_or_null w id)) (at_address (address_of_grain grain))
-    ∷ []
-moves_to w id (OverLimit committed need limit) = moves.Stay (at_address (address_or_null w id)) ∷ []
-moves_to w id (NoFreeRun need longest) = moves.Stay (at_address (address_or_null w id)) ∷ []
+-- how an object at an address is kept, by its placement: it moves, where need be into a new segment, or it stays
+abbrev pub moves_to : World → (id : Id) → (from : Address) → Placement → List Move
+moves_to w id from (Place word) = moves.Moved (at_address from) (at_address (address_of_word word)) ∷ []
+moves_to w id from (NewSegment grain grains) =
+    segment_for_move w id (address_of_grain grain) grains ∷ moves.Moved (at_address from) (at_address (address_of_grain grain)) ∷ []
+moves_to w id from (OverLimit committed need limit) = moves.Stay (at_address from) ∷ []
+moves_to w id from (NoFreeRun need longest) = moves.Stay (at_address from) ∷ []
 
 -- the moves by which an object is fixed: none where it needn't be
 abbrev pub fix : World → (id : Id) → List Move
-fix w id = if must_be_fixed w id then moves_to w id (placement_of w (ForMove id)) else []
+fix w id = if must_be_fixed w id then moves_to w id (address_or_null w id) (placement_of w (ForMove id)) else []
 
 -- the moves by which objects are fixed, one after the other
-abbrev pub fix_all : Call → World → List ℕ → List Move
-fix_all call w [] = []
-fix_all call w (id ∷ ids) = fix w id ++ fix_all call (world_after_moves call w (fix w id)) ids
+abbrev pub fix_all : World → List ℕ → List Move
+fix_all w [] = []
+fix_all w (id ∷ ids) = fix w id ++ fix_all (world_after_moves w (fix w id)) ids
 
 -- the record of a flip
 abbrev pub flip_of : World → Condemnation → Move
@@ -58,12 +55,12 @@ is_nothing [] = true
 is_nothing (x ∷ xs) = false
 
 -- the world right after the record of a flip
-abbrev pub world_at_flip : Call → World → Condemnation → World
-world_at_flip call w what = world_after_move call w (flip_of w what) None
+abbrev pub world_at_flip : World → Condemnation → World
+world_at_flip w what = world_after_move w (flip_of w what)
 
 -- the act of a flip: it condemns, fixes what slots and then messages hold, and ends where nothing was condemned
-abbrev pub flip_act : Call → World → Condemnation → List Move
-flip_act call w what =
+abbrev pub flip_act : World → Condemnation → List Move
+flip_act w what =
     flip_of w what
-    ∷ fix_all call (world_at_flip call w what) (ids_in_slots w.graph ++ w.graph.messages)
+    ∷ fix_all (world_at_flip w what) (ids_in_slots w.graph ++ w.graph.messages)
     ++ end_where (is_nothing (condemned_by w what))

@@ -55,6 +55,8 @@ pub data Thing : Type 0 where
   BlocksThing : (number : ℕ) → Thing
   PointThing : (number : ℕ) → Thing
   DependencyThing : (number : ℕ) → Thing
+  TransformThing : (number : ℕ) → Thing
+  CacheThing : (number : ℕ) → Thing
 
 pub record NamedThing : Type 0 where
   pub name : Name
@@ -63,6 +65,25 @@ pub record NamedThing : Type 0 where
 -- a slot of a table, or a place of a table of blocks: null or empty, or the id of an object
 abbrev pub Slots : Type 0
 Slots = List (Option ℕ)
+
+-- a class of an allocation cache: how many words its blocks have, how many it keeps at most, and those that lie in it
+pub record CacheClass : Type 0 where
+  pub words : ℕ
+  pub limit : ℕ
+  -- the block that was cached last stands last
+  pub cached : List Id
+
+-- an allocation cache over a pool of blocks of any sizes
+pub record Cache : Type 0 where
+  pub pool : ℕ
+  pub classes : List CacheClass
+
+-- what a pool of frames has: its live blocks in the order of making, and for each open frame how many blocks there were
+-- when it was opened
+pub record PoolFrames : Type 0 where
+  pub pool : ℕ
+  pub blocks : List Id
+  pub opened : List ℕ
 
 pub record Graph : Type 0 where
   -- all objects that were ever made, by their ids
@@ -81,6 +102,16 @@ pub record Graph : Type 0 where
   pub messages : List Id
   -- what each live name stands for
   pub names : List NamedThing
+  -- No command that is built uses what follows.
+  -- the labels of the log, in the order of making
+  pub labels : List Name
+  -- weak objects, each with the object whose references go with its own
+  pub dependents : List (Id × Id)
+  -- transforms by their numbers, each with pairs of an old and a new object; none where the transform was dropped
+  pub transforms : List (Option (List (Id × Id)))
+  -- allocation caches by their numbers
+  pub caches : List Cache
+  pub frames : List PoolFrames
 
 -- ---- lists by number
 
@@ -139,6 +170,10 @@ without_name (n ∷ ns) name = if same_name n.name name then ns else n ∷ witho
 abbrev pub object_at : Graph → (id : Id) → Option Object
 object_at g id = slice_get g.objects id
 
+-- what a function gives for an object, where there is one, and else this
+abbrev pub for_object : {A : Type 0} → Graph → (id : Id) → (Object → A) → (otherwise : A) → A
+for_object g id f otherwise = option_map_or f (object_at g id) otherwise
+
 abbrev pub size_of_body : Body → ℕ
 size_of_body (Automatic head cells is_weak) = length cells
 size_of_body (Manual words) = length words
@@ -185,10 +220,10 @@ abbrev pub strong_targets_of : Object → List ℕ
 strong_targets_of o = if is_weak_object o then [] else targets_of o
 
 abbrev pub targets : Graph → (id : Id) → List Id
-targets g id = option_map_or targets_of (object_at g id) []
+targets g id = for_object g id targets_of []
 
 abbrev pub strong_targets : Graph → (id : Id) → List Id
-strong_targets g id = option_map_or strong_targets_of (object_at g id) []
+strong_targets g id = for_object g id strong_targets_of []
 
 abbrev pub is_reference_cell : Cell → Bool
 is_reference_cell HeadCell = false
@@ -230,7 +265,7 @@ object_with_cells o change = record o { body = body_with_cells o.body change }
 -- a graph with the cells of one object changed
 abbrev pub graph_with_cells : Graph → (id : Id) → (List Cell → List Cell) → Graph
 graph_with_cells g id change = record g {
-  objects = option_map_or (λ o. slice_set g.objects id (object_with_cells o change)) (object_at g id) g.objects;
+  objects = for_object g id (λ o. slice_set g.objects id (object_with_cells o change)) g.objects;
 }
 
 -- ---- roots
@@ -289,4 +324,9 @@ empty_graph = record {
   registered = [];
   messages = [];
   names = [];
+  labels = [];
+  dependents = [];
+  transforms = [];
+  caches = [];
+  frames = [];
 }

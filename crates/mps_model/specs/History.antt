@@ -1,82 +1,109 @@
 -- Legal steps and legal histories. The world after a step is a function of the step: nothing is chosen but the moves, and
 -- the answer of a `poke` on a block whose fate isn't decided.
-use Rattle.std.specs.Prelude.{◌≡◌, ℕ, Bool, true, false, not, ◌&&◌, ◌||◌, nat_lt, IsTrue, MatchBool, if◌then◌else◌, Option, Some, None, option_and_then, Ok, Err, List, [], ◌∷◌, ◌++◌, length}
+use Rattle.std.specs.Prelude.{◌≡◌, ℕ, ◌-◌, Bool, true, false, not, ◌&&◌, ◌||◌, nat_lt, IsTrue, MatchBool, if◌then◌else◌, Option, Some, None, option_and_then, Ok, Err, List, [], ◌∷◌, ◌++◌, length, filter, take, slice_get, slice_set, ◌+◌}
 use Rattle.std.specs.List.{list_all, flat_map}
 use Rattle.std.specs.Option.{option_map_or}
 use Rattle.mps_base.specs.Address.{Address, Id, address_of_grain}
+use Rattle.mps_base.specs.Run.{Run}
 use Rattle.mps_base.specs.Generation.{Due}
 use Rattle.mps_base.specs.Placement.{Placement, Place, NewSegment, OverLimit, NoFreeRun}
+use Rattle.mps_base.specs.Segment.{Segment, words_of_segment}
 use Rattle.mps_base.specs.declared.moves.Move.{Move}
 use Rattle.mps_base.specs.declared.moves.Move.TheVariants as moves
 use Rattle.mps_base.specs.declared.names.Name.{Name}
 use Rattle.mps_base.specs.declared.names.Slot.{Slot}
+use Rattle.mps_base.specs.declared.names.Rank.{Rank}
+use Rattle.mps_base.specs.declared.names.Rank.TheVariants as rank
+use Rattle.mps_format.specs.Layout.{Layout}
+use Rattle.mps_format.specs.Any.{numbered_layout}
 use Rattle.mps_model.specs.declared.call.Call.{Call}
 use Rattle.mps_model.specs.declared.call.Call.TheVariants as call
 use Rattle.mps_model.specs.Answer.{Answer, is_accepted, is_block, is_refused, is_unsupported}
 use Rattle.mps_model.specs.Step.{Step, History}
 use Rattle.mps_model.specs.Replay.{Store, Block, with_block}
-use Rattle.mps_model.specs.Graph.{contains, ids_of_client, ids_in_blocks, targets, object_at, size_of}
+use Rattle.mps_model.specs.Graph.{Reservation, Point, entry_at, ids_of_client, ids_in_blocks, targets}
 use Rattle.mps_model.specs.Collection.{Collection, is_condemned, is_kept_in_place, MaySurvive}
-use Rattle.mps_base.specs.Segment.{Segment}
-use Rattle.mps_model.specs.World.{World, empty_world, is_live, is_running, is_unclamped, live_ids, address_of, segment_of, is_copying_object, is_any_size_kind, is_empty_segment, pool_is, block_of_word}
-use Rattle.mps_model.specs.Placement.{ForReserve, placement_of}
-use Rattle.mps_model.specs.Checked.{Checked, Found, Numbered, chain_named, slot_in, block_place_in}
-use Rattle.mps_model.specs.Allocating.{Reserving, check_reserve}
+use Rattle.mps_model.specs.World.{World, PointMemory, empty_world_of, empty_world, is_live, is_running, is_unclamped, live_ids, address_of, segment_of, pool_of, words_of, is_copying_pool, is_copying_object, is_any_size_kind, is_empty_segment, pool_is, block_of_word}
+use Rattle.mps_model.specs.Placement.{ForReserve, ForAlloc, placement_of}
+use Rattle.mps_model.specs.Checked.{Checked, Found, Numbered, number_named, as_point, chain_named, pool_named, point_named, slot_in, block_place_in}
+use Rattle.mps_model.specs.Allocating.{Reserving, check_reserve, reserved_address, address_of_placement}
 use Rattle.mps_model.specs.Accessing.{Poked, AsBlock, AsNumber, AsMarked, poked, address_or_null}
-use Rattle.mps_model.specs.Collecting.{with_spent}
 use Rattle.mps_model.specs.Reply.{act, reply_to, world_from}
-use Rattle.mps_model.specs.Effect.{Everything, Generations, with_collection, world_after_moves}
+use Rattle.mps_model.specs.Effect.{Everything, Generations, holding, segment_of_move, with_collection, world_after_moves}
 use Rattle.mps_model.specs.LegalMove.{ForOne, AreLegalMoves}
-use Rattle.mps_model.specs.Flip.{at_address, pool_of, flip_act}
-use Rattle.mps_model.specs.Policy.{polls, due_in, units_of_poll}
+use Rattle.mps_model.specs.Flip.{at_address, flip_act, world_at_flip}
+use Rattle.mps_model.specs.Policy.{polls, due_in, units_of_poll, units_asked}
+use Rattle.mps_model.specs.Posts.{IsWhole}
 use Rattle.mps_model.specs.Units.{AreUnits, AreUnitsToEnd, IsBarrier}
 
--- ---- the worlds of a step
+-- ---- the segment that a reserve takes for itself
 
 abbrev pub is_segment_taken : Move → Bool
 is_segment_taken (moves.Seg base grains pool generation) = true
 is_segment_taken _ = false
 
--- the moves of a `reserve` before it takes its own segment, which is a last move that takes one
-abbrev pub moves_of_poll : List Move → List Move
-moves_of_poll [] = []
-moves_of_poll (m ∷ []) = if is_segment_taken m then [] else m ∷ []
-moves_of_poll (m ∷ n ∷ ms) = m ∷ moves_of_poll (n ∷ ms)
+-- the last of some moves, alone
+abbrev pub last_move : List Move → List Move
+last_move [] = []
+last_move (m ∷ []) = m ∷ []
+last_move (m ∷ ms) = last_move ms
 
--- the last move, where it takes a segment
+-- a `reserve` takes its own segment by its last move, where that takes one
 abbrev pub own_segment : List Move → List Move
-own_segment [] = []
-own_segment (m ∷ []) = if is_segment_taken m then m ∷ [] else []
-own_segment (m ∷ n ∷ ms) = own_segment (n ∷ ms)
+own_segment moves = filter is_segment_taken (last_move moves)
 
--- a world after a call's poll: where a collection ran before it, units were asked of that collection
-abbrev pub after_poll : (before : World) → Call → (moved : World) → World
-after_poll before call moved =
-    if is_running before && polls before call then with_spent units_of_poll moved else moved
+-- its moves before
+abbrev pub moves_of_poll : List Move → List Move
+moves_of_poll moves = take (length moves - length (own_segment moves)) moves
+
+abbrev pub rank_of_point : World → (point : ℕ) → Rank
+rank_of_point w point = option_map_or (λ p. p.rank) (entry_at w.graph.points point) rank.Exact
+
+-- point memories, where one of them gets these words at hand
+abbrev pub with_buffer : List PointMemory → (point : ℕ) → Run → List PointMemory
+with_buffer memories point words =
+    option_map_or (λ (memory : PointMemory). slice_set memories point (record memory { buffer = words }))
+    (slice_get memories point) memories
+
+-- the world with one more segment, which has the rank of the point that reserves, and in a copying pool is at hand there
+abbrev pub with_segment_for_point : World → Segment → (point : ℕ) → World
+with_segment_for_point w s point =
+    if is_copying_pool w s.pool then record taken { point_memories = with_buffer w.point_memories point (words_of_segment s) } else taken
+  where
+    taken : World
+    taken = holding w (record s { rank = rank_of_point w point })
+
+-- the world after the own segment of a `reserve` of this point
+abbrev pub after_own_segment : World → List Move → (point : Option ℕ) → World
+after_own_segment w (moves.Seg base grains pool generation ∷ ms) (Some point) =
+    with_segment_for_point w (segment_of_move base.0 grains pool generation) point
+after_own_segment w _ _ = w
+
+-- ---- the worlds of a step
 
 -- the world in which a call is judged: the one before it; a `reserve` is judged after its poll
 abbrev pub judged_world : World → Call → List Move → World
-judged_world w (call.Reserve point head) moves =
-    after_poll w (call.Reserve point head) (world_after_moves (call.Reserve point head) w (moves_of_poll moves))
+judged_world w (call.Reserve point head) moves = world_after_moves w (moves_of_poll moves)
 judged_world w _ moves = w
 
--- the moves that a call makes after it is judged
-abbrev pub moves_after_judging : Call → List Move → List Move
-moves_after_judging (call.Reserve point head) moves = own_segment moves
-moves_after_judging _ moves = moves
+-- the world after all moves of a call
+abbrev pub after_its_moves : World → Call → List Move → World
+after_its_moves w (call.Reserve point head) moves =
+    after_own_segment (world_after_moves w (moves_of_poll moves)) (own_segment moves) (number_named w point as_point)
+after_its_moves w _ moves = world_after_moves w moves
 
--- the world in which a call takes effect: the one after all its moves
+-- a running collection of which units were asked, where any were
+abbrev pub asking : Option ℕ → World → World
+asking None w = w
+asking (Some units) w = with_collection w (λ c. record c { spent = c.spent + units })
+
+-- the world in which a call takes effect: the one after all its moves, where the units that it asks are counted
 abbrev pub moved_world : World → Call → List Move → World
-moved_world w call moves = world_after_moves call (judged_world w call moves) (moves_after_judging call moves)
-
--- ids joined to others, each once
-abbrev pub joined_ids : List ℕ → List ℕ → List ℕ
-joined_ids these [] = these
-joined_ids these (id ∷ ids) = if contains these id then joined_ids these ids else joined_ids (id ∷ these) ids
+moved_world w call moves = asking (units_asked w call) (after_its_moves w call moves)
 
 -- a running collection after a call: what the client holds then is settled
 abbrev pub remembering : List ℕ → Collection → Collection
-remembering held c = record c { had = joined_ids c.had held }
+remembering held c = record c { had = held ++ c.had }
 
 abbrev pub with_client_remembered : World → World
 with_client_remembered w = with_collection w (remembering (ids_of_client w.graph))
@@ -91,24 +118,7 @@ world_after_call w call moves answer =
 abbrev pub world_after : World → Step → World
 world_after w s = if is_unsupported s.answer then w else world_after_call w s.call s.moves s.answer
 
--- ---- the moves that are due
-
--- these moves, unless the call was refused: then none
-abbrev pub UnlessRefused : Answer → List Move → Type 0 → Type 0
-UnlessRefused answer moves P = MatchBool (is_refused answer) (moves ≡ []) P
-
--- a poll where no collection runs: the flip of the generation that is due, where one is
-abbrev pub poll_at_rest : Call → World → Option Due → List Move
-poll_at_rest call w None = []
-poll_at_rest call w (Some due) = flip_act call w (Generations due.chain due.generation)
-
--- the moves of a poll
-abbrev pub IsPoll : Call → World → List Move → Type 0
-IsPoll call w moves = MatchBool (is_running w) (AreUnits call w units_of_poll moves) (moves ≡ poll_at_rest call w (due_in w))
-
--- the moves of a reserve before it is judged
-abbrev pub IsPollWhereDue : Call → World → List Move → Type 0
-IsPollWhereDue call w moves = MatchBool (polls w call) (IsPoll call w moves) (moves ≡ [])
+-- ---- the client's moves: functions of the world
 
 -- the segment that a placement takes for a pool
 abbrev pub segment_taken : (pool : ℕ) → Placement → List Move
@@ -122,40 +132,22 @@ abbrev pub segment_of_reserve : World → Checked Reserving → List Move
 segment_of_reserve w (Ok r) = segment_taken r.point.value.pool (placement_of w (ForReserve r.point.number (length r.cells)))
 segment_of_reserve w (Err why) = []
 
--- a reserve polls where it is due, and then takes a segment where it needs one
-pub record AreMovesOfReserve (call : Call) (w : World) (point : Name) (head : ℕ) (moves : List Move) : Type 0 where
-  pub poll : IsPollWhereDue call w (moves_of_poll moves)
-  pub segment : own_segment moves ≡ segment_of_reserve (judged_world w call moves) (check_reserve w point head)
+-- a reservation becomes a block where it is
+abbrev pub commit_of : World → Numbered Point → Option Reservation → List Move
+commit_of w p (Some r) = moves.Commit (at_address (reserved_address w p.number)) (length r.cells) p.value.pool ∷ []
+commit_of w p None = []
 
--- the segment in which the object of a slot lies
-abbrev pub segment_of_found : World → Checked (Found (Option ℕ)) → Option Segment
-segment_of_found w (Ok found) = option_and_then (segment_of w) (option_and_then (address_of w) found.value)
-segment_of_found w (Err why) = None
+abbrev pub moves_of_commit : World → Checked (Numbered Point) → List Move
+moves_of_commit w (Ok p) = commit_of w p p.value.reservation
+moves_of_commit w (Err why) = []
 
-abbrev pub segment_read : World → Slot → Option Segment
-segment_read w slot = segment_of_found w (slot_in w slot)
+-- a manual block at a placement, where need be in a new segment
+abbrev pub alloc_at : (pool words : ℕ) → Placement → List Move
+alloc_at pool words placement = segment_taken pool placement ++ moves.Alloc (at_address (address_of_placement placement)) words pool ∷ []
 
--- a read barrier, where a collection runs
-abbrev pub AreMovesOfGet : Call → World → Slot → List Move → Type 0
-AreMovesOfGet call w source moves =
-    MatchBool (is_running w) (ForOne (segment_read w source) (λ s. IsBarrier call w s moves)) (moves ≡ [])
-
--- one Commit; which one it may be is said where Commits are legal
-abbrev pub is_one_commit : List Move → Bool
-is_one_commit (moves.Commit at words pool ∷ []) = true
-is_one_commit _ = false
-
-abbrev pub AreMovesOfCommit : Answer → List Move → Type 0
-AreMovesOfCommit answer moves = MatchBool (is_accepted answer) (IsTrue (is_one_commit moves)) (moves ≡ [])
-
-abbrev pub is_one_alloc : List Move → Bool
-is_one_alloc (moves.Alloc at words pool ∷ []) = true
-is_one_alloc _ = false
-
--- one Alloc, or a segment and then one Alloc; when which is legal is said where segments and Allocs are
-abbrev pub is_alloc : List Move → Bool
-is_alloc (moves.Seg base grains pool generation ∷ ms) = is_one_alloc ms
-is_alloc ms = is_one_alloc ms
+abbrev pub moves_of_alloc : World → {A : Type 0} → Checked (Numbered A) → (words : ℕ) → List Move
+moves_of_alloc w (Ok p) words = alloc_at p.number words (placement_of w (ForAlloc p.number words))
+moves_of_alloc w (Err why) words = []
 
 -- the segment of a pool of any sizes is given back where nothing is left in it
 abbrev pub give_back_empty : World → Option Segment → List Move
@@ -166,62 +158,106 @@ give_back_empty w (Some s) =
 abbrev pub free_at : (address : Address) → List Move
 free_at address = moves.Free (at_address address) ∷ []
 
--- a block is freed, and its segment given back where that is due
-abbrev pub moves_of_free : Call → World → (id : Id) → List Move
-moves_of_free call w id =
-    free_at (address_or_null w id)
-    ++ give_back_empty (world_after_moves call w (free_at (address_or_null w id))) (segment_of w (address_or_null w id))
+-- a manual block at an address is freed, and its segment given back where that is due
+abbrev pub free_of : World → (address : Address) → List Move
+free_of w address = free_at address ++ give_back_empty (world_after_moves w (free_at address)) (segment_of w address)
 
-abbrev pub id_in_found : Checked (Found (Option ℕ)) → Option ℕ
-id_in_found (Ok found) = found.value
-id_in_found (Err why) = None
+abbrev pub moves_of_free : World → Checked (Found (Option ℕ)) → List Move
+moves_of_free w (Ok found) = option_map_or (λ id. free_of w (address_or_null w id)) found.value []
+moves_of_free w (Err why) = []
 
-abbrev pub AreMovesOfFree : Call → World → Slot → List Move → Type 0
-AreMovesOfFree call w place moves = ForOne (id_in_found (block_place_in w place)) (λ id. moves ≡ moves_of_free call w id)
+-- these moves, unless the call was refused: then none
+abbrev pub unless_refused : Answer → List Move → List Move
+unless_refused answer moves = if is_refused answer then [] else moves
+
+-- these moves, where the call was answered `ok`: else none
+abbrev pub if_accepted : Answer → List Move → List Move
+if_accepted answer moves = if is_accepted answer then moves else []
+
+-- ---- the moves that are due
+
+-- a poll where no collection runs: the flip of the generation that is due, where one is
+abbrev pub poll_at_rest : World → Option Due → List Move
+poll_at_rest w None = []
+poll_at_rest w (Some due) = flip_act w (Generations due.chain due.generation)
+
+-- the moves of a poll
+abbrev pub IsPoll : World → List Move → Type 0
+IsPoll w moves = MatchBool (is_running w) (AreUnits w units_of_poll moves) (moves ≡ poll_at_rest w (due_in w))
+
+-- the moves of a reserve before it is judged
+abbrev pub IsPollWhereDue : World → Call → List Move → Type 0
+IsPollWhereDue w call moves = MatchBool (polls w call) (IsPoll w moves) (moves ≡ [])
+
+-- the segment that a reserve takes in the world in which it is judged
+abbrev pub segment_where_judged : World → (point : Name) → (head : ℕ) → List Move
+segment_where_judged w point head = segment_of_reserve w (check_reserve w point head)
+
+-- a reserve polls where it is due, and then takes a segment where it needs one
+pub record AreMovesOfReserve (w : World) (point : Name) (head : ℕ) (moves : List Move) : Type 0 where
+  pub poll : IsPollWhereDue w (call.Reserve point head) (moves_of_poll moves)
+  pub segment : own_segment moves ≡ segment_where_judged (world_after_moves w (moves_of_poll moves)) point head
+
+-- the segment in which the object of a slot lies
+abbrev pub segment_of_found : World → Checked (Found (Option ℕ)) → Option Segment
+segment_of_found w (Ok found) = option_and_then (segment_of w) (option_and_then (address_of w) found.value)
+segment_of_found w (Err why) = None
+
+-- a read barrier in the segment of the object in a slot, where a collection runs and the call isn't refused
+abbrev pub AreMovesOfGet : World → Slot → Answer → List Move → Type 0
+AreMovesOfGet w source answer moves =
+    MatchBool (is_running w && not (is_refused answer))
+    (ForOne (segment_of_found w (slot_in w source)) (λ s. IsBarrier w s moves)) (moves ≡ [])
 
 -- the act of a flip that condemns generations of a chain
-abbrev pub flip_act_of_chain : Call → World → Checked (Numbered (List ℕ)) → (generation : ℕ) → List Move
-flip_act_of_chain call w (Ok chain) generation = flip_act call w (Generations chain.number generation)
-flip_act_of_chain call w (Err why) generation = []
+abbrev pub flip_act_of_chain : World → Checked (Numbered (List ℕ)) → (generation : ℕ) → List Move
+flip_act_of_chain w (Ok chain) generation = flip_act w (Generations chain.number generation)
+flip_act_of_chain w (Err why) generation = []
 
 -- units, where the arena is unclamped and a collection runs
-abbrev pub AreMovesOfStep : Call → World → (units : ℕ) → List Move → Type 0
-AreMovesOfStep call w units moves = MatchBool (is_unclamped w && is_running w) (AreUnits call w units moves) (moves ≡ [])
+abbrev pub AreMovesOfStep : World → (units : ℕ) → List Move → Type 0
+AreMovesOfStep w units moves = MatchBool (is_unclamped w && is_running w) (AreUnits w units moves) (moves ≡ [])
 
 -- a running collection goes on to its end
-abbrev pub FinishesCollection : Call → World → List Move → Type 0
-FinishesCollection call w moves = MatchBool (is_running w) (AreUnitsToEnd call w moves) (moves ≡ [])
+abbrev pub FinishesCollection : World → List Move → Type 0
+FinishesCollection w moves = MatchBool (is_running w) (AreUnitsToEnd w moves) (moves ≡ [])
 
--- a running collection goes on to its end, and then a full one is begun and ended
-pub record AreMovesOfCollect (call : Call) (w : World) (moves : List Move) : Type 0 where
-  -- the moves of the collection that ran
-  pub earlier : List Move
-  -- the moves of the full collection after the act of its flip
+-- a full collection, which is begun and ended: the act of its flip and its later moves, and what it posts and leaves is exact
+pub record IsFullCollection (w : World) (moves : List Move) : Type 0 where
   pub later : List Move
-  pub whole : moves ≡ earlier ++ flip_act call (world_after_moves call w earlier) Everything ++ later
-  pub earlier_ends : FinishesCollection call w earlier
-  pub later_ends :
-      FinishesCollection call
-      (world_after_moves call w (earlier ++ flip_act call (world_after_moves call w earlier) Everything))
-      later
+  pub whole : moves ≡ flip_act w Everything ++ later
+  pub later_ends : FinishesCollection (world_after_moves w (flip_act w Everything)) later
+  pub exact : IsWhole w (world_at_flip w Everything) (world_after_moves w moves)
+
+-- a running collection goes on to its end, and then a full one follows
+pub record AreMovesOfCollect (w : World) (moves : List Move) : Type 0 where
+  pub earlier : List Move
+  pub full : List Move
+  pub both : moves ≡ earlier ++ full
+  pub earlier_ends : FinishesCollection w earlier
+  pub is_full : IsFullCollection (world_after_moves w earlier) full
 
 -- what the moves of a call are, with its answer. All other calls make none
 abbrev pub AreMovesOf : World → Call → Answer → List Move → Type 0
-AreMovesOf w (call.Reserve point head) answer moves = AreMovesOfReserve (call.Reserve point head) w point head moves
-AreMovesOf w (call.Commit point target) answer moves = AreMovesOfCommit answer moves
-AreMovesOf w (call.Alloc pool words place) answer moves = UnlessRefused answer moves (IsTrue (is_alloc moves))
-AreMovesOf w (call.Free place) answer moves =
-    UnlessRefused answer moves (AreMovesOfFree (call.Free place) w place moves)
-AreMovesOf w (call.Get target source cell) answer moves =
-    UnlessRefused answer moves (AreMovesOfGet (call.Get target source cell) w source moves)
-AreMovesOf w call.Start answer moves = UnlessRefused answer moves (moves ≡ flip_act call.Start w Everything)
-AreMovesOf w (call.StartChain chain generation) answer moves =
-    UnlessRefused answer moves
-    (moves ≡ flip_act_of_chain (call.StartChain chain generation) w (chain_named w chain) generation)
-AreMovesOf w (call.Step units) answer moves = AreMovesOfStep (call.Step units) w units moves
-AreMovesOf w call.Collect answer moves = AreMovesOfCollect call.Collect w moves
-AreMovesOf w call.Park answer moves = FinishesCollection call.Park w moves
+AreMovesOf w (call.Reserve point head) answer moves = AreMovesOfReserve w point head moves
+AreMovesOf w (call.Commit point target) answer moves = moves ≡ if_accepted answer (moves_of_commit w (point_named w point))
+AreMovesOf w (call.Alloc pool words place) answer moves = moves ≡ unless_refused answer (moves_of_alloc w (pool_named w pool) words)
+AreMovesOf w (call.Free place) answer moves = moves ≡ unless_refused answer (moves_of_free w (block_place_in w place))
+AreMovesOf w (call.Get target source cell) answer moves = AreMovesOfGet w source answer moves
+AreMovesOf w call.Start answer moves = moves ≡ unless_refused answer (flip_act w Everything)
+AreMovesOf w (call.StartChain chain oldest) answer moves = moves ≡ unless_refused answer (flip_act_of_chain w (chain_named w chain) oldest)
+AreMovesOf w (call.Step units) answer moves = AreMovesOfStep w units moves
+AreMovesOf w call.Collect answer moves = AreMovesOfCollect w moves
+AreMovesOf w call.Park answer moves = FinishesCollection w moves
 AreMovesOf w _ answer moves = moves ≡ []
+
+-- of the moves of a call those that the collector makes: all but the client's
+abbrev pub moves_of_collector : Call → List Move → List Move
+moves_of_collector (call.Reserve point head) moves = moves_of_poll moves
+moves_of_collector (call.Commit point target) moves = []
+moves_of_collector (call.Alloc pool words place) moves = []
+moves_of_collector (call.Free place) moves = []
+moves_of_collector _ moves = moves
 
 -- ---- what holds after a call
 
@@ -262,7 +298,7 @@ IsPossiblyMarked w _ answer = Unit {0}
 
 -- a step that was answered
 pub record IsAnsweredStep (w : World) (s : Step) : Type 0 where
-  pub moves_are_legal : AreLegalMoves s.call w None s.moves
+  pub moves_are_legal : AreLegalMoves w None (moves_of_collector s.call s.moves)
   pub moves_are_due : AreMovesOf w s.call s.answer s.moves
   pub answer_is_due :
       s.answer ≡ reply_to (is_block s.answer) (judged_world w s.call s.moves) (moved_world w s.call s.moves) s.call
@@ -285,9 +321,13 @@ abbrev pub world_after_steps : World → History → World
 world_after_steps w [] = w
 world_after_steps w (s ∷ ss) = world_after_steps (world_after w s) ss
 
--- a history is legal where its steps are, from the empty world on
+-- a history is legal where its steps are, from the empty world on, whose numbers of formats mean these formats
+abbrev pub IsLegalHistoryOf : (formats : ℕ → Layout) → History → Type 0
+IsLegalHistoryOf formats history = IsLegalFrom (empty_world_of formats) history
+
+-- the same where the formats are the three numbered ones
 abbrev pub IsLegalHistory : History → Type 0
-IsLegalHistory history = IsLegalFrom empty_world history
+IsLegalHistory history = IsLegalHistoryOf numbered_layout history
 
 -- the world after a history
 abbrev pub world_after_history : History → World
@@ -298,7 +338,7 @@ world_after_history history = world_after_steps empty_world history
 abbrev pub block_of : World → (id : Id) → Block
 block_of w id = record {
   at = address_or_null w id;
-  words = option_map_or size_of (object_at w.graph id) 0;
+  words = words_of w id;
   pool = pool_of w id;
 }
 

@@ -2,7 +2,7 @@
 use Rattle.std.specs.Prelude.{ℕ, ◌≡◌, ◌+◌, false, Option, Some, None, List, [], ◌∷◌, map, refl}
 use Rattle.std.specs.Option.{option_map_or}
 use Rattle.mps_base.specs.Address.{Id}
-use Rattle.mps_model.specs.Graph.{Cell, HeadCell, NumberCell, ReferenceCell, Body, Automatic, Manual, object_at, empty_graph}
+use Rattle.mps_model.specs.Graph.{Cell, HeadCell, NumberCell, ReferenceCell, Body, Automatic, Manual, for_object, empty_graph}
 use Rattle.mps_model.specs.World.{World, address_of, empty_world}
 
 -- the address of what a reference leads to; 0 is null
@@ -22,7 +22,7 @@ image_of_body w (Manual words) = words
 
 -- the words of an object
 abbrev pub image_of : World → (id : Id) → List ℕ
-image_of w id = option_map_or (λ o. image_of_body w o.body) (object_at w.graph id) []
+image_of w id = for_object w.graph id (λ o. image_of_body w o.body) []
 
 -- a block at 0x1000 whose cell 1 leads to one at 0x1020 and has the tag 3, and a manual block that was freed
 abbrev three_objects : World

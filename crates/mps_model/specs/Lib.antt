@@ -23,3 +23,4 @@ pub mod Units
 pub mod History
 pub mod Text
 pub mod Posts
+pub mod WellFormed

@@ -5,9 +5,9 @@ use Rattle.mps_base.specs.Address.{Id, grains_needed}
 use Rattle.mps_base.specs.Run.{Run, lowest_fitting}
 use Rattle.mps_base.specs.Placement.{Placement, Place, run_placement}
 use Rattle.mps_base.specs.declared.names.Rank.TheVariants as rank
-use Rattle.mps_model.specs.Graph.{Point, entry_at, object_at, size_of}
+use Rattle.mps_model.specs.Graph.{Point, entry_at}
 use Rattle.mps_base.specs.Segment.{gaps_of}
-use Rattle.mps_model.specs.World.{World, is_copying_pool, held_grains, covered, tail_of, target_generation_of, generation_of, empty_run}
+use Rattle.mps_model.specs.World.{World, is_copying_pool, held_grains, covered, tail_of, pool_of, words_of, target_generation_for, empty_run}
 
 -- what is to be placed
 pub data Request : Type 0 where
@@ -44,8 +44,5 @@ placement_at_point w number p words =
 abbrev pub placement_of : World → Request → Placement
 placement_of w (ForReserve point words) =
     option_map_or (λ p. placement_at_point w point p words) (entry_at w.graph.points point) (new_segment_for w words)
-placement_of w (ForMove id) =
-    option_map_or (λ o. placement_at_front w (tail_of w o.pool (target_generation_of w o.pool (generation_of w id))) (size_of o))
-    (object_at w.graph id)
-    (new_segment_for w 0)
+placement_of w (ForMove id) = placement_at_front w (tail_of w (pool_of w id) (target_generation_for w id)) (words_of w id)
 placement_of w (ForAlloc pool words) = placement_in_gaps w (gaps_of (covered w) w.segments pool rank.Exact) words

@@ -1,12 +1,11 @@
 -- When a `reserve` polls, and what it then collects.
-use Rattle.std.specs.Prelude.{ℕ, zero, suc, ◌+◌, Bool, true, false, not, ◌&&◌, ◌==◌, Option, Ok, Err, List, [], ◌∷◌, length, filter, sum_by}
-use Rattle.std.specs.Option.{option_map_or}
+use Rattle.std.specs.Prelude.{ℕ, zero, suc, ◌+◌, Bool, true, false, not, ◌&&◌, ◌==◌, if◌then◌else◌, Option, Some, None, Ok, Err, List, [], ◌∷◌, length, filter, sum_by}
 use Rattle.mps_base.specs.Generation.{Load, Due, due_generation}
 use Rattle.mps_base.specs.Placement.{Placement, Place, NewSegment, OverLimit, NoFreeRun}
 use Rattle.mps_model.specs.declared.call.Call.{Call}
 use Rattle.mps_model.specs.declared.call.Call.TheVariants as call
 use Rattle.mps_base.specs.Segment.{Segment}
-use Rattle.mps_model.specs.World.{World, pool_at, is_unclamped}
+use Rattle.mps_model.specs.World.{World, is_running, is_unclamped}
 use Rattle.mps_model.specs.Placement.{ForReserve, placement_of}
 use Rattle.mps_model.specs.Checked.{Checked}
 use Rattle.mps_model.specs.Allocating.{Reserving, check_reserve}
@@ -14,7 +13,7 @@ use Rattle.mps_model.specs.Effect.{is_on_chain}
 
 -- whether a segment is of a generation of a chain
 abbrev pub is_of_generation : World → (chain generation : ℕ) → Segment → Bool
-is_of_generation w chain generation s = option_map_or (is_on_chain chain) (pool_at w s.pool) false && s.generation == generation
+is_of_generation w chain generation s = is_on_chain w chain s.pool && s.generation == generation
 
 -- the grains that a generation of a chain holds
 abbrev pub held_by_generation : World → (chain generation : ℕ) → ℕ
@@ -55,3 +54,9 @@ polls w _ = false
 -- a poll asks n units of a running collection
 abbrev pub units_of_poll : ℕ
 units_of_poll = 64
+
+-- the units that a call asks of a running collection, where it asks for any
+abbrev pub units_asked : World → Call → Option ℕ
+units_asked w (call.Step units) = if is_unclamped w then Some units else None
+units_asked w (call.Reserve point head) = if is_running w && polls w (call.Reserve point head) then Some units_of_poll else None
+units_asked w _ = None

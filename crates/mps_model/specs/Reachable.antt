@@ -8,11 +8,8 @@ pub data PathLeads (next : ℕ → List ℕ) (seeds : List ℕ) : ℕ → Type 0
   begins : {id : ℕ} → IsTrue (contains seeds id) → PathLeads next seeds id
   goes_on : {from : ℕ} {to : ℕ} → PathLeads next seeds from → IsTrue (contains (next from) to) → PathLeads next seeds to
 
--- strongly reachable: a path leads to the id from what the client holds, through reference cells of objects that aren't weak
-abbrev pub IsReachable : Graph → (id : Id) → Type 0
-IsReachable g id = PathLeads (strong_targets g) (ids_of_client g) id
-
--- reachable, where these ids are roots too
+-- strongly reachable, where these ids are roots too: a path leads to the id from what the client holds or from one of these,
+-- through reference cells of objects that aren't weak
 abbrev pub IsReachableWith : Graph → (more : List ℕ) → (id : Id) → Type 0
 IsReachableWith g more id = PathLeads (strong_targets g) (ids_of_client g ++ more) id
 

@@ -11,8 +11,7 @@ use Rattle.mps_base.specs.declared.names.Kind.{Kind}
 use Rattle.mps_base.specs.declared.names.Kind.TheVariants as kind
 use Rattle.mps_format.specs.Layout.{Layout}
 use Rattle.mps_format.specs.Any.{numbered_layout}
-use Rattle.mps_model.specs.Graph.{Graph, Object, Point, Reservation, AreaWord, PlainWord, Hold, entry_at, object_at, size_of, is_automatic, is_live_reservation, empty_graph}
-use Rattle.mps_model.specs.Reachable.{IsReachableWith}
+use Rattle.mps_model.specs.Graph.{Graph, Object, Point, Reservation, AreaWord, PlainWord, Hold, entry_at, for_object, size_of, is_automatic, is_live_reservation, empty_graph}
 use Rattle.mps_model.specs.Collection.{Collection}
 
 -- the kind of a pool
@@ -86,13 +85,13 @@ pub record World : Type 0 where
 abbrev pub empty_run : Run
 empty_run = record { from = 0; count = 0 }
 
--- the world before the arena is made
-abbrev pub empty_world : World
-empty_world = record {
+-- the world before the arena is made, where these are the object formats
+abbrev pub empty_world_of : (formats : ℕ → Layout) → World
+empty_world_of formats = record {
   graph = empty_graph;
   grains = 0;
   limit = 0;
-  formats = numbered_layout;
+  formats = formats;
   pools = [];
   chains = [];
   segments = [];
@@ -104,6 +103,10 @@ empty_world = record {
   dependencies = [];
   collection = None;
 }
+
+-- the same, with the three formats that have numbers
+abbrev pub empty_world : World
+empty_world = empty_world_of numbered_layout
 
 -- whether a collection runs
 abbrev pub is_running : World → Bool
@@ -192,6 +195,10 @@ address_of w id = entry_at w.addresses id
 abbrev pub is_live : World → (id : Id) → Bool
 is_live w id = is_some (address_of w id)
 
+-- whether an object is live, and its address passes a test
+abbrev pub is_live_and : (Address → Bool) → World → (id : Id) → Bool
+is_live_and test w id = option_map_or test (address_of w id) false
+
 abbrev pub is_at : (address : Address) → Option ℕ → Bool
 is_at address None = false
 is_at address (Some other) = other == address
@@ -215,11 +222,19 @@ id_at w address = first_id (numbers_of (is_at address) 0 w.addresses)
 
 -- whether the object passes a test
 abbrev pub object_is : (Object → Bool) → World → (id : Id) → Bool
-object_is test w id = option_map_or test (object_at w.graph id) false
+object_is test w id = for_object w.graph id test false
 
 -- the ids of all live objects of automatic pools, in ascending order
 abbrev pub live_automatic_ids : World → List ℕ
 live_automatic_ids w = filter (object_is is_automatic w) (live_ids w)
+
+-- the number of an object's pool
+abbrev pub pool_of : World → (id : Id) → ℕ
+pool_of w id = for_object w.graph id (λ o. o.pool) 0
+
+-- the size of an object in words
+abbrev pub words_of : World → (id : Id) → ℕ
+words_of w id = for_object w.graph id size_of 0
 
 -- whether a collection moves this object
 abbrev pub is_copying_object : World → (id : Id) → Bool
@@ -263,6 +278,10 @@ is_empty_segment w s = not (list_any (begins_in s) (covered w))
 abbrev pub generation_of : World → (id : Id) → ℕ
 generation_of w id = option_map_or (λ s. s.generation) (option_and_then (segment_of w) (address_of w id)) 0
 
+-- the generation to which a live object moves
+abbrev pub target_generation_for : World → (id : Id) → ℕ
+target_generation_for w id = target_generation_of w (pool_of w id) (generation_of w id)
+
 -- ---- area words
 
 -- the number that an area word shows: of a hold, the address that it holds
@@ -283,11 +302,9 @@ abbrev pub is_word_in : (is_copying : Bool) → (at words word : ℕ) → Bool
 is_word_in true at words word = nat_le at word && nat_lt word (at + bytes_of_word * words)
 is_word_in false at words word = word == at
 
--- whether a word lies in an object. It never lies in a manual block or in a reservation
+-- whether a word lies in an object, where it is live. It never lies in a manual block or in a reservation
 abbrev pub lies_in : World → (word id : ℕ) → Bool
-lies_in w word id =
-    object_is is_automatic w id
-    && option_map_or (λ at. object_is (λ o. is_word_in (is_copying_pool w o.pool) at (size_of o) word) w id) (address_of w id) false
+lies_in w word id = object_is is_automatic w id && is_live_and (λ at. is_word_in (is_copying_object w id) at (words_of w id) word) w id
 
 -- the live object in which a word lies
 abbrev pub block_of_word : World → (word : ℕ) → Option ℕ
@@ -312,12 +329,6 @@ with_tail w pool generation words = record w {
   tails = record { pool = pool; generation = generation; words = words } ∷ filter (λ t. not (is_tail_of pool generation t)) w.tails;
 }
 
--- ---- wide reachability
-
 -- the live automatic objects in which an area word lies
 abbrev pub ids_of_area_words : World → List ℕ
 ids_of_area_words w = filter (has_area_word w) (live_automatic_ids w)
-
--- reachable, where the objects in which area words lie are roots too
-abbrev pub IsWidelyReachable : World → (id : Id) → Type 0
-IsWidelyReachable w id = IsReachableWith w.graph (ids_of_area_words w) id

@@ -2,13 +2,14 @@ use Rattle.std.proofs.Common.{◌≡◌, refl, [], ◌∷◌, inl, inr}
 use Rattle.mps_base.specs.declared.moves.Move.TheVariants as moves
 use Rattle.mps_model.specs.World.{empty_world}
 use Rattle.mps_model.specs.History.{IsLegalFrom, IsLegalHistory, world_after_steps}
-use Rattle.mps_model.specs.Reachable.{begins}
-use Rattle.mps_model.specs.Units.{scans, splats_one, reclaims}
+use Rattle.mps_model.specs.Reachable.{begins, goes_on}
+use Rattle.mps_model.specs.Units.{scans, scans_no_more, moves_target, splats, reclaims}
 use Rattle.mps_model.proofs.Appending.{IsLegalFrom-then}
 use Rattle.mps_model.proofs.Reaching.{PathLeads-closed}
 use Rattle.mps_model_examples.specs.Script.{address}
 use Rattle.mps_model_examples.specs.CollectingInOrder.{weak_and_linked, moves_in_order, collected_in_order, weak_and_linked_world, CollectingInOrderIsLegal}
 use Rattle.mps_model_examples.proofs.Refusing.{false_is_not_true}
+use Rattle.mps_model_examples.proofs.Units.{to_end, at_rest}
 use Rattle.mps_model_examples.proofs.Steps.{answered}
 
 linked_leaves : world_after_steps empty_world weak_and_linked ≡ weak_and_linked_world
@@ -24,16 +25,16 @@ linked_is_legal = (
       (
         answered tt refl refl tt refl refl refl refl refl,
         (
-          answered (record { placement = (refl, refl); of_pool = refl; of_generation = refl }, tt)
+          answered tt
               (record { poll = refl; segment = refl }) refl tt refl refl refl refl refl,
           (
-            answered (record { at_address = refl; of_words = refl; of_pool = refl }, tt) refl refl tt refl refl refl refl refl,
+            answered tt refl refl tt refl refl refl refl refl,
             (
               answered tt (record { poll = refl; segment = refl }) refl tt refl refl refl refl refl,
               (
                 answered tt refl refl tt refl refl refl refl refl,
                 (
-                  answered (record { at_address = refl; of_words = refl; of_pool = refl }, tt) refl refl tt refl refl refl refl refl,
+                  answered tt refl refl tt refl refl refl refl refl,
                   (
                     answered tt refl refl tt refl refl refl refl refl,
                     (
@@ -41,22 +42,16 @@ linked_is_legal = (
                       (
                         answered tt refl refl tt refl refl refl refl refl,
                         (
-                          answered (record { placement = (refl, refl); of_pool = refl; of_generation = refl }, tt)
+                          answered tt
                               (record { poll = refl; segment = refl }) refl tt refl refl refl refl refl,
                           (
-                            answered (
-                              record { at_address = refl; of_words = refl; of_pool = refl },
-                              tt,
-                            ) refl refl tt refl refl refl refl refl,
+                            answered tt refl refl tt refl refl refl refl refl,
                             (
                               answered tt (record { poll = refl; segment = refl }) refl tt refl refl refl refl refl,
                               (
                                 answered tt refl refl tt refl refl refl refl refl,
                                 (
-                                  answered (
-                                    record { at_address = refl; of_words = refl; of_pool = refl },
-                                    tt,
-                                  ) refl refl tt refl refl refl refl refl,
+                                  answered tt refl refl tt refl refl refl refl refl,
                                   (
                                     answered tt refl refl tt refl refl refl refl refl,
                                     tt,
@@ -93,27 +88,27 @@ collected_is_legal = (
             record {
               phase = refl;
               weak = refl;
-              scanned = inr (inr (inl (begins refl)));
+              scanned = inr (refl, begins refl);
               target_is_gone = record {
                 condemned = refl;
                 not_settled = refl;
-                not_reachable =
+                lost =
                     λ path. false_is_not_true (PathLeads-closed _ _ (0 ∷ 1 ∷ 3 ∷ []) refl refl path);
               };
             },
             (
-              record { empty = refl; due = refl },
+              record { empty = refl; condemned = refl },
               (
                 record {
                   gone = record {
                     condemned = refl;
                     not_settled = refl;
-                    not_reachable =
+                    lost =
                         λ path. false_is_not_true (PathLeads-closed _ _ (0 ∷ 1 ∷ 3 ∷ []) refl refl path);
                   };
                   not_registered = refl;
                 },
-                (record { survivors = (inl refl, (inl refl, (inr (inl (begins refl)), tt))); copied = refl; segments = refl }, tt),
+                (record { survivors = (inl refl, (inl refl, (inr (begins refl), tt))); copied = refl; segments = refl }, tt),
               ),
             ),
           ),
@@ -121,52 +116,56 @@ collected_is_legal = (
       ),
     ),
   )
-      (record {
-        earlier = [];
+      (at_rest refl (
+      record {
         later = moves_in_order;
         whole = refl;
-        earlier_ends = refl;
-        later_ends = record {
-          pieces =
-              (moves.Moved (address 0x1000) (address 0x3018) ∷ [])
-              ∷ (moves.Splat (address 0x2010) 1 ∷ [])
-              ∷ (moves.Unseg (address 0x1000) ∷ [])
-              ∷ (moves.Free (address 0x2000) ∷ moves.End ∷ [])
-              ∷ [];
-          cut = refl;
-          row = (
-            scans (record { id = 1; live = refl; not_weak = refl; scanned = inr (inl refl); keeps_targets = refl }),
-            refl,
-            (
-              splats_one (0x2010, refl),
+        later_ends = to_end ((moves.Moved (address 0x1000) (address 0x3018) ∷ [])
+            ∷ (moves.Splat (address 0x2010) 1 ∷ [])
+            ∷ (moves.Unseg (address 0x1000) ∷ [])
+            ∷ (moves.Free (address 0x2000) ∷ moves.End ∷ [])
+            ∷ []) refl
+            ((
+              scans 1 (record { live = refl; not_weak = refl; may_be_scanned = inl refl })
+                  (moves_target (record { holder = 1; scanned = refl; refers = refl }) scans_no_more),
               refl,
               (
-                reclaims (record {
-                  base = 0x1000;
-                  freed = [];
-                  condemned = refl;
-                  in_turn = refl;
-                  ascending = refl;
-                  in_segment = refl;
-                  whole = refl;
-                }),
+                splats (address 0x2010) (1 ∷ []) refl,
                 refl,
-                reclaims (record {
-                  base = 0x2000;
-                  freed = 0x2000 ∷ [];
-                  condemned = refl;
-                  in_turn = refl;
-                  ascending = refl;
-                  in_segment =
-                      refl;
-                  whole = refl;
-                }),
+                (
+                  reclaims (record {
+                    base = 0x1000;
+                    freed = [];
+                    condemned = refl;
+                    in_turn = refl;
+                    ascending = refl;
+                    in_segment = refl;
+                    whole = refl;
+                  }),
+                  refl,
+                  reclaims (record {
+                    base = 0x2000;
+                    freed = 0x2000 ∷ [];
+                    condemned = refl;
+                    in_turn = refl;
+                    ascending = refl;
+                    in_segment =
+                        refl;
+                    whole = refl;
+                  }),
+                ),
               ),
-            ),
+            )) refl refl;
+        exact = record {
+          posts = [];
+          posted = refl;
+          exact = refl;
+          survivors = (
+            goes_on (begins {id = 1} refl) refl,
+            (begins refl, (λ path. false_is_not_true (PathLeads-closed _ _ (0 ∷ 1 ∷ 3 ∷ []) refl refl path), (begins refl, tt))),
           );
-          ends = refl;
         };
-      })
+      }))
       refl tt refl refl refl refl refl,
   (
     answered tt refl refl tt refl refl refl refl refl,

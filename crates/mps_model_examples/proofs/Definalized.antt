@@ -1,11 +1,12 @@
-use Rattle.std.proofs.Common.{◌≡◌, refl, [], ◌∷◌, ◌++◌, inl, inr, Some, None, arith}
+use Rattle.std.proofs.Common.{◌≡◌, refl, [], ◌∷◌, ◌++◌, inl, Some, None, arith}
 use Rattle.mps_base.specs.declared.moves.Move.TheVariants as moves
 use Rattle.mps_model.specs.World.{World, empty_run, empty_world}
 use Rattle.mps_model.specs.History.{IsLegalFrom, IsLegalHistory, world_after_steps}
-use Rattle.mps_model.specs.Units.{scans, reclaims}
+use Rattle.mps_model.specs.Units.{scans, scans_no_more, reclaims}
 use Rattle.mps_model.proofs.Appending.{IsLegalFrom-then}
 use Rattle.mps_model_examples.specs.Script.{address, grain_segment, words, tail}
 use Rattle.mps_model_examples.specs.Definalized.{registered_once, registered_anew, not_posted, registered_world, collection_of_registered, DefinalizedIsLegal}
+use Rattle.mps_model_examples.proofs.Units.{at_most}
 use Rattle.mps_model_examples.proofs.Steps.{answered}
 
 -- registered once, before the collection; and while it runs
@@ -33,10 +34,10 @@ once_is_legal = (
       (
         answered tt refl refl tt refl refl refl refl refl,
         (
-          answered (record { placement = (refl, refl); of_pool = refl; of_generation = refl }, tt)
+          answered tt
               (record { poll = refl; segment = refl }) refl tt refl refl refl refl refl,
           (
-            answered (record { at_address = refl; of_words = refl; of_pool = refl }, tt) refl refl tt refl refl refl refl refl,
+            answered tt refl refl tt refl refl refl refl refl,
             (
               answered tt refl refl tt refl refl refl refl refl,
               (
@@ -81,31 +82,26 @@ anew_is_legal = (
 rest_is_legal : IsLegalFrom anew not_posted
 rest_is_legal = (
   answered (
-    record { empty = refl; due = refl },
+    record { empty = refl; condemned = refl },
     (record { survivors = (inl refl, tt); copied = refl; segments = refl }, tt),
   )
-      (record {
-        pieces =
-            []
-            ∷ (moves.Unseg (address 0x1000) ∷ moves.End ∷ [])
-            ∷ [];
-        cut = refl;
-        row = (
-          scans (record { id = 0; live = refl; not_weak = refl; scanned = inr (inl refl); keeps_targets = refl }),
-          refl,
-          reclaims (record {
-            base = 0x1000;
-            freed = [];
-            condemned = refl;
-            in_turn = refl;
-            ascending = refl;
-            in_segment = refl;
-            whole =
-                refl;
-          }),
-        );
-        enough = inr (omega arith, refl);
-      })
+      (at_most ([]
+      ∷ (moves.Unseg (address 0x1000) ∷ moves.End ∷ [])
+      ∷ []) refl
+      ((
+        scans 0 (record { live = refl; not_weak = refl; may_be_scanned = inl refl }) scans_no_more,
+        refl,
+        reclaims (record {
+          base = 0x1000;
+          freed = [];
+          condemned = refl;
+          in_turn = refl;
+          ascending = refl;
+          in_segment = refl;
+          whole =
+              refl;
+        }),
+      )) refl (omega arith) refl)
       refl tt refl refl refl refl refl,
   (
     answered tt refl refl tt refl refl refl refl refl,

@@ -1,14 +1,15 @@
-use Rattle.std.proofs.Common.{◌≡◌, refl, [], ◌∷◌, ◌++◌, inl, inr, Some}
+use Rattle.std.proofs.Common.{◌≡◌, refl, [], ◌∷◌, ◌++◌, inr, Some}
 use Rattle.mps_base.specs.declared.moves.Move.TheVariants as moves
 use Rattle.mps_model.specs.World.{World, empty_world}
 use Rattle.mps_model.specs.History.{IsLegalFrom, IsLegalHistory, world_after_steps}
 use Rattle.mps_model.specs.Reachable.{begins}
-use Rattle.mps_model.specs.Units.{scans, reclaims}
+use Rattle.mps_model.specs.Units.{scans, scans_no_more, reclaims}
 use Rattle.mps_model.proofs.Appending.{IsLegalFrom-then}
 use Rattle.mps_model.proofs.Reaching.{PathLeads-closed}
 use Rattle.mps_model_examples.specs.Script.{address}
 use Rattle.mps_model_examples.specs.FillingGaps.{one_grain, gap_filled, lowest_gap, block_of_four, world_of_grain, FillingGapsIsLegal}
 use Rattle.mps_model_examples.proofs.Refusing.{false_is_not_true}
+use Rattle.mps_model_examples.proofs.Units.{to_end, at_rest}
 use Rattle.mps_model_examples.proofs.Steps.{answered}
 
 -- one block, and two
@@ -34,10 +35,10 @@ one_is_legal = (
       (
         answered tt refl refl tt refl refl refl refl refl,
         (
-          answered (record { placement = (refl, refl); of_pool = refl; of_generation = refl }, tt)
+          answered tt
               (record { poll = refl; segment = refl }) refl tt refl refl refl refl refl,
           (
-            answered (record { at_address = refl; of_words = refl; of_pool = refl }, tt) refl refl tt refl refl refl refl refl,
+            answered tt refl refl tt refl refl refl refl refl,
             tt,
           ),
         ),
@@ -52,7 +53,7 @@ two_is_legal = (
   (
     answered tt (record { poll = refl; segment = refl }) refl tt refl refl refl refl refl,
     (
-      answered (record { at_address = refl; of_words = refl; of_pool = refl }, tt) refl refl tt refl refl refl refl refl,
+      answered tt refl refl tt refl refl refl refl refl,
       tt,
     ),
   ),
@@ -67,46 +68,46 @@ lowest_is_legal = (
         gone = record {
           condemned = refl;
           not_settled = refl;
-          not_reachable =
+          lost =
               λ path. false_is_not_true (PathLeads-closed _ _ (1 ∷ []) refl refl path);
         };
         not_registered = refl;
       },
-      (record { survivors = (inr (inl (begins refl)), tt); copied = refl; segments = refl }, tt),
+      (record { survivors = (inr (begins refl), tt); copied = refl; segments = refl }, tt),
     ),
   )
-      (record {
-        earlier = [];
+      (at_rest refl (
+      record {
         later = moves.Free (address 0x1000) ∷ moves.End ∷ [];
         whole = refl;
-        earlier_ends = refl;
-        later_ends = record {
-          pieces =
-              []
-              ∷ (moves.Free (address 0x1000) ∷ moves.End ∷ [])
-              ∷ [];
-          cut = refl;
-          row = (
-            scans (record { id = 1; live = refl; not_weak = refl; scanned = inr (inr (inl (begins refl))); keeps_targets = refl }),
-            refl,
-            reclaims (record {
-              base = 0x1000;
-              freed = 0x1000 ∷ [];
-              condemned = refl;
-              in_turn = refl;
-              ascending = refl;
-              in_segment = refl;
-              whole = refl;
-            }),
-          );
-          ends = refl;
+        later_ends = to_end ([]
+            ∷ (moves.Free (address 0x1000) ∷ moves.End ∷ [])
+            ∷ []) refl
+            ((
+              scans 1 (record { live = refl; not_weak = refl; may_be_scanned = inr (refl, begins refl) }) scans_no_more,
+              refl,
+              reclaims (record {
+                base = 0x1000;
+                freed = 0x1000 ∷ [];
+                condemned = refl;
+                in_turn = refl;
+                ascending = refl;
+                in_segment = refl;
+                whole = refl;
+              }),
+            )) refl refl;
+        exact = record {
+          posts = [];
+          posted = refl;
+          exact = refl;
+          survivors = ((λ path. false_is_not_true (PathLeads-closed _ _ (1 ∷ []) refl refl path)), (begins {id = 1} refl, tt));
         };
-      })
+      }))
       refl tt refl refl refl refl refl,
   (
     answered tt (record { poll = refl; segment = refl }) refl tt refl refl refl refl refl,
     (
-      answered (record { at_address = refl; of_words = refl; of_pool = refl }, tt) refl refl tt refl refl refl refl refl,
+      answered tt refl refl tt refl refl refl refl refl,
       (
         answered tt refl refl tt refl refl refl refl refl,
         tt,

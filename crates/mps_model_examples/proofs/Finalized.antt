@@ -4,11 +4,12 @@ use Rattle.mps_model.specs.World.{World, Parked, empty_run, empty_world}
 use Rattle.mps_model.specs.History.{IsLegalFrom, IsLegalHistory, world_after_steps}
 use Rattle.mps_model.specs.Reachable.{begins}
 use Rattle.mps_model.specs.Posts.{AreWholePosts, IsWidelyReachableWith}
-use Rattle.mps_model.specs.Units.{reclaims, examines}
 use Rattle.mps_model.proofs.Reaching.{PathLeads-closed}
+use Rattle.mps_model.specs.Units.{examines, reclaims, moves_to_segment_and_posts}
 use Rattle.mps_model.proofs.Appending.{IsLegalFrom-then}
 use Rattle.mps_model_examples.specs.Script.{address}
 use Rattle.mps_model_examples.specs.Finalized.{twice_registered, PostsAreExact, waiting, FinalizedIsLegal, registering, first_message, second_message, freeing, dropped_block, tail_after}
+use Rattle.mps_model_examples.proofs.Units.{to_end, at_rest}
 use Rattle.mps_model_examples.proofs.Steps.{answered}
 
 false_is_not_true : false ≡ true → ⊥
@@ -50,10 +51,10 @@ registering_is_legal = (
       (
         answered tt refl refl tt refl refl refl refl refl,
         (
-          answered (record { placement = (refl, refl); of_pool = refl; of_generation = refl }, tt)
+          answered tt
               (record { poll = refl; segment = refl }) refl tt refl refl refl refl refl,
           (
-            answered (record { at_address = refl; of_words = refl; of_pool = refl }, tt) refl refl tt refl refl refl refl refl,
+            answered tt refl refl tt refl refl refl refl refl,
             (
               answered tt refl refl tt refl refl refl refl refl,
               (
@@ -80,47 +81,48 @@ first_message_is_legal = (
           record {
             tracing = refl;
             condemned = refl;
-            not_reachable = λ path. false_is_not_true (PathLeads-closed _ _ [] refl refl path);
+            lost = λ path. false_is_not_true (PathLeads-closed _ _ [] refl refl path);
             registered = refl;
             just_found = refl;
           },
           (
-            record { empty = refl; due = refl },
+            record { empty = refl; condemned = refl },
             (record { survivors = (inl refl, tt); copied = refl; segments = refl }, tt),
           ),
         ),
       ),
     ),
   )
-      (record {
-        earlier = [];
+      (at_rest refl (
+      record {
         later = moves.Seg (address 0x2000) 1 0 0 ∷ moves.Moved (address 0x1000) (address 0x2000) ∷ moves.Post (address 0x2000)
             ∷ moves.Unseg (address 0x1000) ∷ moves.End ∷ [];
         whole = refl;
-        earlier_ends = refl;
-        later_ends = record {
-          pieces =
-              (moves.Seg (address 0x2000) 1 0 0 ∷ moves.Moved (address 0x1000) (address 0x2000) ∷ moves.Post (address 0x2000) ∷ [])
-              ∷ (moves.Unseg (address 0x1000) ∷ moves.End ∷ [])
-              ∷ [];
-          cut = refl;
-          row = (
-            examines refl,
-            refl,
-            reclaims (record {
-              base = 0x1000;
-              freed = [];
-              condemned = refl;
-              in_turn = refl;
-              ascending = refl;
-              in_segment = refl;
-              whole =
-                  refl;
-            }),
-          );
-          ends = refl;
+        later_ends = to_end ((moves.Seg (address 0x2000) 1 0 0 ∷ moves.Moved (address 0x1000) (address 0x2000)
+            ∷ moves.Post (address 0x2000) ∷ [])
+            ∷ (moves.Unseg (address 0x1000) ∷ moves.End ∷ [])
+            ∷ []) refl
+            ((
+              examines moves_to_segment_and_posts,
+              refl,
+              reclaims (record {
+                base = 0x1000;
+                freed = [];
+                condemned = refl;
+                in_turn = refl;
+                ascending = refl;
+                in_segment = refl;
+                whole =
+                    refl;
+              }),
+            )) refl refl;
+        exact = record {
+          posts = 0 ∷ [];
+          posted = refl;
+          exact = inl ((λ path. false_is_not_true (PathLeads-closed _ _ ([]) refl refl path)), (refl, inr (begins {id = 0} refl, refl)));
+          survivors = (begins {id = 0} refl, tt);
         };
-      })
+      }))
       refl tt refl refl refl refl refl,
   (
     answered tt refl refl tt refl refl refl refl refl,
@@ -143,47 +145,48 @@ second_message_is_legal = (
           record {
             tracing = refl;
             condemned = refl;
-            not_reachable = λ path. false_is_not_true (PathLeads-closed _ _ [] refl refl path);
+            lost = λ path. false_is_not_true (PathLeads-closed _ _ [] refl refl path);
             registered = refl;
             just_found = refl;
           },
           (
-            record { empty = refl; due = refl },
+            record { empty = refl; condemned = refl },
             (record { survivors = (inl refl, tt); copied = refl; segments = refl }, tt),
           ),
         ),
       ),
     ),
   )
-      (record {
-        earlier = [];
+      (at_rest refl (
+      record {
         later = moves.Seg (address 0x1000) 1 0 0 ∷ moves.Moved (address 0x2000) (address 0x1000) ∷ moves.Post (address 0x1000)
             ∷ moves.Unseg (address 0x2000) ∷ moves.End ∷ [];
         whole = refl;
-        earlier_ends = refl;
-        later_ends = record {
-          pieces =
-              (moves.Seg (address 0x1000) 1 0 0 ∷ moves.Moved (address 0x2000) (address 0x1000) ∷ moves.Post (address 0x1000) ∷ [])
-              ∷ (moves.Unseg (address 0x2000) ∷ moves.End ∷ [])
-              ∷ [];
-          cut = refl;
-          row = (
-            examines refl,
-            refl,
-            reclaims (record {
-              base = 0x2000;
-              freed = [];
-              condemned = refl;
-              in_turn = refl;
-              ascending = refl;
-              in_segment = refl;
-              whole =
-                  refl;
-            }),
-          );
-          ends = refl;
+        later_ends = to_end ((moves.Seg (address 0x1000) 1 0 0 ∷ moves.Moved (address 0x2000) (address 0x1000)
+            ∷ moves.Post (address 0x1000) ∷ [])
+            ∷ (moves.Unseg (address 0x2000) ∷ moves.End ∷ [])
+            ∷ []) refl
+            ((
+              examines moves_to_segment_and_posts,
+              refl,
+              reclaims (record {
+                base = 0x2000;
+                freed = [];
+                condemned = refl;
+                in_turn = refl;
+                ascending = refl;
+                in_segment = refl;
+                whole =
+                    refl;
+              }),
+            )) refl refl;
+        exact = record {
+          posts = 0 ∷ [];
+          posted = refl;
+          exact = inl ((λ path. false_is_not_true (PathLeads-closed _ _ ([]) refl refl path)), (refl, refl));
+          survivors = (begins {id = 0} refl, tt);
         };
-      })
+      }))
       refl tt refl refl refl refl refl,
   (
     answered tt refl refl tt refl refl refl refl refl,
@@ -200,38 +203,39 @@ freeing_is_legal = (
         gone = record {
           condemned = refl;
           not_settled = refl;
-          not_reachable =
+          lost =
               λ path. false_is_not_true (PathLeads-closed _ _ [] refl refl path);
         };
         not_registered = refl;
       },
       (
-        record { empty = refl; due = refl },
+        record { empty = refl; condemned = refl },
         (record { survivors = tt; copied = refl; segments = refl }, tt),
       ),
     ),
   )
-      (record {
-        earlier = [];
+      (at_rest refl (
+      record {
         later = moves.Free (address 0x1000) ∷ moves.Unseg (address 0x1000) ∷ moves.End ∷ [];
         whole = refl;
-        earlier_ends = refl;
-        later_ends = record {
-          pieces = (moves.Free (address 0x1000) ∷ moves.Unseg (address 0x1000) ∷ moves.End ∷ []) ∷ [];
-          cut = refl;
-          row = reclaims (record {
-            base = 0x1000;
-            freed = 0x1000 ∷ [];
-            condemned = refl;
-            in_turn = refl;
-            ascending = refl;
-            in_segment =
-                refl;
-            whole = refl;
-          });
-          ends = refl;
+        later_ends = to_end ((moves.Free (address 0x1000) ∷ moves.Unseg (address 0x1000) ∷ moves.End ∷ []) ∷ []) refl
+            (reclaims (record {
+              base = 0x1000;
+              freed = 0x1000 ∷ [];
+              condemned = refl;
+              in_turn = refl;
+              ascending = refl;
+              in_segment =
+                  refl;
+              whole = refl;
+            })) refl refl;
+        exact = record {
+          posts = [];
+          posted = refl;
+          exact = refl;
+          survivors = ((λ path. false_is_not_true (PathLeads-closed _ _ ([]) refl refl path)), tt);
         };
-      })
+      }))
       refl tt refl refl refl refl refl,
   (
     answered tt refl refl tt refl refl refl refl refl,

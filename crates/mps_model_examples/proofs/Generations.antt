@@ -1,11 +1,13 @@
-use Rattle.std.proofs.Common.{◌≡◌, refl, [], ◌∷◌, ◌++◌, inl, inr, Some, None}
+use Rattle.std.proofs.Common.{◌≡◌, refl, [], ◌∷◌, ◌++◌, inl, Some, None}
 use Rattle.mps_base.specs.declared.moves.Move.TheVariants as moves
 use Rattle.mps_model.specs.World.{World, Unclamped, Parked, empty_run, empty_world}
 use Rattle.mps_model.specs.History.{IsLegalFrom, IsLegalHistory, world_after_steps}
-use Rattle.mps_model.specs.Units.{scans, reclaims}
+use Rattle.mps_model.specs.Units.{scans, scans_no_more, reclaims}
 use Rattle.mps_model.proofs.Appending.{IsLegalFrom-then}
+use Rattle.mps_model.specs.Reachable.{begins}
 use Rattle.mps_model_examples.specs.Script.{address, words}
 use Rattle.mps_model_examples.specs.Generations.{in_generation_zero, first_collected, second_begun, third_collected, segment_of, generations_world, tail_of_last, collection_of_both, GenerationsIsLegal}
+use Rattle.mps_model_examples.proofs.Units.{to_end}
 use Rattle.mps_model_examples.proofs.Steps.{answered}
 
 -- before the first collection, after it, and after the flip of the second
@@ -41,10 +43,10 @@ young_is_legal = (
         (
           answered tt refl refl tt refl refl refl refl refl,
           (
-            answered (record { placement = (refl, refl); of_pool = refl; of_generation = refl }, tt)
+            answered tt
                 (record { poll = refl; segment = refl }) refl tt refl refl refl refl refl,
             (
-              answered (record { at_address = refl; of_words = refl; of_pool = refl }, tt) refl refl tt refl refl refl refl refl,
+              answered tt refl refl tt refl refl refl refl refl,
               tt,
             ),
           ),
@@ -67,31 +69,26 @@ first_is_legal = (
     answered tt refl refl tt refl refl refl refl refl,
     (
       answered (
-        record { empty = refl; due = refl },
+        record { empty = refl; condemned = refl },
         (record { survivors = (inl refl, tt); copied = refl; segments = refl }, tt),
       )
-          (record {
-            pieces =
-                []
-                ∷ (moves.Unseg (address 0x1000) ∷ moves.End ∷ [])
-                ∷ [];
-            cut = refl;
-            row = (
-              scans (record { id = 0; live = refl; not_weak = refl; scanned = inr (inl refl); keeps_targets = refl }),
-              refl,
-              reclaims (record {
-                base = 0x1000;
-                freed = [];
-                condemned = refl;
-                in_turn = refl;
-                ascending = refl;
-                in_segment = refl;
-                whole =
-                    refl;
-              }),
-            );
-            ends = refl;
-          })
+          (to_end ([]
+          ∷ (moves.Unseg (address 0x1000) ∷ moves.End ∷ [])
+          ∷ []) refl
+          ((
+            scans 0 (record { live = refl; not_weak = refl; may_be_scanned = inl refl }) scans_no_more,
+            refl,
+            reclaims (record {
+              base = 0x1000;
+              freed = [];
+              condemned = refl;
+              in_turn = refl;
+              ascending = refl;
+              in_segment = refl;
+              whole =
+                  refl;
+            }),
+          )) refl refl)
           refl tt refl refl refl refl refl,
       tt,
     ),
@@ -122,7 +119,7 @@ second_is_legal = (
 third_is_legal : IsLegalFrom begun third_collected
 third_is_legal = (
   answered (
-    record { empty = refl; due = refl },
+    record { empty = refl; condemned = refl },
     (
       record { survivors = (inl refl, tt); copied = refl; segments = refl },
       (
@@ -132,7 +129,7 @@ third_is_legal = (
           (
             record { tracing = refl; condemned = refl; not_settled = refl; copying = refl; at_placement = refl },
             (
-              record { empty = refl; due = refl },
+              record { empty = refl; condemned = refl },
               (record { survivors = (inl refl, tt); copied = refl; segments = refl }, tt),
             ),
           ),
@@ -142,51 +139,46 @@ third_is_legal = (
   )
       (record {
         earlier = moves.Unseg (address 0x2000) ∷ moves.End ∷ [];
-        later = moves.Unseg (address 0x1000) ∷ moves.End ∷ [];
-        whole = refl;
-        earlier_ends = record {
-          pieces =
-              []
-              ∷ (moves.Unseg (address 0x2000) ∷ moves.End ∷ [])
-              ∷ [];
-          cut = refl;
-          row = (
-            scans (record { id = 0; live = refl; not_weak = refl; scanned = inr (inl refl); keeps_targets = refl }),
-            refl,
-            reclaims (record {
-              base = 0x2000;
-              freed = [];
-              condemned = refl;
-              in_turn = refl;
-              ascending = refl;
-              in_segment = refl;
-              whole =
-                  refl;
-            }),
-          );
-          ends = refl;
-        };
-        later_ends = record {
-          pieces =
-              []
+        full = _;
+        both = refl;
+        earlier_ends = to_end ([]
+            ∷ (moves.Unseg (address 0x2000) ∷ moves.End ∷ [])
+            ∷ []) refl
+            ((
+              scans 0 (record { live = refl; not_weak = refl; may_be_scanned = inl refl }) scans_no_more,
+              refl,
+              reclaims (record {
+                base = 0x2000;
+                freed = [];
+                condemned = refl;
+                in_turn = refl;
+                ascending = refl;
+                in_segment = refl;
+                whole =
+                    refl;
+              }),
+            )) refl refl;
+        is_full = record {
+          later = moves.Unseg (address 0x1000) ∷ moves.End ∷ [];
+          whole = refl;
+          later_ends = to_end ([]
               ∷ (moves.Unseg (address 0x1000) ∷ moves.End ∷ [])
-              ∷ [];
-          cut = refl;
-          row = (
-            scans (record { id = 0; live = refl; not_weak = refl; scanned = inr (inl refl); keeps_targets = refl }),
-            refl,
-            reclaims (record {
-              base = 0x1000;
-              freed = [];
-              condemned = refl;
-              in_turn = refl;
-              ascending = refl;
-              in_segment = refl;
-              whole =
-                  refl;
-            }),
-          );
-          ends = refl;
+              ∷ []) refl
+              ((
+                scans 0 (record { live = refl; not_weak = refl; may_be_scanned = inl refl }) scans_no_more,
+                refl,
+                reclaims (record {
+                  base = 0x1000;
+                  freed = [];
+                  condemned = refl;
+                  in_turn = refl;
+                  ascending = refl;
+                  in_segment = refl;
+                  whole =
+                      refl;
+                }),
+              )) refl refl;
+          exact = record { posts = []; posted = refl; exact = refl; survivors = (begins {id = 0} refl, tt) };
         };
       })
       refl tt refl refl refl refl refl,

@@ -1,11 +1,12 @@
-use Rattle.std.proofs.Common.{◌≡◌, refl, [], ◌∷◌, inl, inr, Some, None, arith}
+use Rattle.std.proofs.Common.{◌≡◌, refl, [], ◌∷◌, inl, Some, None, arith}
 use Rattle.mps_base.specs.declared.moves.Move.TheVariants as moves
 use Rattle.mps_model.specs.World.{World, empty_run, empty_world}
 use Rattle.mps_model.specs.History.{IsLegalFrom, IsLegalHistory, world_after_steps}
-use Rattle.mps_model.specs.Units.{scans, reclaims}
+use Rattle.mps_model.specs.Units.{scans, scans_no_more, moves_target, reclaims}
 use Rattle.mps_model.proofs.Appending.{IsLegalFrom-then}
 use Rattle.mps_model_examples.specs.Script.{address, grain_segment, words, tail}
 use Rattle.mps_model_examples.specs.Incremental.{linked, start_step, get_with_barrier, last_steps, linked_world, collection_of_linked, IncrementalIsLegal}
+use Rattle.mps_model_examples.proofs.Units.{at_most}
 use Rattle.mps_model_examples.proofs.Steps.{answered}
 
 -- before the collection, after its flip, and with both blocks moved
@@ -20,7 +21,7 @@ started =
 abbrev both_moved : World
 both_moved =
     linked_world (Some 0) (grain_segment 0x1000 0 ∷ grain_segment 0x2000 0 ∷ []) 0x2018 0x2000 empty_run (tail 1030 506) (2 ∷ [])
-    (Some (collection_of_linked (0 ∷ 1 ∷ []) (0 ∷ 1 ∷ [])))
+    (Some (collection_of_linked (0 ∷ 1 ∷ []) (1 ∷ 0 ∷ 1 ∷ [])))
 
 linked_leaves : world_after_steps empty_world linked ≡ resting
 linked_leaves = refl
@@ -41,16 +42,16 @@ linked_is_legal = (
       (
         answered tt refl refl tt refl refl refl refl refl,
         (
-          answered (record { placement = (refl, refl); of_pool = refl; of_generation = refl }, tt)
+          answered tt
               (record { poll = refl; segment = refl }) refl tt refl refl refl refl refl,
           (
-            answered (record { at_address = refl; of_words = refl; of_pool = refl }, tt) refl refl tt refl refl refl refl refl,
+            answered tt refl refl tt refl refl refl refl refl,
             (
               answered tt (record { poll = refl; segment = refl }) refl tt refl refl refl refl refl,
               (
                 answered tt refl refl tt refl refl refl refl refl,
                 (
-                  answered (record { at_address = refl; of_words = refl; of_pool = refl }, tt) refl refl tt refl refl refl refl refl,
+                  answered tt refl refl tt refl refl refl refl refl,
                   (answered tt refl refl tt refl refl refl refl refl, tt),
                 ),
               ),
@@ -77,7 +78,8 @@ start_is_legal = (
 get_is_legal : IsLegalFrom started (get_with_barrier ∷ [])
 get_is_legal = (
   answered (record { tracing = refl; condemned = refl; not_settled = refl; copying = refl; at_placement = refl }, tt)
-      (inl (record { holder = 1; in_segment = refl; scanned = inr (inl refl); refers = refl }, tt))
+      (inl (moves_target (record { holder = 1; scanned = record { in_segment = refl; may_be_scanned = inl refl }; refers = refl })
+      scans_no_more))
       refl tt refl refl refl refl refl,
   tt,
 )
@@ -85,32 +87,28 @@ get_is_legal = (
 last_is_legal : IsLegalFrom both_moved last_steps
 last_is_legal = (
   answered (
-    record { empty = refl; due = refl },
+    record { empty = refl; condemned = refl },
     (record { survivors = (inl refl, (inl refl, tt)); copied = refl; segments = refl }, tt),
   )
-      (record {
-        pieces = [] ∷ [] ∷ (moves.Unseg (address 0x1000) ∷ moves.End ∷ []) ∷ [];
-        cut = refl;
-        row = (
-          scans (record { id = 1; live = refl; not_weak = refl; scanned = inr (inl refl); keeps_targets = refl }),
+      (at_most ([] ∷ [] ∷ (moves.Unseg (address 0x1000) ∷ moves.End ∷ []) ∷ []) refl
+      ((
+        scans 1 (record { live = refl; not_weak = refl; may_be_scanned = inl refl }) scans_no_more,
+        refl,
+        (
+          scans 0 (record { live = refl; not_weak = refl; may_be_scanned = inl refl }) scans_no_more,
           refl,
-          (
-            scans (record { id = 0; live = refl; not_weak = refl; scanned = inr (inl refl); keeps_targets = refl }),
-            refl,
-            reclaims (record {
-              base = 0x1000;
-              freed = [];
-              condemned = refl;
-              in_turn = refl;
-              ascending = refl;
-              in_segment = refl;
-              whole =
-                  refl;
-            }),
-          ),
-        );
-        enough = inr (omega arith, refl);
-      })
+          reclaims (record {
+            base = 0x1000;
+            freed = [];
+            condemned = refl;
+            in_turn = refl;
+            ascending = refl;
+            in_segment = refl;
+            whole =
+                refl;
+          }),
+        ),
+      )) refl (omega arith) refl)
       refl tt refl refl refl refl refl,
   (answered tt refl refl tt refl refl refl refl refl, tt),
 )

@@ -1,5 +1,6 @@
 pub mod OneBlock
 pub mod Steps
+pub mod Units
 pub mod Copying
 pub mod Flipped
 pub mod Weak
@@ -25,5 +26,6 @@ pub mod OtherCommands
 pub mod Refusing
 pub mod WrongAnswers
 pub mod WrongMoves
+pub mod ThreeToReclaim
 pub mod WrongUnits
 pub mod Placing

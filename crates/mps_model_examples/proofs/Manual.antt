@@ -26,15 +26,9 @@ both_are_legal = (
     (
       answered tt refl refl tt refl refl refl refl refl,
       (
-        answered (
-          record { first = refl; placement = (refl, refl); of_pool = refl; of_generation = refl },
-          (record { at_placement = refl; of_words = refl; of_pool = refl }, tt),
-        ) refl refl tt refl refl refl refl refl,
+        answered tt refl refl tt refl refl refl refl refl,
         (
-          answered (
-            record { first = refl; placement = (refl, refl); of_pool = refl; of_generation = refl },
-            (record { at_placement = refl; of_words = refl; of_pool = refl }, tt),
-          ) refl refl tt refl refl refl refl refl,
+          answered tt refl refl tt refl refl refl refl refl,
           tt,
         ),
       ),
@@ -46,21 +40,18 @@ first_is_legal : IsLegalFrom both first_freed
 first_is_legal = (
   answered tt refl refl tt refl refl refl refl refl,
   (
-    answered (refl, (record { empty = refl; due = refl }, tt)) refl refl tt refl refl refl refl refl,
+    answered tt refl refl tt refl refl refl refl refl,
     (answered tt refl refl tt refl refl refl refl refl, tt),
   ),
 )
 
 sharing_is_legal : IsLegalFrom one_left sharing
 sharing_is_legal = (
-  answered (
-    record { first = refl; placement = (refl, refl); of_pool = refl; of_generation = refl },
-    (record { at_placement = refl; of_words = refl; of_pool = refl }, tt),
-  ) refl refl tt refl refl refl refl refl,
+  answered tt refl refl tt refl refl refl refl refl,
   (
-    answered (record { at_placement = refl; of_words = refl; of_pool = refl }, tt) refl refl tt refl refl refl refl refl,
+    answered tt refl refl tt refl refl refl refl refl,
     (
-      answered (refl, tt) refl refl tt refl refl refl refl refl,
+      answered tt refl refl tt refl refl refl refl refl,
       (
         answered tt refl refl tt refl refl refl refl refl,
         (

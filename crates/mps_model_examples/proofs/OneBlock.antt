@@ -12,12 +12,12 @@ one_block_is_legal = (
       (
         answered tt refl refl tt refl refl refl refl refl,
         (
-          answered ((record { placement = (refl, refl); of_pool = refl; of_generation = refl }, tt))
+          answered (tt)
               (record { poll = refl; segment = refl }) refl tt refl refl refl refl refl,
           (
             answered tt refl refl tt refl refl refl refl refl,
             (
-              answered ((record { at_address = refl; of_words = refl; of_pool = refl }, tt)) refl refl tt refl refl refl refl refl,
+              answered (tt) refl refl tt refl refl refl refl refl,
               (answered tt refl refl tt refl refl refl refl refl, tt),
             ),
           ),

@@ -16,10 +16,7 @@ made_is_legal = (
     (
       answered tt refl refl tt refl refl refl refl refl,
       (
-        answered (
-          record { first = refl; placement = (refl, refl); of_pool = refl; of_generation = refl },
-          (record { at_placement = refl; of_words = refl; of_pool = refl }, tt),
-        ) refl refl tt refl refl refl refl refl,
+        answered tt refl refl tt refl refl refl refl refl,
         tt,
       ),
     ),
@@ -28,9 +25,9 @@ made_is_legal = (
 
 again_is_legal : IsLegalFrom one_size_world place_used_again
 again_is_legal = (
-  answered (refl, tt) refl refl tt refl refl refl refl refl,
+  answered tt refl refl tt refl refl refl refl refl,
   (
-    answered (record { at_placement = refl; of_words = refl; of_pool = refl }, tt) refl refl tt refl refl refl refl refl,
+    answered tt refl refl tt refl refl refl refl refl,
     (
       answered tt refl refl tt refl refl refl refl refl,
       (

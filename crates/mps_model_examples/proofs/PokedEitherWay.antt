@@ -1,4 +1,4 @@
-use Rattle.std.proofs.Common.{◌≡◌, refl, [], ◌∷◌, ◌++◌, inl, inr, arith}
+use Rattle.std.proofs.Common.{◌≡◌, refl, [], ◌∷◌, ◌++◌, inl, arith}
 use Rattle.mps_base.specs.declared.moves.Move.TheVariants as moves
 use Rattle.mps_model.specs.World.{empty_world}
 use Rattle.mps_model.specs.Step.{History}
@@ -10,6 +10,7 @@ use Rattle.mps_model.proofs.Reaching.{PathLeads-closed}
 use Rattle.mps_model_examples.specs.Script.{address}
 use Rattle.mps_model_examples.specs.PokedEitherWay.{linked_in_place, unlinked, as_block, as_number, linked_in_place_world, unlinked_world, PokedEitherWayIsLegal}
 use Rattle.mps_model_examples.proofs.Refusing.{false_is_not_true}
+use Rattle.mps_model_examples.proofs.Units.{at_most}
 use Rattle.mps_model_examples.proofs.Steps.{answered}
 
 linked_leaves : world_after_steps empty_world linked_in_place ≡ linked_in_place_world
@@ -30,16 +31,16 @@ linked_is_legal = (
         (
           answered tt refl refl tt refl refl refl refl refl,
           (
-            answered (record { placement = (refl, refl); of_pool = refl; of_generation = refl }, tt)
+            answered tt
                 (record { poll = refl; segment = refl }) refl tt refl refl refl refl refl,
             (
-              answered (record { at_address = refl; of_words = refl; of_pool = refl }, tt) refl refl tt refl refl refl refl refl,
+              answered tt refl refl tt refl refl refl refl refl,
               (
                 answered tt (record { poll = refl; segment = refl }) refl tt refl refl refl refl refl,
                 (
                   answered tt refl refl tt refl refl refl refl refl,
                   (
-                    answered (record { at_address = refl; of_words = refl; of_pool = refl }, tt) refl refl tt refl refl refl refl refl,
+                    answered tt refl refl tt refl refl refl refl refl,
                     (
                       answered tt refl refl tt refl refl refl refl refl,
                       tt,
@@ -66,25 +67,20 @@ unlinked_is_legal = (
 
 block_is_legal : IsLegalFrom unlinked_world as_block
 block_is_legal = (
-  answered tt refl refl (inl (goes_on (begins {id = 1} refl) refl)) refl refl refl refl refl,
+  answered tt refl refl (goes_on (begins {id = 1} refl) refl) refl refl refl refl refl,
   (
     answered (record { survivors = (inl refl, (inl refl, tt)); copied = refl; segments = refl }, tt)
-        (record {
-          pieces =
-              (moves.End ∷ [])
-              ∷ [];
-          cut = refl;
-          row = reclaims (record {
-            base = 0x1000;
-            freed = [];
-            condemned = refl;
-            in_turn = refl;
-            ascending = refl;
-            in_segment = refl;
-            whole = refl;
-          });
-          enough = inr (omega arith, refl);
-        })
+        (at_most ((moves.End ∷ [])
+        ∷ []) refl
+        (reclaims (record {
+          base = 0x1000;
+          freed = [];
+          condemned = refl;
+          in_turn = refl;
+          ascending = refl;
+          in_segment = refl;
+          whole = refl;
+        })) refl (omega arith) refl)
         refl tt refl refl refl refl refl,
     (
       answered tt refl refl tt refl refl refl refl refl,
@@ -102,30 +98,25 @@ number_is_legal = (
         gone = record {
           condemned = refl;
           not_settled = refl;
-          not_reachable =
+          lost =
               λ path. false_is_not_true (PathLeads-closed _ _ (1 ∷ []) refl refl path);
         };
         not_registered = refl;
       },
       (record { survivors = (inl refl, tt); copied = refl; segments = refl }, tt),
     )
-        (record {
-          pieces =
-              (moves.Free (address 0x1000) ∷ moves.End ∷ [])
-              ∷ [];
-          cut = refl;
-          row = reclaims (record {
-            base = 0x1000;
-            freed = 0x1000 ∷ [];
-            condemned = refl;
-            in_turn = refl;
-            ascending = refl;
-            in_segment =
-                refl;
-            whole = refl;
-          });
-          enough = inr (omega arith, refl);
-        })
+        (at_most ((moves.Free (address 0x1000) ∷ moves.End ∷ [])
+        ∷ []) refl
+        (reclaims (record {
+          base = 0x1000;
+          freed = 0x1000 ∷ [];
+          condemned = refl;
+          in_turn = refl;
+          ascending = refl;
+          in_segment =
+              refl;
+          whole = refl;
+        })) refl (omega arith) refl)
         refl tt refl refl refl refl refl,
     (
       answered tt refl refl tt refl refl refl refl refl,

@@ -1,14 +1,15 @@
-use Rattle.std.proofs.Common.{◌≡◌, refl, [], ◌∷◌, ◌++◌, inl, inr, false, List, Some, None, arith}
+use Rattle.std.proofs.Common.{◌≡◌, refl, [], ◌∷◌, ◌++◌, inl, false, List, Some, None, arith}
 use Rattle.mps_base.specs.declared.moves.Move.TheVariants as moves
 use Rattle.mps_base.specs.Segment.{Segment}
 use Rattle.mps_model.specs.World.{World, Tail, Unclamped, Clamped, empty_world}
 use Rattle.mps_model.specs.History.{IsLegalFrom, IsLegalHistory, world_after_steps}
-use Rattle.mps_model.specs.Units.{scans, reclaims}
+use Rattle.mps_model.specs.Units.{scans, scans_no_more, reclaims}
 use Rattle.mps_model.proofs.Appending.{IsLegalFrom-then}
 use Rattle.mps_model.proofs.Reaching.{PathLeads-closed}
 use Rattle.mps_model_examples.specs.Script.{address, grain_segment, words, tail}
 use Rattle.mps_model_examples.specs.Polled.{clamped, released, flip_polled, grain_committed, units_polled, grain_of_cells, large_block, grain_block, small_block, large_segment, polled_graph, polled_world, polled_collection, PolledIsLegal}
 use Rattle.mps_model_examples.proofs.Refusing.{false_is_not_true}
+use Rattle.mps_model_examples.proofs.Units.{at_most}
 use Rattle.mps_model_examples.proofs.Steps.{answered}
 
 -- the arena clamped; unclamped again; with a collection and an open reservation; and with that committed
@@ -66,10 +67,10 @@ clamped_is_legal = (
         (
           answered tt refl refl tt refl refl refl refl refl,
           (
-            answered (record { placement = (refl, refl); of_pool = refl; of_generation = refl }, tt)
+            answered tt
                 (record { poll = refl; segment = refl }) refl tt refl refl refl refl refl,
             (
-              answered (record { at_address = refl; of_words = refl; of_pool = refl }, tt) refl refl tt refl refl refl refl refl,
+              answered tt refl refl tt refl refl refl refl refl,
               (answered tt refl refl tt refl refl refl refl refl, tt),
             ),
           ),
@@ -81,10 +82,10 @@ clamped_is_legal = (
 
 released_is_legal : IsLegalFrom held released
 released_is_legal = (
-  answered (record { placement = (refl, refl); of_pool = refl; of_generation = refl }, tt)
+  answered tt
       (record { poll = refl; segment = refl }) refl tt refl refl refl refl refl,
   (
-    answered (record { at_address = refl; of_words = refl; of_pool = refl }, tt) refl refl tt refl refl refl refl refl,
+    answered tt refl refl tt refl refl refl refl refl,
     (answered tt refl refl tt refl refl refl refl refl, tt),
   ),
 )
@@ -97,7 +98,7 @@ flip_is_legal = (
       record { first = refl; placement = (refl, refl); of_pool = refl; of_generation = refl },
       (
         record { tracing = refl; condemned = refl; not_settled = refl; copying = refl; at_placement = refl },
-        (record { placement = (refl, refl); of_pool = refl; of_generation = refl }, tt),
+        tt,
       ),
     ),
   )
@@ -107,7 +108,7 @@ flip_is_legal = (
 
 commit_is_legal : IsLegalFrom flipped (grain_committed ∷ [])
 commit_is_legal = (
-  answered (record { at_address = refl; of_words = refl; of_pool = refl }, tt) refl refl tt refl refl refl refl refl,
+  answered tt refl refl tt refl refl refl refl refl,
   tt,
 )
 
@@ -118,63 +119,58 @@ units_are_legal = (
       gone = record {
         condemned = refl;
         not_settled = refl;
-        not_reachable =
-            λ path. false_is_not_true (PathLeads-closed _ _ (2 ∷ []) refl refl path);
+        lost =
+            λ path. false_is_not_true (PathLeads-closed _ _ (1 ∷ 2 ∷ []) refl refl path);
       };
       not_registered = refl;
     },
     (
-      record { empty = refl; due = refl },
+      record { empty = refl; condemned = refl },
       (
-        record { empty = refl; due = refl },
+        record { empty = refl; condemned = refl },
         (
           record { survivors = (inl refl, tt); copied = refl; segments = refl },
-          (record { placement = (refl, refl); of_pool = refl; of_generation = refl }, tt),
+          tt,
         ),
       ),
     ),
   )
       (record {
-        poll = record {
-          pieces =
-              []
-              ∷ []
-              ∷ (moves.Free (address 0x1000) ∷ moves.Unseg (address 0x1000) ∷ [])
-              ∷ (moves.Unseg (address 0x3000) ∷ moves.End ∷ [])
-              ∷ [];
-          cut = refl;
-          row = (
-            scans (record { id = 1; live = refl; not_weak = refl; scanned = inr (inl refl); keeps_targets = refl }),
-            refl,
-            (
-              scans (record { id = 2; live = refl; not_weak = refl; scanned = inl refl; keeps_targets = refl }),
+        poll = at_most ([]
+            ∷ []
+            ∷ (moves.Free (address 0x1000) ∷ moves.Unseg (address 0x1000) ∷ [])
+            ∷ (moves.Unseg (address 0x3000) ∷ moves.End ∷ [])
+            ∷ []) refl
+            ((
+              scans 1 (record { live = refl; not_weak = refl; may_be_scanned = inl refl }) scans_no_more,
               refl,
               (
-                reclaims (record {
-                  base = 0x1000;
-                  freed = 0x1000 ∷ [];
-                  condemned = refl;
-                  in_turn = refl;
-                  ascending = refl;
-                  in_segment =
-                      refl;
-                  whole = refl;
-                }),
+                scans 2 (record { live = refl; not_weak = refl; may_be_scanned = inl refl }) scans_no_more,
                 refl,
-                reclaims (record {
-                  base = 0x3000;
-                  freed = [];
-                  condemned = refl;
-                  in_turn = refl;
-                  ascending = refl;
-                  in_segment = refl;
-                  whole = refl;
-                }),
+                (
+                  reclaims (record {
+                    base = 0x1000;
+                    freed = 0x1000 ∷ [];
+                    condemned = refl;
+                    in_turn = refl;
+                    ascending = refl;
+                    in_segment =
+                        refl;
+                    whole = refl;
+                  }),
+                  refl,
+                  reclaims (record {
+                    base = 0x3000;
+                    freed = [];
+                    condemned = refl;
+                    in_turn = refl;
+                    ascending = refl;
+                    in_segment = refl;
+                    whole = refl;
+                  }),
+                ),
               ),
-            ),
-          );
-          enough = inr (omega arith, refl);
-        };
+            )) refl (omega arith) refl;
         segment = refl;
       })
       refl tt refl refl refl refl refl,

@@ -1,6 +1,7 @@
-use Rattle.std.proofs.Common.{◌≡◌, refl, ◌++◌, inl, inr}
+use Rattle.std.proofs.Common.{◌≡◌, refl, ◌++◌, inl}
 use Rattle.mps_model.specs.World.{empty_world}
 use Rattle.mps_model.specs.History.{IsLegalFrom, IsLegalHistory, world_after_steps}
+use Rattle.mps_model.specs.Units.{scans_no_more, moves_target}
 use Rattle.mps_model.proofs.Appending.{IsLegalFrom-then}
 use Rattle.mps_model_examples.specs.ReadingOn.{three_in_a_row, row_started, row_read, row_world, row_started_world, ReadingOnIsLegal}
 use Rattle.mps_model_examples.proofs.Steps.{answered}
@@ -21,22 +22,22 @@ row_is_legal = (
       (
         answered tt refl refl tt refl refl refl refl refl,
         (
-          answered (record { placement = (refl, refl); of_pool = refl; of_generation = refl }, tt)
+          answered tt
               (record { poll = refl; segment = refl }) refl tt refl refl refl refl refl,
           (
-            answered (record { at_address = refl; of_words = refl; of_pool = refl }, tt) refl refl tt refl refl refl refl refl,
+            answered tt refl refl tt refl refl refl refl refl,
             (
               answered tt (record { poll = refl; segment = refl }) refl tt refl refl refl refl refl,
               (
                 answered tt refl refl tt refl refl refl refl refl,
                 (
-                  answered (record { at_address = refl; of_words = refl; of_pool = refl }, tt) refl refl tt refl refl refl refl refl,
+                  answered tt refl refl tt refl refl refl refl refl,
                   (
                     answered tt (record { poll = refl; segment = refl }) refl tt refl refl refl refl refl,
                     (
                       answered tt refl refl tt refl refl refl refl refl,
                       (
-                        answered (record { at_address = refl; of_words = refl; of_pool = refl }, tt) refl refl tt refl refl refl refl refl,
+                        answered tt refl refl tt refl refl refl refl refl,
                         (
                           answered tt refl refl tt refl refl refl refl refl,
                           tt,
@@ -71,12 +72,11 @@ read_is_legal = (
   answered (
     record { tracing = refl; condemned = refl; not_settled = refl; copying = refl; at_placement = refl },
     (record { tracing = refl; condemned = refl; not_settled = refl; copying = refl; at_placement = refl }, tt),
-  ) (inl (
-    record { holder = 2; in_segment = refl; scanned = inr (inl refl); refers = refl },
-    (record { holder = 1; in_segment = refl; scanned = inr (inl refl); refers = refl }, tt),
-  )) refl tt refl refl refl refl refl,
+  ) (inl (moves_target (record { holder = 2; scanned = record { in_segment = refl; may_be_scanned = inl refl }; refers = refl })
+      (moves_target (record { holder = 1; scanned = record { in_segment = refl; may_be_scanned = inl refl }; refers = refl }) scans_no_more)
+      )) refl tt refl refl refl refl refl,
   (
-    answered tt (inl tt) refl tt refl refl refl refl refl,
+    answered tt (inl scans_no_more) refl tt refl refl refl refl refl,
     (
       answered tt refl refl tt refl refl refl refl refl,
       tt,

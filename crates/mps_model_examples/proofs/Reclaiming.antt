@@ -1,4 +1,4 @@
-use Rattle.std.proofs.Common.{◌≡◌, refl, [], ◌∷◌, ◌++◌, inl, Some, None}
+use Rattle.std.proofs.Common.{◌≡◌, refl, [], ◌∷◌, ◌++◌, Some, None}
 use Rattle.mps_base.specs.declared.moves.Move.TheVariants as moves
 use Rattle.mps_model.specs.Collection.{Tracing, Reclaiming}
 use Rattle.mps_model.specs.World.{World, empty_world}
@@ -9,6 +9,7 @@ use Rattle.mps_model.proofs.Reaching.{PathLeads-closed}
 use Rattle.mps_model_examples.specs.Script.{address, grain_segment}
 use Rattle.mps_model_examples.specs.Reclaiming.{two_to_reclaim, lower_first, upper_last, dropped_world, collection_of_dropped, ReclaimingIsLegal}
 use Rattle.mps_model_examples.proofs.Refusing.{false_is_not_true}
+use Rattle.mps_model_examples.proofs.Units.{exactly}
 use Rattle.mps_model_examples.proofs.Steps.{answered}
 
 -- a collection was begun; and one segment is reclaimed
@@ -41,15 +42,15 @@ begin_is_legal = (
           (
             answered tt refl refl tt refl refl refl refl refl,
             (
-              answered (record { placement = (refl, refl); of_pool = refl; of_generation = refl }, tt)
+              answered tt
                   (record { poll = refl; segment = refl }) refl tt refl refl refl refl refl,
               (
-                answered (record { at_address = refl; of_words = refl; of_pool = refl }, tt) refl refl tt refl refl refl refl refl,
+                answered tt refl refl tt refl refl refl refl refl,
                 (
-                  answered (record { placement = (refl, refl); of_pool = refl; of_generation = refl }, tt)
+                  answered tt
                       (record { poll = refl; segment = refl }) refl tt refl refl refl refl refl,
                   (
-                    answered (record { at_address = refl; of_words = refl; of_pool = refl }, tt) refl refl tt refl refl refl refl refl,
+                    answered tt refl refl tt refl refl refl refl refl,
                     (
                       answered tt refl refl tt refl refl refl refl refl,
                       (
@@ -75,28 +76,24 @@ lower_is_legal = (
       gone = record {
         condemned = refl;
         not_settled = refl;
-        not_reachable =
+        lost =
             λ path. false_is_not_true (PathLeads-closed _ _ [] refl refl path);
       };
       not_registered = refl;
     },
-    (record { empty = refl; due = refl }, tt),
+    (record { empty = refl; condemned = refl }, tt),
   )
-      (record {
-        pieces = (moves.Free (address 0x1000) ∷ moves.Unseg (address 0x1000) ∷ []) ∷ [];
-        cut = refl;
-        row = reclaims (record {
-          base = 0x1000;
-          freed = 0x1000 ∷ [];
-          condemned = refl;
-          in_turn = refl;
-          ascending = refl;
-          in_segment =
-              refl;
-          whole = refl;
-        });
-        enough = inl refl;
-      })
+      (exactly ((moves.Free (address 0x1000) ∷ moves.Unseg (address 0x1000) ∷ []) ∷ []) refl
+      (reclaims (record {
+        base = 0x1000;
+        freed = 0x1000 ∷ [];
+        condemned = refl;
+        in_turn = refl;
+        ascending = refl;
+        in_segment =
+            refl;
+        whole = refl;
+      })) refl refl)
       refl tt refl refl refl refl refl,
   (
     answered tt refl refl tt refl refl refl refl refl,
@@ -117,28 +114,24 @@ upper_is_legal = (
       gone = record {
         condemned = refl;
         not_settled = refl;
-        not_reachable =
+        lost =
             λ path. false_is_not_true (PathLeads-closed _ _ [] refl refl path);
       };
       not_registered = refl;
     },
-    (record { empty = refl; due = refl }, (record { survivors = tt; copied = refl; segments = refl }, tt)),
+    (record { empty = refl; condemned = refl }, (record { survivors = tt; copied = refl; segments = refl }, tt)),
   )
-      (record {
-        pieces = (moves.Free (address 0x2000) ∷ moves.Unseg (address 0x2000) ∷ moves.End ∷ []) ∷ [];
-        cut = refl;
-        row = reclaims (record {
-          base = 0x2000;
-          freed = 0x2000 ∷ [];
-          condemned = refl;
-          in_turn = refl;
-          ascending = refl;
-          in_segment =
-              refl;
-          whole = refl;
-        });
-        enough = inl refl;
-      })
+      (exactly ((moves.Free (address 0x2000) ∷ moves.Unseg (address 0x2000) ∷ moves.End ∷ []) ∷ []) refl
+      (reclaims (record {
+        base = 0x2000;
+        freed = 0x2000 ∷ [];
+        condemned = refl;
+        in_turn = refl;
+        ascending = refl;
+        in_segment =
+            refl;
+        whole = refl;
+      })) refl refl)
       refl tt refl refl refl refl refl,
   (
     answered tt refl refl tt refl refl refl refl refl,

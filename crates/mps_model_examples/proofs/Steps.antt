@@ -8,9 +8,9 @@ use Rattle.mps_model.specs.Graph.{ids_of_client, ids_in_blocks, targets}
 use Rattle.mps_model.specs.World.{World, is_live, is_running, live_ids}
 use Rattle.mps_model.specs.Reply.{reply_to}
 use Rattle.mps_model.specs.LegalMove.{AreLegalMoves}
-use Rattle.mps_model.specs.History.{AreMovesOf, IsAnsweredStep, IsPossiblyMarked, judged_world, moved_world, world_after, are_held_kept, has_units_left}
+use Rattle.mps_model.specs.History.{AreMovesOf, moves_of_collector, IsAnsweredStep, IsPossiblyMarked, judged_world, moved_world, world_after, are_held_kept, has_units_left}
 
-pub answered : {w : World} {s : Step} → AreLegalMoves s.call w None s.moves → AreMovesOf w s.call s.answer s.moves
+pub answered : {w : World} {s : Step} → AreLegalMoves w None (moves_of_collector s.call s.moves) → AreMovesOf w s.call s.answer s.moves
     → s.answer ≡ reply_to (is_block s.answer) (judged_world w s.call s.moves) (moved_world w s.call s.moves) s.call
     → IsPossiblyMarked w s.call s.answer → IsTrue (list_all (is_live (world_after w s)) (ids_of_client (world_after w s).graph))
     → IsTrue (list_all (is_live (world_after w s)) (ids_in_blocks (world_after w s).graph))

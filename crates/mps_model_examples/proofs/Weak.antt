@@ -1,13 +1,14 @@
-use Rattle.std.proofs.Common.{◌≡◌, refl, [], ◌∷◌, ◌++◌, inl, inr, true, false, Some, None}
+use Rattle.std.proofs.Common.{◌≡◌, refl, [], ◌∷◌, ◌++◌, inr, true, false, Some, None}
 use Rattle.mps_model.specs.World.{World, Unclamped, Parked, empty_world}
 use Rattle.mps_model.specs.History.{IsLegalFrom, IsLegalHistory, world_after_steps}
+use Rattle.mps_model.specs.Units.{splats, reclaims}
 use Rattle.mps_model.proofs.Appending.{IsLegalFrom-then}
 use Rattle.mps_base.specs.declared.moves.Move.TheVariants as moves
 use Rattle.mps_model.specs.Reachable.{begins}
-use Rattle.mps_model.specs.Units.{reclaims, splats_one}
 use Rattle.mps_model.proofs.Reaching.{PathLeads-closed}
 use Rattle.mps_model_examples.specs.Script.{address}
 use Rattle.mps_model_examples.specs.Weak.{WeakIsLegal, weak_world, weak_pair, target_dropped, splatted}
+use Rattle.mps_model_examples.proofs.Units.{to_end, at_rest}
 use Rattle.mps_model_examples.proofs.Steps.{answered}
 
 false_is_not_true : false ≡ true → ⊥
@@ -39,17 +40,17 @@ pair_is_legal = (
         (
           answered tt refl refl tt refl refl refl refl refl,
           (
-            answered (record { placement = (refl, refl); of_pool = refl; of_generation = refl }, tt)
+            answered tt
                 (record { poll = refl; segment = refl }) refl tt refl refl refl refl refl,
             (
-              answered (record { at_address = refl; of_words = refl; of_pool = refl }, tt) refl refl tt refl refl refl refl refl,
+              answered tt refl refl tt refl refl refl refl refl,
               (
-                answered (record { placement = (refl, refl); of_pool = refl; of_generation = refl }, tt)
+                answered tt
                     (record { poll = refl; segment = refl }) refl tt refl refl refl refl refl,
                 (
                   answered tt refl refl tt refl refl refl refl refl,
                   (
-                    answered (record { at_address = refl; of_words = refl; of_pool = refl }, tt) refl refl tt refl refl refl refl refl,
+                    answered tt refl refl tt refl refl refl refl refl,
                     tt,
                   ),
                 ),
@@ -66,28 +67,24 @@ dropped_is_legal : IsLegalFrom held_world target_dropped
 dropped_is_legal = (
   answered (
     record { none_runs = refl; of_zones = refl },
-    (record { survivors = (inr (inl (begins refl)), (inr (inl (begins refl)), tt)); copied = refl; segments = refl }, tt),
+    (record { survivors = (inr (begins refl), (inr (begins refl), tt)); copied = refl; segments = refl }, tt),
   )
-      (record {
-        earlier = [];
+      (at_rest refl (
+      record {
         later = moves.End ∷ [];
         whole = refl;
-        earlier_ends = refl;
-        later_ends = record {
-          pieces = (moves.End ∷ []) ∷ [];
-          cut = refl;
-          row = reclaims (record {
-            base = 0x2000;
-            freed = [];
-            condemned = refl;
-            in_turn = refl;
-            ascending = refl;
-            in_segment = refl;
-            whole = refl;
-          });
-          ends = refl;
-        };
-      })
+        later_ends = to_end ((moves.End ∷ []) ∷ []) refl
+            (reclaims (record {
+              base = 0x2000;
+              freed = [];
+              condemned = refl;
+              in_turn = refl;
+              ascending = refl;
+              in_segment = refl;
+              whole = refl;
+            })) refl refl;
+        exact = record { posts = []; posted = refl; exact = refl; survivors = (begins refl, (begins refl, tt)) };
+      }))
       refl tt refl refl refl refl refl,
   (
     answered tt refl refl tt refl refl refl refl refl,
@@ -112,11 +109,11 @@ splatted_is_legal = (
       record {
         phase = refl;
         weak = refl;
-        scanned = inr (inr (inl (begins refl)));
+        scanned = inr (refl, begins refl);
         target_is_gone = record {
           condemned = refl;
           not_settled = refl;
-          not_reachable =
+          lost =
               λ path. false_is_not_true (PathLeads-closed _ _ (1 ∷ []) refl refl path);
         };
       },
@@ -125,60 +122,60 @@ splatted_is_legal = (
           gone = record {
             condemned = refl;
             not_settled = refl;
-            not_reachable =
+            lost =
                 λ path. false_is_not_true (PathLeads-closed _ _ (1 ∷ []) refl refl path);
           };
           not_registered = refl;
         },
         (
-          record { empty = refl; due = refl },
-          (record { survivors = (inr (inl (begins refl)), tt); copied = refl; segments = refl }, tt),
+          record { empty = refl; condemned = refl },
+          (record { survivors = (inr (begins refl), tt); copied = refl; segments = refl }, tt),
         ),
       ),
     ),
   )
-      (record {
-        earlier = [];
+      (at_rest refl (
+      record {
         later = moves.Splat (address 0x2000) 1 ∷ moves.Free (address 0x1000) ∷ moves.Unseg (address 0x1000) ∷ moves.End ∷ [];
         whole = refl;
-        earlier_ends = refl;
-        later_ends = record {
-          pieces =
-              (moves.Splat (address 0x2000) 1 ∷ [])
-              ∷ (moves.Free (address 0x1000) ∷ moves.Unseg (address 0x1000) ∷ [])
-              ∷ (moves.End ∷ [])
-              ∷ [];
-          cut = refl;
-          row = (
-            splats_one (0x2000, refl),
-            refl,
-            (
-              reclaims (record {
-                base = 0x1000;
-                freed = 0x1000 ∷ [];
-                condemned = refl;
-                in_turn = refl;
-                ascending = refl;
-                in_segment =
-                    refl;
-                whole = refl;
-              }),
+        later_ends = to_end ((moves.Splat (address 0x2000) 1 ∷ [])
+            ∷ (moves.Free (address 0x1000) ∷ moves.Unseg (address 0x1000) ∷ [])
+            ∷ (moves.End ∷ [])
+            ∷ []) refl
+            ((
+              splats (address 0x2000) (1 ∷ []) refl,
               refl,
-              reclaims (record {
-                base = 0x2000;
-                freed = [];
-                condemned = refl;
-                in_turn = refl;
-                ascending = refl;
-                in_segment = refl;
-                whole =
-                    refl;
-              }),
-            ),
-          );
-          ends = refl;
+              (
+                reclaims (record {
+                  base = 0x1000;
+                  freed = 0x1000 ∷ [];
+                  condemned = refl;
+                  in_turn = refl;
+                  ascending = refl;
+                  in_segment =
+                      refl;
+                  whole = refl;
+                }),
+                refl,
+                reclaims (record {
+                  base = 0x2000;
+                  freed = [];
+                  condemned = refl;
+                  in_turn = refl;
+                  ascending = refl;
+                  in_segment = refl;
+                  whole =
+                      refl;
+                }),
+              ),
+            )) refl refl;
+        exact = record {
+          posts = [];
+          posted = refl;
+          exact = refl;
+          survivors = ((λ path. false_is_not_true (PathLeads-closed _ _ (1 ∷ []) refl refl path)), (begins refl, tt));
         };
-      })
+      }))
       refl tt refl refl refl refl refl,
   (
     answered tt refl refl tt refl refl refl refl refl,

@@ -4,12 +4,13 @@ use Rattle.mps_model.specs.Collection.{Tracing, Splatting}
 use Rattle.mps_model.specs.World.{World, empty_world}
 use Rattle.mps_model.specs.Step.{History}
 use Rattle.mps_model.specs.History.{IsLegalFrom, IsLegalHistory, world_after_steps}
-use Rattle.mps_model.specs.Units.{scans, reclaims}
+use Rattle.mps_model.specs.Units.{scans, scans_no_more, moves_target_to_segment, reclaims}
 use Rattle.mps_model.proofs.Appending.{IsLegalFrom-then}
 use Rattle.mps_model.proofs.Reaching.{PathLeads-closed}
 use Rattle.mps_model_examples.specs.Script.{address, grain_segment, tail}
 use Rattle.mps_model_examples.specs.WeakReadEitherWay.{weakly_held, read_moving, kept, read_splatting, gone, weakly_graph, weak_segment, weakly_world, WeakReadEitherWayIsLegal}
 use Rattle.mps_model_examples.proofs.Refusing.{false_is_not_true}
+use Rattle.mps_model_examples.proofs.Units.{at_most}
 use Rattle.mps_model_examples.proofs.Steps.{answered}
 
 -- a collection was begun; then the block was moved; or the reference was splatted
@@ -20,10 +21,10 @@ abbrev moved : World
 moved =
     weakly_world (weakly_graph (Some 0) (Some 0)) (grain_segment 0x1000 0 ∷ weak_segment ∷ grain_segment 0x3000 0 ∷ []) 0x3000
     (tail 1538 510)
-    (0 ∷ []) (0 ∷ 1 ∷ []) Tracing
+    (0 ∷ []) (0 ∷ 1 ∷ 1 ∷ []) Tracing
 
 abbrev splatted : World
-splatted = weakly_world (weakly_graph None None) (grain_segment 0x1000 0 ∷ weak_segment ∷ []) 0x1000 [] [] (1 ∷ []) Splatting
+splatted = weakly_world (weakly_graph None None) (grain_segment 0x1000 0 ∷ weak_segment ∷ []) 0x1000 [] [] (1 ∷ 1 ∷ []) Splatting
 
 begin_leaves : world_after_steps empty_world weakly_held ≡ begun
 begin_leaves = refl
@@ -48,17 +49,17 @@ begin_is_legal = (
           (
             answered tt refl refl tt refl refl refl refl refl,
             (
-              answered (record { placement = (refl, refl); of_pool = refl; of_generation = refl }, tt)
+              answered tt
                   (record { poll = refl; segment = refl }) refl tt refl refl refl refl refl,
               (
-                answered (record { at_address = refl; of_words = refl; of_pool = refl }, tt) refl refl tt refl refl refl refl refl,
+                answered tt refl refl tt refl refl refl refl refl,
                 (
-                  answered (record { placement = (refl, refl); of_pool = refl; of_generation = refl }, tt)
+                  answered tt
                       (record { poll = refl; segment = refl }) refl tt refl refl refl refl refl,
                   (
                     answered tt refl refl tt refl refl refl refl refl,
                     (
-                      answered (record { at_address = refl; of_words = refl; of_pool = refl }, tt) refl refl tt refl refl refl refl refl,
+                      answered tt refl refl tt refl refl refl refl refl,
                       (
                         answered tt refl refl tt refl refl refl refl refl,
                         (
@@ -83,7 +84,10 @@ moved_is_legal = (
   answered (
     record { first = refl; placement = (refl, refl); of_pool = refl; of_generation = refl },
     (record { tracing = refl; condemned = refl; not_settled = refl; copying = refl; at_placement = refl }, tt),
-  ) (inl (refl, (record { holder = 1; in_segment = refl; scanned = inr (inl refl); refers = refl }, tt))) refl tt refl refl refl refl refl,
+  )
+      (inl (moves_target_to_segment
+      (record { holder = 1; scanned = record { in_segment = refl; may_be_scanned = inl refl }; refers = refl }) scans_no_more))
+      refl tt refl refl refl refl refl,
   tt,
 )
 
@@ -92,45 +96,40 @@ kept_is_legal = (
   answered tt refl refl tt refl refl refl refl refl,
   (
     answered (
-      record { empty = refl; due = refl },
+      record { empty = refl; condemned = refl },
       (record { survivors = (inl refl, (inl refl, tt)); copied = refl; segments = refl }, tt),
     )
-        (record {
-          pieces =
-              []
-              ∷ (moves.Unseg (address 0x1000) ∷ [])
-              ∷ (moves.End ∷ [])
-              ∷ [];
-          cut = refl;
-          row = (
-            scans (record { id = 0; live = refl; not_weak = refl; scanned = inr (inl refl); keeps_targets = refl }),
+        (at_most ([]
+        ∷ (moves.Unseg (address 0x1000) ∷ [])
+        ∷ (moves.End ∷ [])
+        ∷ []) refl
+        ((
+          scans 0 (record { live = refl; not_weak = refl; may_be_scanned = inl refl }) scans_no_more,
+          refl,
+          (
+            reclaims (record {
+              base = 0x1000;
+              freed = [];
+              condemned = refl;
+              in_turn = refl;
+              ascending = refl;
+              in_segment = refl;
+              whole =
+                  refl;
+            }),
             refl,
-            (
-              reclaims (record {
-                base = 0x1000;
-                freed = [];
-                condemned = refl;
-                in_turn = refl;
-                ascending = refl;
-                in_segment = refl;
-                whole =
-                    refl;
-              }),
-              refl,
-              reclaims (record {
-                base = 0x2000;
-                freed = [];
-                condemned = refl;
-                in_turn = refl;
-                ascending = refl;
-                in_segment = refl;
-                whole =
-                    refl;
-              }),
-            ),
-          );
-          enough = inr (omega arith, refl);
-        })
+            reclaims (record {
+              base = 0x2000;
+              freed = [];
+              condemned = refl;
+              in_turn = refl;
+              ascending = refl;
+              in_segment = refl;
+              whole =
+                  refl;
+            }),
+          ),
+        )) refl (omega arith) refl)
         refl tt refl refl refl refl refl,
     tt,
   ),
@@ -142,11 +141,11 @@ splatted_is_legal = (
     record {
       phase = refl;
       weak = refl;
-      scanned = inr (inl refl);
+      scanned = inl refl;
       target_is_gone = record {
         condemned = refl;
         not_settled = refl;
-        not_reachable =
+        lost =
             λ path. false_is_not_true (PathLeads-closed _ _ (1 ∷ []) refl refl path);
       };
     },
@@ -164,46 +163,41 @@ gone_is_legal = (
         gone = record {
           condemned = refl;
           not_settled = refl;
-          not_reachable =
+          lost =
               λ path. false_is_not_true (PathLeads-closed _ _ (1 ∷ []) refl refl path);
         };
         not_registered = refl;
       },
       (
-        record { empty = refl; due = refl },
+        record { empty = refl; condemned = refl },
         (record { survivors = (inl refl, tt); copied = refl; segments = refl }, tt),
       ),
     )
-        (record {
-          pieces =
-              (moves.Free (address 0x1000) ∷ moves.Unseg (address 0x1000) ∷ [])
-              ∷ (moves.End ∷ [])
-              ∷ [];
-          cut = refl;
-          row = (
-            reclaims (record {
-              base = 0x1000;
-              freed = 0x1000 ∷ [];
-              condemned = refl;
-              in_turn = refl;
-              ascending = refl;
-              in_segment = refl;
-              whole = refl;
-            }),
-            refl,
-            reclaims (record {
-              base = 0x2000;
-              freed = [];
-              condemned = refl;
-              in_turn = refl;
-              ascending = refl;
-              in_segment = refl;
-              whole =
-                  refl;
-            }),
-          );
-          enough = inr (omega arith, refl);
-        })
+        (at_most ((moves.Free (address 0x1000) ∷ moves.Unseg (address 0x1000) ∷ [])
+        ∷ (moves.End ∷ [])
+        ∷ []) refl
+        ((
+          reclaims (record {
+            base = 0x1000;
+            freed = 0x1000 ∷ [];
+            condemned = refl;
+            in_turn = refl;
+            ascending = refl;
+            in_segment = refl;
+            whole = refl;
+          }),
+          refl,
+          reclaims (record {
+            base = 0x2000;
+            freed = [];
+            condemned = refl;
+            in_turn = refl;
+            ascending = refl;
+            in_segment = refl;
+            whole =
+                refl;
+          }),
+        )) refl (omega arith) refl)
         refl tt refl refl refl refl refl,
     tt,
   ),

@@ -16,7 +16,7 @@ use Rattle.mps_model.specs.History.{world_after_steps}
 
 pub splat_of_reachable : SplatOfReachable
 splat_of_reachable = cannot_follow_from held_world weak_pair splat_of_held pair_leaves
-    (λ s. s.moves_are_legal.1.0.target_is_gone.not_reachable (begins {id = 0} refl))
+    (λ s. s.moves_are_legal.1.0.target_is_gone.lost (begins {id = 0} refl))
 
 pub two_posts_for_one : TwoPostsForOne
 two_posts_for_one = cannot_follow one_registration two_posts (λ s. s.moves_are_legal.1.1.1.1.0.registered)
@@ -26,7 +26,7 @@ move_of_pinned = cannot_follow poked_history steps.move_of_pinned (λ s. false_i
 
 pub free_of_waiting : FreeOfWaiting
 free_of_waiting = cannot_follow_from waiting_world waiting steps.free_of_waiting waiting_leaves
-    (λ s. s.moves_are_legal.1.0.gone.not_reachable (begins {id = 0} refl))
+    (λ s. s.moves_are_legal.1.0.gone.lost (begins {id = 0} refl))
 
 pub stay_beside_room : StayBesideRoom
 stay_beside_room = cannot_follow one_block steps.stay_beside_room (λ s. false_is_not_true s.moves_are_legal.1.0.no_room)
@@ -38,10 +38,9 @@ unreachable_leaves : world_after_steps empty_world unreachable ≡ unreachable_w
 unreachable_leaves = refl
 
 -- neither settled nor linked
-gone : {P : Type 0} → (false ≡ true) ⊎ (P ⊎ ⊥) → (P → ⊥) → ⊥
+gone : {P : Type 0} → (false ≡ true) ⊎ P → (P → ⊥) → ⊥
 gone (inl h) refuted = false_is_not_true h
-gone (inr (inl path)) refuted = refuted path
-gone (inr (inr none)) refuted = none
+gone (inr path) refuted = refuted path
 
 pub unknown_free : UnknownFree
 unknown_free =

@@ -69,6 +69,11 @@ weak_and_linked_world = record {
         ∷ [];
     registered = [];
     messages = [];
+    labels = [];
+    dependents = [];
+    transforms = [];
+    caches = [];
+    frames = [];
     names =
         record { name = t; thing = TableThing 0 }
         ∷ record { name = p; thing = PoolThing 0 }

@@ -58,6 +58,11 @@ registered_graph held = record {
   points = Some (record { pool = 0; rank = rank.Exact; reservation = None }) ∷ [];
   registered = 0 ∷ [];
   messages = [];
+  labels = [];
+  dependents = [];
+  transforms = [];
+  caches = [];
+  frames = [];
   names =
       record { name = t; thing = TableThing 0 }
       ∷ record { name = p; thing = PoolThing 0 }
@@ -91,8 +96,9 @@ collection_of_registered = record {
   condemned = 0 ∷ [];
   pinned = [];
   placed = 0 ∷ [];
-  had = 0 ∷ [];
-  origins = record { graph = registered_graph (Some 0); ids = 0 ∷ [] } ∷ [];
+  had = 0 ∷ 0 ∷ 0 ∷ [];
+  graph_at_flip = registered_graph (Some 0);
+  origins = 0 ∷ [];
   registered_before = 0;
   examined = 0;
   phase = Tracing;

@@ -58,6 +58,11 @@ world_of_grain objects held addresses reserved_at = record {
     points = Some (record { pool = 0; rank = rank.Exact; reservation = None }) ∷ [];
     registered = [];
     messages = [];
+    labels = [];
+    dependents = [];
+    transforms = [];
+    caches = [];
+    frames = [];
     names =
         record { name = t; thing = TableThing 0 }
         ∷ record { name = p; thing = PoolThing 0 }

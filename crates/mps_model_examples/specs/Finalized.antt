@@ -81,6 +81,11 @@ dropped_block registered messages place buffer tails flips state = record {
     points = Some (record { pool = 0; rank = rank.Exact; reservation = None }) ∷ [];
     registered = registered;
     messages = messages;
+    labels = [];
+    dependents = [];
+    transforms = [];
+    caches = [];
+    frames = [];
     names =
         record { name = t; thing = TableThing 0 }
         ∷ record { name = p; thing = PoolThing 0 }

@@ -80,6 +80,11 @@ generations_graph = record {
   points = Some (record { pool = 0; rank = rank.Exact; reservation = None }) ∷ [];
   registered = [];
   messages = [];
+  labels = [];
+  dependents = [];
+  transforms = [];
+  caches = [];
+  frames = [];
   names =
       record { name = q; thing = ChainThing 0 }
       ∷ record { name = p; thing = PoolThing 0 }
@@ -120,7 +125,8 @@ collection_of_both = record {
   pinned = [];
   placed = 0 ∷ [];
   had = 0 ∷ [];
-  origins = record { graph = generations_graph; ids = 0 ∷ [] } ∷ [];
+  graph_at_flip = generations_graph;
+  origins = 0 ∷ [];
   registered_before = 0;
   examined = 0;
   phase = Tracing;

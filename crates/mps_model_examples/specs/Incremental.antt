@@ -69,6 +69,11 @@ linked_graph second = record {
   points = Some (record { pool = 0; rank = rank.Exact; reservation = None }) ∷ [];
   registered = [];
   messages = [];
+  labels = [];
+  dependents = [];
+  transforms = [];
+  caches = [];
+  frames = [];
   names =
       record { name = t; thing = TableThing 0 }
       ∷ record { name = p; thing = PoolThing 0 }
@@ -104,7 +109,8 @@ collection_of_linked placed had = record {
   pinned = [];
   placed = placed;
   had = had;
-  origins = record { graph = linked_graph None; ids = 1 ∷ [] } ∷ [];
+  graph_at_flip = linked_graph None;
+  origins = 1 ∷ [];
   registered_before = 0;
   examined = 0;
   phase = Tracing;

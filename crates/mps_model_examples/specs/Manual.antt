@@ -59,6 +59,11 @@ blocks_world first segments place = record {
     points = [];
     registered = [];
     messages = [];
+    labels = [];
+    dependents = [];
+    transforms = [];
+    caches = [];
+    frames = [];
     names = record { name = v; thing = PoolThing 0 } ∷ record { name = b; thing = BlocksThing 0 } ∷ [];
   };
   grains = 3;

@@ -42,6 +42,11 @@ one_size_world = record {
     points = [];
     registered = [];
     messages = [];
+    labels = [];
+    dependents = [];
+    transforms = [];
+    caches = [];
+    frames = [];
     names = record { name = v; thing = PoolThing 0 } ∷ record { name = b; thing = BlocksThing 0 } ∷ [];
   };
   grains = 8;

@@ -81,6 +81,11 @@ mapped_world cells second area = record {
     points = Some (record { pool = 0; rank = rank.Exact; reservation = None }) ∷ [];
     registered = [];
     messages = [];
+    labels = [];
+    dependents = [];
+    transforms = [];
+    caches = [];
+    frames = [];
     names =
         record { name = t; thing = TableThing 0 }
         ∷ record { name = a; thing = AreaThing 0 }

@@ -68,6 +68,11 @@ graph_in_place target = record {
   points = Some (record { pool = 0; rank = rank.Exact; reservation = None }) ∷ [];
   registered = [];
   messages = [];
+  labels = [];
+  dependents = [];
+  transforms = [];
+  caches = [];
+  frames = [];
   names =
       record { name = t; thing = TableThing 0 }
       ∷ record { name = a; thing = AreaThing 0 }
@@ -108,8 +113,9 @@ unlinked_world = record linked_in_place_world {
     condemned = 0 ∷ 1 ∷ [];
     pinned = [];
     placed = [];
-    had = 1 ∷ [];
-    origins = record { graph = graph_in_place (Some 0); ids = 1 ∷ [] } ∷ [];
+    had = 1 ∷ 1 ∷ [];
+    graph_at_flip = graph_in_place (Some 0);
+    origins = 1 ∷ [];
     registered_before = 0;
     examined = 0;
     phase = Tracing;

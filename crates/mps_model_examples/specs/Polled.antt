@@ -93,6 +93,11 @@ polled_graph objects held reservation = record {
   points = Some (record { pool = 0; rank = rank.Exact; reservation = reservation }) ∷ [];
   registered = [];
   messages = [];
+  labels = [];
+  dependents = [];
+  transforms = [];
+  caches = [];
+  frames = [];
   names =
       record { name = q; thing = ChainThing 0 }
       ∷ record { name = p; thing = PoolThing 0 }
@@ -133,7 +138,8 @@ polled_collection had = record {
   pinned = [];
   placed = 1 ∷ [];
   had = had;
-  origins = record { graph = polled_graph (large_block ∷ small_block ∷ []) 1 None; ids = 1 ∷ [] } ∷ [];
+  graph_at_flip = polled_graph (large_block ∷ small_block ∷ []) 1 None;
+  origins = 1 ∷ [];
   registered_before = 0;
   examined = 0;
   phase = Tracing;

@@ -59,6 +59,11 @@ row_graph = record {
   points = Some (record { pool = 0; rank = rank.Exact; reservation = None }) ∷ [];
   registered = [];
   messages = [];
+  labels = [];
+  dependents = [];
+  transforms = [];
+  caches = [];
+  frames = [];
   names =
       record { name = t; thing = TableThing 0 }
       ∷ record { name = p; thing = PoolThing 0 }
@@ -85,10 +90,10 @@ row_world = record {
   collection = None;
 }
 
--- the world while the collection runs, with the places of the blocks, what is at hand after them, which were moved, and the
--- units asked of it
-abbrev pub row_collected : (addresses : List (Option ℕ)) → List Tail → (placed : List ℕ) → (spent : ℕ) → World
-row_collected addresses tails placed spent = record row_world {
+-- the world while the collection runs, with the places of the blocks, what is at hand after them, which were moved, which
+-- the client had, and the units asked of it
+abbrev pub row_collected : (addresses : List (Option ℕ)) → List Tail → (placed had : List ℕ) → (spent : ℕ) → World
+row_collected addresses tails placed had spent = record row_world {
   segments = grain_segment 0x1000 0 ∷ grain_segment 0x2000 0 ∷ [];
   addresses = addresses;
   point_memories = record { reserved_at = 0x1030; buffer = empty_run } ∷ [];
@@ -99,8 +104,9 @@ row_collected addresses tails placed spent = record row_world {
     condemned = 0 ∷ 1 ∷ 2 ∷ [];
     pinned = [];
     placed = placed;
-    had = 2 ∷ [];
-    origins = record { graph = row_graph; ids = 2 ∷ [] } ∷ [];
+    had = had;
+    graph_at_flip = row_graph;
+    origins = 2 ∷ [];
     registered_before = 0;
     examined = 0;
     phase = Tracing;
@@ -112,7 +118,7 @@ row_collected addresses tails placed spent = record row_world {
 
 -- the world after its flip
 abbrev pub row_started_world : World
-row_started_world = row_collected (Some 0x1000 ∷ Some 0x1018 ∷ Some 0x2000 ∷ []) (tail 1027 509) (2 ∷ []) 0
+row_started_world = row_collected (Some 0x1000 ∷ Some 0x1018 ∷ Some 0x2000 ∷ []) (tail 1027 509) (2 ∷ []) (2 ∷ []) 0
 
 -- the history is legal
 abbrev pub ReadingOnIsLegal : Type 0

@@ -71,6 +71,11 @@ dropped_graph = record {
       ∷ [];
   registered = [];
   messages = [];
+  labels = [];
+  dependents = [];
+  transforms = [];
+  caches = [];
+  frames = [];
   names =
       record { name = t; thing = TableThing 0 }
       ∷ record { name = p; thing = PoolThing 0 }
@@ -108,7 +113,8 @@ collection_of_dropped segments phase reclaimed_to spent = record {
   pinned = [];
   placed = [];
   had = [];
-  origins = record { graph = dropped_graph; ids = [] } ∷ [];
+  graph_at_flip = dropped_graph;
+  origins = [];
   registered_before = 0;
   examined = 0;
   phase = phase;

@@ -25,7 +25,7 @@ stepping = three_in_a_row ++ (row_started ++ (row_scanned ++ row_ended))
 
 -- the world in which all three were moved
 abbrev pub row_moved_world : World
-row_moved_world = row_collected (Some 0x2030 ∷ Some 0x2018 ∷ Some 0x2000 ∷ []) (tail 1033 503) (0 ∷ 1 ∷ 2 ∷ []) 2
+row_moved_world = row_collected (Some 0x2030 ∷ Some 0x2018 ∷ Some 0x2000 ∷ []) (tail 1033 503) (0 ∷ 1 ∷ 2 ∷ []) (2 ∷ 2 ∷ 2 ∷ []) 2
 
 -- the history is legal
 abbrev pub SteppingIsLegal : Type 0

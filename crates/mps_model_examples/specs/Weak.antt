@@ -44,6 +44,11 @@ weak_world first second flips state = record {
         ∷ [];
     registered = [];
     messages = [];
+    labels = [];
+    dependents = [];
+    transforms = [];
+    caches = [];
+    frames = [];
     names =
         record { name = t; thing = TableThing 0 }
         ∷ record { name = w; thing = PoolThing 0 }

@@ -71,6 +71,11 @@ weakly_graph held target = record {
       ∷ [];
   registered = [];
   messages = [];
+  labels = [];
+  dependents = [];
+  transforms = [];
+  caches = [];
+  frames = [];
   names =
       record { name = t; thing = TableThing 0 }
       ∷ record { name = p; thing = PoolThing 0 }
@@ -108,7 +113,8 @@ weakly_world graph segments place tails placed had phase = record {
     pinned = [];
     placed = placed;
     had = had;
-    origins = record { graph = weakly_graph None (Some 0); ids = 1 ∷ [] } ∷ [];
+    graph_at_flip = weakly_graph None (Some 0);
+    origins = 1 ∷ [];
     registered_before = 0;
     examined = 0;
     phase = phase;

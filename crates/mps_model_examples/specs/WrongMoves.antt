@@ -109,6 +109,11 @@ unreachable_world = record {
     points = Some (record { pool = 0; rank = rank.Exact; reservation = None }) ∷ [];
     registered = [];
     messages = [];
+    labels = [];
+    dependents = [];
+    transforms = [];
+    caches = [];
+    frames = [];
     names =
         record { name = t; thing = TableThing 0 }
         ∷ record { name = p; thing = PoolThing 0 }

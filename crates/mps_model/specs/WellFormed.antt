@@ -1,0 +1,207 @@
+-- What holds of every world that a legal history reaches.
+use Rattle.std.specs.Prelude.{◌≡◌, ℕ, Bool, true, false, not, ◌&&◌, ◌||◌, ◌==◌, nat_lt, nat_le, IsTrue, if◌then◌else◌, Option, Some, None, List, [], ◌∷◌, ◌++◌, map, length, filter, refl}
+use Rattle.std.proofs.Common.{arith}
+use Rattle.std.specs.List.{list_any, list_all}
+use Rattle.std.specs.Option.{option_map_or}
+use Rattle.mps_base.specs.Address.{Id, address_of_grain}
+use Rattle.mps_base.specs.Run.{Run, end_of, in_order}
+use Rattle.mps_base.specs.Segment.{Segment, same_rank, words_of_segment, grains_of_segment}
+use Rattle.mps_base.specs.declared.names.Kind.TheVariants as kind
+use Rattle.mps_base.specs.declared.names.Rank.TheVariants as rank
+use Rattle.mps_model.specs.Graph.{Cell, HeadCell, NumberCell, ReferenceCell, Body, Automatic, Manual, Object, Reservation, Point, AreaWord, PlainWord, Hold, is_automatic, is_weak_object, new_cells, targets_of_cells, with_target_cell, graph_with_cells, empty_graph, ids_in_slots, ids_in_blocks}
+use Rattle.mps_model.specs.World.{World, Pool, PointMemory, Tail, is_automatic_kind, is_weak_kind, pool_is, pool_at, is_live, is_live_and, live_ids, object_is, pool_of, words_of, extent, covered, shown_word, lies_in, Collected, empty_run, empty_world}
+use Rattle.mps_model.specs.Making.{is_weak_rank, is_block_size}
+
+-- ---- runs of words
+
+-- whether runs in ascending order are apart: each ends where the next begins, or before
+abbrev pub are_apart : List Run → Bool
+are_apart [] = true
+are_apart (r ∷ []) = true
+are_apart (r ∷ s ∷ rs) = nat_le (end_of r) s.from && are_apart (s ∷ rs)
+
+-- whether a run lies within another
+abbrev pub lies_within : Run → Run → Bool
+lies_within outer r = nat_le outer.from r.from && nat_le (end_of r) (end_of outer)
+
+-- whether a run of words lies in a held segment of a pool that passes a test
+abbrev pub is_in_segment_of : World → (pool : ℕ) → (Segment → Bool) → Run → Bool
+is_in_segment_of w pool test r = list_any (λ s. s.pool == pool && test s && lies_within (words_of_segment s) r) w.segments
+
+-- whether a run of words lies in a held segment of a pool and a rank
+abbrev pub is_home : World → (pool : ℕ) → (is_weak : Bool) → Run → Bool
+is_home w pool is_weak r = is_in_segment_of w pool (λ s. same_rank s.rank (if is_weak then rank.Weak else rank.Exact)) r
+
+-- ---- segments
+
+-- whether a segment has grains of the arena, all of them; and only a pool of weak references has weak ones
+abbrev pub is_right_segment : World → Segment → Bool
+is_right_segment w s =
+    address_of_grain (grains_of_segment s).from == s.base && nat_lt 0 s.grains
+    && lies_within (record { from = 1; count = w.grains }) (grains_of_segment s)
+    && (not (is_weak_rank s.rank) || pool_is is_weak_kind w s.pool)
+
+-- ---- cells
+
+-- whether a cell is of the kind of another, and its tag is below 8
+abbrev pub is_shaped : (like : Cell) → Cell → Bool
+is_shaped HeadCell HeadCell = true
+is_shaped (NumberCell number) (NumberCell other) = true
+is_shaped (ReferenceCell target tag) (ReferenceCell other its_tag) = nat_lt its_tag 8
+is_shaped _ _ = false
+
+abbrev pub are_shaped : (like : List Cell) → List Cell → Bool
+are_shaped [] [] = true
+are_shaped (like ∷ likes) (c ∷ cs) = is_shaped like c && are_shaped likes cs
+are_shaped _ _ = false
+
+-- whether cells are those of a block of a pool with this head, and refer to automatic objects
+abbrev pub are_right_cells : World → Pool → (head : ℕ) → List Cell → Bool
+are_right_cells w p head cells =
+    (w.formats p.format).is_valid head && are_shaped (new_cells (w.formats p.format) head) cells
+    && list_all (object_is is_automatic w) (targets_of_cells cells)
+
+-- ---- objects, reservations and what is at hand
+
+abbrev pub is_right_body : World → Pool → Body → Bool
+is_right_body w p (Automatic head cells is_weak) =
+    is_automatic_kind p.kind && are_right_cells w p head cells && (not is_weak || is_weak_kind p.kind)
+is_right_body w p (Manual words) = not (is_automatic_kind p.kind) && is_block_size (length words)
+
+abbrev pub is_right_object : World → Object → Bool
+is_right_object w o = option_map_or (λ p. is_right_body w p o.body) (pool_at w o.pool) false
+
+-- whether a live object lies in a held segment of its pool, and a weak one in a weak one
+abbrev pub is_right_place : World → (id : Id) → Bool
+is_right_place w id = is_live_and (λ at. is_home w (pool_of w id) (object_is is_weak_object w id) (extent at (words_of w id))) w id
+
+-- the same of a reservation, and of what is at hand at a point
+abbrev pub is_right_reservation : World → Point → PointMemory → Reservation → Bool
+is_right_reservation w p memory r =
+    option_map_or (λ of. are_right_cells w of r.head r.cells) (pool_at w p.pool) false
+    && (r.is_doomed || is_home w p.pool (is_weak_rank p.rank) (extent memory.reserved_at (length r.cells)))
+
+abbrev pub is_right_at_hand : World → (pool : ℕ) → Run → Bool
+is_right_at_hand w pool r = r.count == 0 || is_in_segment_of w pool (λ s. true) r
+
+abbrev pub is_right_point : World → Point → PointMemory → Bool
+is_right_point w p memory =
+    option_map_or (is_right_reservation w p memory) p.reservation true && is_right_at_hand w p.pool memory.buffer
+
+abbrev pub are_right_points : World → List (Option Point) → List PointMemory → Bool
+are_right_points w [] [] = true
+are_right_points w (None ∷ ps) (memory ∷ memories) = are_right_points w ps memories
+are_right_points w (Some p ∷ ps) (memory ∷ memories) = is_right_point w p memory && are_right_points w ps memories
+are_right_points w _ _ = false
+
+-- the words at hand at points and for blocks that move
+abbrev pub at_hand : World → List Run
+at_hand w = filter (λ r. nat_lt 0 r.count) (map (λ (m : PointMemory). m.buffer) w.point_memories ++ map (λ (t : Tail). t.words) w.tails)
+
+-- ---- what the client holds
+
+-- whether the word that an area word shows lies in the object that it holds
+abbrev pub is_right_word : World → AreaWord → Bool
+is_right_word w (PlainWord number) = true
+is_right_word w (Hold id offset) = lies_in w (shown_word w (Hold id offset)) id
+
+abbrev pub are_right_words : World → Option (List AreaWord) → Bool
+are_right_words w None = true
+are_right_words w (Some words) = list_all (is_right_word w) words
+
+abbrev pub is_live_automatic : World → (id : Id) → Bool
+is_live_automatic w id = is_live w id && object_is is_automatic w id
+
+-- ---- worlds
+
+-- what holds of every world that a legal history reaches
+pub record IsWellFormed (w : World) : Type 0 where
+  -- segments ascend, apart, and lie in the arena
+  pub segments : IsTrue (list_all (is_right_segment w) w.segments && are_apart (map grains_of_segment w.segments))
+  -- each object has an entry for its address
+  pub addresses : length w.addresses ≡ length w.graph.objects
+  -- what lies somewhere lies apart from all else, and from the words at hand
+  pub apart : IsTrue (are_apart (in_order (covered w ++ at_hand w)))
+  pub objects : IsTrue (list_all (is_right_object w) w.graph.objects)
+  pub places : IsTrue (list_all (is_right_place w) (live_ids w))
+  pub points : IsTrue (are_right_points w w.graph.points w.point_memories)
+  pub tails : IsTrue (list_all (λ t. is_right_at_hand w t.pool t.words) w.tails)
+  -- slots and area words hold automatic objects, places of tables of blocks hold manual ones
+  pub slots : IsTrue (list_all (object_is is_automatic w) (ids_in_slots w.graph))
+  pub words : IsTrue (list_all (are_right_words w) w.graph.areas)
+  pub blocks : IsTrue (list_all (object_is (λ o. not (is_automatic o)) w) (ids_in_blocks w.graph))
+  -- registrations and messages are of live automatic objects
+  pub registered : IsTrue (list_all (is_live_automatic w) w.graph.registered)
+  pub messages : IsTrue (list_all (is_live_automatic w) w.graph.messages)
+
+-- a weak object at 0x2000, in its own segment, refers to one at 0x1000, and a word of an area holds that one
+abbrev small_world : World
+small_world = record empty_world {
+  graph = record empty_graph {
+    objects =
+        record { pool = 0; body = Automatic 0x201 (HeadCell ∷ NumberCell 7 ∷ []) false }
+        ∷ record { pool = 0; body = Automatic 0x100000201 (HeadCell ∷ ReferenceCell (Some 0) 3 ∷ []) true } ∷ [];
+    tables = Some (Some 1 ∷ None ∷ []) ∷ [];
+    areas = Some (Hold 0 0 ∷ PlainWord 9 ∷ []) ∷ [];
+    points =
+        Some (record {
+          pool = 0;
+          rank = rank.Exact;
+          reservation = Some (record { head = 0x201; cells = HeadCell ∷ NumberCell 0 ∷ []; is_doomed = false });
+        }) ∷ [];
+    registered = 0 ∷ [];
+  };
+  grains = 4;
+  limit = 4;
+  pools = record { kind = Collected kind.Awl; format = 1; chain = None } ∷ [];
+  segments =
+      record { base = 0x1000; grains = 1; pool = 0; generation = 0; rank = rank.Exact }
+      ∷ record { base = 0x2000; grains = 1; pool = 0; generation = 0; rank = rank.Weak } ∷ [];
+  addresses = Some 0x1000 ∷ Some 0x2000 ∷ [];
+  point_memories = record { reserved_at = 0x1010; buffer = empty_run } ∷ [];
+}
+
+pub small_world_is_well_formed : IsWellFormed small_world
+small_world_is_well_formed = record {
+  segments = refl;
+  addresses = refl;
+  apart = refl;
+  objects = refl;
+  places = refl;
+  points = refl;
+  tails = refl;
+  slots = refl;
+  words = refl;
+  blocks = refl;
+  registered = refl;
+  messages = refl;
+}
+
+-- what breaks it, a fact at a time
+pub two_at_one_address : IsWellFormed (record small_world { addresses = Some 0x2000 ∷ Some 0x2000 ∷ [] }) → ⊥
+two_at_one_address w = let h : false ≡ true = w.apart in absurd cc
+
+pub a_weak_object_in_an_exact_segment : IsWellFormed (record small_world { addresses = Some 0x2000 ∷ Some 0x1000 ∷ [] }) → ⊥
+a_weak_object_in_an_exact_segment w = let h : false ≡ true = w.places in absurd cc
+
+pub a_block_over_an_end : IsWellFormed (record small_world { addresses = Some 0x1ff8 ∷ Some 0x2010 ∷ [] }) → ⊥
+a_block_over_an_end w = let h : false ≡ true = w.places in absurd cc
+
+pub a_reservation_over_a_block :
+    IsWellFormed (record small_world { point_memories = record { reserved_at = 0x1008; buffer = empty_run } ∷ [] }) → ⊥
+a_reservation_over_a_block w = let h : false ≡ true = w.apart in absurd cc
+
+pub a_segment_outside_the_arena : IsWellFormed (record small_world { grains = 1 }) → ⊥
+a_segment_outside_the_arena w = let h : false ≡ true = w.segments in absurd cc
+
+pub an_object_without_an_entry : IsWellFormed (record small_world { addresses = Some 0x1000 ∷ [] }) → ⊥
+an_object_without_an_entry w = let h : 1 ≡ 2 = w.addresses in omega (arith, h)
+
+pub a_dead_one_registered : IsWellFormed (record small_world { addresses = None ∷ Some 0x2000 ∷ [] }) → ⊥
+a_dead_one_registered w = let h : false ≡ true = w.registered in absurd cc
+
+pub a_reference_to_nothing : IsWellFormed (record small_world {
+  graph = graph_with_cells small_world.graph 1
+      (λ cells. with_target_cell cells 1 (Some 2));
+}) → ⊥
+a_reference_to_nothing w = let h : false ≡ true = w.objects in absurd cc
