@@ -1,3 +1,4 @@
 pub mod Lending
+pub mod Placing
 pub mod Segs
 pub mod Table

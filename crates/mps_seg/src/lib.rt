@@ -3,6 +3,7 @@
 
 mod entry;
 mod first_grains;
+mod placing;
 mod segs;
 
 pub use segs::Segs;

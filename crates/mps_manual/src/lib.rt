@@ -1,0 +1,9 @@
+//! The manual pools: a client allocates their blocks and frees them.
+#![tactic(auto)]
+
+mod manual;
+
+pub use manual::Manual;
+
+#[cfg(test)]
+mod tests;

@@ -1,0 +1,124 @@
+// The manual pools.
+#![tactic(auto)]
+
+ghost use Rattle.std.specs.Prelude.{◌≡◌, ℕ, ◌<◌, ◌≤◌, [], ◌∷◌, ◌++◌, length, slice_index, MatchResult, Contains};
+ghost use Rattle.mps_base.specs.Address.{word_of};
+ghost use Rattle.mps_base.specs.Segment.{segment_over};
+ghost use Rattle.mps_base.specs.Trail.{with_move};
+ghost use Rattle.mps_base.specs.declared.names.Rank.TheVariants.{Exact};
+ghost use Rattle.mps_seg.specs.Placing.{placement_in_gaps};
+ghost use Rattle.mps_manual.specs.Manual.{allows_size, answer_of_alloc, with_block, moves_of_alloc, freed, moves_of_free, given_back, moves_given_back};
+
+use mps_base::{Addr, Move, Rank, Refusal, Trail};
+use mps_seg::Segs;
+use std::alloc::{AllocError, Global};
+use std::marker::Model;
+
+/// The most words that a block may have.
+const MAX_BLOCK_WORDS: u32 = 65_536;
+
+/// In place of a size: the pool has blocks of any sizes.
+const ANY_SIZE: u32 = 0;
+
+/// The sizes of the blocks of manual pools. Clauses see the list, by the number of the pool.
+#[derive(Drop)]
+pub struct Manual {
+    sizes: Vec<u32>,
+}
+
+impl Model for Manual {
+    ghost use Rattle.std.specs.Prelude.{List, ℕ};
+
+    ghost Value = { List ℕ };
+
+    ghost view = { λ m. m.sizes.items };
+}
+
+impl Manual {
+    /// No pools. Takes no memory.
+    pub fn new(alloc: Global) -> Manual
+        ensures { result ≡ [] }
+    {
+        Manual {
+            sizes: Vec::new(alloc),
+        }
+    }
+
+    /// How many pools have a number.
+    pub fn pools(&self) -> usize
+        ensures { result ≡ length self.now }
+    {
+        self.sizes.len()
+    }
+
+    /// One more pool, whose blocks have `size` words, or any sizes where that is 0. A pool that isn't manual takes a number too; its
+    /// size is never used.
+    pub fn add(&mut self, size: u32) -> Result<(), AllocError>
+        ensures { MatchResult result (λ _. self.new ≡ self.old ++ size ∷ []) (λ _. self.new ≡ self.old) }
+    {
+        self.sizes.push(size)?;
+        Ok(())
+    }
+
+    /// Makes a block of `words` words in the lowest gap of the pool that fits, else in a new segment, and returns where it begins. Its
+    /// words stay as they are. Refuses `BadSize` where the pool has no blocks of this size, and then `CommitLimit` and `NoRun` as
+    /// `Segs::take` does.
+    pub fn alloc(
+        &self,
+        segs: &mut Segs,
+        trail: &mut Trail,
+        pool: u32,
+        words: u32,
+    ) -> Result<Addr, Refusal>
+        requires listed { pool < length self.now }
+        requires fits { 1 < trail.old.spare }
+        ensures value { result ≡ answer_of_alloc (slice_index self.now pool) segs.old pool words }
+        ensures state { MatchResult result (λ at. segs.new ≡ with_block segs.old pool words at) (λ _. segs.new ≡ segs.old) }
+        ensures moves { MatchResult result (λ at. trail.new ≡ moves_of_alloc segs.old trail.old pool words at) (λ _. trail.new ≡ trail.old) }
+    {
+        if !is_allowed(self.sizes[pool as usize], words) {
+            return Err(Refusal::BadSize);
+        }
+        let at = segs.place(trail, pool, Rank::Exact, words)?;
+        segs.commit_block(at, words);
+        trail.push(Move::Alloc { at, words, pool });
+        Ok(at)
+    }
+
+    /// Frees the block that begins at `at`. In a pool of any sizes its segment is given back where nothing is left in it.
+    pub fn free(&self, segs: &mut Segs, trail: &mut Trail, pool: u32, at: Addr)
+        requires listed { pool < length self.now }
+        requires block { (words : ℕ) × Contains segs.old.blocks (record { from = word_of at.0; count = words }) }
+        requires fits { 1 < trail.old.spare }
+        ensures state { segs.new ≡ freed (slice_index self.now pool) segs.old at.0 }
+        ensures moves { trail.new ≡ moves_of_free (slice_index self.now pool) segs.old trail.old at }
+    {
+        let words = segs.block_words(at);
+        segs.drop_block(at, words);
+        trail.push(Move::Free { at });
+        if self.sizes[pool as usize] == ANY_SIZE {
+            give_empty(segs, trail, at);
+        }
+    }
+}
+
+/// Whether a pool whose blocks have this size has blocks of n words.
+fn is_allowed(size: u32, words: u32) -> bool
+    ensures { result ≡ allows_size size words }
+{
+    1 <= words && words <= MAX_BLOCK_WORDS && (size == ANY_SIZE || words == size)
+}
+
+/// Gives back the segment in which an address lies, where nothing is left in it.
+fn give_empty(segs: &mut Segs, trail: &mut Trail, at: Addr)
+    requires { 0 < trail.old.spare }
+    ensures state { segs.new ≡ given_back segs.old (segment_over segs.old.segments at.0) }
+    ensures moves { trail.new ≡ moves_given_back segs.old.covered (segment_over segs.old.segments at.0) trail.old }
+{
+    let Some(base) = segs.segment_of(at) else {
+        return;
+    };
+    if segs.is_empty(base) {
+        segs.give(trail, base);
+    }
+}
