@@ -28,4 +28,7 @@ pub mod WrongAnswers
 pub mod WrongMoves
 pub mod ThreeToReclaim
 pub mod WrongUnits
+pub mod KeptReferences
+pub mod WholeCollections
+pub mod WhiteScan
 pub mod Placing

@@ -25,4 +25,7 @@ pub mod OtherCommands
 pub mod WrongAnswers
 pub mod WrongMoves
 pub mod WrongUnits
+pub mod KeptReferences
+pub mod WholeCollections
+pub mod WhiteScan
 pub mod Placing

@@ -28,6 +28,9 @@ ghost use Rattle.mps_model_examples.specs.OtherCommands.{OtherCommandsIsLegal};
 ghost use Rattle.mps_model_examples.specs.WrongAnswers.{FlippedWithoutFlip, CommitAcrossFlip, LimitBesideGap, LimitBesideRun, StaleWithoutFlip, FreshAfterMove, GetOfOldPlace};
 ghost use Rattle.mps_model_examples.specs.WrongMoves.{SplatOfReachable, TwoPostsForOne, MoveOfPinned, FreeOfWaiting, StayBesideRoom, MarkedInPlace, UnknownFree, MoveAfterSplat};
 ghost use Rattle.mps_model_examples.specs.WrongUnits.{CollectWithoutMoves, StartDoesAll, TwoUnitsForOne, ReclaimedDownwards, WeakScannedAsExact, PollWhereClamped};
+ghost use Rattle.mps_model_examples.specs.KeptReferences.{SplatOfKeptTarget, PostOfKeptTarget, FreeOfKeptTarget};
+ghost use Rattle.mps_model_examples.specs.WholeCollections.{RegisteredWithoutPost, DeadBlockStays};
+ghost use Rattle.mps_model_examples.specs.WhiteScan.{ScanOfWhite, BarrierOverWhite};
 ghost use Rattle.mps_model_examples.specs.Placing.{PlacementsCompute};
 
 /// The history of a script that commits one block and prints 7 is legal. The script: `arena 8 8; table t 4; pool p amc
@@ -313,6 +316,50 @@ pub fn weak_scanned_as_exact()
 /// A clamped arena polls nothing.
 pub fn poll_where_clamped()
     ensures { PollWhereClamped }
+{}
+
+/// A weak reference isn't splatted while an object that a collection is known to keep refers to its target: here an
+/// object in which an area word lies. The script, beside the two after it: `arena 8 8; table t 3; pool p ams front; ap x
+/// p exact; reserve x f:2:0; commit x t.0; pool w awl front; ap y w weak; reserve y f:2:1; init y 1 t.0; commit y t.1;
+/// area a 1; poke a.0 0x3000; pool q amc front; ap v q exact; reserve v f:2:1; init v 1 t.0; commit v t.2; clear t.2;
+/// clear t.0; collect`.
+pub fn splat_of_kept_target()
+    ensures { SplatOfKeptTarget }
+{}
+
+/// No message is posted for a registered block while an object that a collection is known to keep refers to it.
+pub fn post_of_kept_target()
+    ensures { PostOfKeptTarget }
+{}
+
+/// A block isn't freed while an object that a collection is known to keep refers to it.
+pub fn free_of_kept_target()
+    ensures { FreeOfKeptTarget }
+{}
+
+/// A whole collection posts a message for a registered block to which a weak reference alone leads. The script: `arena 8
+/// 8; table t 3; pool p ams front; ap x p exact; reserve x f:2:0; commit x t.0; pool w awl front; ap y w weak; reserve y
+/// f:2:1; init y 1 t.0; commit y t.1; finalize t.0; clear t.0; collect`.
+pub fn registered_without_post()
+    ensures { RegisteredWithoutPost }
+{}
+
+/// A whole collection frees that block where it isn't registered.
+pub fn dead_block_stays()
+    ensures { DeadBlockStays }
+{}
+
+/// A unit doesn't scan a block of a copying pool that nothing keeps. The script: `arena 8 8; table t 4; pool p amc front;
+/// ap x p exact; reserve x f:2:0; commit x t.0; reserve x f:2:1; init x 1 t.0; commit x t.0; pool w awl front; ap y w
+/// weak; reserve y f:2:1; init y 1 t.0; commit y t.1; clear t.0; start; step 1`.
+pub fn scan_of_white()
+    ensures { ScanOfWhite }
+{}
+
+/// Nor does a read barrier. The same script, with `reserve x f:2:1; commit x t.0; area a 1; pin a.0 t.0; start; get t.2
+/// t.0 1` in place of its last two lines.
+pub fn barrier_over_white()
+    ensures { BarrierOverWhite }
 {}
 
 /// Where blocks are placed, in a few worlds.

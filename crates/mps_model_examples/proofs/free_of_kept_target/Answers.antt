@@ -1,0 +1,5 @@
+use Rattle.mps_model_examples.proofs.KeptReferences as history
+use Rattle.mps_model_examples.proofs.free_of_kept_target.Goals as goal
+
+pub returns : goal.returns
+returns c = history.free_of_kept_target
