@@ -178,28 +178,28 @@ open_memory = record { reserved_at = 0x1018; buffer = record { from = 518; count
 abbrev pub segment : (base pool : ℕ) → Rank → Segment
 segment base pool at_rank = record { base = base; grains = 1; pool = pool; generation = 0; rank = at_rank }
 
-abbrev pub named : Name → Thing → NamedThing
-named of thing = record { name = of; thing = thing }
+abbrev pub called : Name → Thing → NamedThing
+called of thing = record { name = of; thing = thing }
 
 abbrev pub things : List NamedThing
 things =
-    named a_table (TableThing 0)
-    ∷ named an_area (AreaThing 0)
-    ∷ named some_blocks (BlocksThing 0)
-    ∷ named a_chain (ChainThing 0)
-    ∷ named a_dependency (DependencyThing 0)
-    ∷ named amc_pool (PoolThing 0)
-    ∷ named amcz_pool (PoolThing 1)
-    ∷ named ams_pool (PoolThing 2)
-    ∷ named awl_pool (PoolThing 3)
-    ∷ named lo_pool (PoolThing 4)
-    ∷ named mfs_pool (PoolThing 5)
-    ∷ named mvff_pool (PoolThing 6)
-    ∷ named idle_point (PointThing 0)
-    ∷ named open_point (PointThing 1)
-    ∷ named doomed_point (PointThing 2)
-    ∷ named amcz_point (PointThing 3)
-    ∷ named lo_point (PointThing 4)
+    called a_table (TableThing 0)
+    ∷ called an_area (AreaThing 0)
+    ∷ called some_blocks (BlocksThing 0)
+    ∷ called a_chain (ChainThing 0)
+    ∷ called a_dependency (DependencyThing 0)
+    ∷ called amc_pool (PoolThing 0)
+    ∷ called amcz_pool (PoolThing 1)
+    ∷ called ams_pool (PoolThing 2)
+    ∷ called awl_pool (PoolThing 3)
+    ∷ called lo_pool (PoolThing 4)
+    ∷ called mfs_pool (PoolThing 5)
+    ∷ called mvff_pool (PoolThing 6)
+    ∷ called idle_point (PointThing 0)
+    ∷ called open_point (PointThing 1)
+    ∷ called doomed_point (PointThing 2)
+    ∷ called amcz_point (PointThing 3)
+    ∷ called lo_point (PointThing 4)
     ∷ []
 
 -- the pools in the order of their numbers
