@@ -75,7 +75,8 @@ step_line pools s =
     (command_line pools s.call s.line (is_accepted s.answer))
 
 -- what later steps log is of no earlier line
-pub on_line-later : (line pools : ℕ) (ss : History) → AllByRecursion (λ later. line < later.line) ss → on_line line (log_from pools ss) ≡ []
+pub on_line-later : (line pools : ℕ) (ss : History) → AllByRecursion (λ later. line < later.line) ss
+    → on_line line (log_from pools ss) ≡ []
 on_line-later line pools [] later = refl
 on_line-later line pools (s ∷ ss) later =
     filter-append (λ (r : Record). r.line == line) (records_of_step pools s) (log_from (pools + pools_made_by s.call s.answer) ss)

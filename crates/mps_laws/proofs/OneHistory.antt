@@ -1,6 +1,6 @@
 -- A history is told by its log, where its commands and answers are known.
 use Rattle.std.proofs.Common.{◌≡◌, ◌∙◌, ◌<◌, ◌+◌, ℕ, refl, sym, ap, List, [], ◌∷◌, ◌++◌, append-nil, subst, arith}
-use Rattle.std.specs.Prelude.{◌==◌, true, nat_lt, map}
+use Rattle.std.specs.Prelude.{◌==◌, true, nat_lt}
 use Rattle.std.specs.List.{AllByRecursion}
 use Rattle.std.proofs.lemmas.List.{append_cancel_left, append_cancel_right}
 use Rattle.std.proofs.lemmas.List.Elements.{filter-append}
@@ -10,7 +10,7 @@ use Rattle.mps_base.specs.declared.moves.Move.{Move}
 use Rattle.mps_model.specs.Step.{Step, History}
 use Rattle.mps_model.specs.Units.{is_ascending}
 use Rattle.mps_model.specs.Log.{records_of, records_of_command, records_of_step, log_from, pools_made_by}
-use Rattle.mps_laws.specs.OneHistory.{Shown, shown_of}
+use Rattle.mps_laws.specs.OneHistory.{AnsweredCommand, answered_command_of, answered_commands, lines_of}
 use Rattle.mps_laws.proofs.RecordsOfMoves.{records_of-injective}
 use Rattle.mps_laws.proofs.Lines.{on_line, on_line-own, on_line-later, records_of_line}
 
@@ -40,8 +40,8 @@ cut line ms ns command these those none none' same =
     )
 
 -- the step that shows this and makes these moves
-abbrev with_moves : Shown → List Move → Step
-with_moves shown ms = record { line = shown.line; call = shown.call; moves = ms; answer = shown.answer }
+abbrev with_moves : AnsweredCommand → List Move → Step
+with_moves answered ms = record { line = answered.line; call = answered.call; moves = ms; answer = answered.answer }
 
 -- ---- all steps
 
@@ -52,38 +52,42 @@ later_still : (line next : ℕ) (steps : History) → line < next → AreLater n
 later_still line next [] before later = tt
 later_still line next (s ∷ ss) before later = (omega (arith, later.0), later_still line next ss before later.1)
 
-later_lines : (line : ℕ) (steps : History) → is_ascending line (map (λ (s : Step). s.line) steps) ≡ true → AreLater line steps
+later_lines : (line : ℕ) (steps : History) → is_ascending line (lines_of steps) ≡ true → AreLater line steps
 later_lines line [] ascend = tt
 later_lines line (s ∷ ss) ascend =
-    let parts = and_parts (nat_lt line s.line) (is_ascending s.line (map (λ (s : Step). s.line) ss)) ascend in
+    let parts = and_parts (nat_lt line s.line) (is_ascending s.line (lines_of ss)) ascend in
     let before : line < s.line = omega (arith, ltb-true line s.line parts.0) in
     (before, later_still line s.line ss before (later_lines s.line ss parts.1))
 
-later_alike : (line : ℕ) (hs ks : History) → map shown_of hs ≡ map shown_of ks → AreLater line hs → AreLater line ks
+later_alike : (line : ℕ) (hs ks : History) → answered_commands hs ≡ answered_commands ks → AreLater line hs
+    → AreLater line ks
 later_alike line [] [] same later = tt
 later_alike line [] (k ∷ ks) same later = absurd (cc)
 later_alike line (h ∷ hs) [] same later = tt
 later_alike line (h ∷ hs) (k ∷ ks) same later =
-    let heads : shown_of h ≡ shown_of k = cc in
-    let tails : map shown_of hs ≡ map shown_of ks = cc in
-    (subst (λ (shown : Shown). line < shown.line) heads later.0, later_alike line hs ks tails later.1)
+    let heads : answered_command_of h ≡ answered_command_of k = cc in
+    let tails : answered_commands hs ≡ answered_commands ks = cc in
+    (subst (λ (answered : AnsweredCommand). line < answered.line) heads later.0, later_alike line hs ks tails later.1)
 
-pub told_from : (pools above : ℕ) (hs ks : History) → is_ascending above (map (λ (s : Step). s.line) hs) ≡ true → map shown_of hs ≡ map shown_of ks → log_from pools hs ≡ log_from pools ks → hs ≡ ks
+-- histories from where n pools were made, on lines above one, are told by their logs
+pub told_from : (pools above : ℕ) (hs ks : History) → is_ascending above (lines_of hs) ≡ true
+    → answered_commands hs ≡ answered_commands ks → log_from pools hs ≡ log_from pools ks → hs ≡ ks
 told_from pools above [] [] ascend same logs = refl
 told_from pools above [] (k ∷ ks) ascend same logs = cc
 told_from pools above (h ∷ hs) [] ascend same logs = cc
 told_from pools above (h ∷ hs) (k ∷ ks) ascend same logs =
-    let parts = and_parts (nat_lt above h.line) (is_ascending h.line (map (λ (s : Step). s.line) hs)) ascend in
+    let parts = and_parts (nat_lt above h.line) (is_ascending h.line (lines_of hs)) ascend in
     let later : AreLater h.line hs = later_lines h.line hs parts.1 in
-    let heads : shown_of h ≡ shown_of k = cc in
-    let tails : map shown_of hs ≡ map shown_of ks = cc in
+    let heads : answered_command_of h ≡ answered_command_of k = cc in
+    let tails : answered_commands hs ≡ answered_commands ks = cc in
     let rest = pools + pools_made_by h.call h.answer in
-    let alike : records_of_step pools h ++ log_from rest hs ≡ records_of_step pools (with_moves (shown_of h) k.moves) ++ log_from rest ks =
-    subst (λ (shown : Shown). records_of_step pools h ++ log_from rest hs
-    ≡ records_of_step pools (with_moves shown k.moves) ++ log_from (pools + pools_made_by shown.call shown.answer) ks)
+    let alike : records_of_step pools h ++ log_from rest hs
+    ≡ records_of_step pools (with_moves (answered_command_of h) k.moves) ++ log_from rest ks =
+    subst (λ (answered : AnsweredCommand). records_of_step pools h ++ log_from rest hs
+    ≡ records_of_step pools (with_moves answered k.moves) ++ log_from (pools + pools_made_by answered.call answered.answer) ks)
     (sym heads) logs in
     let told = cut h.line h.moves k.moves (records_of_command pools h.call h.answer h.line) (log_from rest hs) (log_from rest ks)
     (on_line-later h.line rest hs later)
     (on_line-later h.line rest ks (later_alike h.line hs ks tails later)) alike in
-    let steps : h ≡ k = ap (with_moves (shown_of h)) told.0 ∙ ap (λ shown. with_moves shown k.moves) heads in
+    let steps : h ≡ k = ap (with_moves (answered_command_of h)) told.0 ∙ ap (λ answered. with_moves answered k.moves) heads in
     ap (λ step. step ∷ hs) steps ∙ ap (λ steps. k ∷ steps) (told_from rest h.line hs ks parts.1 tails told.1)

@@ -45,7 +45,8 @@ move_in-record_of (moves.Free at) line = refl
 
 moves_in-records_of : (ms : List Move) (line : ℕ) → map move_in (records_of ms line) ≡ ms
 moves_in-records_of [] line = refl
-moves_in-records_of (m ∷ ms) line = ap (λ x. x ∷ map move_in (records_of ms line)) (move_in-record_of m line) ∙ ap (λ xs. m ∷ xs) (moves_in-records_of ms line)
+moves_in-records_of (m ∷ ms) line =
+    ap (λ x. x ∷ map move_in (records_of ms line)) (move_in-record_of m line) ∙ ap (λ xs. m ∷ xs) (moves_in-records_of ms line)
 
 -- moves with the same records are the same
 pub records_of-injective : (ms ns : List Move) (line : ℕ) → records_of ms line ≡ records_of ns line → ms ≡ ns
