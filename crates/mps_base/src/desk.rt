@@ -13,7 +13,11 @@ pub struct Failed;
 /// Where a program gets its input and leaves its output.
 ///
 /// A call answers `Failed` only where the count of its faults rose, or stands at the last value of a u64, and it then
-/// leaves the known bytes as they are. Counts never fall. What a desk doesn't know of the outside it never knows.
+/// leaves the known bytes as they are. An accepted call leaves the counts as they are, and no count ever falls. What a
+/// desk doesn't know of the outside it never knows.
+///
+/// A desk may gather the bytes that it takes and write them later. `settle_log` and `settle_out` have them written, so
+/// that a fault is known at once.
 pub trait Desk {
     /// What the desk knows of the outside.
     ghost outside: { Self → Outside };
@@ -23,6 +27,7 @@ pub trait Desk {
         ensures input { OnOk result ((outside self.new).input ≡ (outside self.old).text name.now) }
         ensures known { IsSome (outside self.new).input ↔ IsSome (outside self.old).input }
         ensures unchanged { OnErr result ((outside self.new).input ≡ (outside self.old).input) }
+        ensures steady { OnOk result ((outside self.new).in_faults ≡ (outside self.old).in_faults) }
         ensures counted { (outside self.old).in_faults ≤ (outside self.new).in_faults }
         ensures cause { OnErr result (HasRisen (outside self.old).in_faults (outside self.new).in_faults) }
         ensures others { OnlyReads (outside self.old) (outside self.new) };
@@ -36,6 +41,7 @@ pub trait Desk {
         ensures end { IfOk result (λ n. n ≡ 0 → 0 < length buf.new
             → IfSome (outside self.old).input (λ left. left ≡ [])) }
         ensures unchanged { OnErr result ((outside self.new).input ≡ (outside self.old).input) }
+        ensures steady { OnOk result ((outside self.new).in_faults ≡ (outside self.old).in_faults) }
         ensures counted { (outside self.old).in_faults ≤ (outside self.new).in_faults }
         ensures cause { OnErr result (HasRisen (outside self.old).in_faults (outside self.new).in_faults) }
         ensures others { OnlyReads (outside self.old) (outside self.new) };
@@ -48,6 +54,7 @@ pub trait Desk {
         ensures elsewhere { SameElsewhere name.now (outside self.old) (outside self.new) }
         ensures logged { (outside self.new).logged ≡ (outside self.old).logged }
         ensures unchanged { OnErr result (SameFiles (outside self.old) (outside self.new)) }
+        ensures steady { OnOk result ((outside self.new).log_faults ≡ (outside self.old).log_faults) }
         ensures counted { (outside self.old).log_faults ≤ (outside self.new).log_faults }
         ensures cause { OnErr result (HasRisen (outside self.old).log_faults (outside self.new).log_faults) }
         ensures others { OnlyLogs (outside self.old) (outside self.new) };
@@ -62,6 +69,7 @@ pub trait Desk {
             ≡ option_map (after_log (take n bytes.now)) (outside self.old).files) }
         ensures unchanged { OnErr result ((outside self.new).logged ≡ (outside self.old).logged) }
         ensures files { OnErr result (SameFiles (outside self.old) (outside self.new)) }
+        ensures steady { OnOk result ((outside self.new).log_faults ≡ (outside self.old).log_faults) }
         ensures counted { (outside self.old).log_faults ≤ (outside self.new).log_faults }
         ensures cause { OnErr result (HasRisen (outside self.old).log_faults (outside self.new).log_faults) }
         ensures others { OnlyLogs (outside self.old) (outside self.new) };
@@ -72,6 +80,7 @@ pub trait Desk {
         ensures nonzero { IfOk result (λ n. 0 < length bytes.now → 0 < n) }
         ensures printed { IfOk result (λ n. (outside self.new).printed ≡ added (outside self.old).printed bytes.now n) }
         ensures unchanged { OnErr result ((outside self.new).printed ≡ (outside self.old).printed) }
+        ensures steady { OnOk result ((outside self.new).out_faults ≡ (outside self.old).out_faults) }
         ensures counted { (outside self.old).out_faults ≤ (outside self.new).out_faults }
         ensures cause { OnErr result (HasRisen (outside self.old).out_faults (outside self.new).out_faults) }
         ensures others { OnlyPrints (outside self.old) (outside self.new) };
@@ -82,9 +91,33 @@ pub trait Desk {
         ensures nonzero { IfOk result (λ n. 0 < length bytes.now → 0 < n) }
         ensures reported { IfOk result (λ n. (outside self.new).reported ≡ added (outside self.old).reported bytes.now n) }
         ensures unchanged { OnErr result ((outside self.new).reported ≡ (outside self.old).reported) }
+        ensures steady { OnOk result ((outside self.new).err_faults ≡ (outside self.old).err_faults) }
         ensures counted { (outside self.old).err_faults ≤ (outside self.new).err_faults }
         ensures cause { OnErr result (HasRisen (outside self.old).err_faults (outside self.new).err_faults) }
         ensures others { OnlyReports (outside self.old) (outside self.new) };
+
+    /// Has the bytes written that the log took and that wait. By default none wait.
+    fn settle_log(&mut self) -> Result<(), Failed>
+        ensures logged { (outside self.new).logged ≡ (outside self.old).logged }
+        ensures files { SameFiles (outside self.old) (outside self.new) }
+        ensures steady { OnOk result ((outside self.new).log_faults ≡ (outside self.old).log_faults) }
+        ensures counted { (outside self.old).log_faults ≤ (outside self.new).log_faults }
+        ensures cause { OnErr result (HasRisen (outside self.old).log_faults (outside self.new).log_faults) }
+        ensures others { OnlyLogs (outside self.old) (outside self.new) }
+    {
+        Ok(())
+    }
+
+    /// Has the bytes written that were taken to be printed and that wait, after those of the log. By default none wait.
+    fn settle_out(&mut self) -> Result<(), Failed>
+        ensures printed { (outside self.new).printed ≡ (outside self.old).printed }
+        ensures steady { OnOk result ((outside self.new).out_faults ≡ (outside self.old).out_faults) }
+        ensures counted { (outside self.old).out_faults ≤ (outside self.new).out_faults }
+        ensures cause { OnErr result (HasRisen (outside self.old).out_faults (outside self.new).out_faults) }
+        ensures others { OnlyPrints (outside self.old) (outside self.new) }
+    {
+        Ok(())
+    }
 
     /// Where the files are known, so is what opening a name gives.
     ghost text_of_files: { (desk : Self) (name : List ℕ)

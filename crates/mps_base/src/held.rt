@@ -82,13 +82,11 @@ impl Held {
         if self.failed {
             return None;
         }
-        match to.write(piece) {
-            Ok(count) if count > 0 || piece.is_empty() => Some(count),
-            _ => {
-                self.failed = true;
-                None
-            }
+        if to.write_all(piece).is_err() {
+            self.failed = true;
+            return None;
         }
+        Some(piece.len())
     }
 
     /// Writes the bytes that wait.

@@ -1,24 +1,31 @@
 // The desk over real files and the standard streams.
-ghost use Rattle.std.specs.Prelude.{◌≡◌, ◌≤◌, ◌⊎◌, None};
+ghost use Rattle.std.specs.Prelude.{◌≡◌, ◌≤◌, None, length, IfSome};
 ghost use Rattle.mps_base.specs.Desk.{Outside};
 
 use crate::held::Held;
+use crate::host_file::{
+    FileIdentity, OpenInput, make_for_log, open_to_read, read_some, standard_input, write_some,
+};
 use crate::{Desk, Failed};
 use std::alloc::Global;
 use std::fs::File;
-use std::io::{Read, Stdin, Write};
+use std::io::Stdin;
 use std::marker::Model;
 
 /// A desk over real files and the standard streams. It knows no content: what a real file holds, no clause can say.
 ///
-/// It holds back what is logged and printed and writes it in large pieces: before a read, before a report, where too
-/// many bytes wait, and in `finish`. The log's bytes are written first, and once that failed nothing more is printed,
-/// so no answer is seen whose records the log lacks. A fault that comes to light in another call is answered and
-/// counted by the next `log` or `out`, or answered by `finish`. A side that failed fails from then on.
+/// It gathers what is logged and printed and writes it in large pieces: where too many bytes wait, and where they are
+/// settled. The log's bytes are written first, and once that failed nothing more is printed, so no answer is seen whose
+/// records the log lacks. A fault of the log that comes to light in `out` is answered and counted by the log's next call.
+/// A side that failed fails from then on.
+///
+/// No file gets the number of a standard stream. A directory isn't opened, and no log is made of the open input. A read
+/// or a write that a signal interrupted is tried again, and where the input came to its end it stays there.
 #[derive(Drop)]
 pub struct HostDesk {
     rt: HostRuntime,
     input: Input,
+    input_file: Option<FileIdentity>,
     log_file: Option<File>,
     log: Held,
     out: Held,
@@ -30,6 +37,7 @@ pub struct HostDesk {
 
 #[derive(Drop)]
 enum Input {
+    /// None is open, or it was read to its end.
     Nothing,
     Standard(Stdin),
     Named(File),
@@ -58,6 +66,7 @@ impl HostDesk {
         HostDesk {
             rt: *rt,
             input: Input::Nothing,
+            input_file: None,
             log_file: None,
             log: Held::new(alloc),
             out: Held::new(alloc),
@@ -68,39 +77,54 @@ impl HostDesk {
         }
     }
 
-    /// Writes what waits, and answers the status with which to end. That is the given one, but 5 or 4 where the log or
-    /// what was printed could not be written to its end, which is then reported. A status from 2 to 5 stays.
-    pub fn finish(mut self, status: u8) -> u8
-        ensures kept { 2 ≤ status → status ≤ 5 → result ≡ status }
-        ensures known { (result ≡ status) ⊎ (result ≡ 4) ⊎ (result ≡ 5) }
+    /// Puts a file or standard input in the place of the input. False where it can't be opened.
+    fn open_input(&mut self, name: &str) -> bool
+        ensures { self.new ≡ self.old }
     {
-        self.write_held();
-        let (failed, report) = if self.log.has_failed() {
-            (5, "mps: log failed\n")
-        } else if self.out.has_failed() {
-            (4, "mps: write failed\n")
+        let opened = if name == "-" {
+            standard_input(&self.rt)
         } else {
-            return status;
+            open_to_read(&self.rt, name)
         };
-        if 2 <= status && status <= 5 {
-            return status;
-        }
-        let _ = self.rt.stderr().write_all(report.as_bytes());
-        failed
+        let Some(OpenInput { file, identity }) = opened else {
+            return false;
+        };
+        self.input = match file {
+            Some(file) => Input::Named(file),
+            None => Input::Standard(self.rt.stdin()),
+        };
+        self.input_file = identity;
+        true
     }
 
-    /// Writes the log's bytes and then, unless the log failed, what is to be printed.
-    fn write_held(&mut self)
+    /// Reads some of the input. None where that failed.
+    fn read_input(&mut self, buf: &mut [u8]) -> Option<usize>
+        ensures same { self.new ≡ self.old }
+        ensures at_most { IfSome result (λ n. n ≤ length buf.new) }
+    {
+        match &mut self.input {
+            Input::Nothing => Some(0),
+            Input::Standard(stdin) => read_some(stdin, buf),
+            Input::Named(file) => read_some(file, buf),
+        }
+    }
+
+    /// Makes a file the log's. False where it can't be made, or the log failed.
+    fn make_log(&mut self, name: &str) -> bool
         ensures { self.new ≡ self.old }
     {
         self.write_log();
         if self.log.has_failed() {
-            self.out.let_go();
-        } else {
-            self.out.write_to(&mut self.rt.stdout());
+            return false;
         }
+        let Some(file) = make_for_log(&self.rt, name, self.input_file) else {
+            return false;
+        };
+        self.log_file = Some(file);
+        true
     }
 
+    /// Writes the log's bytes.
     fn write_log(&mut self)
         ensures { self.new ≡ self.old }
     {
@@ -125,39 +149,27 @@ impl Desk for HostDesk {
     } };
 
     fn open(&mut self, name: &str) -> Result<(), Failed> {
-        if name == "-" {
-            self.input = Input::Standard(self.rt.stdin());
+        if self.open_input(name) {
             return Ok(());
         }
-        let Ok(file) = File::open(&self.rt, name) else {
-            self.in_faults = self.in_faults.saturating_add(1);
-            return Err(Failed);
-        };
-        self.input = Input::Named(file);
-        Ok(())
+        self.in_faults = self.in_faults.saturating_add(1);
+        Err(Failed)
     }
 
     fn read(&mut self, buf: &mut [u8]) -> Result<usize, Failed> {
-        self.write_held();
-        let got = match &mut self.input {
-            Input::Nothing => Ok(0),
-            Input::Standard(stdin) => stdin.read(buf),
-            Input::Named(file) => file.read(buf),
-        };
-        let Ok(count) = got else {
+        let Some(count) = self.read_input(buf) else {
             self.in_faults = self.in_faults.saturating_add(1);
             return Err(Failed);
         };
+        if count == 0 && !buf.is_empty() {
+            self.input = Input::Nothing;
+        }
         Ok(count)
     }
 
     fn create(&mut self, name: &str) -> Result<(), Failed> {
-        self.write_log();
-        if !self.log.has_failed() {
-            if let Ok(file) = File::create(&self.rt, name) {
-                self.log_file = Some(file);
-                return Ok(());
-            }
+        if self.make_log(name) {
+            return Ok(());
         }
         self.log_faults = self.log_faults.saturating_add(1);
         Err(Failed)
@@ -193,14 +205,34 @@ impl Desk for HostDesk {
     }
 
     fn err(&mut self, bytes: &[u8]) -> Result<usize, Failed> {
-        self.write_held();
-        match self.rt.stderr().write(bytes) {
-            Ok(count) if count > 0 || bytes.is_empty() => Ok(count),
-            _ => {
-                self.err_faults = self.err_faults.saturating_add(1);
-                Err(Failed)
-            }
+        let Some(count) = write_some(bytes, &mut self.rt.stderr()) else {
+            self.err_faults = self.err_faults.saturating_add(1);
+            return Err(Failed);
+        };
+        Ok(count)
+    }
+
+    fn settle_log(&mut self) -> Result<(), Failed> {
+        self.write_log();
+        if self.log.has_failed() {
+            self.log_faults = self.log_faults.saturating_add(1);
+            return Err(Failed);
         }
+        Ok(())
+    }
+
+    fn settle_out(&mut self) -> Result<(), Failed> {
+        self.write_log();
+        if self.log.has_failed() {
+            self.out.let_go();
+            return Ok(());
+        }
+        self.out.write_to(&mut self.rt.stdout());
+        if self.out.has_failed() {
+            self.out_faults = self.out_faults.saturating_add(1);
+            return Err(Failed);
+        }
+        Ok(())
     }
 
     ghost text_of_files = { λ _ _. tt };

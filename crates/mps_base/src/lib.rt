@@ -8,6 +8,7 @@ mod calls;
 mod desk;
 mod held;
 mod host_desk;
+mod host_file;
 mod mem_desk;
 mod moves;
 mod names;
@@ -26,6 +27,3 @@ pub use names::{Kind, Name, Rank, Slot};
 pub use quiet_desk::QuietDesk;
 pub use refusal::{Flipped, Refusal};
 pub use trail::Trail;
-
-#[cfg(test)]
-mod tests;

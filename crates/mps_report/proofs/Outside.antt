@@ -84,6 +84,18 @@ part_printed a b c bytes at before printed counted others fault = record {
   fault = risen_earlier a.out_faults b.out_faults c.out_faults before.counted fault;
 }
 
+-- all was printed, and then what waited was written
+pub settled_all : (a b c : Outside) (text : List ℕ) → Prints a b text → c.printed ≡ b.printed → b.out_faults ≤ c.out_faults
+    → OnlyPrints b c → Prints a c text
+settled_all a b c text before printed counted others = prints_no_more a b c text before printed counted others
+
+-- all was printed, and then a fault came as what waited was written
+pub settled_part : (a b c : Outside) (text : List ℕ) → Prints a b text → c.printed ≡ b.printed → b.out_faults ≤ c.out_faults
+    → OnlyPrints b c → HasRisen b.out_faults c.out_faults → PrintsPart a c text
+settled_part a b c text before printed counted others fault =
+    part_printed a b c text (length text) (prints-as a b _ _ (sym (take_all (length text) text (omega arith))) before) printed counted
+    others fault
+
 pub all_printed : (a b : Outside) (bytes : List ℕ) (at : ℕ) → length bytes ≤ at → Prints a b (take at bytes) → Prints a b bytes
 all_printed a b bytes at le p = prints-as a b _ _ (take_all at bytes le) p
 

@@ -4,7 +4,7 @@ ghost use Rattle.std.specs.Prelude.{◌≡◌, ◌≤◌, ◌<◌, ◌+◌, ◌+
 ghost use Rattle.mps_numerals.specs.Hexadecimal.{hexadecimal};
 ghost use Rattle.mps_report.specs.Streams.{Prints, PrintsPart, FlushedPrefix};
 
-use crate::write::print_all;
+use crate::write::print_settled;
 use mps_base::{Desk, Failed};
 use mps_numerals::{put_decimal, put_hexadecimal, put_text};
 use std::alloc::{AllocError, Global};
@@ -57,15 +57,15 @@ impl Output {
         }
     }
 
-    /// Prints all that was gathered. `Failed` where a write failed, after some of the bytes were printed; all of it then
-    /// stays gathered.
+    /// Prints all that was gathered, and has it written. `Failed` where a write failed, after some of the bytes were
+    /// printed; all of it then stays gathered.
     pub fn flush<D: Desk>(&mut self, desk: &mut D) -> Result<(), Failed>
         ensures empty { OnOk result (self.new ≡ []) }
         ensures printed { OnOk result (Prints (D.outside desk.old) (D.outside desk.new) self.old) }
         ensures failed { OnErr result (PrintsPart (D.outside desk.old) (D.outside desk.new) self.old) }
         ensures unchanged { OnErr result (self.new ≡ self.old) }
     {
-        print_all(&self.room[..self.used], desk)?;
+        print_settled(&self.room[..self.used], desk)?;
         self.used = 0;
         Ok(())
     }

@@ -1,6 +1,6 @@
 // Writing whole pieces to a desk, whose calls may take a part of a piece.
 
-ghost use Rattle.std.specs.Prelude.{OnOk, OnErr};
+ghost use Rattle.std.specs.Prelude.{◌≡◌, OnOk, OnErr};
 ghost use Rattle.mps_report.specs.Streams.{Prints, PrintsPart, Logs, LogsPart, Reports};
 
 use mps_base::{Desk, Failed};
@@ -9,6 +9,7 @@ use mps_base::{Desk, Failed};
 pub fn print_all<D: Desk>(bytes: &[u8], desk: &mut D) -> Result<(), Failed>
     ensures printed { OnOk result (Prints (D.outside desk.old) (D.outside desk.new) bytes.now) }
     ensures failed { OnErr result (PrintsPart (D.outside desk.old) (D.outside desk.new) bytes.now) }
+    ensures steady { OnOk result ((D.outside desk.new).out_faults ≡ (D.outside desk.old).out_faults) }
 {
     let mut at = 0;
     while at < bytes.len() {
@@ -18,10 +19,25 @@ pub fn print_all<D: Desk>(bytes: &[u8], desk: &mut D) -> Result<(), Failed>
     Ok(())
 }
 
+/// Prints a whole piece, and has it and all before it written.
+#[tactic(auto, using(crate::proofs::Outside::settled_all))]
+pub fn print_settled<D: Desk>(bytes: &[u8], desk: &mut D) -> Result<(), Failed>
+    ensures printed { OnOk result (Prints (D.outside desk.old) (D.outside desk.new) bytes.now) }
+    ensures failed { OnErr result (PrintsPart (D.outside desk.old) (D.outside desk.new) bytes.now) }
+    ensures steady { OnOk result ((D.outside desk.new).out_faults ≡ (D.outside desk.old).out_faults) }
+{
+    print_all(bytes, desk)?;
+    let Ok(()) = desk.settle_out() else {
+        return Err(Failed);
+    };
+    Ok(())
+}
+
 /// Writes a whole piece to the log.
 pub fn log_all<D: Desk>(bytes: &[u8], desk: &mut D) -> Result<(), Failed>
     ensures logged { OnOk result (Logs (D.outside desk.old) (D.outside desk.new) bytes.now) }
     ensures failed { OnErr result (LogsPart (D.outside desk.old) (D.outside desk.new) bytes.now) }
+    ensures steady { OnOk result ((D.outside desk.new).log_faults ≡ (D.outside desk.old).log_faults) }
 {
     let mut at = 0;
     while at < bytes.len() {
