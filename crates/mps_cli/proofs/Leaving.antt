@@ -1,11 +1,11 @@
 -- What a run leaves, however it ends: from the command that ends it to the whole run.
-use Rattle.std.proofs.Common.{◌≡◌, ◌≢◌, ℕ, ◌+◌, ◌<◌, ◌⊎◌, true, Option, Some, None, Result, Ok, Err, List, [], ◌∷◌, ◌++◌, length, take, drop, refl, sym, ◌∙◌, ap, append-nil, subst, inl, inr}
-use Rattle.mps_base.specs.Desk.{Outside, OnlyReads, OnlyReports}
+use Rattle.std.proofs.Common.{◌≡◌, ◌≢◌, ℕ, ◌+◌, ◌⊎◌, true, false, Option, Some, None, Result, Ok, Err, List, [], ◌∷◌, ◌++◌, take, drop, refl, sym, ◌∙◌, ap, append-nil, subst, inl, inr}
+use Rattle.mps_base.specs.Desk.{Outside, OnlyReports}
 use Rattle.mps_base.specs.Record.{records_bytes}
 use Rattle.mps_model.specs.declared.call.Call.{Call}
 use Rattle.mps_model.specs.Step.{Step}
 use Rattle.mps_model.specs.Text.{line_of_answer}
-use Rattle.mps_model.specs.Log.{log_of, records_of_step, pools_made}
+use Rattle.mps_model.specs.Log.{log_of, records_of_step}
 use Rattle.mps_model.specs.World.{empty_world}
 use Rattle.mps_model.specs.History.{world_after_history}
 use Rattle.mps_model.proofs.Appending.{IsLegalFrom-append}
@@ -16,15 +16,15 @@ use Rattle.mps_report.proofs.Outside.{reports_only-then}
 use Rattle.mps_script.specs.declared.line.BadLine.{BadLine}
 use Rattle.mps_script.specs.Line.{lines_of, call_of_line}
 use Rattle.mps_cli.specs.Buffer.{length_of_line}
-use Rattle.mps_cli.specs.Ending.{Ending}
-use Rattle.mps_cli.specs.Leaving.{IsUnbegun, NeedsMemory, RunsOutOfMemory, Begins, LeavesPartOfRecords, LeavesPartOfAnswer, Leaves, LeavesHeader, LeavesRun, IsBegun, StopsLogging, StopsPrinting, Stops, records_after}
+use Rattle.mps_cli.specs.Ending.{Ending, IsFault, is_fault, is_verdict}
+use Rattle.mps_cli.specs.Leaving.{IsUnbegun, NeedsMemory, RunsOutOfMemory, Begins, LeavesPartOfRecords, LeavesPartOfAnswer, Leaves, LeavesRun, IsBegun, StopsLogging, StopsPrinting, Stops, records_after}
 use Rattle.mps_cli.specs.Script.{ScriptCommand, LeavesWhole, RanTo, answers_of, command_of_step, commands_of_call, commands_from, is_grammatical, log_header}
 use Rattle.mps_report.specs.Streams.{appended}
 use Rattle.mps_cli.specs.declared.bad_script_line.BadScriptLine.{BadScriptLine}
 use Rattle.mps_cli.specs.declared.next.Next.TheVariants.{Line}
 use Rattle.mps_report.proofs.Appended.{appended_empty, appended_twice}
 use Rattle.mps_cli.proofs.LineByLine.{first_line}
-use Rattle.mps_cli.proofs.SoFar.{SoFar, NextRead, has_run, leaves_whole, read_more, unsupported-append}
+use Rattle.mps_cli.proofs.SoFar.{NextRead, has_run, leaves_whole, read_more, unsupported-append}
 
 -- ---- one line
 
@@ -99,8 +99,8 @@ module _ (heap : HeapState) (n : ℕ) (old o1 o2 o3 : Outside) (script rest line
 
   leaves_known : (why : Stop BadScriptLine) → Stops why (commands_of_call (n + 1) (call_of_line line)) heap o2 o3
       → Leaves (Err why) [] script old o3
-  leaves_known stop.LogFailed s = leaves_part_of_records s
-  leaves_known stop.WriteFailed s = leaves_part_of_answer s
+  leaves_known stop.LogFailed s = inr (leaves_part_of_records s)
+  leaves_known stop.WriteFailed s = inr (leaves_part_of_answer s)
   leaves_known stop.OutOfMemory s = out_of_memory s.0 s.1
   leaves_known (stop.Bad bad) s = whole_before s
   leaves_known stop.TooLong s = absurd s
@@ -176,8 +176,10 @@ module _ (script : List ℕ) (old start new : Outside) (p : start.printed ≡ ol
   leaves_after_header (Err stop.TooLong) r = whole_after log_header script old start new p l r
   leaves_after_header (Err stop.ReadFailed) r = inr (whole_after log_header script old start new p l r)
   leaves_after_header (Err stop.OutOfMemory) r = inr (memory_after log_header script old start new p l r)
-  leaves_after_header (Err stop.LogFailed) r = inr (records_part_after log_header script old start new p l r)
-  leaves_after_header (Err stop.WriteFailed) r = answer_part_after log_header script old start new p l r
+  leaves_after_header (Err stop.LogFailed) (inl r) = inr (inl (whole_after log_header script old start new p l r))
+  leaves_after_header (Err stop.LogFailed) (inr r) = inr (inr (records_part_after log_header script old start new p l r))
+  leaves_after_header (Err stop.WriteFailed) (inl r) = inl (whole_after log_header script old start new p l r)
+  leaves_after_header (Err stop.WriteFailed) (inr r) = inr (answer_part_after log_header script old start new p l r)
 
 -- the script can't be opened, or the log can't be made
 pub leaves_unbegun : (why : Stop BadScriptLine) (script : List ℕ) (old new : Outside) → (why ≡ stop.ReadFailed) ⊎ (why ≡ stop.LogFailed)
@@ -188,63 +190,114 @@ leaves_unbegun why script old new (inr is) u =
     subst (λ e. LeavesRun (Err e) script old new) (sym is) (inl
     (record { printed = u.printed; count = 0; logged = u.logged ∙ appended_empty old.logged }))
 
--- ---- the report
+-- ---- nothing more is printed or logged
 
-module _ (script : List ℕ) (old mid new : Outside) (o : OnlyReports mid new) where
-  whole_reported : LeavesWhole log_header script old mid → LeavesWhole log_header script old new
-  whole_reported r = record {
+module _ (header script : List ℕ) (old mid new : Outside) (printed : new.printed ≡ mid.printed) (logged : new.logged ≡ mid.logged) where
+  whole_kept : LeavesWhole header script old mid → LeavesWhole header script old new
+  whole_kept r = record {
     history = r.history;
     lines = r.lines;
     run = r.run;
-    printed = o.printed ∙ r.printed;
-    logged = o.logged ∙ r.logged;
+    printed = printed ∙ r.printed;
+    logged = logged ∙ r.logged;
   }
 
-  memory_reported : RunsOutOfMemory log_header script old mid → RunsOutOfMemory log_header script old new
-  unfolding whole_reported
-  memory_reported r = record { whole = whole_reported r.whole; next = r.next }
+  memory_kept : RunsOutOfMemory header script old mid → RunsOutOfMemory header script old new
+  unfolding whole_kept
+  memory_kept r = record { whole = whole_kept r.whole; next = r.next }
 
-  records_part_reported : LeavesPartOfRecords log_header script old mid → LeavesPartOfRecords log_header script old new
-  records_part_reported r = record {
+  records_part_kept : LeavesPartOfRecords header script old mid → LeavesPartOfRecords header script old new
+  records_part_kept r = record {
     history = r.history;
     lines = r.lines;
     step = r.step;
     begun = r.begun;
-    printed = o.printed ∙ r.printed;
+    printed = printed ∙ r.printed;
     count = r.count;
-    logged = o.logged ∙ r.logged;
+    logged = logged ∙ r.logged;
   }
 
-  answer_part_reported : LeavesPartOfAnswer log_header script old mid → LeavesPartOfAnswer log_header script old new
-  answer_part_reported r = record {
+  answer_part_kept : LeavesPartOfAnswer header script old mid → LeavesPartOfAnswer header script old new
+  answer_part_kept r = record {
     history = r.history;
     lines = r.lines;
     step = r.step;
     begun = r.begun;
-    logged = o.logged ∙ r.logged;
+    logged = logged ∙ r.logged;
     count = r.count;
-    printed = o.printed ∙ r.printed;
+    printed = printed ∙ r.printed;
   }
 
+  pub ran_kept : (ends : Ending) → RanTo ends header script old mid → RanTo ends header script old new
+  unfolding whole_kept
+  ran_kept ends r = record { whole = whole_kept r.whole; ends_at = r.ends_at }
+
+  pub leaves_kept : (ends : Ending) → Leaves ends header script old mid → Leaves ends header script old new
+  leaves_kept (Ok done) r = whole_kept r
+  leaves_kept (Err (stop.Bad bad)) r = whole_kept r
+  leaves_kept (Err stop.TooLong) r = whole_kept r
+  leaves_kept (Err stop.ReadFailed) r = whole_kept r
+  leaves_kept (Err stop.OutOfMemory) r = memory_kept r
+  leaves_kept (Err stop.LogFailed) (inl r) = inl (whole_kept r)
+  leaves_kept (Err stop.LogFailed) (inr r) = inr (records_part_kept r)
+  leaves_kept (Err stop.WriteFailed) (inl r) = inl (whole_kept r)
+  leaves_kept (Err stop.WriteFailed) (inr r) = inr (answer_part_kept r)
+
+  -- no side had failed
+  whole_of : (ends : Ending) → is_fault ends ≡ false → Leaves ends header script old mid → LeavesWhole header script old new
+  whole_of (Ok done) none r = whole_kept r
+  whole_of (Err (stop.Bad bad)) none r = whole_kept r
+  whole_of (Err stop.TooLong) none r = whole_kept r
+  whole_of (Err stop.OutOfMemory) none r = whole_kept r.whole
+  whole_of (Err stop.ReadFailed) none r = absurd (let wrong : true ≡ false = none in cc)
+  whole_of (Err stop.LogFailed) none r = absurd (let wrong : true ≡ false = none in cc)
+  whole_of (Err stop.WriteFailed) none r = absurd (let wrong : true ≡ false = none in cc)
+
+  -- what waited could not be written
+  pub leaves_unsettled : (ends : Ending) (why : Stop BadScriptLine) → is_fault ends ≡ false
+      → (why ≡ stop.LogFailed) ⊎ (why ≡ stop.WriteFailed) → Leaves ends header script old mid → Leaves (Err why) header script old new
+  leaves_unsettled ends why none (inl is) r =
+      subst (λ e. Leaves (Err e) header script old new) (sym is) (inl (whole_of ends none r))
+  leaves_unsettled ends why none (inr is) r =
+      subst (λ e. Leaves (Err e) header script old new) (sym is) (inl (whole_of ends none r))
+
+pub not_write_failed : (ends : Ending) → is_fault ends ≡ false → ends ≢ Err stop.WriteFailed
+not_write_failed ends none is = let wrong : true ≡ false = sym (ap is_fault is) ∙ none in cc
+
+-- a side failed between two lines
+pub leaves_faulted : (header script : List ℕ) (old new : Outside) (why : Stop BadScriptLine) → IsFault why
+    → LeavesWhole header script old new → Leaves (Err why) header script old new
+leaves_faulted header script old new why (inl is) r = subst (λ e. Leaves (Err e) header script old new) (sym is) r
+leaves_faulted header script old new why (inr (inl is)) r = subst (λ e. Leaves (Err e) header script old new) (sym is) (inl r)
+leaves_faulted header script old new why (inr (inr is)) r = subst (λ e. Leaves (Err e) header script old new) (sym is) (inl r)
+
+-- that is no end of the lines
+pub no_verdict_of_fault : (why : Stop BadScriptLine) → IsFault why → is_verdict (Err why) ≡ false
+no_verdict_of_fault why (inl is) = rw is refl
+no_verdict_of_fault why (inr (inl is)) = rw is refl
+no_verdict_of_fault why (inr (inr is)) = rw is refl
+
+-- ---- the report
+
+module _ (script : List ℕ) (old mid new : Outside) (o : OnlyReports mid new) where
   -- a report changes nothing of what the run leaves
   pub leaves_then_reported : (ends : Ending) → LeavesRun ends script old mid → LeavesRun ends script old new
-  leaves_then_reported (Ok done) r = whole_reported r
-  leaves_then_reported (Err (stop.Bad bad)) r = whole_reported r
-  leaves_then_reported (Err stop.TooLong) r = whole_reported r
+  leaves_then_reported (Ok done) r = whole_kept log_header script old mid new o.printed o.logged r
+  leaves_then_reported (Err (stop.Bad bad)) r = whole_kept log_header script old mid new o.printed o.logged r
+  leaves_then_reported (Err stop.TooLong) r = whole_kept log_header script old mid new o.printed o.logged r
   leaves_then_reported (Err stop.ReadFailed) (inl r) = inl (record { printed = o.printed ∙ r.printed; logged = o.logged ∙ r.logged })
-  leaves_then_reported (Err stop.ReadFailed) (inr r) = inr (whole_reported r)
+  leaves_then_reported (Err stop.ReadFailed) (inr r) = inr (whole_kept log_header script old mid new o.printed o.logged r)
   leaves_then_reported (Err stop.OutOfMemory) (inl r) = inl (reports_only-then old mid new r o)
-  leaves_then_reported (Err stop.OutOfMemory) (inr r) = inr (memory_reported r)
+  leaves_then_reported (Err stop.OutOfMemory) (inr r) = inr (memory_kept log_header script old mid new o.printed o.logged r)
   leaves_then_reported (Err stop.LogFailed) (inl r) = inl (record {
     printed = o.printed ∙ r.printed;
     count = r.count;
     logged = o.logged
         ∙ r.logged;
   })
-  leaves_then_reported (Err stop.LogFailed) (inr r) = inr (records_part_reported r)
-  leaves_then_reported (Err stop.WriteFailed) r = answer_part_reported r
+  leaves_then_reported (Err stop.LogFailed) (inr r) = inr (leaves_kept log_header script old mid new o.printed o.logged (Err stop.LogFailed) r)
+  leaves_then_reported (Err stop.WriteFailed) r = leaves_kept log_header script old mid new o.printed o.logged (Err stop.WriteFailed) r
 
   -- nor of how far it ran
   pub ran_then_reported : (ends : Ending) → RanTo ends log_header script old mid → RanTo ends log_header script old new
-  unfolding whole_reported
-  ran_then_reported ends r = record { whole = whole_reported r.whole; ends_at = r.ends_at }
+  ran_then_reported ends r = ran_kept log_header script old mid new o.printed o.logged ends r

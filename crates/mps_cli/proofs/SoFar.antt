@@ -1,5 +1,5 @@
 -- What a run has done so far, and what is left to do.
-use Rattle.std.proofs.Common.{◌≡◌, ℕ, ◌+◌, ◌<◌, ◌≤◌, true, false, Option, Some, None, Ok, Err, List, [], ◌∷◌, ◌++◌, length, take, drop, refl, sym, ◌∙◌, ap, arith, append-nil, option_and_then, subst, zero-add, not, nat_lt}
+use Rattle.std.proofs.Common.{◌≡◌, ℕ, ◌+◌, ◌<◌, ◌≤◌, true, false, Option, Some, None, Ok, Err, List, [], ◌∷◌, ◌++◌, length, take, drop, refl, sym, ◌∙◌, ap, arith, append-nil, option_and_then, subst, zero-add, nat_lt}
 use Rattle.std.specs.List.{list_all}
 use Rattle.std.proofs.lemmas.List.{map-append, length-take-le}
 use Rattle.std.proofs.lemmas.Grind.{flat_map-append, common_steps}
@@ -15,9 +15,9 @@ use Rattle.mps_model.proofs.Appending.{log_from-append, IsLegalFrom-append, worl
 use Rattle.mps_first_heap.specs.HeapState.{HeapState}
 use Rattle.mps_first_heap.specs.StandsFor.{StandsFor}
 use Rattle.mps_report.specs.declared.stop.Stop.TheVariants as stop
-use Rattle.mps_script.specs.Line.{lines_of, call_of_line, max_line_bytes, is_line_feed}
+use Rattle.mps_script.specs.Line.{lines_of, call_of_line, max_line_bytes}
 use Rattle.mps_report.specs.Streams.{appended}
-use Rattle.mps_cli.specs.Ending.{Ending, CountsGrow, RunsOn}
+use Rattle.mps_cli.specs.Ending.{Ending, RunsOn}
 use Rattle.mps_cli.specs.Buffer.{ComesNextOf, length_of_line}
 use Rattle.mps_cli.specs.Script.{ScriptCommand, StepsRan, HasRun, LeavesWhole, AreUnsupportedWhereDue, RanTo, Answered, IsBadHere, RunEndsAt, answers_of, commands_of, command_of_step, commands_of_call, commands_from, is_good, max_lines}
 use Rattle.mps_cli.specs.declared.next.Next.{Next}
@@ -286,6 +286,18 @@ pub answered_so_far : {heap : HeapState} {n : ℕ} {old now : Outside} {known le
     → SoFar heap n old now known left → known ≡ Some script → new.printed ≡ now.printed → Answered script old new
 answered_so_far {heap} {n} {old} {now} {known} {left} script new f e same =
     answered_at heap n old now new script left (subst (λ s. SoFar heap n old now s left) e f) same
+
+whole_at : (heap : HeapState) (n : ℕ) (old now new : Outside) (script : List ℕ) (left : Option (List ℕ))
+    → SoFar heap n old now (Some script) left → new.printed ≡ now.printed → new.logged ≡ now.logged → LeavesWhole [] script old new
+whole_at heap n old now new script None f printed logged = absurd f.read
+whole_at heap n old now new script (Some rest) f printed logged = leaves_whole new f printed logged
+
+-- where nothing more was printed or logged
+pub whole_so_far : {heap : HeapState} {n : ℕ} {old now : Outside} {known left : Option (List ℕ)} (script : List ℕ) (new : Outside)
+    → SoFar heap n old now known left → known ≡ Some script → new.printed ≡ now.printed → new.logged ≡ now.logged
+    → LeavesWhole [] script old new
+whole_so_far {heap} {n} {old} {now} {known} {left} script new f e printed logged =
+    whole_at heap n old now new script left (subst (λ s. SoFar heap n old now s left) e f) printed logged
 
 -- before the first line
 pub answered_nothing : (script : List ℕ) (old new : Outside) → new.printed ≡ old.printed → Answered script old new

@@ -1,8 +1,9 @@
 -- How a run ends, what is reported of it, and the fault that is its cause.
-use Rattle.std.specs.Prelude.{ℕ, ◌≡◌, ◌≤◌, Bool, codes, decimal, Result, Ok, Err, List, ◌++◌, refl}
+use Rattle.std.specs.Prelude.{ℕ, ◌≡◌, ◌≤◌, ◌⊎◌, Bool, true, false, codes, decimal, Result, Ok, Err, List, ◌++◌, refl}
 use Rattle.std.specs.Fmt.{digits}
 use Rattle.mps_base.specs.Desk.{Outside}
 use Rattle.mps_report.specs.declared.stop.Stop.{Stop}
+use Rattle.mps_report.specs.declared.stop.Stop.TheVariants as stop
 use Rattle.mps_report.specs.Causes.{CauseOf}
 use Rattle.mps_report.specs.Reports.{status_of_ending}
 use Rattle.mps_log_reader.specs.Ending.{is_input_verdict}
@@ -28,6 +29,17 @@ HasCause (Err why) old new = CauseOf old new why
 -- no call of the desk failed and there was memory: the input was read to its end, or to a line at which a run ends
 abbrev pub is_verdict : Ending → Bool
 is_verdict ending = is_input_verdict (status_of_ending ending)
+
+-- a side of the outside failed: then the run ends at once
+abbrev pub is_fault : Ending → Bool
+is_fault (Err stop.ReadFailed) = true
+is_fault (Err stop.LogFailed) = true
+is_fault (Err stop.WriteFailed) = true
+is_fault ending = false
+
+-- one of these
+abbrev pub IsFault : Stop BadScriptLine → Type 0
+IsFault why = (why ≡ stop.ReadFailed) ⊎ (why ≡ stop.LogFailed) ⊎ (why ≡ stop.WriteFailed)
 
 -- no count of faults fell
 pub record CountsGrow (old new : Outside) : Type 0 where

@@ -72,11 +72,19 @@ pub record LeavesPartOfAnswer (header script : List ℕ) (old new : Outside) : T
   pub count : ℕ
   pub printed : new.printed ≡ appended old.printed (answers_of history ++ take count (line_of_answer step.answer))
 
+-- A fault of the log: it came as the next command was logged, or as the desk wrote bytes that it had taken before.
+abbrev pub LeavesRecords : (header script : List ℕ) → (old new : Outside) → Type 0
+LeavesRecords header script old new = LeavesWhole header script old new ⊎ LeavesPartOfRecords header script old new
+
+-- A fault of printing: it came as the answer of the next command was printed, or as the desk wrote bytes that it had taken before.
+abbrev pub LeavesAnswer : (header script : List ℕ) → (old new : Outside) → Type 0
+LeavesAnswer header script old new = LeavesWhole header script old new ⊎ LeavesPartOfAnswer header script old new
+
 -- what is left, by the ending
 abbrev pub Leaves : Ending → (header script : List ℕ) → (old new : Outside) → Type 0
 Leaves (Err stop.OutOfMemory) header script old new = RunsOutOfMemory header script old new
-Leaves (Err stop.LogFailed) header script old new = LeavesPartOfRecords header script old new
-Leaves (Err stop.WriteFailed) header script old new = LeavesPartOfAnswer header script old new
+Leaves (Err stop.LogFailed) header script old new = LeavesRecords header script old new
+Leaves (Err stop.WriteFailed) header script old new = LeavesAnswer header script old new
 Leaves ending header script old new = LeavesWhole header script old new
 
 -- ---- a whole run
@@ -92,8 +100,8 @@ pub record LeavesHeader (old new : Outside) : Type 0 where
 abbrev pub LeavesRun : Ending → (script : List ℕ) → (old new : Outside) → Type 0
 LeavesRun (Err stop.ReadFailed) script old new = IsUnbegun old new ⊎ LeavesWhole log_header script old new
 LeavesRun (Err stop.OutOfMemory) script old new = OnlyReports old new ⊎ RunsOutOfMemory log_header script old new
-LeavesRun (Err stop.LogFailed) script old new = LeavesHeader old new ⊎ LeavesPartOfRecords log_header script old new
-LeavesRun (Err stop.WriteFailed) script old new = LeavesPartOfAnswer log_header script old new
+LeavesRun (Err stop.LogFailed) script old new = LeavesHeader old new ⊎ LeavesRecords log_header script old new
+LeavesRun (Err stop.WriteFailed) script old new = LeavesAnswer log_header script old new
 LeavesRun ending script old new = LeavesWhole log_header script old new
 
 -- the same, by the status of that ending

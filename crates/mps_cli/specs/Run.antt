@@ -1,6 +1,6 @@
 -- What `run` does.
 use Rattle.std.specs.Prelude.{ℕ, ◌≡◌, ◌≢◌, true, Some, List}
-use Rattle.mps_base.specs.Desk.{Outside, HasRisen}
+use Rattle.mps_base.specs.Desk.{Outside}
 use Rattle.mps_report.specs.Reports.{ReportsStatus}
 use Rattle.mps_log_reader.specs.Ending.{IsUnopened, is_input_verdict}
 use Rattle.mps_log_reader.specs.Opening.{OpensNothing}
@@ -22,8 +22,8 @@ pub record RunsScript (log script : List ℕ) (status : ℕ) (old new : Outside)
   -- lines, and nothing else.
   pub answered : status ≢ 4 → (bytes : List ℕ) → old.text script ≡ Some bytes → Answered bytes old new
   -- With any status: what was printed and logged is that of the first lines, whose commands were answered. Where the log or
-  -- printing failed, there may be a part of the next command after them: a prefix of its records, or all of them and a
-  -- prefix of its answer.
+  -- printing failed, there may be a part of the next command after them: nothing, a prefix of its records, or all of them
+  -- and a prefix of its answer.
   pub leaves : (bytes : List ℕ) → old.text script ≡ Some bytes → LeavesWith status bytes old new
   -- what was logged is exactly what the log's file holds, and no other file has changed
   pub in_file : is_input_verdict status ≡ true → IsInFile log old new

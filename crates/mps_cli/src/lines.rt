@@ -79,7 +79,7 @@ impl Lines {
     }
 
     /// The next line, where it waits whole, or more bytes than a line may have.
-    fn next_held(&mut self) -> Option<Next>
+    pub fn next_held(&mut self) -> Option<Next>
         ensures { HeldGives self.old self.new result }
     {
         let length = length_before(b'\n', &self.bytes[self.start..self.end]);

@@ -14,20 +14,22 @@ mod run;
 mod tests;
 
 use mps_base::HostDesk;
+use mps_report::{NoBadPlace, Stop, report_ending};
 use std::alloc::AllocError;
 use std::io::ErrorKind;
 use std::process::ExitCode;
 use std::{env, io};
 
 fn main(rt: HostRuntime) -> ExitCode {
-    let words = match words(&rt) {
-        Ok(words) => words,
-        Err(error) if error.kind() == ErrorKind::InvalidData => Vec::new(rt.alloc()),
-        Err(_) => return ExitCode::from(8),
-    };
     let mut desk = HostDesk::new(&rt, rt.alloc());
-    let status = mps::mps(rt.alloc(), &words, &mut desk);
-    ExitCode::from(desk.finish(status))
+    let status = match words(&rt) {
+        Ok(words) => mps::mps(rt.alloc(), &words, &mut desk),
+        Err(error) if error.kind() == ErrorKind::InvalidData => {
+            mps::mps(rt.alloc(), &[], &mut desk)
+        }
+        Err(_) => report_ending(Err(Stop::<NoBadPlace>::OutOfMemory), &mut desk),
+    };
+    ExitCode::from(status)
 }
 
 /// The words of the command line after the program's name. Words that are no text are words without a meaning.

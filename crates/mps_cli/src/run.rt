@@ -1,16 +1,17 @@
 // The run of a script.
-ghost use Rattle.std.specs.Prelude.{◌≡◌, ◌≢◌, ◌∷◌, ◌⊎◌, [], List, ℕ, true, false, Some, Err, IfErr, OnOk, OnErr};
+ghost use Rattle.std.specs.Prelude.{◌≡◌, ◌≢◌, ◌≤◌, ◌∷◌, ◌⊎◌, [], List, ℕ, true, false, Some, Err, IfOk, IfErr, OnOk, OnErr};
 ghost use Rattle.std.specs.Option.{option_map};
-ghost use Rattle.mps_base.specs.Desk.{HasRisen, made_for_log};
+ghost use Rattle.mps_base.specs.Desk.{HasRisen, OnlyReads, made_for_log};
 ghost use Rattle.mps_base.specs.Record.{records_bytes};
 ghost use Rattle.mps_first_heap.specs.Unsupported.{IsInRange};
 ghost use Rattle.mps_log_reader.specs.Ending.{is_input_verdict};
 ghost use Rattle.mps_log_reader.specs.Opening.{OpensNothing};
+ghost use Rattle.mps_report.specs.Causes.{CauseOf};
 ghost use Rattle.mps_report.specs.declared.stop.Stop.TheVariants as stop;
 ghost use Rattle.mps_script.specs.Line.{call_of_line};
 ghost use Rattle.mps_script.specs.Text.{text_of};
-ghost use Rattle.mps_cli.specs.Buffer.{rest_of_script};
-ghost use Rattle.mps_cli.specs.Ending.{HasCause, CountsGrow, RunsOn, is_verdict};
+ghost use Rattle.mps_cli.specs.Buffer.{ComesNextOf, rest_of_script};
+ghost use Rattle.mps_cli.specs.Ending.{HasCause, CountsGrow, IsFault, RunsOn, is_fault as has_failed_side, is_verdict};
 ghost use Rattle.mps_cli.specs.Leaving.{IsUnbegun, Leaves, LeavesRun, Stops};
 ghost use Rattle.mps_cli.specs.LogFile.{LogsInto, IsInFile};
 ghost use Rattle.mps_cli.specs.Records.{records_of_done};
@@ -75,7 +76,7 @@ fn run<D: Desk>(
     let Ok(()) = log_header(desk) else {
         return Err(Stop::LogFailed);
     };
-    run_lines(alloc, desk, &mut lines)
+    run_all_lines(alloc, desk, &mut lines)
 }
 
 /// Opens the script, and then makes the log.
@@ -98,6 +99,89 @@ fn open_files<D: Desk>(desk: &mut D, log: &str, script: &str) -> Result<(), Stop
     Ok(())
 }
 
+/// Runs the lines, and then has written what waits. A fault of that comes before the end of the lines, and is the ending.
+fn run_all_lines<D: Desk>(
+    alloc: Global,
+    desk: &mut D,
+    lines: &mut Lines,
+) -> Result<(), Stop<BadScriptLine>>
+    ensures cause { HasCause result (D.outside desk.old) (D.outside desk.new) }
+    ensures takes { LogTakes (D.outside desk.old) (D.outside desk.new) }
+    ensures runs { RunsOn (D.outside desk.old) (D.outside desk.new) }
+    ensures ran { is_verdict result ≡ true → (script : List ℕ) → rest_of_script lines.old (D.outside desk.old).input ≡ Some script
+        → RanTo result [] script (D.outside desk.old) (D.outside desk.new) }
+    ensures leaves { (script : List ℕ) → rest_of_script lines.old (D.outside desk.old).input ≡ Some script
+        → Leaves result [] script (D.outside desk.old) (D.outside desk.new) }
+    ensures answered { result ≢ Err stop.WriteFailed → (script : List ℕ) → rest_of_script lines.old (D.outside desk.old).input ≡ Some script
+        → Answered script (D.outside desk.old) (D.outside desk.new) }
+{
+    let ending = run_lines(alloc, desk, lines);
+    if is_fault(&ending) {
+        return ending;
+    }
+    match settle(desk) {
+        Ok(()) => ending,
+        Err(stop) => Err(stop),
+    }
+}
+
+/// A side of the outside failed.
+fn is_fault(ending: &Result<(), Stop<BadScriptLine>>) -> bool
+    ensures { result ≡ has_failed_side ending.now }
+{
+    matches!(
+        ending,
+        Err(Stop::ReadFailed | Stop::LogFailed | Stop::WriteFailed)
+    )
+}
+
+/// Has written what the desk took and what waits: the log first, and then the answers.
+fn settle<D: Desk>(desk: &mut D) -> Result<(), Stop<BadScriptLine>>
+    ensures same { OnOk result (OnlyReads (D.outside desk.old) (D.outside desk.new)) }
+    ensures input { (D.outside desk.new).input ≡ (D.outside desk.old).input }
+    ensures in_faults { (D.outside desk.new).in_faults ≡ (D.outside desk.old).in_faults }
+    ensures printed { (D.outside desk.new).printed ≡ (D.outside desk.old).printed }
+    ensures logged { (D.outside desk.new).logged ≡ (D.outside desk.old).logged }
+    ensures files { (D.outside desk.new).files ≡ (D.outside desk.old).files }
+    ensures failed { IfErr result (λ why. (why ≡ stop.LogFailed) ⊎ (why ≡ stop.WriteFailed)) }
+    ensures cause { HasCause result (D.outside desk.old) (D.outside desk.new) }
+    ensures runs { RunsOn (D.outside desk.old) (D.outside desk.new) }
+{
+    let Ok(()) = desk.settle_log() else {
+        return Err(Stop::LogFailed);
+    };
+    let Ok(()) = desk.settle_out() else {
+        return Err(Stop::WriteFailed);
+    };
+    Ok(())
+}
+
+/// Goes on to the next line. What waits to be written is written before the input is read.
+fn next_line<D: Desk>(desk: &mut D, lines: &mut Lines) -> Result<Next, Stop<BadScriptLine>>
+    ensures next { IfOk result (λ next. ComesNextOf next (rest_of_script lines.old (D.outside desk.old).input) lines.new.line
+        (rest_of_script lines.new (D.outside desk.new).input)) }
+    ensures counted { (D.outside desk.old).in_faults ≤ (D.outside desk.new).in_faults }
+    ensures others { OnOk result (OnlyReads (D.outside desk.old) (D.outside desk.new)) }
+    ensures printed { (D.outside desk.new).printed ≡ (D.outside desk.old).printed }
+    ensures logged { (D.outside desk.new).logged ≡ (D.outside desk.old).logged }
+    ensures files { (D.outside desk.new).files ≡ (D.outside desk.old).files }
+    ensures failed { IfErr result (λ why. IsFault why) }
+    ensures cause { IfErr result (λ why. CauseOf (D.outside desk.old) (D.outside desk.new) why) }
+    ensures runs { RunsOn (D.outside desk.old) (D.outside desk.new) }
+{
+    if let Some(next) = lines.next_held() {
+        return Ok(next);
+    }
+    match settle(desk) {
+        Ok(()) => {}
+        Err(stop) => return Err(stop),
+    }
+    let Ok(next) = lines.next(desk) else {
+        return Err(Stop::ReadFailed);
+    };
+    Ok(next)
+}
+
 /// Runs the lines, one after another.
 fn run_lines<D: Desk>(
     alloc: Global,
@@ -117,8 +201,9 @@ fn run_lines<D: Desk>(
     let mut heap = FirstHeap::new(alloc);
     let mut line: u32 = 0;
     loop {
-        let Ok(next) = lines.next(desk) else {
-            return Err(Stop::ReadFailed);
+        let next = match next_line(desk, lines) {
+            Ok(next) => next,
+            Err(stop) => return Err(stop),
         };
         match next {
             Next::End => return Ok(()),

@@ -1,6 +1,5 @@
 use Rattle.mps_cli.proofs.log.log_records.Goals.{in-Some+in_ok-log_move, in_default}
-use Rattle.std.proofs.Common.{◌≡◌, ap, subst, sym, ◌∙◌}
-use Rattle.mps_base.specs.Desk.{Outside}
+use Rattle.std.proofs.Common.{subst, sym}
 use Rattle.mps_base.specs.Record.{record_bytes, records_bytes}
 use Rattle.mps_model.specs.Answer.{Replied}
 use Rattle.mps_model.specs.Log.{record_of, records_of_command}

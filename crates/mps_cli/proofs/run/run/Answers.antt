@@ -15,10 +15,10 @@ returns-clause-ran g c whole bytes e =
     let left : rest_of_script c.in-Ok.lines (g.D.Desk.outside c.log_header.new.desk).input ≡ Some bytes =
     ap (rest_of_script c.in-Ok.lines) input ∙ ap (λ (w : LineBuffer). rest_of_script w (Some bytes)) c.in-Ok.ensures in
     ran_after_header log_header bytes (g.D.Desk.outside c.args.desk.now) (g.D.Desk.outside c.log_header.new.desk)
-    (g.D.Desk.outside c.run_lines.new.desk)
+    (g.D.Desk.outside c.run_all_lines.new.desk)
     (c.in-Ok-log_header.ensures.logged.others.printed ∙ c.open_files.ensures.unbegun.printed)
     (c.in-Ok-log_header.ensures.logged.logged ∙ ap (λ known. appended known log_header) c.open_files.ensures.unbegun.logged)
-    c.run_lines.result (c.run_lines.ensures.ran whole bytes left)
+    c.run_all_lines.result (c.run_all_lines.ensures.ran whole bytes left)
 
 pub returns-in_default-clause-answered : goal.returns-in_default-clause-answered
 returns-in_default-clause-answered g c other bytes e = answered_nothing bytes (g.D.Desk.outside c.args.desk.now)
@@ -40,24 +40,24 @@ returns-clause-answered g c other bytes e =
     let left : rest_of_script c.in-Ok.lines (g.D.Desk.outside c.log_header.new.desk).input ≡ Some bytes =
     ap (rest_of_script c.in-Ok.lines) input ∙ ap (λ (w : LineBuffer). rest_of_script w (Some bytes)) c.in-Ok.ensures in
     answered_between bytes (g.D.Desk.outside c.args.desk.now) (g.D.Desk.outside c.log_header.new.desk)
-    (g.D.Desk.outside c.run_lines.new.desk)
-    (g.D.Desk.outside c.run_lines.new.desk)
+    (g.D.Desk.outside c.run_all_lines.new.desk)
+    (g.D.Desk.outside c.run_all_lines.new.desk)
     (c.in-Ok-log_header.ensures.logged.others.printed ∙ c.open_files.ensures.unbegun.printed)
-    (c.run_lines.ensures.answered other bytes left) refl
+    (c.run_all_lines.ensures.answered other bytes left) refl
 
 pub returns-clause-filed : goal.returns-clause-filed
 returns-clause-filed g c =
     inl (in_file c.args.log.now (g.D.Desk.outside c.args.desk.now) (g.D.Desk.outside c.open_files.new.desk)
-    (g.D.Desk.outside c.run_lines.new.desk)
+    (g.D.Desk.outside c.run_all_lines.new.desk)
     c.open_files.ensures.unbegun.logged c.in-Ok-open_files.ensures.made
-    (takes_then _ _ _ (takes_of_logs _ _ _ c.in-Ok-log_header.ensures.logged) c.run_lines.ensures.takes))
+    (takes_then _ _ _ (takes_of_logs _ _ _ c.in-Ok-log_header.ensures.logged) c.run_all_lines.ensures.takes))
 
 pub returns-clause-whole_log : goal.returns-clause-whole_log
 returns-clause-whole_log g c whole =
     in_file c.args.log.now (g.D.Desk.outside c.args.desk.now) (g.D.Desk.outside c.open_files.new.desk)
-    (g.D.Desk.outside c.run_lines.new.desk)
+    (g.D.Desk.outside c.run_all_lines.new.desk)
     c.open_files.ensures.unbegun.logged c.in-Ok-open_files.ensures.made
-    (takes_then _ _ _ (takes_of_logs _ _ _ c.in-Ok-log_header.ensures.logged) c.run_lines.ensures.takes)
+    (takes_then _ _ _ (takes_of_logs _ _ _ c.in-Ok-log_header.ensures.logged) c.run_all_lines.ensures.takes)
 
 pub returns-in_default-log_header-clause-filed : goal.returns-in_default-log_header-clause-filed
 returns-in_default-log_header-clause-filed g c =
@@ -78,10 +78,10 @@ returns-clause-leaves g c bytes e =
     let left : rest_of_script c.in-Ok.lines (g.D.Desk.outside c.log_header.new.desk).input ≡ Some bytes =
     ap (rest_of_script c.in-Ok.lines) input ∙ ap (λ (w : LineBuffer). rest_of_script w (Some bytes)) c.in-Ok.ensures in
     leaves_after_header bytes (g.D.Desk.outside c.args.desk.now) (g.D.Desk.outside c.log_header.new.desk)
-    (g.D.Desk.outside c.run_lines.new.desk)
+    (g.D.Desk.outside c.run_all_lines.new.desk)
     (c.in-Ok-log_header.ensures.logged.others.printed ∙ c.open_files.ensures.unbegun.printed)
     (c.in-Ok-log_header.ensures.logged.logged ∙ ap (λ known. appended known log_header) c.open_files.ensures.unbegun.logged)
-    c.run_lines.result (c.run_lines.ensures.leaves bytes left)
+    c.run_all_lines.result (c.run_all_lines.ensures.leaves bytes left)
 
 pub returns-in-Err-clause-leaves : goal.returns-in-Err-clause-leaves
 returns-in-Err-clause-leaves g c bytes e =

@@ -1,0 +1,39 @@
+// A run without memory.
+use super::{FIRST, FIRST_ANSWERS, run};
+use mps_base::MemDesk;
+use std::alloc::Global;
+use std::process::Abort;
+use std::test::Fail;
+
+/// The first script where an allocation may fail, which `rt try --test --fail-alloc N` makes happen: the answers so far
+/// stand printed, and the status and the report say what failed. All answers stand there exactly with status 0.
+#[test]
+fn an_allocation_may_fail(rt: HostRuntime) -> Result<(), Fail> {
+    let mut desk = MemDesk::new(rt.alloc());
+    check_memory(&rt, rt.alloc(), &mut desk)
+}
+
+fn check_memory(rt: &impl Abort, alloc: Global, desk: &mut MemDesk) -> Result<(), Fail> {
+    desk.add_file("-", FIRST)?;
+    let status = run(alloc, desk, "run")?;
+    assert!(rt; [0, 3, 4, 5, 8].contains(&status), "{status}");
+    assert_eq!(rt; desk.reported(), report_of(status), "{status}");
+    compare_answers(rt, desk, status);
+    Ok(())
+}
+
+fn compare_answers(rt: &impl Abort, desk: &MemDesk, status: u8) {
+    let is_whole = desk.printed() == FIRST_ANSWERS;
+    assert!(rt; FIRST_ANSWERS.starts_with(desk.printed()), "{status}");
+    assert_eq!(rt; status == 0, is_whole, "{status}");
+}
+
+fn report_of(status: u8) -> &'static [u8] {
+    match status {
+        0 => b"",
+        3 => b"mps: read failed\n",
+        4 => b"mps: write failed\n",
+        5 => b"mps: log failed\n",
+        _ => b"mps: out of memory\n",
+    }
+}

@@ -1,0 +1,316 @@
+// Scripts on standard input.
+use super::{
+    COMMENTS, Ends, FIRST, FIRST_ANSWERS, FIRST_LOG, FULL_ARENA, FULL_ARENA_ANSWERS, HEADER,
+    NO_WHITE_SPACE, NO_WHITE_SPACE_ANSWERS, compare, run,
+};
+use mps_base::{DeskCall, MemDesk};
+use std::alloc::{AllocError, Global};
+use std::process::Abort;
+use std::test::Fail;
+
+/// The program over a script on standard input.
+#[derive(Clone, Copy)]
+struct ScriptCase {
+    script: &'static [u8],
+    /// The most bytes that a call of the desk handles, 0 where it handles all.
+    most: usize,
+    /// The call of the desk that fails, by its number.
+    failing: Option<(DeskCall, u64)>,
+    ends: Ends,
+    /// What the log begins with, and its length.
+    log: &'static [u8],
+    log_bytes: usize,
+}
+
+fn check_script(
+    rt: &impl Abort,
+    alloc: Global,
+    script: &[u8],
+    case: &ScriptCase,
+) -> Result<(), Fail> {
+    let mut desk = MemDesk::new(alloc);
+    check_script_on(rt, alloc, &mut desk, script, case)
+}
+
+fn check_script_on(
+    rt: &impl Abort,
+    alloc: Global,
+    desk: &mut MemDesk,
+    script: &[u8],
+    case: &ScriptCase,
+) -> Result<(), Fail> {
+    lay_script(desk, script, case)?;
+    let status = run(alloc, desk, "run")?;
+    compare(rt, desk, "run", status, &case.ends);
+    compare_log(rt, desk, case);
+    Ok(())
+}
+
+fn lay_script(desk: &mut MemDesk, script: &[u8], case: &ScriptCase) -> Result<(), AllocError> {
+    desk.add_file("-", script)?;
+    if case.most > 0 {
+        desk.pieces(case.most);
+    }
+    match case.failing {
+        Some((call, number)) => desk.fail(call, number),
+        None => Ok(()),
+    }
+}
+
+fn compare_log(rt: &impl Abort, desk: &MemDesk, case: &ScriptCase) {
+    let log = desk.file("mpsio.log").unwrap_or(&[]);
+    assert_eq!(rt; log.len(), case.log_bytes);
+    assert!(rt; log.starts_with(case.log));
+}
+
+/// Whole and in pieces of 1 and of 7 bytes, the first script has its answers, and its log byte for byte. Then scripts that
+/// have no command, an arena that is full, and bytes that are no white space.
+const SCRIPTS: [ScriptCase; 7] = [
+    ScriptCase {
+        script: FIRST,
+        most: 0,
+        failing: None,
+        ends: Ends {
+            status: 0,
+            printed: FIRST_ANSWERS,
+            reported: b"",
+        },
+        log: FIRST_LOG,
+        log_bytes: 136,
+    },
+    ScriptCase {
+        script: FIRST,
+        most: 1,
+        failing: None,
+        ends: Ends {
+            status: 0,
+            printed: FIRST_ANSWERS,
+            reported: b"",
+        },
+        log: FIRST_LOG,
+        log_bytes: 136,
+    },
+    ScriptCase {
+        script: FIRST,
+        most: 7,
+        failing: None,
+        ends: Ends {
+            status: 0,
+            printed: FIRST_ANSWERS,
+            reported: b"",
+        },
+        log: FIRST_LOG,
+        log_bytes: 136,
+    },
+    ScriptCase {
+        script: b"",
+        most: 0,
+        failing: None,
+        ends: Ends {
+            status: 0,
+            printed: b"",
+            reported: b"",
+        },
+        log: HEADER,
+        log_bytes: 8,
+    },
+    ScriptCase {
+        script: COMMENTS,
+        most: 0,
+        failing: None,
+        ends: Ends {
+            status: 0,
+            printed: b"",
+            reported: b"",
+        },
+        log: HEADER,
+        log_bytes: 8,
+    },
+    ScriptCase {
+        script: FULL_ARENA,
+        most: 0,
+        failing: None,
+        ends: Ends {
+            status: 0,
+            printed: FULL_ARENA_ANSWERS,
+            reported: b"",
+        },
+        log: HEADER,
+        log_bytes: 136,
+    },
+    ScriptCase {
+        script: NO_WHITE_SPACE,
+        most: 0,
+        failing: None,
+        ends: Ends {
+            status: 0,
+            printed: NO_WHITE_SPACE_ANSWERS,
+            reported: b"",
+        },
+        log: HEADER,
+        log_bytes: 32,
+    },
+];
+
+#[test]
+fn scripts_and_their_answers(rt: HostRuntime) -> Result<(), Fail> {
+    for case in &SCRIPTS {
+        check_script(&rt, rt.alloc(), case.script, case)?;
+    }
+    Ok(())
+}
+
+/// The first script over a desk at which one call fails: the run ends there, and all before it is printed and logged.
+const FAILING_CALLS: [ScriptCase; 6] = [
+    ScriptCase {
+        script: FIRST,
+        most: 0,
+        failing: Some((DeskCall::Open, 1)),
+        ends: Ends {
+            status: 3,
+            printed: b"",
+            reported: b"mps: read failed\n",
+        },
+        log: b"",
+        log_bytes: 0,
+    },
+    ScriptCase {
+        script: FIRST,
+        most: 0,
+        failing: Some((DeskCall::Create, 1)),
+        ends: Ends {
+            status: 5,
+            printed: b"",
+            reported: b"mps: log failed\n",
+        },
+        log: b"",
+        log_bytes: 0,
+    },
+    ScriptCase {
+        script: FIRST,
+        most: 0,
+        failing: Some((DeskCall::Log, 1)),
+        ends: Ends {
+            status: 5,
+            printed: b"",
+            reported: b"mps: log failed\n",
+        },
+        log: b"",
+        log_bytes: 0,
+    },
+    ScriptCase {
+        script: FIRST,
+        most: 0,
+        failing: Some((DeskCall::Log, 3)),
+        ends: Ends {
+            status: 5,
+            printed: b"ok\nok\n",
+            reported: b"mps: log failed\n",
+        },
+        log: HEADER,
+        log_bytes: 32,
+    },
+    ScriptCase {
+        script: FIRST,
+        most: 0,
+        failing: Some((DeskCall::Read, 2)),
+        ends: Ends {
+            status: 3,
+            printed: FIRST_ANSWERS,
+            reported: b"mps: read failed\n",
+        },
+        log: FIRST_LOG,
+        log_bytes: 136,
+    },
+    ScriptCase {
+        script: FIRST,
+        most: 0,
+        failing: Some((DeskCall::Out, 3)),
+        ends: Ends {
+            status: 4,
+            printed: b"ok\nok\n",
+            reported: b"mps: write failed\n",
+        },
+        log: HEADER,
+        log_bytes: 64,
+    },
+];
+
+#[test]
+fn each_call_of_the_desk_may_fail(rt: HostRuntime) -> Result<(), Fail> {
+    for case in &FAILING_CALLS {
+        check_script(&rt, rt.alloc(), case.script, case)?;
+    }
+    Ok(())
+}
+
+/// A script whose second line has n bytes.
+#[derive(Clone, Copy)]
+struct LongLine {
+    length: usize,
+    case: ScriptCase,
+}
+
+fn check_long_line(rt: &impl Abort, alloc: Global, long: &LongLine) -> Result<(), Fail> {
+    let mut script = Vec::from_slice(alloc, b"arena 8 8\n")?;
+    script.resize(long.length.saturating_add(10), b'x')?;
+    script.extend_from_slice(b"\ntable t 1\n")?;
+    check_script(rt, alloc, &script, &long.case)
+}
+
+/// A line of 4096 bytes is read, and one of 4097 is bad, also where that can't be reported.
+const LONG_LINES: [LongLine; 3] = [
+    LongLine {
+        length: 4096,
+        case: ScriptCase {
+            script: b"",
+            most: 0,
+            failing: Some((DeskCall::Err, 2)),
+            ends: Ends {
+                status: 0,
+                printed: b"ok\nunsupported\nok\n",
+                reported: b"",
+            },
+            log: HEADER,
+            log_bytes: 32,
+        },
+    },
+    LongLine {
+        length: 4097,
+        case: ScriptCase {
+            script: b"",
+            most: 0,
+            failing: Some((DeskCall::Err, 2)),
+            ends: Ends {
+                status: 6,
+                printed: b"ok\n",
+                reported: b"mps: script line 2: bad line\n",
+            },
+            log: HEADER,
+            log_bytes: 32,
+        },
+    },
+    LongLine {
+        length: 4097,
+        case: ScriptCase {
+            script: b"",
+            most: 0,
+            failing: Some((DeskCall::Err, 1)),
+            ends: Ends {
+                status: 6,
+                printed: b"ok\n",
+                reported: b"",
+            },
+            log: HEADER,
+            log_bytes: 32,
+        },
+    },
+];
+
+#[test]
+fn a_line_of_4096_bytes_is_the_longest(rt: HostRuntime) -> Result<(), Fail> {
+    for long in &LONG_LINES {
+        check_long_line(&rt, rt.alloc(), long)?;
+    }
+    Ok(())
+}
