@@ -1,9 +1,12 @@
 #!/usr/bin/env bash
 # Runs the program `mps` with your words, folder and streams. Where the proved program is missing or older than its
-# sources, it is proved and built first, which it says on standard error and takes some minutes.
+# sources, it is proved and built first: several crates at a time, with a line on standard error for each.
 home=$(dirname "$(readlink -f "$0")")
 crate=$home/crates/mps_cli
 program=$crate/out/mps_cli
+
+# What a proof of one crate may take, in MB.
+memory_of_a_proof=3000
 
 is_current() {
   [ -x "$program" ] || return 1
@@ -11,17 +14,113 @@ is_current() {
     \( -name '*.rt' -o -name '*.antt' -o -name crates.txt \) -newer "$program" -print -quit)" ]
 }
 
+give_up() {
+  end_proofs
+  echo "mps: $1" >&2
+  exit 70
+}
+
+# Each proof that runs is a process group of its own.
+end_proofs() {
+  local group
+  for group in $(jobs -p); do
+    kill -- "-$group" 2>/dev/null
+  done
+}
+
+# The libraries of the repository that a crate names in crates.txt.
+libraries_of() {
+  local name
+  for name in $(sed -n "s/^$1\( [a-z]*\)\?:\(.*\)/\2/p" "$home/crates.txt"); do
+    if [ -d "$home/crates/$name" ]; then echo "$name"; fi
+  done
+}
+
+# All that a crate stands on.
+all_below() {
+  local name
+  for name in $(libraries_of "$1"); do
+    echo "$name"
+    all_below "$name"
+  done | sort -u
+}
+
+proofs_at_once() {
+  local processors memory
+  processors=$(nproc)
+  memory=$(awk '/^MemAvailable/ { print int($2 / 1024) }' /proc/meminfo 2>/dev/null)
+  local most=$((${memory:-$memory_of_a_proof} / memory_of_a_proof))
+  if [ "$most" -gt "$processors" ]; then most=$processors; fi
+  if [ "$most" -lt 1 ]; then most=1; fi
+  echo "$most"
+}
+
+# All libraries of a crate are proved.
+stands() {
+  local name
+  for name in $(libraries_of "$1"); do
+    [ "${state[$name]}" = proved ] || return 1
+  done
+}
+
+start() {
+  state[$1]=running
+  (cd "$home/crates/$1" && rt lib >"$work/$1.log" 2>&1 </dev/null; echo $? >"$work/$1.end") &
+}
+
+# Takes note of the crates whose proofs have ended.
+note_ended() {
+  local name
+  for name in "${!state[@]}"; do
+    if [ "${state[$name]}" != running ] || [ ! -s "$work/$name.end" ]; then continue; fi
+    state[$name]=proved
+    running=$((running - 1))
+    left=$((left - 1))
+    if [ "$(cat "$work/$name.end")" != 0 ]; then
+      cat "$work/$name.log" >&2
+      give_up "$name was not proved"
+    fi
+    echo "mps: proved $name, $left left" >&2
+  done
+}
+
+prove_libraries() {
+  local name running=0 most
+  most=$(proofs_at_once)
+  for name in $(all_below mps_cli); do state[$name]=waiting; done
+  left=$((${#state[@]} + 1))
+  echo "mps: proving $left crates, up to $most at a time" >&2
+  while [ "$left" -gt 1 ]; do
+    for name in "${!state[@]}"; do
+      if [ "$running" -lt "$most" ] && [ "${state[$name]}" = waiting ] && stands "$name"; then
+        start "$name"
+        running=$((running + 1))
+      fi
+    done
+    wait -n
+    note_ended
+  done
+}
+
 build() {
-  echo "mps: proving and building the program, which takes some minutes" >&2
-  # Without words the new program answers its usage, which tells that it was built.
   local output
+  declare -A state
+  work=$(mktemp -d)
+  trap 'rm -rf "$work"' EXIT
+  trap 'end_proofs; exit 130' INT TERM
+  set -m
+  prove_libraries
+  set +m
+  # Without words the new program answers its usage, which tells that it was built.
   output=$(cd "$crate" && rt run 2>&1 </dev/null)
   if ! grep -q '^mps: usage:' <<<"$output"; then
     echo "$output" >&2
-    echo "mps: the program was not built" >&2
-    exit 70
+    give_up "the program was not built"
   fi
+  echo "mps: proved mps_cli, 0 left" >&2
   touch "$program"
+  rm -rf "$work"
+  trap - EXIT INT TERM
 }
 
 is_current || build
