@@ -295,7 +295,8 @@ module _ (script : List ℕ) (old mid new : Outside) (o : OnlyReports mid new) w
     logged = o.logged
         ∙ r.logged;
   })
-  leaves_then_reported (Err stop.LogFailed) (inr r) = inr (leaves_kept log_header script old mid new o.printed o.logged (Err stop.LogFailed) r)
+  leaves_then_reported (Err stop.LogFailed) (inr r) =
+      inr (leaves_kept log_header script old mid new o.printed o.logged (Err stop.LogFailed) r)
   leaves_then_reported (Err stop.WriteFailed) r = leaves_kept log_header script old mid new o.printed o.logged (Err stop.WriteFailed) r
 
   -- nor of how far it ran

@@ -5,7 +5,8 @@ use Rattle.mps_cli.proofs.run.run_all_lines.Goals as goal
 
 pub returns-in-Ok-clause-ran : goal.returns-in-Ok-clause-ran
 returns-in-Ok-clause-ran g c whole script e =
-    ran_kept [] script (g.D.Desk.outside c.args.desk.now) (g.D.Desk.outside c.run_lines-ending.new.desk) (g.D.Desk.outside c.settle.new.desk)
+    ran_kept [] script (g.D.Desk.outside c.args.desk.now) (g.D.Desk.outside c.run_lines-ending.new.desk)
+    (g.D.Desk.outside c.settle.new.desk)
     c.settle.ensures.printed c.settle.ensures.logged c.run_lines-ending.result (c.run_lines-ending.ensures.ran whole script e)
 
 pub returns-in-Ok-clause-leaves : goal.returns-in-Ok-clause-leaves
@@ -32,5 +33,6 @@ returns-in-Err-clause-answered g c other script e =
     answered_between script (g.D.Desk.outside c.args.desk.now) (g.D.Desk.outside c.args.desk.now)
     (g.D.Desk.outside c.run_lines-ending.new.desk)
     (g.D.Desk.outside c.settle.new.desk) refl
-    (c.run_lines-ending.ensures.answered (not_write_failed c.run_lines-ending.result (sym c.is_fault.ensures ∙ c.if-is_fault.false)) script e)
+    (c.run_lines-ending.ensures.answered
+    (not_write_failed c.run_lines-ending.result (sym c.is_fault.ensures ∙ c.if-is_fault.false)) script e)
     c.settle.ensures.printed

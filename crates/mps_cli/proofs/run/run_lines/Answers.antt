@@ -11,33 +11,38 @@ use Rattle.mps_cli.proofs.run.run_lines.Goals as goal
 pub returns-in-End-clause-ran : goal.returns-in-End-clause-ran
 returns-in-End-clause-ran g c whole script e =
     ends_done
-    (next_read c.next_line.new.lines.line (rest_of_script c.next_line.new.lines (g.D.Desk.outside c.next_line.new.desk).input) c.loop-next.invariant.so_far e
+    (next_read c.next_line.new.lines.line (rest_of_script c.next_line.new.lines (g.D.Desk.outside c.next_line.new.desk).input)
+    c.loop-next.invariant.so_far e
     c.in-Ok.ensures.others c.in-Ok.ensures.next c.in-End.is)
 
 pub returns-in-TooLong-clause-ran : goal.returns-in-TooLong-clause-ran
 returns-in-TooLong-clause-ran g c whole script e =
     ends_long_line
-    (next_read c.next_line.new.lines.line (rest_of_script c.next_line.new.lines (g.D.Desk.outside c.next_line.new.desk).input) c.loop-next.invariant.so_far e
+    (next_read c.next_line.new.lines.line (rest_of_script c.next_line.new.lines (g.D.Desk.outside c.next_line.new.desk).input)
+    c.loop-next.invariant.so_far e
     c.in-Ok.ensures.others c.in-Ok.ensures.next c.in-TooLong.is)
 
 pub returns-in-TooLong-2-clause-ran : goal.returns-in-TooLong-2-clause-ran
 returns-in-TooLong-2-clause-ran g c whole script e =
     ends_too_long
-    (next_read c.next_line.new.lines.line (rest_of_script c.next_line.new.lines (g.D.Desk.outside c.next_line.new.desk).input) c.loop-next.invariant.so_far e
+    (next_read c.next_line.new.lines.line (rest_of_script c.next_line.new.lines (g.D.Desk.outside c.next_line.new.desk).input)
+    c.loop-next.invariant.so_far e
     c.in-Ok.ensures.others c.in-Ok.ensures.next c.in-TooLong-2.is)
     (λ x. cc) (omega arith)
 
 pub returns-then-line-clause-ran : goal.returns-then-line-clause-ran
 returns-then-line-clause-ran g c whole script e =
     ends_too_long
-    (next_read c.next_line.new.lines.line (rest_of_script c.next_line.new.lines (g.D.Desk.outside c.next_line.new.desk).input) c.loop-next.invariant.so_far e
+    (next_read c.next_line.new.lines.line (rest_of_script c.next_line.new.lines (g.D.Desk.outside c.next_line.new.desk).input)
+    c.loop-next.invariant.so_far e
     c.in-Ok.ensures.others c.in-Ok.ensures.next c.in-Line.is)
     (λ x. cc) (omega arith)
 
 pub returns-in-Err-run_line-clause-ran : goal.returns-in-Err-run_line-clause-ran
 returns-in-Err-run_line-clause-ran g c whole script e =
     ends_bad_line
-    (next_read c.next_line.new.lines.line (rest_of_script c.next_line.new.lines (g.D.Desk.outside c.next_line.new.desk).input) c.loop-next.invariant.so_far e
+    (next_read c.next_line.new.lines.line (rest_of_script c.next_line.new.lines (g.D.Desk.outside c.next_line.new.desk).input)
+    c.loop-next.invariant.so_far e
     c.in-Ok.ensures.others c.in-Ok.ensures.next c.in-Line.is)
     (subst (λ bytes. IsBadHere bytes (c.loop-next.line + 1) (Err c.in-Err-run_line.stop) (g.D.Desk.outside c.next_line.new.desk)
     (g.D.Desk.outside c.run_line.new.desk)) c.line.ensures (c.in-Err-run_line.ensures.bad whole))
@@ -79,7 +84,8 @@ returns-in-Err-run_line-clause-takes g c =
 pub returns-in-Err-run_line-clause-leaves : goal.returns-in-Err-run_line-clause-leaves
 returns-in-Err-run_line-clause-leaves g c script e =
     leaves_line c.in-Err-run_line.stop (g.D.Desk.outside c.run_line.new.desk)
-    (next_read c.next_line.new.lines.line (rest_of_script c.next_line.new.lines (g.D.Desk.outside c.next_line.new.desk).input) c.loop-next.invariant.so_far e
+    (next_read c.next_line.new.lines.line (rest_of_script c.next_line.new.lines (g.D.Desk.outside c.next_line.new.desk).input)
+    c.loop-next.invariant.so_far e
     c.in-Ok.ensures.others c.in-Ok.ensures.next c.in-Line.is)
     (subst (λ bytes. Stops c.in-Err-run_line.stop (commands_of_call (c.loop-next.line + 1) (call_of_line bytes)) c.loop-next.heap
     (g.D.Desk.outside c.next_line.new.desk) (g.D.Desk.outside c.run_line.new.desk))
@@ -102,7 +108,8 @@ returns-in-Err-clause-takes g c =
 
 pub returns-in-Err-clause-leaves : goal.returns-in-Err-clause-leaves
 returns-in-Err-clause-leaves g c script e =
-    leaves_faulted [] script (g.D.Desk.outside c.args.desk.now) (g.D.Desk.outside c.next_line.new.desk) c.in-Err.stop c.in-Err.ensures.failed
+    leaves_faulted [] script (g.D.Desk.outside c.args.desk.now) (g.D.Desk.outside c.next_line.new.desk) c.in-Err.stop
+    c.in-Err.ensures.failed
     (whole_so_far script (g.D.Desk.outside c.next_line.new.desk) c.loop-next.invariant.so_far e c.next_line.ensures.printed
     c.next_line.ensures.logged)
 
