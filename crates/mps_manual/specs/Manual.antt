@@ -18,31 +18,31 @@ abbrev pub any_size : ℕ
 any_size = 0
 
 -- whether a pool whose blocks have this size has blocks of n words
-abbrev pub allows_size : (size words : ℕ) → Bool
-allows_size size words = nat_le 1 words && nat_le words max_block_words && (size == any_size || words == size)
+abbrev pub has_blocks_of : (size words : ℕ) → Bool
+has_blocks_of size words = nat_le 1 words && nat_le words max_block_words && (size == any_size || words == size)
 
 -- ---- alloc
 
 abbrev pub answer_of_alloc : (size : ℕ) → SegsState → (pool words : ℕ) → Result Addr Refusal
 answer_of_alloc size s pool words =
-    if allows_size size words then answer_of_placement (placement_in_gaps s pool Exact words) else Err BadSize
+    if has_blocks_of size words then answer_of_placement (placement_in_gaps s pool Exact words) else Err BadSize
 
 -- the segments with a block at an address, which the placement gave
-abbrev pub with_block : SegsState → (pool words : ℕ) → Addr → SegsState
-with_block s pool words at = record s {
+abbrev pub allocated : SegsState → (pool words : ℕ) → Addr → SegsState
+allocated s pool words at = record s {
   segments = segments_after (placement_in_gaps s pool Exact words) pool 0 Exact s.segments;
   covered = with_run (record { from = word_of at.0; count = words }) s.covered;
   blocks = with_run (record { from = word_of at.0; count = words }) s.blocks;
 }
 
 -- a new segment, where the placement is one, and then the block
-abbrev pub moves_of_alloc : SegsState → Moves → (pool words : ℕ) → Addr → Moves
-moves_of_alloc s moves pool words at = with_move (moves_after (placement_in_gaps s pool Exact words) pool 0 moves) (Alloc at words pool)
+abbrev pub moves_allocated : SegsState → Moves → (pool words : ℕ) → Addr → Moves
+moves_allocated s moves pool words at = with_move (moves_after (placement_in_gaps s pool Exact words) pool 0 moves) (Alloc at words pool)
 
 -- ---- free
 
-abbrev pub without_block : SegsState → Address → SegsState
-without_block s at = record s { covered = without_run (word_of at) s.covered; blocks = without_run (word_of at) s.blocks }
+abbrev pub block_removed : SegsState → Address → SegsState
+block_removed s at = record s { covered = without_run (word_of at) s.covered; blocks = without_run (word_of at) s.blocks }
 
 abbrev pub is_none : List Run → Bool
 is_none [] = true
@@ -65,20 +65,20 @@ moves_given_back covered (Some t) moves =
 -- a block is freed; a segment of a pool of any sizes is given back where nothing is left in it
 abbrev pub freed : (size : ℕ) → SegsState → Address → SegsState
 freed size s at =
-    if size == any_size then given_back (without_block s at) (segment_over s.segments at)
-    else without_block s at
+    if size == any_size then given_back (block_removed s at) (segment_over s.segments at)
+    else block_removed s at
 
-abbrev pub moves_of_free : (size : ℕ) → SegsState → Moves → Addr → Moves
-moves_of_free size s moves at =
+abbrev pub moves_freed : (size : ℕ) → SegsState → Moves → Addr → Moves
+moves_freed size s moves at =
     if size == any_size
-    then moves_given_back (without_block s at.0).covered (segment_over s.segments at.0) (with_move moves (Free at))
+    then moves_given_back (block_removed s at.0).covered (segment_over s.segments at.0) (with_move moves (Free at))
     else with_move moves (Free at)
 
-pub another_size_is_refused : allows_size 4 5 ≡ false
+pub another_size_is_refused : has_blocks_of 4 5 ≡ false
 another_size_is_refused = refl
 
-pub any_size_is_allowed : allows_size any_size 5 ≡ true
+pub any_size_is_allowed : has_blocks_of any_size 5 ≡ true
 any_size_is_allowed = refl
 
-pub no_words_are_refused : allows_size any_size 0 ≡ false
+pub no_words_are_refused : has_blocks_of any_size 0 ≡ false
 no_words_are_refused = refl

@@ -7,7 +7,7 @@ ghost use Rattle.mps_base.specs.Segment.{segment_over};
 ghost use Rattle.mps_base.specs.Trail.{with_move};
 ghost use Rattle.mps_base.specs.declared.names.Rank.TheVariants.{Exact};
 ghost use Rattle.mps_seg.specs.Placing.{placement_in_gaps};
-ghost use Rattle.mps_manual.specs.Manual.{allows_size, answer_of_alloc, with_block, moves_of_alloc, freed, moves_of_free, given_back, moves_given_back};
+ghost use Rattle.mps_manual.specs.Manual.{has_blocks_of, answer_of_alloc, allocated, moves_allocated, freed, moves_freed, given_back, moves_given_back};
 
 use mps_base::{Addr, Move, Rank, Refusal, Trail};
 use mps_seg::Segs;
@@ -73,8 +73,9 @@ impl Manual {
         requires listed { pool < length self.now }
         requires fits { 1 < trail.old.spare }
         ensures value { result ≡ answer_of_alloc (slice_index self.now pool) segs.old pool words }
-        ensures state { MatchResult result (λ at. segs.new ≡ with_block segs.old pool words at) (λ _. segs.new ≡ segs.old) }
-        ensures moves { MatchResult result (λ at. trail.new ≡ moves_of_alloc segs.old trail.old pool words at) (λ _. trail.new ≡ trail.old) }
+        ensures state { MatchResult result (λ at. segs.new ≡ allocated segs.old pool words at) (λ _. segs.new ≡ segs.old) }
+        ensures moves { MatchResult result (λ at. trail.new ≡ moves_allocated segs.old trail.old pool words at)
+            (λ _. trail.new ≡ trail.old) }
     {
         if !is_allowed(self.sizes[pool as usize], words) {
             return Err(Refusal::BadSize);
@@ -91,7 +92,7 @@ impl Manual {
         requires block { (words : ℕ) × Contains segs.old.blocks (record { from = word_of at.0; count = words }) }
         requires fits { 1 < trail.old.spare }
         ensures state { segs.new ≡ freed (slice_index self.now pool) segs.old at.0 }
-        ensures moves { trail.new ≡ moves_of_free (slice_index self.now pool) segs.old trail.old at }
+        ensures moves { trail.new ≡ moves_freed (slice_index self.now pool) segs.old trail.old at }
     {
         let words = segs.block_words(at);
         segs.drop_block(at, words);
@@ -104,7 +105,7 @@ impl Manual {
 
 /// Whether a pool whose blocks have this size has blocks of n words.
 fn is_allowed(size: u32, words: u32) -> bool
-    ensures { result ≡ allows_size size words }
+    ensures { result ≡ has_blocks_of size words }
 {
     1 <= words && words <= MAX_BLOCK_WORDS && (size == ANY_SIZE || words == size)
 }

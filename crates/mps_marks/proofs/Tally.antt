@@ -94,7 +94,9 @@ no_tally grains small = record {
   size = omega (arith, length-replicate (words_of_grain * grains) false, length-replicate grains false);
   small = omega (arith, small, length-replicate (words_of_grain * grains) false);
   counted = count_none (words_of_grain * grains);
-  grain_of_block = λ word is. absurd (both_ways (bit (replicate (words_of_grain * grains) false) word) (bit-none (words_of_grain * grains) word) is);
+  grain_of_block = λ word is.
+      let clear = bit-none (words_of_grain * grains) word in
+      absurd (both_ways (bit (replicate (words_of_grain * grains) false) word) clear is);
 }
 
 pub tally_emptied : (blocks grains : List Bool) (n : ℕ) → IsTallied blocks grains n

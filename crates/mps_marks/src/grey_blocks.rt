@@ -91,7 +91,7 @@ impl GreyBlocks {
     }
 
     /// The block that begins at a word is no longer grey.
-    #[tactic(auto, using(crate::proofs::Tally::set_again, crate::proofs::Tally::some_counted, crate::proofs::Tally::one_fewer, crate::proofs::Tally::empty_grain))]
+    #[tactic(auto, using(crate::proofs::Tally::set_again, crate::proofs::Tally::some_counted, crate::proofs::Tally::one_fewer))]
     pub(crate) fn clear(&mut self, word: usize)
         requires { word < length self.old }
         ensures { self.new ≡ slice_set self.old word false }
