@@ -14,16 +14,16 @@ use Rattle.mps_blocks.specs.Replayed.{State, at_the_start, after_interning, afte
 use Rattle.mps_blocks.specs.Listing.{addresses}
 
 -- an address lies below all of these blocks
-abbrev Above : ℕ → Store → Type 0
+abbrev pub Above : ℕ → Store → Type 0
 Above n [] = Unit {0}
 Above n (b ∷ bs) = (n < b.at) × Above n bs
 
 -- each block lies below those after it
-abbrev Ascends : Store → Type 0
+abbrev pub Ascends : Store → Type 0
 Ascends [] = Unit {0}
 Ascends (b ∷ bs) = Above b.at bs × Ascends bs
 
-lower_above : (m n : ℕ) (bs : Store) → m < n → Above n bs → Above m bs
+pub lower_above : (m n : ℕ) (bs : Store) → m < n → Above n bs → Above m bs
 lower_above m n [] lt h = tt
 lower_above m n (b ∷ bs) lt h = (omega (arith, lt, h.0), lower_above m n bs lt h.1)
 
@@ -42,7 +42,7 @@ not_there : (b : Block) (at : ℕ) (o : Option Block) (c : Bool) → eqb b.at at
 not_there b at o true e h = absurd cc
 not_there b at o false e h = (refl, h)
 
-not_same : (a b : ℕ) → eqb a b ≡ false → (a ≡ b → ⊥)
+pub not_same : (a b : ℕ) → eqb a b ≡ false → (a ≡ b → ⊥)
 not_same a b e same = absurd (let f : true ≡ false = sym (eq-eqb a b same) ∙ e in cc)
 
 ascends_case : (c : Bool) (new b : Block) (bs added : Store) → ltb new.at b.at ≡ c → (b.at ≡ new.at → ⊥) → Ascends (b ∷ bs)
@@ -51,7 +51,7 @@ ascends_case : (c : Bool) (new b : Block) (bs added : Store) → ltb new.at b.at
 ascends_case true new b bs added e apart h above k more = let lt = ltb-true new.at b.at e in ((lt, lower_above new.at b.at bs lt above), h)
 ascends_case false new b bs added e apart h above k more = let le = ltb-false new.at b.at e in (more (omega (arith, le, apart)), k)
 
-ascends_with : (new : Block) (bs : Store) → block_at bs new.at ≡ None → Ascends bs → Ascends (with_block new bs)
+pub ascends_with : (new : Block) (bs : Store) → block_at bs new.at ≡ None → Ascends bs → Ascends (with_block new bs)
 ascends_with new [] none h = (tt, tt)
 ascends_with new (b ∷ bs) none h =
     let absent = not_there b new.at (block_at bs new.at) (eqb b.at new.at) refl none in
@@ -73,7 +73,7 @@ ascends_less : (c : Bool) (b : Block) (bs rest : Store) → Ascends (b ∷ bs) �
 ascends_less true b bs rest h above k = h.1
 ascends_less false b bs rest h above k = (above, k)
 
-ascends_without : (bs : Store) (at : ℕ) → Ascends bs → Ascends (without_block bs at)
+pub ascends_without : (bs : Store) (at : ℕ) → Ascends bs → Ascends (without_block bs at)
 ascends_without [] at h = tt
 ascends_without (b ∷ bs) at h = ascends_less (eqb b.at at) b bs (without_block bs at) h (above_without b.at bs at h.0)
     (ascends_without bs at h.1)
@@ -193,7 +193,7 @@ all_less n (b ∷ bs) h =
     let lt : ltb n b.at ≡ true = lt-ltb n b.at h.0 in
     (ap (λ (c : Bool). cond c Less (cond (eqb n b.at) Equal Greater)) lt, all_less n bs h.1)
 
-sorted : (bs : Store) → Ascends bs → IsStrictlySortedBy nat_cmp (addresses bs)
+pub sorted : (bs : Store) → Ascends bs → IsStrictlySortedBy nat_cmp (addresses bs)
 unfolding IsStrictlySortedBy
 sorted [] h = tt
 sorted (b ∷ bs) h = (all_less b.at bs h.0, sorted bs h.1)

@@ -2,12 +2,8 @@
 use Rattle.std.proofs.Common.{◌≡◌, ℕ, ◌<◌, ◌≤◌, Bool, true, false, cond, eqb, ltb, List, [], ◌∷◌, Option, Some, None, Result, Ok, Err, refl, sym, ap, ◌∙◌, arith}
 use Rattle.std.specs.Prelude.{is_some}
 use Rattle.std.specs.Option.{option_map}
-use Rattle.std.specs.Map.{lookup, remove_entry}
-use Rattle.std.specs.BTreeMap.{insert_entry, is_at}
-use Rattle.std.specs.Ordering.{nat_cmp, is_eq, match_ordering}
-use Rattle.std.specs.declared.cmp.Ordering.TheVariants.{Less, Equal, Greater}
-use Rattle.std.specs.Cmp.{unsigned_tied}
-use Rattle.std.proofs.lemmas.Bool.{eqb-true, le-ltb, lt-ltb}
+use Rattle.std.specs.Map.{lookup}
+use Rattle.std.proofs.lemmas.Bool.{eqb-true, eq-eqb, le-ltb, lt-ltb}
 use Rattle.mps_model.specs.Replay.{Block, Store, block_at, is_live, with_block, without_block, after_making, after_moving, after_touching, after_freeing}
 use Rattle.mps_blocks.specs.declared.replay.Extent.{Extent}
 use Rattle.mps_blocks.specs.Entries.{block_of, store_of}
@@ -15,35 +11,56 @@ use Rattle.mps_blocks.specs.declared.replay.ReplayFault.{ReplayFault}
 use Rattle.mps_blocks.specs.declared.replay.ReplayFault.TheVariants as fault
 use Rattle.mps_blocks.specs.Replayed.{State, after_labelling}
 use Rattle.mps_blocks.specs.Replaying.{Gives}
+use Rattle.mps_blocks.proofs.Ascending.{Ascends, ascends_with, ascends_without}
+use Rattle.mps_blocks.proofs.Stores.{at_with, at_without, same_store}
 
 abbrev pub Entries : Type 0
 Entries = List (ℕ × Extent)
 
 -- what the map has at an address
 abbrev pub found_at : Entries → ℕ → Option Extent
-found_at es at = lookup (is_at (nat_cmp at)) es
+found_at es at = lookup (eqb at) es
 
-eqb-sym : (a b : ℕ) → eqb a b ≡ eqb b a
+-- the new map has this at an address, and at each other what the old one has
+abbrev pub Changes : Entries → Entries → (at : ℕ) → Option Extent → Type 0
+Changes old new at x = (q : ℕ) → found_at new q ≡ cond (eqb at q) x (found_at old q)
+
+-- the block of an entry that was found at an address
+abbrev pub shown : ℕ → Option Extent → Option Block
+shown at found = option_map (λ (x : Extent). block_of (at, x)) found
+
+pub eqb-sym : (a b : ℕ) → eqb a b ≡ eqb b a
 eqb-sym a b = grind arith
-
-at_address : (at key : ℕ) → is_at (nat_cmp at) key ≡ eqb key at
-at_address at key = unsigned_tied at key ∙ eqb-sym at key
 
 -- ---- looking up
 
-block_case : (c : Bool) (key at : ℕ) (x : Extent) (p : Option Block) (q : Option Extent) → (c ≡ true → key ≡ at)
-    → p ≡ option_map (λ (y : Extent). block_of (at, y)) q
-    → cond c (Some (block_of (key, x))) p ≡ option_map (λ (y : Extent). block_of (at, y)) (cond c (Some x) q)
-block_case true key at x p q same e = ap (λ (k : ℕ). Some (block_of (k, x))) (same refl)
-block_case false key at x p q same e = e
+gone : (s : Store) (at : ℕ) → Ascends s → block_at (without_block s at) at ≡ None
+gone s at h = at_without s at at h ∙ ap (λ (c : Bool). cond c None (block_at s at)) (eq-eqb at at refl)
 
-pub block_at-store : (es : Entries) (at : ℕ) → block_at (store_of es) at ≡ option_map (λ (y : Extent). block_of (at, y)) (found_at es at)
+pub ascends-store : (es : Entries) → Ascends (store_of es)
+ascends-store [] = tt
+ascends-store (e ∷ es) =
+    let h = ascends-store es in
+    ascends_with (block_of e) (without_block (store_of es) e.0) (gone (store_of es) e.0 h) (ascends_without (store_of es) e.0 h)
+
+replaced : (c : Bool) (key at : ℕ) (x : Extent) (found : Option Extent) → (c ≡ true → key ≡ at)
+    → cond c (Some (block_of (key, x))) (cond c None (shown at found)) ≡ shown at (cond c (Some x) found)
+replaced true key at x found same = ap (λ (k : ℕ). Some (block_of (k, x))) (same refl)
+replaced false key at x found same = refl
+
+pub block_at-store : (es : Entries) (at : ℕ) → block_at (store_of es) at ≡ shown at (found_at es at)
 block_at-store [] at = refl
 block_at-store (e ∷ es) at =
-    block_case (eqb e.0 at) e.0 at e.1 (block_at (store_of es) at) (found_at es at) (eqb-true e.0 at) (block_at-store es at)
-    ∙ ap (λ (c : Bool). option_map (λ (y : Extent). block_of (at, y)) (cond c (Some e.1) (found_at es at))) (sym (at_address at e.0))
+    let s = store_of es in
+    let h = ascends-store es in
+    let rest : block_at (without_block s e.0) at ≡ cond (eqb e.0 at) None (shown at (found_at es at)) =
+    at_without s e.0 at h ∙ ap (λ (o : Option Block). cond (eqb e.0 at) None o) (block_at-store es at) in
+    at_with (block_of e) (without_block s e.0) at (gone s e.0 h)
+    ∙ ap (λ (o : Option Block). cond (eqb e.0 at) (Some (block_of e)) o) rest
+    ∙ replaced (eqb e.0 at) e.0 at e.1 (found_at es at) (eqb-true e.0 at)
+    ∙ ap (λ (c : Bool). shown at (cond c (Some e.1) (found_at es at))) (eqb-sym e.0 at)
 
-is_some-mapped : (at : ℕ) (q : Option Extent) → is_some (option_map (λ (y : Extent). block_of (at, y)) q) ≡ is_some q
+is_some-mapped : (at : ℕ) (q : Option Extent) → is_some (shown at q) ≡ is_some q
 is_some-mapped at None = refl
 is_some-mapped at (Some x) = refl
 
@@ -52,48 +69,41 @@ is_live-store es at = ap is_some (block_at-store es at) ∙ is_some-mapped at (f
 
 -- ---- taking out
 
-without_case : (c : Bool) (e : ℕ × Extent) (es rest : Entries) (bs : Store) → store_of rest ≡ bs
-    → store_of (cond c es (e ∷ rest)) ≡ cond c (store_of es) (block_of e ∷ bs)
-without_case true e es rest bs h = refl
-without_case false e es rest bs h = ap (λ (x : Store). block_of e ∷ x) h
+taken : (c : Bool) (at : ℕ) (found : Option Extent) → cond c None (shown at found) ≡ shown at (cond c None found)
+taken true at found = refl
+taken false at found = refl
 
-pub store_of-remove : (es : Entries) (at : ℕ) → store_of (remove_entry (is_at (nat_cmp at)) es) ≡ without_block (store_of es) at
-store_of-remove [] at = refl
-store_of-remove (e ∷ es) at =
-    ap (λ (c : Bool). store_of (cond c es (e ∷ remove_entry (is_at (nat_cmp at)) es))) (at_address at e.0)
-    ∙ without_case (eqb e.0 at) e es (remove_entry (is_at (nat_cmp at)) es) (without_block (store_of es) at) (store_of-remove es at)
-
-absent_case : (c d : Bool) (e : ℕ × Extent) (es rest : Entries) (at : ℕ) → cond d (Some e.1) (found_at es at) ≡ None
-    → (found_at es at ≡ None → found_at rest at ≡ None)
-    → is_at (nat_cmp at) e.0 ≡ d → found_at (cond c es (e ∷ rest)) at ≡ None
-absent_case true true e es rest at h k is = absurd cc
-absent_case true false e es rest at h k is = h
-absent_case false true e es rest at h k is = absurd cc
-absent_case false false e es rest at h k is = ap (λ (d : Bool). cond d (Some e.1) (found_at rest at)) is ∙ k h
-
--- what isn't there isn't there after another was taken out
-pub still_absent : (es : Entries) (from to : ℕ) → found_at es to ≡ None → found_at (remove_entry (is_at (nat_cmp from)) es) to ≡ None
-still_absent [] from to h = refl
-still_absent (e ∷ es) from to h =
-    absent_case (is_at (nat_cmp from) e.0) (is_at (nat_cmp to) e.0) e es (remove_entry (is_at (nat_cmp from)) es) to h
-    (still_absent es from to) refl
+pub dropped : (es new : Entries) (at : ℕ) → Changes es new at None → without_block (store_of es) at ≡ store_of new
+dropped es new at change =
+    let h = ascends-store es in
+    same_store (without_block (store_of es) at) (store_of new) (ascends_without (store_of es) at h) (ascends-store new)
+    (λ q.
+    at_without (store_of es) at q h
+    ∙ ap (λ (o : Option Block). cond (eqb at q) None o) (block_at-store es q)
+    ∙ taken (eqb at q) q (found_at es q)
+    ∙ ap (shown q) (sym (change q))
+    ∙ sym (block_at-store new q))
 
 -- ---- putting in
 
-insert_case : (lt eq : Bool) (e : ℕ × Extent) (es added : Entries) (key : ℕ) (x : Extent)
-    → cond (is_eq (cond lt Less (cond eq Equal Greater))) (Some e.1) (found_at es key) ≡ None
-    → (found_at es key ≡ None → store_of added ≡ with_block (block_of (key, x)) (store_of es))
-    → store_of (match_ordering (cond lt Less (cond eq Equal Greater)) ((key, x) ∷ e ∷ es) ((e.0, x) ∷ es) (e ∷ added))
-    ≡ cond lt (block_of (key, x) ∷ block_of e ∷ store_of es) (block_of e ∷ with_block (block_of (key, x)) (store_of es))
-insert_case true eq e es added key x none h = refl
-insert_case false true e es added key x none h = absurd cc
-insert_case false false e es added key x none h = ap (λ (bs : Store). block_of e ∷ bs) (h none)
+pushed : (c : Bool) (key at : ℕ) (x : Extent) (found : Option Extent) → (c ≡ true → key ≡ at)
+    → cond c (Some (block_of (key, x))) (shown at found) ≡ shown at (cond c (Some x) found)
+pushed true key at x found same = ap (λ (k : ℕ). Some (block_of (k, x))) (same refl)
+pushed false key at x found same = refl
 
-pub store_of-insert : (es : Entries) (key : ℕ) (x : Extent) → found_at es key ≡ None
-    → store_of (insert_entry nat_cmp es key x) ≡ with_block (block_of (key, x)) (store_of es)
-store_of-insert [] key x none = refl
-store_of-insert (e ∷ es) key x none =
-    insert_case (ltb key e.0) (eqb key e.0) e es (insert_entry nat_cmp es key x) key x none (store_of-insert es key x)
+pub added : (es new : Entries) (at : ℕ) (x : Extent) → found_at es at ≡ None → Changes es new at (Some x)
+    → with_block (block_of (at, x)) (store_of es) ≡ store_of new
+added es new at x none change =
+    let h = ascends-store es in
+    let absent : block_at (store_of es) at ≡ None = block_at-store es at ∙ ap (shown at) none in
+    same_store (with_block (block_of (at, x)) (store_of es)) (store_of new)
+    (ascends_with (block_of (at, x)) (store_of es) absent h) (ascends-store new)
+    (λ q.
+    at_with (block_of (at, x)) (store_of es) q absent
+    ∙ ap (λ (o : Option Block). cond (eqb at q) (Some (block_of (at, x))) o) (block_at-store es q)
+    ∙ pushed (eqb at q) at q x (found_at es q) (eqb-true at q)
+    ∙ ap (shown q) (sym (change q))
+    ∙ sym (block_at-store new q))
 
 -- ---- what a record does
 
@@ -106,11 +116,11 @@ made_twice es at words pool h =
     ap (λ (c : Bool). cond c None (Some (with_block (record { at = at; words = words; pool = pool }) (store_of es)))) (is_live-store es at
     ∙ h)
 
-pub made : (es new : Entries) (at : ℕ) (x : Extent) → is_some (found_at es at) ≡ false → new ≡ insert_entry nat_cmp es at x
+pub made : (es new : Entries) (at : ℕ) (x : Extent) → is_some (found_at es at) ≡ false → Changes es new at (Some x)
     → after_making (store_of es) at x.words x.pool ≡ Some (store_of new)
-made es new at x h e =
+made es new at x h change =
     ap (λ (c : Bool). cond c None (Some (with_block (block_of (at, x)) (store_of es)))) (is_live-store es at ∙ h)
-    ∙ ap Some (sym (ap store_of e ∙ store_of-insert es at x (none_there (found_at es at) h)))
+    ∙ ap Some (added es new at x (none_there (found_at es at) h) change)
 
 pub moved_onto : (es : Entries) (from to : ℕ) → is_some (found_at es to) ≡ true → after_moving (store_of es) from to ≡ None
 moved_onto es from to h =
@@ -122,20 +132,22 @@ pub moved_none : (es : Entries) (from to : ℕ) → is_some (found_at es to) ≡
 moved_none es from to h none =
     let live : is_live (store_of es) to ≡ false = is_live-store es to ∙ h in
     let block : block_at (store_of es) from ≡ None = block_at-store es from
-    ∙ ap (λ (o : Option Extent). option_map (λ (y : Extent). block_of (from, y)) o) none in
+    ∙ ap (shown from) none in
     rw (live, block) refl
 
+none_left : (c : Bool) (found : Option Extent) → found ≡ None → cond c None found ≡ None
+none_left true found h = refl
+none_left false found h = h
+
 pub moved : (es removed new : Entries) (from to : ℕ) (x : Extent) → is_some (found_at es to) ≡ false → found_at es from ≡ Some x
-    → removed ≡ remove_entry (is_at (nat_cmp from)) es → new ≡ insert_entry nat_cmp removed to x
+    → Changes es removed from None → Changes removed new to (Some x)
     → after_moving (store_of es) from to ≡ Some (store_of new)
-moved es removed new from to x h there r e =
+moved es removed new from to x h there removal change =
     let live : is_live (store_of es) to ≡ false = is_live-store es to ∙ h in
-    let block : block_at (store_of es) from ≡ Some (block_of (from, x)) = block_at-store es from
-    ∙ ap (λ (o : Option Extent). option_map (λ (y : Extent). block_of (from, y)) o) there in
-    let absent : found_at removed to ≡ None = ap (λ (s : Entries). found_at s to) r
-    ∙ still_absent es from to (none_there (found_at es to) h) in
+    let block : block_at (store_of es) from ≡ Some (block_of (from, x)) = block_at-store es from ∙ ap (shown from) there in
+    let absent : found_at removed to ≡ None = removal to ∙ none_left (eqb from to) (found_at es to) (none_there (found_at es to) h) in
     let store : store_of new ≡ with_block (block_of (to, x)) (without_block (store_of es) from) =
-    ap store_of e ∙ store_of-insert removed to x absent ∙ ap (with_block (block_of (to, x))) (ap store_of r ∙ store_of-remove es from) in
+    sym (ap (with_block (block_of (to, x))) (dropped es removed from removal) ∙ added removed new to x absent change) in
     rw (live, block, store) refl
 
 pub touched : (es : Entries) (at : ℕ) → is_some (found_at es at) ≡ true → after_touching (store_of es) at ≡ Some (store_of es)
@@ -144,11 +156,11 @@ touched es at h = ap (λ (c : Bool). cond c (Some (store_of es)) None) (is_live-
 pub touched_none : (es : Entries) (at : ℕ) → is_some (found_at es at) ≡ false → after_touching (store_of es) at ≡ None
 touched_none es at h = ap (λ (c : Bool). cond c (Some (store_of es)) None) (is_live-store es at ∙ h)
 
-pub freed : (es new : Entries) (at : ℕ) (x : Extent) → found_at es at ≡ Some x → new ≡ remove_entry (is_at (nat_cmp at)) es
+pub freed : (es new : Entries) (at : ℕ) (x : Extent) → found_at es at ≡ Some x → Changes es new at None
     → after_freeing (store_of es) at ≡ Some (store_of new)
-freed es new at x there e =
+freed es new at x there change =
     ap (λ (c : Bool). cond c (Some (without_block (store_of es) at)) None) (is_live-store es at ∙ ap is_some there)
-    ∙ ap Some (sym (ap store_of e ∙ store_of-remove es at))
+    ∙ ap Some (dropped es new at change)
 
 pub freed_none : (es : Entries) (at : ℕ) → found_at es at ≡ None → after_freeing (store_of es) at ≡ None
 freed_none es at none = ap (λ (c : Bool). cond c (Some (without_block (store_of es) at)) None) (is_live-store es at ∙ ap is_some none)

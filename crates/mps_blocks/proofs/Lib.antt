@@ -5,3 +5,5 @@ pub mod WholeReplay
 pub mod Uniqueness
 pub mod VersionOne
 pub mod Ascending
+pub mod Stores
+pub mod Addresses

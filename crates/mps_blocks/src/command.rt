@@ -14,7 +14,7 @@ ghost use Rattle.mps_blocks.specs.Listed.{ListedWith, IsUnique, ListsPart, HasLi
 ghost use Rattle.mps_blocks.specs.Replaying.{PendingReplays, NextReplays, AllReplay, HasReplayed};
 
 use crate::bad_replay::BadReplay;
-use crate::listing::print_listing;
+use crate::listing::{print_listing, sorted_addresses};
 use crate::replay::{Replay, ReplayFault};
 use mps_base::Desk;
 use mps_event::{RecordRef, Version, first};
@@ -62,7 +62,12 @@ fn list_blocks<D: Desk>(alloc: Global, log: &str, desk: &mut D) -> Result<(), St
         Err(_) => return Err(Stop::OutOfMemory),
     };
     let replay = replay_log(alloc, log, desk)?;
-    match print_listing(&replay, &mut output, desk) {
+    let live = replay.live();
+    let addresses = match sorted_addresses(alloc, live) {
+        Ok(addresses) => addresses,
+        Err(_) => return Err(Stop::OutOfMemory),
+    };
+    match print_listing(live, &addresses, &mut output, desk) {
         Ok(()) => Ok(()),
         Err(_) => Err(Stop::WriteFailed),
     }

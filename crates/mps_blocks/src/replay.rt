@@ -5,9 +5,9 @@ ghost use Rattle.mps_model.specs.Replay.{store_after, after_making, after_moving
 ghost use Rattle.mps_blocks.specs.Entries.{store_of};
 ghost use Rattle.mps_blocks.specs.Replaying.{Gives};
 
+use indexmap::IndexMap;
 use mps_event::RecordRef;
 use std::alloc::Global;
-use std::collections::BTreeMap;
 use std::marker::Model;
 
 /// A live block: its size in words, and the number of its pool.
@@ -27,7 +27,7 @@ pub(crate) enum ReplayFault {
 /// The live blocks by their addresses, and how many names were interned.
 #[derive(Drop)]
 pub(crate) struct Replay {
-    live: BTreeMap<u64, Extent>,
+    live: IndexMap<u64, Extent>,
     interned: u64,
 }
 
@@ -49,13 +49,13 @@ impl Replay {
         ensures { result ≡ at_the_start }
     {
         Replay {
-            live: BTreeMap::new(alloc),
+            live: IndexMap::new(alloc),
             interned: 0,
         }
     }
 
     /// The live blocks by their addresses.
-    pub(crate) fn live(&self) -> &BTreeMap<u64, Extent>
+    pub(crate) fn live(&self) -> &IndexMap<u64, Extent>
         ensures { store_of result.now.entries ≡ self.now.blocks }
     {
         &self.live
@@ -96,7 +96,7 @@ impl Replay {
 
 /// What a record does to the live blocks.
 fn apply_to_blocks(
-    live: &mut BTreeMap<u64, Extent>,
+    live: &mut IndexMap<u64, Extent>,
     entry: &RecordRef<'_>,
 ) -> Result<(), ReplayFault>
     ensures { Gives (store_after (store_of live.old.entries) entry.now) (store_of live.new.entries) result }
@@ -113,7 +113,7 @@ fn apply_to_blocks(
 }
 
 /// Makes a block.
-fn make(live: &mut BTreeMap<u64, Extent>, at: u64, words: u64, pool: u64) -> Result<(), ReplayFault>
+fn make(live: &mut IndexMap<u64, Extent>, at: u64, words: u64, pool: u64) -> Result<(), ReplayFault>
     ensures { Gives (after_making (store_of live.old.entries) at words pool) (store_of live.new.entries) result }
 {
     if live.contains_key(&at) {
@@ -126,13 +126,13 @@ fn make(live: &mut BTreeMap<u64, Extent>, at: u64, words: u64, pool: u64) -> Res
 }
 
 /// Moves a block.
-fn relocate(live: &mut BTreeMap<u64, Extent>, from: u64, to: u64) -> Result<(), ReplayFault>
+fn relocate(live: &mut IndexMap<u64, Extent>, from: u64, to: u64) -> Result<(), ReplayFault>
     ensures { Gives (after_moving (store_of live.old.entries) from to) (store_of live.new.entries) result }
 {
     if live.contains_key(&to) {
         return Err(ReplayFault::BadReplay);
     }
-    match live.remove(&from) {
+    match live.swap_remove(&from) {
         None => Err(ReplayFault::BadReplay),
         Some(extent) => match live.insert(to, extent) {
             Ok(_) => Ok(()),
@@ -142,7 +142,7 @@ fn relocate(live: &mut BTreeMap<u64, Extent>, from: u64, to: u64) -> Result<(), 
 }
 
 /// Leaves a block as it is.
-fn touch(live: &BTreeMap<u64, Extent>, at: u64) -> Result<(), ReplayFault>
+fn touch(live: &IndexMap<u64, Extent>, at: u64) -> Result<(), ReplayFault>
     ensures { Gives (after_touching (store_of live.now.entries) at) (store_of live.now.entries) result }
 {
     if live.contains_key(&at) {
@@ -153,10 +153,10 @@ fn touch(live: &BTreeMap<u64, Extent>, at: u64) -> Result<(), ReplayFault>
 }
 
 /// Frees a block.
-fn free(live: &mut BTreeMap<u64, Extent>, at: u64) -> Result<(), ReplayFault>
+fn free(live: &mut IndexMap<u64, Extent>, at: u64) -> Result<(), ReplayFault>
     ensures { Gives (after_freeing (store_of live.old.entries) at) (store_of live.new.entries) result }
 {
-    match live.remove(&at) {
+    match live.swap_remove(&at) {
         Some(_) => Ok(()),
         None => Err(ReplayFault::BadReplay),
     }

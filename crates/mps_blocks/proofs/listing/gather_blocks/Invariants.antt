@@ -1,4 +1,5 @@
-use Rattle.mps_blocks.specs.Entries.{store_of}
+use Rattle.std.proofs.Common.{drop}
+use Rattle.mps_blocks.specs.Entries.{blocks_at}
 use Rattle.mps_blocks.specs.Listing.{listing}
 use Rattle.mps_blocks.proofs.Gathering.{IsGatheredUpTo}
 use Rattle.mps_blocks.proofs.listing.gather_blocks.Given as goal
@@ -6,4 +7,4 @@ use Rattle.mps_blocks.proofs.listing.gather_blocks.Given as goal
 abbrev pub invariant-loop-at : goal.invariant-loop-at
 invariant-loop-at g l =
     IsGatheredUpTo (g.D.Desk.outside l.initial.desk) (g.D.Desk.outside l.desk) l.initial.output l.output
-    (listing (store_of l.live.entries)) (listing (store_of l.at-iterator))
+    (listing (blocks_at l.live.entries l.addresses)) (listing (blocks_at l.live.entries (drop l.at-index l.addresses)))

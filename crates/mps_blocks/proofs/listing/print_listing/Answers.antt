@@ -1,8 +1,6 @@
-use Rattle.std.proofs.Common.{[], subst}
+use Rattle.std.proofs.Common.{[]}
 use Rattle.std.proofs.lemmas.Result.{on_err_weaker}
-use Rattle.mps_model.specs.Replay.{Store}
-use Rattle.mps_report.specs.Streams.{PrintsPart}
-use Rattle.mps_blocks.specs.Entries.{store_of}
+use Rattle.mps_blocks.specs.Entries.{blocks_at}
 use Rattle.mps_blocks.specs.Listing.{listing}
 use Rattle.mps_blocks.proofs.Gathering.{all_gathered, part_printed}
 use Rattle.mps_blocks.proofs.listing.print_listing.Goals as goal
@@ -12,9 +10,8 @@ returns-clause-part g c =
     let a = g.D.Desk.outside c.args.desk.now in
     let b = g.D.Desk.outside c.gather_blocks.new.desk in
     let d = g.D.Desk.outside c.flush.new.desk in
-    let text = listing (store_of c.live.result.now.entries) in
+    let text = listing (blocks_at c.args.live.now.entries c.args.addresses.now) in
     on_err_weaker c.flush.result
-    (λ p. subst (λ (s : Store). PrintsPart a d (listing s)) c.live.ensures
     (part_printed a b d c.args.output.now c.gather_blocks.new.output text [] c.requires
-    (all_gathered a b c.args.output.now c.gather_blocks.new.output text c.in_ok-gather_blocks.ensures.gathered) p))
+    (all_gathered a b c.args.output.now c.gather_blocks.new.output text c.in_ok-gather_blocks.ensures.gathered))
     c.flush.ensures.failed

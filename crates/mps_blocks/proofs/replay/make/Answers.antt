@@ -9,4 +9,4 @@ returns-then-contains_key c =
 pub returns-in-Ok : goal.returns-in-Ok
 returns-in-Ok c =
     made c.args.live.now.entries c.insert.new.self.entries c.args.at (record { words = c.args.words; pool = c.args.pool })
-    (sym c.contains_key.ensures ∙ c.if-contains_key.false) c.in-Ok.ensures.entries
+    (sym c.contains_key.ensures ∙ c.if-contains_key.false) c.in-Ok.ensures.updates.0

@@ -13,5 +13,6 @@ returns-in-None c =
 
 pub returns-in-Ok : goal.returns-in-Ok
 returns-in-Ok c =
-    moved c.args.live.now.entries c.remove.new.self.entries c.insert.new.self.entries c.args.from c.args.to c.in-Some.extent
-    (sym c.contains_key.ensures ∙ c.if-contains_key.false) (sym c.in-Some.ensures.value) c.remove.ensures.entries c.in-Ok.ensures.entries
+    moved c.args.live.now.entries c.swap_remove.new.self.entries c.insert.new.self.entries c.args.from c.args.to c.in-Some.extent
+    (sym c.contains_key.ensures ∙ c.if-contains_key.false) (sym c.in-Some.ensures.value) c.swap_remove.ensures.updates.0
+    c.in-Ok.ensures.updates.0
