@@ -107,48 +107,46 @@ added es new at x none change =
 
 -- ---- what a record does
 
-none_there : (o : Option Extent) → is_some o ≡ false → o ≡ None
-none_there None h = refl
-none_there (Some x) h = absurd cc
+pub made_twice : (es : Entries) (at words pool : ℕ) (x : Extent) → found_at es at ≡ Some x → after_making (store_of es) at words pool ≡ None
+made_twice es at words pool x there =
+    ap (λ (c : Bool). cond c None (Some (with_block (record { at = at; words = words; pool = pool }) (store_of es))))
+    (is_live-store es at ∙ ap is_some there)
 
-pub made_twice : (es : Entries) (at words pool : ℕ) → is_some (found_at es at) ≡ true → after_making (store_of es) at words pool ≡ None
-made_twice es at words pool h =
-    ap (λ (c : Bool). cond c None (Some (with_block (record { at = at; words = words; pool = pool }) (store_of es)))) (is_live-store es at
-    ∙ h)
-
-pub made : (es new : Entries) (at : ℕ) (x : Extent) → is_some (found_at es at) ≡ false → Changes es new at (Some x)
+pub made : (es new : Entries) (at : ℕ) (x : Extent) → found_at es at ≡ None → Changes es new at (Some x)
     → after_making (store_of es) at x.words x.pool ≡ Some (store_of new)
-made es new at x h change =
-    ap (λ (c : Bool). cond c None (Some (with_block (block_of (at, x)) (store_of es)))) (is_live-store es at ∙ h)
-    ∙ ap Some (added es new at x (none_there (found_at es at) h) change)
+made es new at x none change =
+    ap (λ (c : Bool). cond c None (Some (with_block (block_of (at, x)) (store_of es)))) (is_live-store es at ∙ ap is_some none)
+    ∙ ap Some (added es new at x none change)
 
-pub moved_onto : (es : Entries) (from to : ℕ) → is_some (found_at es to) ≡ true → after_moving (store_of es) from to ≡ None
-moved_onto es from to h =
-    let live : is_live (store_of es) to ≡ true = is_live-store es to ∙ h in
-    rw live refl
+abbrev no_store : Option Store
+no_store = None
 
-pub moved_none : (es : Entries) (from to : ℕ) → is_some (found_at es to) ≡ false → found_at es from ≡ None
-    → after_moving (store_of es) from to ≡ None
-moved_none es from to h none =
-    let live : is_live (store_of es) to ≡ false = is_live-store es to ∙ h in
-    let block : block_at (store_of es) from ≡ None = block_at-store es from
-    ∙ ap (shown from) none in
-    rw (live, block) refl
+either_none : (c : Bool) → no_store ≡ cond c no_store no_store
+either_none true = refl
+either_none false = refl
 
-none_left : (c : Bool) (found : Option Extent) → found ≡ None → cond c None found ≡ None
-none_left true found h = refl
-none_left false found h = h
+pub moved_none : (es : Entries) (from to : ℕ) → found_at es from ≡ None → after_moving (store_of es) from to ≡ None
+moved_none es from to none =
+    let block : block_at (store_of es) from ≡ None = block_at-store es from ∙ ap (shown from) none in
+    rw block (sym (either_none (is_live (store_of es) to)))
 
-pub moved : (es removed new : Entries) (from to : ℕ) (x : Extent) → is_some (found_at es to) ≡ false → found_at es from ≡ Some x
-    → Changes es removed from None → Changes removed new to (Some x)
-    → after_moving (store_of es) from to ≡ Some (store_of new)
-moved es removed new from to x h there removal change =
-    let live : is_live (store_of es) to ≡ false = is_live-store es to ∙ h in
+apart_test : (a b : ℕ) → (a ≡ b → ⊥) → eqb a b ≡ false
+apart_test a b h = by (eqb a b) refl
+  where
+    by : (c : Bool) → eqb a b ≡ c → eqb a b ≡ false
+    by true e = absurd (h (eqb-true a b e))
+    by false e = e
+
+-- a block that moves elsewhere is made there after it was taken out
+pub moved : (es removed : Entries) (from to : ℕ) (x : Extent) → (from ≡ to → ⊥) → found_at es from ≡ Some x
+    → Changes es removed from None → after_making (store_of removed) to x.words x.pool ≡ after_moving (store_of es) from to
+moved es removed from to x apart there removal =
     let block : block_at (store_of es) from ≡ Some (block_of (from, x)) = block_at-store es from ∙ ap (shown from) there in
-    let absent : found_at removed to ≡ None = removal to ∙ none_left (eqb from to) (found_at es to) (none_there (found_at es to) h) in
-    let store : store_of new ≡ with_block (block_of (to, x)) (without_block (store_of es) from) =
-    sym (ap (with_block (block_of (to, x))) (dropped es removed from removal) ∙ added removed new to x absent change) in
-    rw (live, block, store) refl
+    let same : found_at removed to ≡ found_at es to = removal to ∙ ap (λ (c : Bool). cond c None (found_at es to)) (apart_test from to apart) in
+    let live : is_live (store_of removed) to ≡ is_live (store_of es) to =
+    is_live-store removed to ∙ ap is_some same ∙ sym (is_live-store es to) in
+    let store : store_of removed ≡ without_block (store_of es) from = sym (dropped es removed from removal) in
+    rw (block, live, store) refl
 
 pub touched : (es : Entries) (at : ℕ) → is_some (found_at es at) ≡ true → after_touching (store_of es) at ≡ Some (store_of es)
 touched es at h = ap (λ (c : Bool). cond c (Some (store_of es)) None) (is_live-store es at ∙ h)

@@ -104,7 +104,14 @@ fn apply_to_blocks(
     let first = field_at(entry, 0);
     let second = field_at(entry, 1);
     match entry.code() {
-        80 | 81 => make(live, first, second, field_at(entry, 2)),
+        80 | 81 => make(
+            live,
+            first,
+            Extent {
+                words: second,
+                pool: field_at(entry, 2),
+            },
+        ),
         82 => relocate(live, first, second),
         83 | 84 => touch(live, first),
         85 => free(live, first),
@@ -113,14 +120,12 @@ fn apply_to_blocks(
 }
 
 /// Makes a block.
-fn make(live: &mut IndexMap<u64, Extent>, at: u64, words: u64, pool: u64) -> Result<(), ReplayFault>
-    ensures { Gives (after_making (store_of live.old.entries) at words pool) (store_of live.new.entries) result }
+fn make(live: &mut IndexMap<u64, Extent>, at: u64, extent: Extent) -> Result<(), ReplayFault>
+    ensures { Gives (after_making (store_of live.old.entries) at extent.words extent.pool) (store_of live.new.entries) result }
 {
-    if live.contains_key(&at) {
-        return Err(ReplayFault::BadReplay);
-    }
-    match live.insert(at, Extent { words, pool }) {
-        Ok(_) => Ok(()),
+    match live.insert(at, extent) {
+        Ok(None) => Ok(()),
+        Ok(Some(_)) => Err(ReplayFault::BadReplay),
         Err(_) => Err(ReplayFault::OutOfMemory),
     }
 }
@@ -129,15 +134,12 @@ fn make(live: &mut IndexMap<u64, Extent>, at: u64, words: u64, pool: u64) -> Res
 fn relocate(live: &mut IndexMap<u64, Extent>, from: u64, to: u64) -> Result<(), ReplayFault>
     ensures { Gives (after_moving (store_of live.old.entries) from to) (store_of live.new.entries) result }
 {
-    if live.contains_key(&to) {
+    if from == to {
         return Err(ReplayFault::BadReplay);
     }
     match live.swap_remove(&from) {
         None => Err(ReplayFault::BadReplay),
-        Some(extent) => match live.insert(to, extent) {
-            Ok(_) => Ok(()),
-            Err(_) => Err(ReplayFault::OutOfMemory),
-        },
+        Some(extent) => make(live, to, extent),
     }
 }
 

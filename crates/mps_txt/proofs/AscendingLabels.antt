@@ -14,20 +14,20 @@ use Rattle.mps_event.specs.declared.event.Event.{Event}
 use Rattle.mps_event.specs.declared.event.Event.TheVariants.{ArenaCreate, LimitSet, PoolCreate, Flip, End, SegAlloc, SegFree, Splat, Commit, Alloc, Move, Stay, Post, Free, Intern, Label}
 use Rattle.mps_txt.specs.Labels.{Naming, IsReached, no_names, id_at, with_label, relabelled, moved, after_event, after_record, after_records}
 
-abbrev Entries : Type 0
+abbrev pub Entries : Type 0
 Entries = List (ℕ × ℕ)
 
 -- an address lies below all of these
-abbrev Above : ℕ → Entries → Type 0
+abbrev pub Above : ℕ → Entries → Type 0
 Above n [] = Unit {0}
 Above n (e ∷ es) = (n < e.0) × Above n es
 
 -- each address lies below those after it
-abbrev Ascends : Entries → Type 0
+abbrev pub Ascends : Entries → Type 0
 Ascends [] = Unit {0}
 Ascends (e ∷ es) = Above e.0 es × Ascends es
 
-lower_above : (m n : ℕ) (es : Entries) → m < n → Above n es → Above m es
+pub lower_above : (m n : ℕ) (es : Entries) → m < n → Above n es → Above m es
 lower_above m n [] lt h = tt
 lower_above m n (e ∷ es) lt h = (omega (arith, lt, h.0), lower_above m n es lt h.1)
 
@@ -50,7 +50,7 @@ ascends_case Less k v e es added m h above more = ((m, lower_above k e.0 es m h.
 ascends_case Equal k v e es added m h above more = (h.0, h.1)
 ascends_case Greater k v e es added m h above more = (above m, more)
 
-ascends_with : (es : Entries) (k v : ℕ) → Ascends es → Ascends (insert_entry nat_cmp es k v)
+pub ascends_with : (es : Entries) (k v : ℕ) → Ascends es → Ascends (insert_entry nat_cmp es k v)
 ascends_with [] k v h = (tt, tt)
 ascends_with (e ∷ es) k v h =
     ascends_case (nat_cmp k e.0) k v e es (insert_entry nat_cmp es k v) (ranked k e.0 (nat_cmp k e.0) refl) h
@@ -69,7 +69,7 @@ ascends_less : (c : Bool) (e : ℕ × ℕ) (es rest : Entries) → Ascends (e �
 ascends_less true e es rest h above k = h.1
 ascends_less false e es rest h above k = (above, k)
 
-ascends_without : (es : Entries) (k : ℕ) → Ascends es → Ascends (remove_entry (is_at (nat_cmp k)) es)
+pub ascends_without : (es : Entries) (k : ℕ) → Ascends es → Ascends (remove_entry (is_at (nat_cmp k)) es)
 ascends_without [] k h = tt
 ascends_without (e ∷ es) k h =
     ascends_less (is_at (nat_cmp k) e.0) e es (remove_entry (is_at (nat_cmp k)) es) h (above_without e.0 k es h.0)
@@ -88,7 +88,7 @@ not_true a b true e other = absurd (other (sym (eqb-true a b e)))
 not_true a b false e other = refl
 
 -- the test of a look-up
-at_is : (q x : ℕ) → is_at (nat_cmp q) x ≡ (x == q)
+pub at_is : (q x : ℕ) → is_at (nat_cmp q) x ≡ (x == q)
 at_is q x =
     equal_case (nat_cmp q x) q x (ranked q x (nat_cmp q x) refl) (x == q) (λ e. eq-eqb x q (sym e))
     (λ other. not_true x q (x == q) refl other)
@@ -132,7 +132,7 @@ found_with (e ∷ es) k v q =
 absent_case : (c : Bool) (x y : Option ℕ) → c ≡ false → y ≡ None → cond c x y ≡ None
 absent_case c x y e f = rw (e, f) refl
 
-absent_above : (n q : ℕ) (es : Entries) → q ≡ n → Above n es → lookup (is_at (nat_cmp q)) es ≡ None
+pub absent_above : (n q : ℕ) (es : Entries) → q ≡ n → Above n es → lookup (is_at (nat_cmp q)) es ≡ None
 absent_above n q [] same h = refl
 absent_above n q (e ∷ es) same h =
     absent_case (is_at (nat_cmp q) e.0) (Some e.1) (lookup (is_at (nat_cmp q)) es)

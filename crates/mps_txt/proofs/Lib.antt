@@ -16,3 +16,4 @@ pub mod WholeText
 pub mod FailedWrite
 pub mod UniqueReading
 mod AscendingLabels
+pub mod LabelEntries

@@ -10,7 +10,6 @@ use Rattle.mps_report.specs.declared.stop.Stop.TheVariants as stop
 use Rattle.mps_report.specs.Reports.{status_of, report_of}
 use Rattle.mps_report.specs.Streams.{Reports}
 use Rattle.mps_log_reader.specs.Input.{Buffered, IsComplete}
-use Rattle.mps_log_reader.specs.Left.{left_of}
 use Rattle.mps_log_reader.specs.PutOut.{put_out, Grows, PutsOut, PrintsAsFar, IsToFlush}
 use Rattle.mps_log_reader.specs.Opening.{first_line}
 use Rattle.mps_log_reader.specs.RecordLine.{record_line}

@@ -6,3 +6,4 @@ pub mod Line
 pub mod PendingLine
 pub mod Text
 pub mod TextSteps
+pub mod LabelEntries

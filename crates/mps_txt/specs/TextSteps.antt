@@ -1,5 +1,5 @@
 -- The reading of a text line by line.
-use Rattle.std.specs.Prelude.{◌≡◌, ◌≢◌, ℕ, ◌<◌, ◌≤◌, ◌⊎◌, true, false, Option, Some, None, IfSome, Bool, Result, Ok, Err, List, [], ◌++◌, length, drop, All, codes}
+use Rattle.std.specs.Prelude.{◌≡◌, ◌≢◌, ℕ, ◌<◌, ◌⊎◌, true, false, Option, Some, None, IfSome, Bool, Result, Ok, Err, List, [], ◌++◌, length, drop, All, codes}
 use Rattle.std.specs.List.{flat_map}
 use Rattle.std.specs.Option.{option_map}
 use Rattle.mps_base.specs.Desk.{Outside}

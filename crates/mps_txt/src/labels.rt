@@ -7,9 +7,9 @@ ghost use Rattle.mps_event.specs.Name.{name_in, interned_bytes};
 ghost use Rattle.mps_txt.specs.Labels.{no_names, id_at, label_at, after_event, takes_memory, with_name, with_label, without_label, moved};
 
 use crate::record_line::RecordLine;
+use indexmap::IndexMap;
 use mps_event::Event;
 use std::alloc::Global;
-use std::collections::BTreeMap;
 use std::marker::Model;
 
 /// Why the record of a line could not be applied.
@@ -25,17 +25,18 @@ pub(crate) enum LabelFault {
 #[derive(Drop)]
 pub(crate) struct Labels {
     names: Vec<[u8; 16]>,
-    at: BTreeMap<u64, u64>,
+    at: IndexMap<u64, u64>,
 }
 
 impl Model for Labels {
     ghost use Rattle.std.specs.Prelude.{map};
     ghost use Rattle.mps_event.specs.Name.{name_in};
+    ghost use Rattle.mps_txt.specs.LabelEntries.{labels_of};
     ghost use Rattle.mps_txt.specs.Labels.{Naming};
 
     ghost Value = { Naming };
 
-    ghost view = { λ l. record { names = map name_in l.names.items; labels = l.at.entries } };
+    ghost view = { λ l. record { names = map name_in l.names.items; labels = labels_of l.at.entries } };
 }
 
 impl Labels {
@@ -45,7 +46,7 @@ impl Labels {
     {
         Labels {
             names: Vec::new(alloc),
-            at: BTreeMap::new(alloc),
+            at: IndexMap::new(alloc),
         }
     }
 
@@ -53,8 +54,15 @@ impl Labels {
     pub(crate) fn name_at(&self, address: u64) -> Option<[u8; 16]>
         ensures { option_map name_in result ≡ label_at self.now address }
     {
-        let id = *self.at.get(&address)?;
+        let id = self.id_at(address)?;
         self.names.get(id as usize).copied()
+    }
+
+    /// The id of the name that labels an address.
+    fn id_at(&self, address: u64) -> Option<u64>
+        ensures { result ≡ id_at self.now address }
+    {
+        self.at.get(&address).copied()
     }
 
     /// Applies a record to the names and the labels.
@@ -116,7 +124,7 @@ impl Labels {
     fn unlabel(&mut self, at: u64)
         ensures { self.new ≡ without_label self.old at }
     {
-        let _ = self.at.remove(&at);
+        let _ = self.at.swap_remove(&at);
     }
 
     /// Moves the label of an address to another.
@@ -125,7 +133,7 @@ impl Labels {
         ensures fault { OnErr result (result ≡ Err LabelFault.OutOfMemory) }
         ensures memory { OnErr result (is_some (id_at self.old from) ≡ true) }
     {
-        match self.at.get(&from).copied() {
+        match self.id_at(from) {
             Some(id) => self.put(to, id)?,
             None => self.unlabel(to),
         }

@@ -2,11 +2,12 @@ use Rattle.std.proofs.Common.{sym, ◌∙◌}
 use Rattle.mps_blocks.proofs.Entries.{made_twice, made}
 use Rattle.mps_blocks.proofs.replay.make.Goals as goal
 
-pub returns-then-contains_key : goal.returns-then-contains_key
-returns-then-contains_key c =
-    made_twice c.args.live.now.entries c.args.at c.args.words c.args.pool (sym c.contains_key.ensures ∙ c.if-contains_key.true)
+pub returns-in-Ok-None : goal.returns-in-Ok-None
+returns-in-Ok-None c =
+    made c.args.live.now.entries c.insert.new.self.entries c.args.at c.args.extent (sym c.in-Ok-None.ensures.old ∙ c.in-Ok-None.field-0-is)
+    c.in-Ok-None.ensures.updates.0
 
-pub returns-in-Ok : goal.returns-in-Ok
-returns-in-Ok c =
-    made c.args.live.now.entries c.insert.new.self.entries c.args.at (record { words = c.args.words; pool = c.args.pool })
-    (sym c.contains_key.ensures ∙ c.if-contains_key.false) c.in-Ok.ensures.updates.0
+pub returns-in-Ok-Some : goal.returns-in-Ok-Some
+returns-in-Ok-Some c =
+    made_twice c.args.live.now.entries c.args.at c.args.extent.words c.args.extent.pool c.in-Ok-Some.field-0-0
+    (sym c.in-Ok-Some.ensures.old ∙ c.in-Ok-Some.field-0-is)

@@ -1,18 +1,16 @@
-use Rattle.std.proofs.Common.{sym, ◌∙◌}
-use Rattle.mps_blocks.proofs.Entries.{moved_onto, moved_none, moved}
+use Rattle.std.proofs.Common.{sym, subst, Option}
+use Rattle.mps_model.specs.Replay.{Store}
+use Rattle.mps_blocks.specs.Entries.{store_of}
+use Rattle.mps_blocks.specs.Replaying.{Gives}
+use Rattle.mps_blocks.proofs.Entries.{moved_none, moved}
 use Rattle.mps_blocks.proofs.replay.relocate.Goals as goal
 
-pub returns-then-contains_key : goal.returns-then-contains_key
-returns-then-contains_key c =
-    moved_onto c.args.live.now.entries c.args.from c.args.to (sym c.contains_key.ensures ∙ c.if-contains_key.true)
-
 pub returns-in-None : goal.returns-in-None
-returns-in-None c =
-    moved_none c.args.live.now.entries c.args.from c.args.to (sym c.contains_key.ensures ∙ c.if-contains_key.false)
-    (sym c.in-None.ensures.value)
+returns-in-None c = moved_none c.args.live.now.entries c.args.from c.args.to (sym c.in-None.ensures.value)
 
-pub returns-in-Ok : goal.returns-in-Ok
-returns-in-Ok c =
-    moved c.args.live.now.entries c.swap_remove.new.self.entries c.insert.new.self.entries c.args.from c.args.to c.in-Some.extent
-    (sym c.contains_key.ensures ∙ c.if-contains_key.false) (sym c.in-Some.ensures.value) c.swap_remove.ensures.updates.0
-    c.in-Ok.ensures.updates.0
+pub returns-in-Some : goal.returns-in-Some
+returns-in-Some c =
+    subst (λ (due : Option Store). Gives due (store_of c.make.new.live.entries) c.make.result)
+    (moved c.args.live.now.entries c.swap_remove.new.self.entries c.args.from c.args.to c.in-Some.extent c.if-from-to.false
+    (sym c.in-Some.ensures.value) c.swap_remove.ensures.updates.0)
+    c.make.ensures

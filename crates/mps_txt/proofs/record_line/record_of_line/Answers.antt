@@ -4,7 +4,7 @@ use Rattle.std.proofs.lemmas.List.Elements.{All-take}
 use Rattle.mps_event.specs.Event.{field_count_of}
 use Rattle.mps_event.proofs.Records.{count-le}
 use Rattle.mps_txt.proofs.NumberTexts.{if_none}
-use Rattle.mps_txt.proofs.RecordWords.{HasHeading, no_record_without_heading, no_record_without_event, no_record_without_fields, no_record_without_name, spells_record, known_by_code}
+use Rattle.mps_txt.proofs.RecordWords.{no_record_without_heading, no_record_without_event, no_record_without_fields, no_record_without_name, spells_record, known_by_code}
 use Rattle.mps_txt.proofs.record_line.record_of_line.Goals as goal
 
 pub returns-in_err-line-clause-complete : goal.returns-in_err-line-clause-complete

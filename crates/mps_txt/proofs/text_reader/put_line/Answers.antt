@@ -1,6 +1,6 @@
 use Rattle.std.proofs.lemmas.Result.{err_from_is_err_and}
 use Rattle.mps_txt.specs.declared.labels.LabelFault.TheVariants as LabelFault
-use Rattle.mps_txt.proofs.PutLine.{IsReadAs, puts_line, is_refused, same_fault}
+use Rattle.mps_txt.proofs.PutLine.{puts_line, is_refused, same_fault}
 use Rattle.mps_txt.proofs.text_reader.put_line.Goals as goal
 
 pub returns-in_err-apply-clause-bad : goal.returns-in_err-apply-clause-bad

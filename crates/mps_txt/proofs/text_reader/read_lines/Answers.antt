@@ -1,4 +1,4 @@
-use Rattle.std.proofs.Common.{◌+◌, ◌∙◌, ◌++◌, ℕ, List, Option, Bool, Ok, true, false, arith, ap, subst}
+use Rattle.std.proofs.Common.{◌+◌, ◌∙◌, ◌++◌, ℕ, List, Option, Bool, Ok, arith, ap, subst}
 use Rattle.std.specs.Option.{option_map}
 use Rattle.std.proofs.lemmas.Result.{err_from_is_err_and}
 use Rattle.mps_log_reader.specs.Causes.{WorksOnInput}

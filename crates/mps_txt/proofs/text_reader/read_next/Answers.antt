@@ -4,7 +4,7 @@ use Rattle.std.proofs.lemmas.Result.{err_from_is_err_and}
 use Rattle.mps_log_reader.specs.Input.{Buffered}
 use Rattle.mps_log_reader.proofs.PartPut.{grows_by, puts_part}
 use Rattle.mps_txt.specs.TextSteps.{progress, NextGives}
-use Rattle.mps_txt.proofs.NextLine.{IsReadyForLine, next_line, next_stops}
+use Rattle.mps_txt.proofs.NextLine.{next_line, next_stops}
 use Rattle.mps_txt.proofs.text_reader.read_next.Goals as goal
 
 pub returns-in_err-size-clause-gives : goal.returns-in_err-size-clause-gives

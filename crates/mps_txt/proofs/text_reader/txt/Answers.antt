@@ -1,6 +1,6 @@
 use Rattle.mps_log_reader.proofs.Reported.{reports_status, unopened}
 use Rattle.mps_txt.specs.BadTextLine.{text_of_bad_line}
-use Rattle.mps_txt.proofs.WholeText.{EndingReported, read_with}
+use Rattle.mps_txt.proofs.WholeText.{read_with}
 use Rattle.mps_txt.proofs.FailedWrite.{cut_with_status}
 use Rattle.mps_txt.proofs.UniqueReading.{unique_reading}
 use Rattle.mps_txt.proofs.text_reader.txt.Goals as goal

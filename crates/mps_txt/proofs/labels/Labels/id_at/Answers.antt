@@ -1,0 +1,9 @@
+use Rattle.std.proofs.Common.{sym, ap, ◌∙◌}
+use Rattle.mps_txt.specs.Labels.{Naming, id_at}
+use Rattle.mps_txt.proofs.LabelEntries.{found_labels}
+use Rattle.mps_txt.proofs.labels.Labels.id_at.Goals as goal
+
+pub returns : goal.returns
+returns c =
+    c.copied.ensures ∙ c.get.ensures.value ∙ sym (found_labels c.self.inside.at.entries c.args.address)
+    ∙ ap (λ (s : Naming). id_at s c.args.address) c.self.view_is
