@@ -48,17 +48,18 @@ def scattered_log(path):
 
 
 def labelled_text(path):
-    """Blocks with labels, which then move."""
+    """Blocks with labels, at random addresses, which then move."""
     labels = 200_000
+    places = random.Random(2).sample(range(0x200, 0x2000_0000), labels)
     with open(path, 'w') as text:
         text.write('mpslog 2\n')
         for i in range(1000):
             text.write('1 96 %x %x 0\n' % (i, int.from_bytes(b'name%03d' % i, 'little')))
-        for i in range(labels):
-            text.write('2 80 %x 3 0\n2 97 %x %x\n' % (0x1000_0000 + 24 * i, 0x1000_0000 + 24 * i, i % 1000))
+        for i, at in enumerate(places):
+            text.write('2 80 %x 3 0\n2 97 %x %x\n' % (0x10_0000_0000 + 8 * at, 0x10_0000_0000 + 8 * at, i % 1000))
         for number in range(14):
-            here, there = 0x1000_0000 * (number % 2 + 1), 0x1000_0000 * ((number + 1) % 2 + 1)
-            text.write(''.join('3 82 %x %x\n' % (here + 24 * i, there + 24 * i) for i in range(labels)))
+            here, there = 0x10_0000_0000 * (number % 2 + 1), 0x10_0000_0000 * ((number + 1) % 2 + 1)
+            text.write(''.join('3 82 %x %x\n' % (here + 8 * at, there + 8 * at) for at in places))
 
 
 def script(path, head, lines, times):
