@@ -1,5 +1,6 @@
 -- What a caller sees of an arena, and the results of its calls.
 use Rattle.std.specs.Prelude.{ℕ, ◌+◌, ◌*◌, ◌≡◌, List, [], ◌∷◌, ◌++◌, Result, Ok, Err, take, drop, length, replicate, refl}
+use lib.Seq.{paste}
 use Rattle.mps_base.specs.Run.{Run, with_run}
 use Rattle.mps_base.specs.Placement.{Placement, Place, NewSegment, OverLimit, NoFreeRun, run_placement}
 use Rattle.mps_base.specs.Address.{address_of_grain, address_of_word, words_of_grain}
@@ -47,3 +48,17 @@ with_words words at new = take (length words) (take at words ++ (new ++ drop (at
 
 two_written : with_words (1 ∷ 2 ∷ 3 ∷ 4 ∷ []) 1 (8 ∷ 9 ∷ []) ≡ 1 ∷ 8 ∷ 9 ∷ 4 ∷ []
 two_written = refl
+
+-- n words from one on, written over those from another on; they may overlap
+abbrev pub copied_words : List ℕ → (from to n : ℕ) → List ℕ
+copied_words words from to n = paste words to (drop from words) n
+
+-- n words from one on are 0
+abbrev pub cleared_words : List ℕ → (from n : ℕ) → List ℕ
+cleared_words words from n = paste words from (replicate n 0) n
+
+overlapping_copy : copied_words (1 ∷ 2 ∷ 3 ∷ 4 ∷ []) 0 1 3 ≡ 1 ∷ 1 ∷ 2 ∷ 3 ∷ []
+overlapping_copy = refl
+
+the_word_after_stays : cleared_words (1 ∷ 2 ∷ 3 ∷ 4 ∷ []) 1 2 ≡ 1 ∷ 0 ∷ 0 ∷ 4 ∷ []
+the_word_after_stays = refl

@@ -1,10 +1,10 @@
 // The arena.
 #![tactic(auto)]
 
-ghost use Rattle.std.specs.Prelude.{◌≡◌, ◌+◌, ◌*◌, ◌/◌, ◌%◌, ◌<◌, ◌≤◌, length, IfOk, IfErr, OnOk, Contains, slice_range, MatchResult};
+ghost use Rattle.std.specs.Prelude.{◌≡◌, ◌+◌, ◌*◌, ◌/◌, ◌%◌, ◌<◌, ◌≤◌, length, IfOk, IfErr, OnOk, Contains, slice_index, slice_set, slice_range, MatchResult};
 ghost use Rattle.mps_base.specs.Run.{total, with_run, without_run};
 ghost use Rattle.mps_base.specs.Address.{bytes_of_word, bytes_of_grain, grain_of, word_of};
-ghost use Rattle.mps_arena.specs.Arena.{ArenaMemory, max_grains, new_arena, placement_in, answer_of_placement, held_after};
+ghost use Rattle.mps_arena.specs.Arena.{ArenaMemory, max_grains, new_arena, placement_in, answer_of_placement, held_after, cleared_words, copied_words};
 ghost use Rattle.std.specs.Borrow.{sem};
 ghost use Rattle.mps_arena.specs.Lending.{LendsArenaWords};
 
@@ -133,5 +133,50 @@ impl Arena {
     {
         let from = (at.0 / BYTES_OF_WORD) as usize;
         self.words.slice_mut(from..from + words as usize)
+    }
+
+    /// The word at an address.
+    pub fn word(&self, at: Addr) -> u64
+        requires { word_of at.0 < length self.now.words }
+        ensures { result ≡ slice_index self.now.words (word_of at.0) }
+    {
+        self.words[at.word()]
+    }
+
+    /// Writes the word at an address.
+    pub fn set_word(&mut self, at: Addr, word: u64)
+        requires { word_of at.0 < length self.old.words }
+        ensures { self.new ≡ record self.old { words = slice_set self.old.words (word_of at.0) word } }
+    {
+        self.words[at.word()] = word;
+    }
+
+    /// Writes 0 in the `words` words from `at` on.
+    pub fn clear(&mut self, at: Addr, words: u32)
+        requires { word_of at.0 + words ≤ length self.old.words }
+        ensures { self.new ≡ record self.old { words = cleared_words self.old.words (word_of at.0) words } }
+    {
+        write_zeros(&mut self.words, at.word(), words as usize);
+    }
+
+    /// Copies the `words` words from `from` on to `to` and the words after it. The two may overlap.
+    pub fn copy(&mut self, from: Addr, to: Addr, words: u32)
+        requires from_in_arena { word_of from.0 + words ≤ length self.old.words }
+        requires to_in_arena { word_of to.0 + words ≤ length self.old.words }
+        ensures { self.new ≡ record self.old { words = copied_words self.old.words (word_of from.0) (word_of to.0) words } }
+    {
+        let from = from.word();
+        self.words
+            .copy_within(from..from + words as usize, to.word());
+    }
+}
+
+/// Writes 0 in `count` words from the word `from` on.
+fn write_zeros(words: &mut [u64], from: usize, count: usize)
+    requires { from + count ≤ length words.old }
+    ensures { words.new ≡ cleared_words words.old from count }
+{
+    for i in 0..count {
+        words[from + i] = 0;
     }
 }

@@ -8,12 +8,13 @@ use Rattle.mps_base.specs.Segment.{Segment, end_of_segment, grains_of_segment}
 use Rattle.mps_arena.specs.Arena.{ArenaMemory}
 use Rattle.mps_extents.specs.Extents.{has_word, ExtentLists}
 use Rattle.mps_seg.specs.Segs.{SegsState, LiesIn}
-use Rattle.mps_seg.specs.Table.{segments_in, segs_state, IsHeld, IsCounted, IsCountAt, first_over, or_zero, covered_words_in}
+use Rattle.mps_seg.specs.Table.{segments_in, IsHeld, IsCounted, IsCountAt, first_over, or_zero, covered_words_in}
 use Rattle.mps_seg.specs.declared.entry.Entry.{Entry}
 use Rattle.mps_seg.specs.declared.entry.Entry.TheVariants.{Free, First}
 use Rattle.mps_seg.specs.declared.segs.Segs.TheInside.{Inside}
 use Rattle.mps_extents.proofs.ApartRuns.{contains_put, apart_from_put, apart_each, has_word-true, has_word-below, has_word-above}
 use Rattle.mps_extents.proofs.ContainedRuns.{contains_put_cases, contains_without, same_count}
+use Rattle.mps_seg.proofs.Seen.{seen_by, IsSoundInside}
 use Rattle.mps_seg.proofs.Entries.{entry_is_held, entry_at_base}
 use Rattle.mps_seg.proofs.HeldSegments.{whole_in}
 use Rattle.mps_extents.proofs.LowestGap.{runs_within_ascending}
@@ -412,8 +413,7 @@ counted_at arena table ex firsts counts base s held counted there begins =
     }
 
 pub counted_seen : (i : Inside) (seen : SegsState) (base : ℕ) (s : Segment)
-    → IsHeld i.arena i.table.items i.extents × IsCounted i.arena.held (i.arena.grains + 1) i.firsts.items i.counts.items i.extents.covered
-    → segs_state i.arena i.table.items i.extents ≡ seen → Contains seen.segments s → s.base ≡ base
+    → IsSoundInside i → seen_by i ≡ seen → Contains seen.segments s → s.base ≡ base
     → Counted i.arena i.table.items i.extents i.counts.items base s
 counted_seen i seen base s sound is there begins =
     let P : SegsState → Type 0 = λ st. Contains st.segments s in

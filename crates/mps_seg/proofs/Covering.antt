@@ -1,10 +1,13 @@
 -- What is known of the tables where words in a segment are covered, and where they are uncovered.
-use Rattle.std.proofs.Common.{ℕ, ◌+◌, ◌-◌, ◌*◌, ◌^◌, ◌<◌, ◌≤◌, ◌≡◌, List, length, get_or, set, Contains, sym, ap, ◌∙◌, subst, arith}
+use Rattle.std.proofs.Common.{ℕ, ◌+◌, ◌-◌, ◌*◌, ◌^◌, ◌<◌, ◌≤◌, ◌≡◌, List, length, get_or, set, Contains, sym, ap, ◌∙◌, subst, arith, map}
 use Rattle.std.proofs.lemmas.List.{get_or_read}
+use Rattle.mps_base.proofs.Runs.{contained_bounds}
 use Rattle.mps_base.specs.Run.{Run, IsAscending, with_run, without_run}
 use Rattle.mps_base.specs.Address.{words_of_grain, grain_of, word_of}
-use Rattle.mps_seg.specs.Segs.{SegsState, CanCover}
-use Rattle.mps_seg.specs.Table.{segs_state, IsHeld, IsCounted}
+use Rattle.mps_base.specs.Segment.{grains_of_segment}
+use Rattle.mps_seg.specs.Segs.{SegsState, CanCover, IsOpenRun}
+use Rattle.mps_seg.specs.Table.{segments_in, IsHeld, IsCounted}
+use Rattle.mps_seg.proofs.Seen.{seen_by, IsSoundInside}
 use Rattle.mps_seg.specs.declared.segs.Segs.TheInside.{Inside}
 use Rattle.mps_seg.proofs.CoveredWords.{OwnSegment, own_segment_of_free, own_segment_of_covered, counted_after_cover, counted_after_uncover, counted_before, room_to_count}
 use Rattle.mps_seg.proofs.HeldSegments.{held_after_cover, held_after_uncover, free_again}
@@ -19,11 +22,6 @@ first_grain_at s at = get_or s.firsts.items (grain_of at) 0
 
 abbrev pub count_at_first : Inside → ℕ → ℕ
 count_at_first s at = get_or s.counts.items (first_grain_at s at) 0
-
--- the segments are held and counted
-abbrev pub IsSoundInside : Inside → Type 0
-IsSoundInside s =
-    IsHeld s.arena s.table.items s.extents × IsCounted s.arena.held (s.arena.grains + 1) s.firsts.items s.counts.items s.extents.covered
 
 -- what is read from the two tables
 module _ (s : Inside) (at : ℕ) (grain_within : grain_of at < length s.firsts.items)
@@ -51,7 +49,7 @@ pub record Covering (s : Inside) (at words : ℕ) : Type 0 where
       IsCounted s.arena.held (s.arena.grains + 1) s.firsts.items (set s.counts.items (first_grain_at s at) (count_at_first s at + words))
       (with_run (run_at at words) s.extents.covered)
 
-pub covering : (s : Inside) (seen : SegsState) (at words : ℕ) → IsSoundInside s → segs_state s.arena s.table.items s.extents ≡ seen
+pub covering : (s : Inside) (seen : SegsState) (at words : ℕ) → IsSoundInside s → seen_by s ≡ seen
     → 0 < words
     → CanCover seen (run_at at words) → Covering s at words
 covering s seen at words sound is nonzero free =
@@ -92,6 +90,7 @@ pub record Uncovering (s : Inside) (at words : ℕ) : Type 0 where
   pub first_is : (x : ℕ) → x ≡ get_or s.firsts.items (grain_of at) x → x ≡ first_grain_at s at
   pub count_is : (x first : ℕ) → first ≡ first_grain_at s at → x ≡ get_or s.counts.items first x → x ≡ count_at_first s at
   pub at_most : words ≤ count_at_first s at
+  pub in_arena : word_of at < words_of_grain * (s.arena.grains + 1)
   pub held : (blocks reservations : List Run)
       → IsHeld s.arena s.table.items
       (record s.extents { covered = without_run (word_of at) s.extents.covered; blocks = blocks; reservations = reservations })
@@ -99,9 +98,7 @@ pub record Uncovering (s : Inside) (at words : ℕ) : Type 0 where
       IsCounted s.arena.held (s.arena.grains + 1) s.firsts.items (set s.counts.items (first_grain_at s at) (count_at_first s at - words))
       (without_run (word_of at) s.extents.covered)
   pub can_cover : (blocks reservations : List Run)
-      → CanCover
-      (segs_state s.arena s.table.items
-      (record s.extents { covered = without_run (word_of at) s.extents.covered; blocks = blocks; reservations = reservations }))
+      → IsOpenRun s.arena.grains (map grains_of_segment (segments_in s.table.items)) (without_run (word_of at) s.extents.covered)
       (run_at at words)
 
 pub uncovering : (s : Inside) (at words : ℕ) → IsSoundInside s → Contains s.extents.covered (run_at at words) → Uncovering s at words
@@ -123,6 +120,13 @@ uncovering s at words sound there =
       at_most =
           counted_before s.arena.held size s.firsts.items s.counts.items s.extents.covered sound.1 sound.0.ascending grain 0
           s.extents.size r sound.0.covered_ascending there own;
+      in_arena =
+          omega (
+            arith,
+            (contained_bounds 0 s.extents.size s.extents.covered r sound.0.covered_ascending there).2,
+            sound.0.nonempty r there,
+            sound.0.covered_size,
+          );
       held = λ blocks reservations. held_after_uncover s.arena s.table.items s.extents sound.0 (word_of at) blocks reservations;
       counted =
           counted_after_uncover s.arena.held size s.firsts.items s.counts.items s.extents.covered sound.1 sound.0.ascending grain 0

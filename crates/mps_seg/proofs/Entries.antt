@@ -6,10 +6,10 @@ use Rattle.mps_base.specs.Address.{address_of_grain, grain_of}
 use Rattle.mps_base.specs.Run.{Run, with_run, without_run}
 use Rattle.mps_base.specs.Segment.{Segment, without_segment, grains_of_segment, with_segment}
 use Rattle.mps_base.specs.declared.names.Rank.{Rank}
-use Rattle.mps_arena.specs.Arena.{ArenaMemory}
-use Rattle.mps_extents.specs.Extents.{ExtentLists}
 use Rattle.mps_seg.specs.Segs.{SegsState}
-use Rattle.mps_seg.specs.Table.{segments_in, segs_state, segments_of_entries}
+use Rattle.mps_seg.specs.Table.{segments_in, segments_of_entries}
+use Rattle.mps_seg.specs.declared.segs.Segs.TheInside.{Inside}
+use Rattle.mps_seg.proofs.Seen.{seen_by}
 use Rattle.mps_seg.specs.declared.entry.Entry.{Entry}
 use Rattle.mps_seg.specs.declared.entry.Entry.TheVariants.{Free, First}
 
@@ -254,8 +254,8 @@ entry_at_base table base s there begins =
     let P : ℕ → Type 0 = λ k. get_or table k Free ≡ First s.grains s.pool s.generation s.rank in
     record { within = omega (arith, grain, e.1.within); is = subst P (sym grain) e.1.is; aligned = omega (arith, e.1.base, begins) }
 
-pub entry_at_seen_base : (arena : ArenaMemory) (table : List Entry) (ex : ExtentLists) (seen : SegsState) (base : ℕ) (s : Segment)
-    → segs_state arena table ex ≡ seen → Contains seen.segments s → s.base ≡ base → EntryAtBase table base s
-entry_at_seen_base arena table ex seen base s is there begins =
+pub entry_at_seen_base : (i : Inside) (seen : SegsState) (base : ℕ) (s : Segment)
+    → seen_by i ≡ seen → Contains seen.segments s → s.base ≡ base → EntryAtBase i.table.items base s
+entry_at_seen_base i seen base s is there begins =
     let P : SegsState → Type 0 = λ st. Contains st.segments s in
-    entry_at_base table base s (subst P (sym is) there) begins
+    entry_at_base i.table.items base s (subst P (sym is) there) begins

@@ -9,11 +9,11 @@ use Rattle.mps_seg.specs.declared.entry.Entry.{Entry}
 use Rattle.mps_seg.specs.declared.entry.Entry.TheVariants.{Free, First}
 use Rattle.mps_seg.specs.declared.segs.Segs.TheInside.{Inside}
 use Rattle.mps_seg.specs.Segs.{SegsState, IsEmptyAt}
-use Rattle.mps_seg.specs.Table.{segments_in, segs_state, IsHeld, IsCounted}
+use Rattle.mps_seg.specs.Table.{segments_in, IsHeld, IsCounted}
 use Rattle.mps_seg.proofs.CoveredWords.{Noted, counted_after_give}
 use Rattle.mps_seg.proofs.Entries.{entry_at_base, entry_is_held, segments_after_give}
 use Rattle.mps_seg.proofs.HeldSegments.{held_after_give}
-use Rattle.mps_seg.proofs.Covering.{IsSoundInside}
+use Rattle.mps_seg.proofs.Seen.{seen_by, IsSoundInside}
 
 -- where an entry is that of two segments, both have as many grains
 pub grains_read : {e : Entry} {n n' p p' g g' : ℕ} {r r' : Rank} → e ≡ First n p g r → e ≡ First n' p' g' r' → n ≡ n'
@@ -33,7 +33,7 @@ pub record Giving (s : Inside) (base : ℕ) (t : Segment) : Type 0 where
   pub segments : segments_in (set s.table.items (grain_of base) Free) ≡ without_segment (segments_in s.table.items) base
 
 pub giving : (s : Inside) (seen : SegsState) (base : ℕ) (t : Segment) → IsSoundInside s
-    → segs_state s.arena s.table.items s.extents ≡ seen
+    → seen_by s ≡ seen
     → Contains seen.segments t → IsEmptyAt seen base t → Giving s base t
 giving s seen base t sound is listed empty =
     let grain = grain_of base in

@@ -9,8 +9,8 @@ use Rattle.mps_base.specs.Segment.{Segment, same_rank, grains_of_segment, with_s
 use Rattle.mps_base.specs.declared.names.Rank.{Rank}
 use Rattle.mps_arena.specs.Arena.{ArenaMemory, max_grains, new_arena}
 use Rattle.mps_extents.specs.Extents.{nothing_covered, ExtentLists, AreWhole}
-use Rattle.mps_seg.specs.Segs.{CanCover, LiesIn}
-use Rattle.mps_seg.specs.Table.{gaps_in_grains, segments_in, segs_state, IsHeld, segments_of_entries, gaps_at, IsWholeAt}
+use Rattle.mps_seg.specs.Segs.{IsOpenRun, LiesIn}
+use Rattle.mps_seg.specs.Table.{gaps_in_grains, segments_in, IsHeld, segments_of_entries, gaps_at, IsWholeAt}
 use Rattle.mps_seg.specs.declared.entry.Entry.{Entry}
 use Rattle.mps_seg.specs.declared.entry.Entry.TheVariants.{Free, First}
 use Rattle.mps_extents.proofs.ApartRuns.{contains_put, apart_from_put, apart_each}
@@ -56,8 +56,7 @@ module _ (arena : ArenaMemory) (table : List Entry) (ex : ExtentLists) (held : I
 
   -- words that were covered can be covered again
   pub free_again : (r : Run) (blocks reservations : List Run) → Contains ex.covered r
-      → CanCover
-      (segs_state arena table (record ex { covered = without_run r.from ex.covered; blocks = blocks; reservations = reservations })) r
+      → IsOpenRun arena.grains (map grains_of_segment (segments_in table)) (without_run r.from ex.covered) r
   free_again r blocks reservations there =
       let P : List Run → Type 0 = λ rs. IsAscending 0 (words_of_grain * (arena.grains + 1)) rs in
       let Q : ℕ → Type 0 = λ size. IsAscending 0 size ex.covered in
@@ -244,7 +243,7 @@ module _ (arena : ArenaMemory) (table : List Entry) (ex : ExtentLists) (held : I
   -- a run in a gap of a held run of grains can be covered
   pub gap_is_free : (grain n p g : ℕ) (k : Rank) (words start : ℕ) → get_or table grain Free ≡ First n p g k → 0 < words
       → lowest_fitting words (gaps_in_grains grain n ex.covered) ≡ Some start
-      → CanCover (segs_state arena table ex) (record { from = start; count = words })
+      → IsOpenRun arena.grains (map grains_of_segment (segments_in table)) ex.covered (record { from = start; count = words })
   gap_is_free grain n p g k words start is some lowest =
       let low = words_of_grain * grain in
       let high = words_of_grain * grain + words_of_grain * n in
@@ -283,9 +282,8 @@ module _ (arena : ArenaMemory) (table : List Entry) (ex : ExtentLists) (held : I
   -- a new segment can be covered from its base on
   pub new_is_free : (need grain pool generation words : ℕ) (rank : Rank) → 0 < need → 0 < words → words ≤ words_of_grain * need
       → lowest_fitting need (gaps 1 (arena.grains + 1) arena.held) ≡ Some grain
-      → CanCover
-      (segs_state (record arena { held = with_run (record { from = grain; count = need }) arena.held })
-      (set table grain (First need pool generation rank)) ex) (record { from = words_of_grain * grain; count = words })
+      → IsOpenRun arena.grains (map grains_of_segment (segments_in (set table grain (First need pool generation rank)))) ex.covered
+      (record { from = words_of_grain * grain; count = words })
   new_is_free need grain pool generation words rank some covered fits lowest =
       let segment : Run = record { from = grain; count = need } in
       let r : Run = record { from = words_of_grain * grain; count = words } in
@@ -317,7 +315,7 @@ module _ (arena : ArenaMemory) (table : List Entry) (ex : ExtentLists) (held : I
 
   pub gap_at_is_free : (grain : ℕ) (e : Entry) (pool : ℕ) (rank : Rank) (words start : ℕ) → get_or table grain Free ≡ e → 0 < words
       → lowest_fitting words (gaps_at grain e pool rank ex) ≡ Some start
-      → CanCover (segs_state arena table ex) (record { from = start; count = words })
+      → IsOpenRun arena.grains (map grains_of_segment (segments_in table)) ex.covered (record { from = start; count = words })
   gap_at_is_free grain Free pool rank words start is some lowest = let never : None ≡ Some start = lowest in cc
   gap_at_is_free grain (First n p g k) pool rank words start is some lowest =
       let mine =

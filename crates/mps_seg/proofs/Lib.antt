@@ -2,9 +2,12 @@ pub mod BlockOver
 pub mod CoveredWords
 pub mod Covering
 pub mod Entries
+pub mod FirstGrain
 pub mod Giving
 pub mod HeldSegments
+pub mod Marked
 pub mod OpenGaps
 pub mod Placements
+pub mod Seen
 pub mod SegmentOver
 pub mod Taking

@@ -9,13 +9,13 @@ use Rattle.mps_base.specs.declared.address.Addr.{Addr}
 use Rattle.mps_arena.specs.Arena.{ArenaMemory}
 use Rattle.mps_extents.specs.Extents.{has_word, ExtentLists, run_over}
 use Rattle.mps_seg.specs.Segs.{SegsState, base_address}
-use Rattle.mps_seg.specs.Table.{segs_state, segments_in, IsHeld, segments_of_entries, first_over, or_zero}
+use Rattle.mps_seg.specs.Table.{segments_in, IsHeld, segments_of_entries, first_over, or_zero}
 use Rattle.mps_seg.specs.declared.entry.Entry.{Entry}
 use Rattle.mps_seg.specs.declared.entry.Entry.TheVariants.{Free, First}
 use Rattle.mps_extents.proofs.ApartRuns.{has_word-true, has_word-below, has_word-above}
 use Rattle.mps_extents.proofs.RunOver.{run_over_none, run_over-contains}
 use Rattle.mps_seg.specs.declared.segs.Segs.TheInside.{Inside}
-use Rattle.mps_seg.proofs.Covering.{IsSoundInside}
+use Rattle.mps_seg.proofs.Seen.{seen_by, IsSoundInside}
 use Rattle.std.proofs.lemmas.List.{get_or_read}
 
 -- the address at which a grain begins
@@ -106,7 +106,7 @@ segment_found (s ∷ ss) n base is =
 
 -- what the table of first grains answers for an address
 module _
-    (s : Inside) (seen : SegsState) (at : ℕ) (sound : IsSoundInside s) (is : segs_state s.arena s.table.items s.extents ≡ seen)
+    (s : Inside) (seen : SegsState) (at : ℕ) (sound : IsSoundInside s) (is : seen_by s ≡ seen)
   where
     seen_over : option_map base_address (segment_over (segments_in s.table.items) at) ≡ option_map base_address
         (segment_over seen.segments at)

@@ -1,5 +1,5 @@
 -- What is known of the tables where a new segment is taken.
-use Rattle.std.proofs.Common.{ℕ, ◌+◌, ◌*◌, ◌^◌, ◌<◌, ◌≤◌, ◌≡◌, Some, Ok, List, length, set, sym, ap, ◌∙◌, subst, arith}
+use Rattle.std.proofs.Common.{ℕ, Bool, false, ◌+◌, ◌*◌, ◌^◌, ◌<◌, ◌≤◌, ◌≡◌, Some, Ok, List, length, map, set, sym, ap, ◌∙◌, subst, arith}
 use Rattle.mps_base.specs.Run.{Run, gaps, lowest_fitting, with_run}
 use Rattle.mps_base.specs.Address.{words_of_grain, grain_of, word_of, grains_needed}
 use Rattle.mps_base.specs.Placement.{Placement, NewSegment}
@@ -10,12 +10,14 @@ use Rattle.mps_arena.specs.Arena.{ArenaMemory, answer_of_placement, held_after, 
 use Rattle.mps_seg.specs.declared.entry.Entry.{Entry}
 use Rattle.mps_seg.specs.declared.entry.Entry.TheVariants.{First}
 use Rattle.mps_seg.specs.declared.segs.Segs.TheInside.{Inside}
-use Rattle.mps_seg.specs.Segs.{placement_for, segments_after, CanCover}
-use Rattle.mps_seg.specs.Table.{segments_in, segs_state, IsHeld, IsCounted}
+use Rattle.mps_seg.specs.Segs.{placement_for, segments_after, noted_for, IsOpenRun}
+use Rattle.mps_seg.specs.Table.{segments_in, IsHeld, IsCounted}
 use Rattle.mps_seg.proofs.CoveredWords.{Noted, counted_after_take}
 use Rattle.mps_seg.proofs.HeldSegments.{new_is_free, segments_after_take, held_after_take}
 use Rattle.mps_seg.proofs.Placements.{taken_at}
-use Rattle.mps_seg.proofs.Covering.{IsSoundInside, run_at}
+use Rattle.mps_seg.proofs.Seen.{seen_by, IsSoundInside}
+use Rattle.mps_seg.proofs.Covering.{run_at}
+use Rattle.mps_base.specs.Segment.{grains_of_segment}
 
 -- the grains of a new segment for n words, and its entry
 abbrev pub new_run : (base words : ℕ) → Run
@@ -41,10 +43,14 @@ pub record Taking (s : Inside) (base words pool generation : ℕ) (rank : Rank) 
       (set s.counts.items (grain_of base) 0) s.extents.covered
   pub segments :
       segments_in (set s.table.items (grain_of base) (new_entry words pool generation rank))
-      ≡ segments_after (placement_for (segs_state s.arena s.table.items s.extents) words) pool generation rank (segments_in s.table.items)
+      ≡ segments_after (placement_for (seen_by s) words) pool generation rank (segments_in s.table.items)
+  pub condemned :
+      set s.condemned (grain_of base) false ≡ noted_for (placement_for (seen_by s) words) false s.condemned
+  pub summaries :
+      set s.summaries.items (grain_of base) 0 ≡ noted_for (placement_for (seen_by s) words) 0 s.summaries.items
   pub can_cover :
-      CanCover
-      (segs_state (arena_with s.arena base words) (set s.table.items (grain_of base) (new_entry words pool generation rank)) s.extents)
+      IsOpenRun s.arena.grains
+      (map grains_of_segment (segments_in (set s.table.items (grain_of base) (new_entry words pool generation rank)))) s.extents.covered
       (run_at base words)
 
 pub taking : (s : Inside) (base : Addr) (words pool generation : ℕ) (rank : Rank) → IsSoundInside s → 0 < words
@@ -63,9 +69,10 @@ taking s base words pool generation rank sound nonzero answer =
     let first : words_of_grain * grain ≡ word_of base.0 = omega (arith, taken.1.base_at) in
     let entry = new_entry words pool generation rank in
     let R : ℕ → Type 0 = λ w.
-    CanCover (segs_state (arena_with arena base.0 words) (set s.table.items grain entry) s.extents) (record { from = w; count = words })
+    IsOpenRun arena.grains (map grains_of_segment (segments_in (set s.table.items grain entry))) s.extents.covered
+    (record { from = w; count = words })
     in
-    let seen : placement_for (segs_state arena s.table.items s.extents) words ≡ placement_in arena need =
+    let seen : placement_for (seen_by s) words ≡ placement_in arena need =
     ap (λ (rs : List Run). placement_in (record arena { held = rs }) need) (sym sound.0.held)
     in
     record {
@@ -81,6 +88,8 @@ taking s base words pool generation rank sound nonzero answer =
       segments =
           segments_after_take arena s.table.items s.extents sound.0 need grain pool generation rank some lowest
           ∙ ap (λ (p : Placement). segments_after p pool generation rank (segments_in s.table.items)) (sym (seen ∙ placement_is));
+      condemned = ap (λ (p : Placement). noted_for p false s.condemned) (sym (seen ∙ placement_is));
+      summaries = ap (λ (p : Placement). noted_for p 0 s.summaries.items) (sym (seen ∙ placement_is));
       can_cover =
           subst R first
           (new_is_free arena s.table.items s.extents sound.0 need grain pool generation words rank some nonzero (omega arith) lowest);

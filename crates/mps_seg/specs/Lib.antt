@@ -1,3 +1,4 @@
+pub mod Collecting
 pub mod Lending
 pub mod Placing
 pub mod Segs

@@ -1,5 +1,5 @@
 -- What a caller sees of the segments, and the results of their calls.
-use Rattle.std.specs.Prelude.{ℕ, ◌+◌, ◌*◌, ◌≤◌, ◌≡◌, ◌≢◌, List, [], map, replicate, Contains}
+use Rattle.std.specs.Prelude.{ℕ, ◌+◌, ◌*◌, ◌≤◌, ◌≡◌, ◌≢◌, Bool, false, List, [], map, replicate, slice_set, Contains}
 use Rattle.mps_base.specs.Run.{Run, end_of, IsAscending, with_run, runs_within}
 use Rattle.mps_base.specs.Address.{words_of_grain, word_of, grains_needed, address_of_grain, address_of_word}
 use Rattle.mps_base.specs.Segment.{Segment, end_of_segment, grains_of_segment, with_segment}
@@ -8,6 +8,7 @@ use Rattle.mps_base.specs.Trail.{Moves, with_move}
 use Rattle.mps_base.specs.declared.address.Addr.{Addr}
 use Rattle.mps_base.specs.declared.moves.Move.TheVariants.{Seg}
 use Rattle.mps_base.specs.declared.names.Rank.{Rank}
+use Rattle.mps_marks.specs.Marks.{MarkTables, no_marks}
 
 -- the most words that a block may have
 abbrev pub max_block_words : ℕ
@@ -24,6 +25,12 @@ pub record SegsState : Type 0 where
   pub covered : List Run
   pub blocks : List Run
   pub reservations : List Run
+  -- which blocks the running collection keeps and which are grey, by the word at which a block begins
+  pub marks : MarkTables
+  -- whether the segment is condemned that begins at a grain
+  pub condemned : List Bool
+  -- the zones to which references in the segment may lead that begins at a grain
+  pub summaries : List ℕ
 
 abbrev pub new_segments : (grains limit : ℕ) → SegsState
 new_segments grains limit = record {
@@ -34,6 +41,9 @@ new_segments grains limit = record {
   covered = [];
   blocks = [];
   reservations = [];
+  marks = no_marks (words_of_grain * (grains + 1));
+  condemned = replicate (grains + 1) false;
+  summaries = replicate (grains + 1) 0;
 }
 
 -- the runs of grains that are held
@@ -51,6 +61,13 @@ segments_after (NewSegment grain grains) pool generation rank ss =
 segments_after (Place word) pool generation rank ss = ss
 segments_after (OverLimit committed need limit) pool generation rank ss = ss
 segments_after (NoFreeRun need longest) pool generation rank ss = ss
+
+-- a table by grain after a placement: it has this value for a new segment
+abbrev pub noted_for : {X : Type 0} → Placement → X → List X → List X
+noted_for (NewSegment grain grains) x xs = slice_set xs grain x
+noted_for (Place word) x xs = xs
+noted_for (OverLimit committed need limit) x xs = xs
+noted_for (NoFreeRun need longest) x xs = xs
 
 -- the moves after a placement
 abbrev pub moves_after : Placement → (pool generation : ℕ) → Moves → Moves
@@ -80,10 +97,14 @@ pub record LiesIn (held : List Run) (r : Run) : Type 0 where
   pub after : words_of_grain * grains.from ≤ r.from
   pub before : end_of r ≤ words_of_grain * end_of grains
 
+-- a run of words that lies in one of the runs of grains and of which no word is covered
+pub record IsOpenRun (grains : ℕ) (held : List Run) (covered : List Run) (r : Run) : Type 0 where
+  pub free : IsAscending 0 (words_of_grain * (grains + 1)) (with_run r covered)
+  pub inside : LiesIn held r
+
 -- a run of words that lies in a segment and of which no word is covered
-pub record CanCover (state : SegsState) (r : Run) : Type 0 where
-  pub free : IsAscending 0 (words_of_grain * (state.grains + 1)) (with_run r state.covered)
-  pub inside : LiesIn (held_runs state) r
+abbrev pub CanCover : SegsState → Run → Type 0
+CanCover state r = IsOpenRun state.grains (held_runs state) state.covered r
 
 -- the address at which a segment begins
 abbrev pub base_address : Segment → Addr

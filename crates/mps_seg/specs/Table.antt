@@ -1,10 +1,11 @@
 -- How the tables by grain represent the segments.
-use Rattle.std.specs.Prelude.{ℕ, suc, ◌==◌, ◌&&◌, if◌then◌else◌, ◌+◌, ◌*◌, ◌≤◌, ◌<◌, ◌≡◌, Option, Some, None, List, [], ◌∷◌, length, get_or, map, Contains}
+use Rattle.std.specs.Prelude.{ℕ, suc, ◌==◌, ◌&&◌, if◌then◌else◌, ◌+◌, ◌*◌, ◌≤◌, ◌<◌, ◌≡◌, Bool, Option, Some, None, List, [], ◌∷◌, length, get_or, map, Contains}
 use Rattle.mps_base.specs.declared.names.Rank.{Rank}
 use Rattle.mps_base.specs.Run.{Run, end_of, gaps, total, IsAscending, runs_within}
 use Rattle.mps_base.specs.Address.{words_of_grain, address_of_grain}
 use Rattle.mps_base.specs.Segment.{Segment, grains_of_segment, same_rank}
 use Rattle.mps_arena.specs.Arena.{ArenaMemory, max_grains}
+use Rattle.mps_marks.specs.Marks.{MarkTables}
 use Rattle.mps_seg.specs.declared.entry.Entry.{Entry}
 use Rattle.mps_seg.specs.declared.entry.Entry.TheVariants.{Free, First}
 use Rattle.mps_seg.specs.Segs.{SegsState, LiesIn}
@@ -21,9 +22,9 @@ segments_of_entries grain (First grains pool generation rank ∷ entries) =
 unfoldable pub segments_in : List Entry → List Segment
 segments_in table = segments_of_entries 0 table
 
--- what a caller sees of an arena with this table and these extents
-abbrev pub segs_state : ArenaMemory → List Entry → ExtentLists → SegsState
-segs_state arena table extents = record {
+-- what a caller sees of an arena with these tables
+abbrev pub segs_state : ArenaMemory → List Entry → ExtentLists → MarkTables → (condemned : List Bool) → (summaries : List ℕ) → SegsState
+segs_state arena table extents marks condemned summaries = record {
   words = arena.words;
   grains = arena.grains;
   limit = arena.limit;
@@ -31,6 +32,9 @@ segs_state arena table extents = record {
   covered = extents.covered;
   blocks = extents.blocks;
   reservations = extents.reservations;
+  marks = marks;
+  condemned = condemned;
+  summaries = summaries;
 }
 
 -- the segments are the held runs, and each extent lies in one
@@ -43,6 +47,14 @@ pub record IsHeld (arena : ArenaMemory) (table : List Entry) (extents : ExtentLi
   pub covered_ascending : IsAscending 0 extents.size extents.covered
   pub nonempty : (r : Run) → Contains extents.covered r → 0 < r.count
   pub inside : (r : Run) → Contains extents.covered r → LiesIn arena.held r
+
+-- the tables of marks have a bit for each word, and the others an entry for each grain
+pub record IsMarked (grains : ℕ) (marks : MarkTables) (condemned : List Bool) (summaries : List ℕ) : Type 0 where
+  pub kept_size : length marks.kept ≡ words_of_grain * (grains + 1)
+  pub exact_size : length marks.exact ≡ words_of_grain * (grains + 1)
+  pub weak_size : length marks.weak ≡ words_of_grain * (grains + 1)
+  pub condemned_size : length condemned ≡ grains + 1
+  pub summaries_size : length summaries ≡ grains + 1
 
 abbrev pub or_zero : Option ℕ → ℕ
 or_zero None = 0

@@ -4,8 +4,10 @@
 mod entry;
 mod first_grains;
 mod placing;
+mod segment_info;
 mod segs;
 
+pub use segment_info::SegmentInfo;
 pub use segs::Segs;
 
 #[cfg(test)]

@@ -1,23 +1,28 @@
 // The segments: an arena, a table by grain, and the extents of their words.
 #![tactic(auto)]
 
-ghost use Rattle.std.specs.Prelude.{◌≡◌, ℕ, true, false, ◌+◌, ◌*◌, ◌/◌, ◌%◌, ◌^◌, ◌<◌, ◌≤◌, IfOk, IfErr, IfSome, OnOk, MatchResult, Contains, option_map, length, slice_range};
+ghost use Rattle.std.specs.Prelude.{◌≡◌, ℕ, true, false, ◌+◌, ◌*◌, ◌/◌, ◌%◌, ◌^◌, ◌<◌, ◌≤◌, IfOk, IfErr, IfSome, OnOk, MatchResult, Contains, option_map, length, slice_index, slice_set, slice_range};
 ghost use Rattle.mps_base.specs.Run.{IsAscending, with_run, without_run, gaps, lowest_fitting, runs_within, total};
 ghost use Rattle.mps_base.specs.Address.{bytes_of_word, word_of};
 ghost use Rattle.mps_base.specs.Segment.{Segment, end_of_segment, same_rank, segment_over, without_segment, gaps_of};
 ghost use Rattle.mps_base.specs.Trail.{with_move};
-ghost use Rattle.mps_arena.specs.Arena.{max_grains, answer_of_placement};
+ghost use Rattle.mps_arena.specs.Arena.{max_grains, answer_of_placement, cleared_words, copied_words};
 ghost use Rattle.mps_extents.specs.Extents.{run_over, first_run, AreWhole};
+ghost use Rattle.mps_marks.specs.Marks.{without_marks};
 ghost use Rattle.mps_seg.specs.Table.{IsWholeAt, IsCountAt, gaps_at};
-ghost use Rattle.mps_seg.specs.Segs.{SegsState, max_block_words, new_segments, placement_for, segments_after, moves_after, held_runs, at_word, base_address, IsEmptyAt, IsUsed, CanCover};
+ghost use Rattle.mps_seg.specs.Segs.{SegsState, max_block_words, new_segments, placement_for, segments_after, noted_for, moves_after, held_runs, at_word, base_address, IsEmptyAt, IsUsed, CanCover};
 ghost use Rattle.std.specs.Borrow.{sem};
 ghost use Rattle.mps_seg.specs.Lending.{LendsSegmentWords};
+
+mod collecting;
 
 use crate::entry::Entry;
 use crate::first_grains::note_first;
 use mps_arena::Arena;
 use mps_base::{Addr, BYTES_OF_GRAIN, BYTES_OF_WORD, Move, Rank, Refusal, Trail, WORDS_OF_GRAIN};
+use mps_bits::Bits;
 use mps_extents::Extents;
+use mps_marks::Marks;
 use std::alloc::{AllocError, Global};
 use std::marker::Model;
 
@@ -29,19 +34,23 @@ pub struct Segs {
     firsts: Vec<u32>,
     counts: Vec<u32>,
     extents: Extents,
+    marks: Marks,
+    condemned: Bits,
+    summaries: Vec<u64>,
 }
 
 impl Model for Segs {
     ghost use Rattle.mps_seg.specs.Segs.{SegsState};
     ghost use Rattle.std.specs.Prelude.{◌+◌};
-    ghost use Rattle.mps_seg.specs.Table.{segs_state, IsHeld, IsCounted};
+    ghost use Rattle.mps_seg.specs.Table.{segs_state, IsHeld, IsCounted, IsMarked};
 
     ghost Value = { SegsState };
 
-    ghost view = { λ s. segs_state s.arena s.table.items s.extents };
+    ghost view = { λ s. segs_state s.arena s.table.items s.extents s.marks s.condemned s.summaries.items };
 
     ghost invariant = { λ s. IsHeld s.arena s.table.items s.extents
-        × IsCounted s.arena.held (s.arena.grains + 1) s.firsts.items s.counts.items s.extents.covered };
+        × IsCounted s.arena.held (s.arena.grains + 1) s.firsts.items s.counts.items s.extents.covered
+        × IsMarked s.arena.grains s.marks s.condemned s.summaries.items };
 }
 
 impl Segs {
@@ -57,10 +66,13 @@ impl Segs {
             firsts: vec![in alloc; 0u32; grains as usize + 1]?,
             counts: vec![in alloc; 0u32; grains as usize + 1]?,
             extents: Extents::new(alloc, WORDS_OF_GRAIN * (grains as usize + 1))?,
+            marks: Marks::new(alloc, grains as usize + 1)?,
+            condemned: Bits::new(alloc, grains as usize + 1)?,
+            summaries: vec![in alloc; 0u64; grains as usize + 1]?,
         })
     }
 
-    /// Takes a new segment for `words` words and returns its base. Refuses `CommitLimit` and `NoRun` as the arena does.
+    /// Takes a new segment for `words` words and returns its base. It isn't condemned, and its summary is empty. Refuses `CommitLimit` and `NoRun` as the arena does.
     pub fn take(
         &mut self,
         trail: &mut Trail,
@@ -75,6 +87,8 @@ impl Segs {
         ensures value { result ≡ answer_of_placement (placement_for self.old words) }
         ensures state { self.new ≡ record self.old {
           segments = segments_after (placement_for self.old words) pool generation rank self.old.segments;
+          condemned = noted_for (placement_for self.old words) false self.old.condemned;
+          summaries = noted_for (placement_for self.old words) 0 self.old.summaries;
         } }
         ensures moves { trail.new ≡ moves_after (placement_for self.old words) pool generation trail.old }
         ensures free { IfOk result (λ base. CanCover self.new (record { from = word_of base.0; count = words })) }
@@ -89,6 +103,8 @@ impl Segs {
             rank,
         };
         self.counts[first] = 0;
+        self.condemned.clear(first);
+        self.summaries[first] = 0;
         note_first(&mut self.firsts, first, grains as usize, first as u32);
         trail.push(Move::Seg {
             base,
@@ -234,17 +250,19 @@ impl Segs {
         self.counts[first] += words;
     }
 
-    /// Removes the block of `words` words that begins at `at`. Its words stay as they are, and may be covered again.
+    /// Removes the block of `words` words that begins at `at`, with its marks. Its words stay as they are, and may be covered again.
     pub fn drop_block(&mut self, at: Addr, words: u32)
         requires { Contains self.old.blocks (record { from = word_of at.0; count = words }) }
         ensures state { self.new ≡ record self.old {
           covered = without_run (word_of at.0) self.old.covered;
           blocks = without_run (word_of at.0) self.old.blocks;
+          marks = without_marks (word_of at.0) self.old.marks;
         } }
         ensures free { CanCover self.new (record { from = word_of at.0; count = words }) }
     {
         self.extents
             .drop_block((at.0 / BYTES_OF_WORD) as usize, words as usize);
+        self.marks.clear((at.0 / BYTES_OF_WORD) as usize);
         let first = self.firsts[(at.0 / BYTES_OF_GRAIN) as usize] as usize;
         self.counts[first] -= words;
     }
@@ -278,6 +296,39 @@ impl Segs {
         ensures { result.now ≡ self.now.words }
     {
         self.arena.words()
+    }
+
+    /// The word at an address.
+    pub fn word(&self, at: Addr) -> u64
+        requires { word_of at.0 < length self.now.words }
+        ensures { result ≡ slice_index self.now.words (word_of at.0) }
+    {
+        self.arena.word(at)
+    }
+
+    /// Writes the word at an address.
+    pub fn set_word(&mut self, at: Addr, word: u64)
+        requires { word_of at.0 < length self.old.words }
+        ensures { self.new ≡ record self.old { words = slice_set self.old.words (word_of at.0) word } }
+    {
+        self.arena.set_word(at, word);
+    }
+
+    /// Writes 0 in the `words` words from `at` on.
+    pub fn clear(&mut self, at: Addr, words: u32)
+        requires { word_of at.0 + words ≤ length self.old.words }
+        ensures { self.new ≡ record self.old { words = cleared_words self.old.words (word_of at.0) words } }
+    {
+        self.arena.clear(at, words);
+    }
+
+    /// Copies the `words` words from `from` on to `to` and the words after it. The two may overlap.
+    pub fn copy(&mut self, from: Addr, to: Addr, words: u32)
+        requires from_in_arena { word_of from.0 + words ≤ length self.old.words }
+        requires to_in_arena { word_of to.0 + words ≤ length self.old.words }
+        ensures { self.new ≡ record self.old { words = copied_words self.old.words (word_of from.0) (word_of to.0) words } }
+    {
+        self.arena.copy(from, to, words);
     }
 
     /// The `words` words from `at` on.

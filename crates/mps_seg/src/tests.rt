@@ -1,9 +1,9 @@
-// Placements at the edges, and many pseudo-random ones that are compared with a plain table of owners.
-ghost use Rattle.std.specs.Prelude.{◌<◌, ◌≤◌};
+// Placements at the edges, words, marks and summaries, and many pseudo-random steps that are compared with plain tables.
+ghost use Rattle.std.specs.Prelude.{◌<◌, ◌≤◌, ◌≡◌};
 ghost use Rattle.mps_seg.specs.Segs.{max_block_words};
 
 use crate::Segs;
-use mps_base::{Addr, Rank, Refusal, Trail};
+use mps_base::{Addr, Rank, Refusal, Trail, ZoneSet};
 use std::alloc::{AllocError, Global};
 
 /// Makes a block in the lowest gap of a pool, or else at the base of a new segment.
@@ -11,6 +11,7 @@ fn fill_with(segs: &mut Segs, trail: &mut Trail, pool: u32, words: u32) -> Resul
     requires nonzero { 0 < words }
     requires at_most { words ≤ max_block_words }
     requires fits { 0 < trail.old.spare }
+    ensures { segs.new.grains ≡ segs.old.grains }
 {
     if let Some(at) = segs.lowest_gap(pool, Rank::Exact, words) {
         segs.commit_block(at, words);
@@ -22,7 +23,9 @@ fn fill_with(segs: &mut Segs, trail: &mut Trail, pool: u32, words: u32) -> Resul
 }
 
 /// Makes a block as `fill_with` does, and refuses a number of words that no block has.
-fn fill(alloc: Global, segs: &mut Segs, pool: u32, words: u32) -> Result<Addr, Refusal> {
+fn fill(alloc: Global, segs: &mut Segs, pool: u32, words: u32) -> Result<Addr, Refusal>
+    ensures { segs.new.grains ≡ segs.old.grains }
+{
     let mut trail = Trail::new(alloc, 1).map_err(|_| Refusal::OutOfMemory)?;
     if words == 0 || words > 65536 {
         return Err(Refusal::BadSize);
@@ -31,7 +34,9 @@ fn fill(alloc: Global, segs: &mut Segs, pool: u32, words: u32) -> Result<Addr, R
 }
 
 /// Frees the block over a byte, and returns where it began.
-fn free_over(segs: &mut Segs, n: u64) -> Option<Addr> {
+fn free_over(segs: &mut Segs, n: u64) -> Option<Addr>
+    ensures { segs.new.grains ≡ segs.old.grains }
+{
     let at = segs.block_at(n)?;
     let words = segs.block_words(at);
     segs.drop_block(at, words);
@@ -109,6 +114,86 @@ fn lends_the_asked_words(rt: HostRuntime) -> Result<(), AllocError> {
     Ok(())
 }
 
+/// Condemns the segment over an address, and returns whether there is one.
+fn condemn_over(segs: &mut Segs, at: Addr) -> bool
+    ensures { segs.new.grains ≡ segs.old.grains }
+{
+    let Some(base) = segs.segment_of(at) else {
+        return false;
+    };
+    segs.condemn(base);
+    true
+}
+
+/// The lowest grey block of the segment over an address.
+fn grey_over(segs: &Segs, at: Addr) -> Option<Addr> {
+    let base = segs.segment_of(at)?;
+    segs.grey_in(base)
+}
+
+/// How many grains the segment over an address has, 0 where there is none.
+fn grains_over(segs: &Segs, at: Addr) -> u32 {
+    match segs.segment_of(at) {
+        Some(base) => segs.segment(base).grains,
+        None => 0,
+    }
+}
+
+#[test]
+fn marks_follow_their_blocks(rt: HostRuntime) -> Result<(), AllocError> {
+    let mut segs = Segs::new(rt.alloc(), 4, 4)?;
+    let at = Addr(0x1000);
+    assert!(rt; fill(rt.alloc(), &mut segs, 0, 600) == Ok(at));
+    assert!(rt; !segs.is_white(at));
+    assert!(rt; condemn_over(&mut segs, Addr(0x2ff8)));
+    assert!(rt; segs.is_white(at));
+    segs.keep(at);
+    segs.set_grey(at);
+    assert!(rt; !segs.is_white(at) && segs.is_kept(at) && segs.is_grey(at));
+    assert!(rt; segs.next_grey(Rank::Exact) == Some(at));
+    assert!(rt; segs.next_grey(Rank::Weak) == None);
+    assert!(rt; grey_over(&segs, Addr(0x2000)) == Some(at));
+    segs.blacken(at);
+    assert!(rt; segs.next_grey(Rank::Exact) == None);
+    assert!(rt; grey_over(&segs, at) == None);
+    segs.set_grey(at);
+    assert!(rt; free_over(&mut segs, 0x1000) == Some(at));
+    assert!(rt; !segs.is_kept(at) && !segs.is_grey(at) && segs.is_white(at));
+    segs.end_collection();
+    assert!(rt; !segs.is_white(at));
+    assert_eq!(rt; grains_over(&segs, at), 2);
+    Ok(())
+}
+
+#[test]
+fn summaries_gain_the_zone_of_a_target(rt: HostRuntime) -> Result<(), AllocError> {
+    let mut segs = Segs::new(rt.alloc(), 4, 4)?;
+    assert!(rt; fill(rt.alloc(), &mut segs, 0, 600) == Ok(Addr(0x1000)));
+    segs.note_write(Addr(0x2ff8), Addr(0x3ff8));
+    segs.note_write(Addr(0x1000), Addr(0x40000));
+    segs.note_write(Addr(0x3000), Addr(0x1000));
+    assert_eq!(rt; segs.summary(Addr(0x1000)), ZoneSet(0b1001));
+    assert_eq!(rt; segs.summary(Addr(0x3000)), ZoneSet(0));
+    segs.set_summary(Addr(0x1000), ZoneSet(8));
+    assert_eq!(rt; segs.summary(Addr(0x1000)), ZoneSet(8));
+    Ok(())
+}
+
+#[test]
+fn words_are_written_and_copied(rt: HostRuntime) -> Result<(), AllocError> {
+    let mut segs = Segs::new(rt.alloc(), 1, 1)?;
+    segs.set_word(Addr(0x1000), 5);
+    segs.set_word(Addr(0x1008), 6);
+    assert!(rt; segs.word(Addr(0x1008)) == 6);
+    segs.copy(Addr(0x1000), Addr(0x1008), 2);
+    let words = segs.lend(Addr(0x1000), 4);
+    assert_eq!(rt; words, [5, 5, 6, 0].as_slice());
+    segs.clear(Addr(0x1008), 1);
+    let words = segs.lend(Addr(0x1000), 4);
+    assert_eq!(rt; words, [5, 0, 6, 0].as_slice());
+    Ok(())
+}
+
 /// Whether these blocks, which fill gaps, new segments and the whole limit, come to lie where they should.
 fn fills_in_order(alloc: Global, segs: &mut Segs) -> bool {
     fill(alloc, segs, 0, 500) == Ok(Addr(0x1000))
@@ -146,12 +231,13 @@ fn places_blocks_at_the_lowest_gap(rt: HostRuntime) -> Result<(), AllocError> {
     Ok(())
 }
 
-/// What a plain table says: where the block begins that owns a word, how many words the block has that begins at a word, and which
-/// grains are held, each as a segment of one grain.
+/// What plain tables say: where the block begins that owns a word, how many words the block has that begins at a word, whether that
+/// block is grey, and which grains are held, each as a segment of one grain.
 #[derive(Drop)]
 struct Plain {
     owners: Vec<u64>,
     sizes: Vec<u64>,
+    grey: Vec<u64>,
     held: Vec<u64>,
 }
 
@@ -160,6 +246,7 @@ impl Plain {
         Ok(Plain {
             owners: vec![in alloc; 0u64; 2560]?,
             sizes: vec![in alloc; 0u64; 2560]?,
+            grey: vec![in alloc; 0u64; 2560]?,
             held: vec![in alloc; 0u64; 5]?,
         })
     }
@@ -245,7 +332,36 @@ fn agree_on_fill(alloc: Global, plain: &mut Plain, segs: &mut Segs, words: u32) 
         write(&mut plain.owners, want, words as u64, want);
         write(&mut plain.sizes, want, 1, words as u64);
     }
-    got == want
+    got == want && agree_on_greying(plain, segs, want, words % 2 == 0)
+}
+
+/// Makes the block that begins at a word grey in both where asked, and says whether they agree on which block of its grain is the
+/// lowest grey one.
+fn agree_on_greying(plain: &mut Plain, segs: &mut Segs, word: u64, grey: bool) -> bool {
+    let at = Addr(word.wrapping_mul(8));
+    if grey && word != 0 && word < 2560 {
+        grey_at(segs, at);
+        write(&mut plain.grey, word, 1, 1);
+    }
+    grey_over(segs, at).map_or(0, |found| found.0 / 8) == lowest_grey(&plain.grey, word / 512)
+}
+
+/// Makes the block at an address grey, where the arena has the word.
+fn grey_at(segs: &mut Segs, at: Addr) {
+    if segs.has_word(at) {
+        segs.set_grey(at);
+    }
+}
+
+/// The lowest word of a grain that is marked, or 0.
+fn lowest_grey(grey: &[u64], grain: u64) -> u64 {
+    let low = grain.wrapping_mul(512);
+    for word in 0..512u64 {
+        if entry(grey, low.wrapping_add(word)) == 1 {
+            return low.wrapping_add(word);
+        }
+    }
+    0
 }
 
 /// Frees the block over a word in both, and gives back its segment where it is empty; says whether they agree.
@@ -255,9 +371,11 @@ fn agree_on_free(alloc: Global, plain: &mut Plain, segs: &mut Segs, word: u64) -
     if owner != 0 {
         let words = entry(&plain.sizes, owner);
         write(&mut plain.owners, owner, words, 0);
+        write(&mut plain.grey, owner, 1, 0);
     }
+    let grey = agree_on_greying(plain, segs, word, false);
     let given = plain.give(word / 512);
-    got == owner && give_over(alloc, segs, Addr(word.wrapping_mul(8))) == given
+    grey && got == owner && give_over(alloc, segs, Addr(word.wrapping_mul(8))) == given
 }
 
 /// One step of the number's choice in both, and whether they agree.

@@ -36,4 +36,4 @@ invariant_of-self c =
     let first = facts.first_is c.index.result.now c.index.ensures in
     let count = facts.count_is c.index_mut.result.now c.index.result.now first c.index_mut.ensures.value in
     rw (c.commit_block.ensures, first, count)
-    (facts.held (with_run (run_at c.args.at.0 c.args.words) s.extents.blocks) s.extents.reservations, facts.counted)
+    (facts.held (with_run (run_at c.args.at.0 c.args.words) s.extents.blocks) s.extents.reservations, facts.counted, c.self.invariant.2)

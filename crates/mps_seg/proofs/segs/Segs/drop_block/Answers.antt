@@ -2,7 +2,14 @@ use Rattle.std.proofs.Common.{arith}
 use Rattle.mps_base.specs.Run.{without_run}
 use Rattle.mps_base.specs.Address.{word_of}
 use Rattle.mps_seg.proofs.Covering.{uncovering}
+use Rattle.mps_seg.proofs.Marked.{marked_without}
 use Rattle.mps_seg.proofs.segs.Segs.drop_block.Goals as goal
+
+pub clear-requires : goal.clear-requires
+clear-requires c =
+    let s = c.self.inside in
+    let facts = uncovering s c.args.at.0 c.args.words c.self.invariant c.drop_block.ensures.was_covered in
+    omega (arith, facts.in_arena, c.self.invariant.2.kept_size)
 
 pub index-requires : goal.index-requires
 index-requires c =
@@ -31,8 +38,9 @@ invariant_of-self c =
     let facts = uncovering s c.args.at.0 c.args.words c.self.invariant c.drop_block.ensures.was_covered in
     let first = facts.first_is c.index.result.now c.index.ensures in
     let count = facts.count_is c.index_mut.result.now c.index.result.now first c.index_mut.ensures.value in
-    rw (c.drop_block.ensures.state, first, count)
-    (facts.held (without_run (word_of c.args.at.0) s.extents.blocks) s.extents.reservations, facts.counted)
+    let marked = marked_without s.arena.grains s.marks s.condemned s.summaries.items c.self.invariant.2 (word_of c.args.at.0) in
+    rw (c.drop_block.ensures.state, c.clear.ensures, first, count)
+    (facts.held (without_run (word_of c.args.at.0) s.extents.blocks) s.extents.reservations, facts.counted, marked)
 
 pub returns-clause-free : goal.returns-clause-free
 returns-clause-free c =

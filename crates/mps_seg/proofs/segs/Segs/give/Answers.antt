@@ -4,7 +4,7 @@ use Rattle.mps_base.specs.Address.{grain_of}
 use Rattle.mps_base.specs.Segment.{Segment, without_segment}
 use Rattle.mps_seg.specs.declared.entry.Entry.TheVariants.{Free, First}
 use Rattle.mps_seg.specs.Segs.{SegsState}
-use Rattle.mps_seg.specs.Table.{segs_state}
+use Rattle.mps_seg.proofs.Seen.{seen_by}
 use Rattle.mps_seg.proofs.CoveredWords.{Noted}
 use Rattle.mps_seg.proofs.Giving.{Giving, giving, grains_read}
 use Rattle.mps_seg.proofs.segs.Segs.give.Goals as goal
@@ -72,7 +72,7 @@ invariant_of-self c =
           let out' = subst (λ (n : ℕ). (g < grain) ⊎ (grain + n ≤ g)) (sym grains) out in
           c.note_first.ensures.unchanged g out' ∙ ap (λ (fs : List ℕ). get_or fs g 0) c.deref_mut.ensures.value;
     } in
-    rw (c.give_run.ensures, now) (facts.held, facts.counted c.note_first.new.firsts noted)
+    rw (c.give_run.ensures, now) (facts.held, facts.counted c.note_first.new.firsts noted, c.self.invariant.2)
 
 pub returns-clause-state : goal.returns-clause-state
 returns-clause-state c =
@@ -80,5 +80,5 @@ returns-clause-state c =
     let empty = c.requires.empty in
     let facts = giving s c.args.self.now c.args.base.0 empty.0 c.self.invariant c.self.view_is empty.1 empty.2 in
     rw c.give_run.ensures
-    (ap (λ (ss : List Segment). record (segs_state s.arena s.table.items s.extents) { segments = ss }) facts.segments
+    (ap (λ (ss : List Segment). record (seen_by s) { segments = ss }) facts.segments
     ∙ ap (λ (st : SegsState). record st { segments = without_segment st.segments c.args.base.0 }) c.self.view_is)

@@ -4,7 +4,8 @@ use Rattle.mps_base.specs.Run.{Run, lowest_fitting}
 use Rattle.mps_seg.specs.declared.entry.Entry.{Entry}
 use Rattle.mps_seg.specs.declared.entry.Entry.TheVariants.{Free}
 use Rattle.mps_seg.specs.Segs.{SegsState, at_word, CanCover}
-use Rattle.mps_seg.specs.Table.{segs_state, gaps_at, IsWholeAt, IsCountAt}
+use Rattle.mps_seg.specs.Table.{gaps_at, IsWholeAt, IsCountAt}
+use Rattle.mps_seg.proofs.Seen.{seen_by}
 use Rattle.mps_seg.proofs.CoveredWords.{count_at}
 use Rattle.mps_seg.proofs.HeldSegments.{whole_at, gap_at_is_free}
 use Rattle.mps_seg.proofs.OpenGaps.{later_gaps, all_gaps, no_gaps, gaps_more, lowest_in_prefix, lowest_in_rest}
@@ -54,7 +55,7 @@ returns-in-Some-clause-free c =
     in
     let here = subst Q c.deref-entry-items.ensures.value c.in-Some.ensures.value in
     let shifted : word_of (bytes_of_word * c.in-Some.word) ≡ c.in-Some.word = omega arith in
-    let P : ℕ → Type 0 = λ w. CanCover (segs_state arena table extents) (record { from = w; count = c.args.words }) in
+    let P : ℕ → Type 0 = λ w. CanCover (seen_by c.self.inside) (record { from = w; count = c.args.words }) in
     let R : SegsState → Type 0 = λ st. CanCover st (record { from = word_of (bytes_of_word * c.in-Some.word); count = c.args.words }) in
     subst R c.self.view_is (subst P (sym shifted)
     (gap_at_is_free arena table extents c.self.invariant.0 grain (get_or table grain Free) c.args.pool c.args.rank c.args.words

@@ -1,10 +1,13 @@
-use Rattle.std.proofs.Common.{ℕ, ◌+◌, ◌≡◌, List, [], replicate, sym, ap, ◌∙◌, subst}
+use Rattle.std.proofs.Common.{ℕ, Bool, false, ◌*◌, ◌+◌, ◌≡◌, List, [], replicate, sym, ap, ◌∙◌, subst}
 use Rattle.mps_arena.specs.Arena.{ArenaMemory, new_arena}
 use Rattle.mps_seg.specs.declared.entry.Entry.{Entry}
 use Rattle.mps_seg.specs.declared.entry.Entry.TheVariants.{Free}
-use Rattle.mps_extents.specs.Extents.{ExtentLists}
+use Rattle.mps_extents.specs.Extents.{ExtentLists, nothing_covered}
+use Rattle.mps_base.specs.Address.{words_of_grain}
+use Rattle.mps_marks.specs.Marks.{MarkTables, no_marks}
+use Rattle.mps_seg.proofs.Marked.{new_is_marked}
 use Rattle.mps_seg.specs.Segs.{new_segments}
-use Rattle.mps_seg.specs.Table.{segs_state, IsHeld, IsCounted}
+use Rattle.mps_seg.specs.Table.{segs_state, IsHeld, IsCounted, IsMarked}
 use Rattle.mps_seg.proofs.CoveredWords.{new_is_counted}
 use Rattle.mps_seg.proofs.Entries.{new_segments_in}
 use Rattle.mps_seg.proofs.HeldSegments.{new_is_held}
@@ -25,18 +28,37 @@ invariant_of-result c =
     in
     let D : ExtentLists → Type 0 = λ e. IsCounted [] n c.in_ok-vec-2.field-0.items c.in_ok-vec-3.field-0.items e.covered in
     let E : List ℕ → Type 0 = λ fs. IsCounted [] n fs c.in_ok-vec-3.field-0.items [] in
-    let F : List ℕ → Type 0 = λ cs. IsCounted [] n (replicate n 0) cs [] in (
+    let F : List ℕ → Type 0 = λ cs. IsCounted [] n (replicate n 0) cs [] in
+    let summaries : c.in_ok-vec-4.field-0.items ≡ replicate n 0 = c.in_ok-vec-4.ensures.items_if_clones_equal (λ y h. h) in
+    let marked : IsMarked c.in_ok-new.field-0.grains c.in_ok-new-3.field-0 c.in_ok-new-4.field-0 c.in_ok-vec-4.field-0.items =
+    rw (c.in_ok-new.ensures, c.in_ok-new-3.ensures, c.in_ok-new-4.ensures, summaries) (new_is_marked c.args.grains)
+    in (
       subst P (sym c.in_ok-new.ensures)
           (subst Q (sym entries) (subst R (sym c.in_ok-new-2.ensures) (new_is_held c.args.grains c.args.limit c.requires.at_most))),
       subst C (sym c.in_ok-new.ensures)
           (subst D (sym c.in_ok-new-2.ensures) (subst E (sym firsts) (subst F (sym counts) (new_is_counted n)))),
+      marked,
     )
 
 pub returns : goal.returns
 returns c =
     let entries : c.in_ok-vec.field-0.items ≡ replicate (c.args.grains + 1) Free = c.in_ok-vec.ensures.items_if_clones_equal (λ y h. h) in
-    ap (λ (a : ArenaMemory). segs_state a c.in_ok-vec.field-0.items c.in_ok-new-2.field-0) c.in_ok-new.ensures
-    ∙ ap (λ (t : List Entry). segs_state (new_arena c.args.grains c.args.limit) t c.in_ok-new-2.field-0) entries
-    ∙ ap (λ (e : ExtentLists). segs_state (new_arena c.args.grains c.args.limit) (replicate (c.args.grains + 1) Free) e)
-    c.in_ok-new-2.ensures
+    let summaries : c.in_ok-vec-4.field-0.items ≡ replicate (c.args.grains + 1) 0 =
+    c.in_ok-vec-4.ensures.items_if_clones_equal (λ y h. h)
+    in
+    let seen = λ (a : ArenaMemory) (t : List Entry) (e : ExtentLists).
+    segs_state a t e c.in_ok-new-3.field-0 c.in_ok-new-4.field-0 c.in_ok-vec-4.field-0.items
+    in
+    let made = seen (new_arena c.args.grains c.args.limit) (replicate (c.args.grains + 1) Free)
+    (nothing_covered (words_of_grain * (c.args.grains + 1)))
+    in
+    ap (λ (a : ArenaMemory). seen a c.in_ok-vec.field-0.items c.in_ok-new-2.field-0) c.in_ok-new.ensures
+    ∙ ap (λ (t : List Entry). seen (new_arena c.args.grains c.args.limit) t c.in_ok-new-2.field-0) entries
+    ∙ ap (λ (e : ExtentLists). seen (new_arena c.args.grains c.args.limit) (replicate (c.args.grains + 1) Free) e) c.in_ok-new-2.ensures
+    ∙ ap (λ (m : MarkTables). record made { marks = m }) c.in_ok-new-3.ensures
+    ∙ ap (λ (bs : List Bool). record made { marks = no_marks (words_of_grain * (c.args.grains + 1)); condemned = bs })
+    c.in_ok-new-4.ensures
+    ∙ ap (λ (ns : List ℕ). record (segs_state (new_arena c.args.grains c.args.limit) (replicate (c.args.grains + 1) Free)
+    (nothing_covered (words_of_grain * (c.args.grains + 1))) (no_marks (words_of_grain * (c.args.grains + 1)))
+    (replicate (c.args.grains + 1) false) ns) { words = replicate (words_of_grain * (c.args.grains + 1)) 0 }) summaries
     ∙ ap (λ (ss : List Segment). record (new_segments c.args.grains c.args.limit) { segments = ss }) (new_segments_in (c.args.grains + 1))

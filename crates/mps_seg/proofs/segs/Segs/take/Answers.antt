@@ -1,14 +1,16 @@
-use Rattle.std.proofs.Common.{ℕ, List, length, get_or, set, sym, ap, ◌∙◌, subst, arith}
+use Rattle.std.proofs.Common.{ℕ, Bool, false, map, List, length, get_or, set, sym, ap, ◌∙◌, subst, arith}
 use Rattle.std.proofs.lemmas.List.{with_items_is}
 use Rattle.mps_base.specs.Run.{Run}
 use Rattle.mps_base.specs.Address.{grain_of, grains_needed}
-use Rattle.mps_base.specs.Segment.{Segment}
+use Rattle.mps_base.specs.Segment.{Segment, grains_of_segment}
 use Rattle.mps_arena.specs.Arena.{ArenaMemory, placement_in}
-use Rattle.mps_seg.specs.Segs.{SegsState, CanCover, placement_for, segments_after}
-use Rattle.mps_seg.specs.Table.{segs_state}
+use Rattle.mps_seg.specs.Segs.{SegsState, IsOpenRun, placement_for, segments_after, noted_for}
+use Rattle.mps_seg.specs.Table.{segments_in}
 use Rattle.mps_seg.proofs.CoveredWords.{Noted}
 use Rattle.mps_seg.proofs.Placements.{refused_held}
 use Rattle.mps_seg.proofs.Covering.{run_at}
+use Rattle.mps_seg.proofs.Marked.{marked_taken}
+use Rattle.mps_seg.proofs.Seen.{seen_by}
 use Rattle.mps_seg.proofs.Taking.{taking, new_run, new_entry}
 use Rattle.mps_seg.proofs.segs.Segs.take.Goals as goal
 
@@ -29,6 +31,24 @@ index_mut-requires-2 c =
     taking s c.in_ok-base.base a.words a.pool a.generation a.rank c.self.invariant c.requires.nonzero c.in_ok-base.ensures.value
     in
     omega (arith, facts.in_counts, s.counts.ok.0)
+
+pub clear-requires : goal.clear-requires
+clear-requires c =
+    let s = c.self.inside in
+    let a = c.args in
+    let facts =
+    taking s c.in_ok-base.base a.words a.pool a.generation a.rank c.self.invariant c.requires.nonzero c.in_ok-base.ensures.value
+    in
+    omega (arith, facts.in_table, c.self.invariant.0.size, c.self.invariant.2.condemned_size)
+
+pub index_mut-requires-3 : goal.index_mut-requires-3
+index_mut-requires-3 c =
+    let s = c.self.inside in
+    let a = c.args in
+    let facts =
+    taking s c.in_ok-base.base a.words a.pool a.generation a.rank c.self.invariant c.requires.nonzero c.in_ok-base.ensures.value
+    in
+    omega (arith, facts.in_table, c.self.invariant.0.size, c.self.invariant.2.summaries_size, s.summaries.ok.0)
 
 pub overflow_cast-first : goal.overflow_cast-first
 overflow_cast-first c =
@@ -69,7 +89,10 @@ invariant_of-self-2 c =
       inside = c.note_first.ensures.written;
       outside = λ g out. c.note_first.ensures.unchanged g out ∙ ap (λ (fs : List ℕ). get_or fs g 0) c.deref_mut.ensures.value;
     } in
-    rw (c.take_run.ensures.state, facts.held_is, now) (facts.held, facts.counted c.note_first.new.firsts noted)
+    let marked =
+    marked_taken s.arena.grains s.marks s.condemned s.summaries.items c.self.invariant.2 (grain_of c.in_ok-base.base.0)
+    in
+    rw (c.take_run.ensures.state, facts.held_is, now, c.clear.ensures.state) (facts.held, facts.counted c.note_first.new.firsts noted, marked)
 
 pub returns-clause-state : goal.returns-clause-state
 returns-clause-state c =
@@ -79,11 +102,23 @@ returns-clause-state c =
     taking s c.in_ok-base.base a.words a.pool a.generation a.rank c.self.invariant c.requires.nonzero c.in_ok-base.ensures.value
     in
     let after = λ (st : SegsState).
-    record st { segments = segments_after (placement_for st a.words) a.pool a.generation a.rank st.segments }
+    record st {
+      segments = segments_after (placement_for st a.words) a.pool a.generation a.rank st.segments;
+      condemned = noted_for (placement_for st a.words) false st.condemned;
+      summaries = noted_for (placement_for st a.words) 0 st.summaries;
+    }
     in
-    rw c.take_run.ensures.state
-    (ap (λ (ss : List Segment). record (segs_state s.arena s.table.items s.extents) { segments = ss }) facts.segments ∙ ap after
-    c.self.view_is)
+    let grain = grain_of c.in_ok-base.base.0 in
+    rw (c.take_run.ensures.state, c.clear.ensures.state)
+    (ap (λ (ss : List Segment). record (seen_by s) {
+      segments = ss;
+      condemned = set s.condemned grain false;
+      summaries = set s.summaries.items grain 0;
+    }) facts.segments
+    ∙ ap (λ (bs : List Bool). record (after (seen_by s)) { condemned = bs; summaries = set s.summaries.items grain 0 })
+    facts.condemned
+    ∙ ap (λ (ns : List ℕ). record (after (seen_by s)) { summaries = ns }) facts.summaries
+    ∙ ap after c.self.view_is)
 
 pub returns-clause-free : goal.returns-clause-free
 returns-clause-free c =
@@ -94,5 +129,7 @@ returns-clause-free c =
     in
     let now = c.take_run.ensures.state ∙ ap (λ (rs : List Run). record s.arena { held = rs }) facts.held_is in
     let table = set s.table.items (grain_of c.in_ok-base.base.0) (new_entry a.words a.pool a.generation a.rank) in
-    let P : ArenaMemory → Type 0 = λ arena. CanCover (segs_state arena table s.extents) (run_at c.in_ok-base.base.0 a.words) in
+    let P : ArenaMemory → Type 0 = λ arena.
+    IsOpenRun arena.grains (map grains_of_segment (segments_in table)) s.extents.covered (run_at c.in_ok-base.base.0 a.words)
+    in
     subst P (sym now) facts.can_cover

@@ -32,7 +32,7 @@ invariant_of-self c =
     let first = facts.first_is c.index.result.now c.index.ensures in
     let count = facts.count_is c.index_mut.result.now c.index.result.now first c.index_mut.ensures.value in
     rw (c.uncover.ensures.state, first, count)
-    (facts.held s.extents.blocks (without_run (word_of c.args.at.0) s.extents.reservations), facts.counted)
+    (facts.held s.extents.blocks (without_run (word_of c.args.at.0) s.extents.reservations), facts.counted, c.self.invariant.2)
 
 pub returns-clause-free : goal.returns-clause-free
 returns-clause-free c =

@@ -15,7 +15,7 @@ pub index-requires : goal.index-requires
 index-requires c =
     let s = c.self.inside in
     let at =
-    entry_at_seen_base s.arena s.table.items s.extents c.args.self.now c.args.base.0 c.requires.0 c.self.view_is c.requires.1 c.requires.2
+    entry_at_seen_base s c.args.self.now c.args.base.0 c.requires.0 c.self.view_is c.requires.1 c.requires.2
     in
     omega (arith, at.within, s.table.ok.0)
 
@@ -24,7 +24,7 @@ unreachable-requires c =
     let s = c.self.inside in
     let t = c.requires.0 in
     let at =
-    entry_at_seen_base s.arena s.table.items s.extents c.args.self.now c.args.base.0 t c.self.view_is c.requires.1 c.requires.2
+    entry_at_seen_base s c.args.self.now c.args.base.0 t c.self.view_is c.requires.1 c.requires.2
     in
     let read = get_or_read s.table.items (grain_of c.args.base.0) c.index.result.now at.within c.index.ensures Free ∙ at.is in
     let never : Free ≡ First t.grains t.pool t.generation t.rank = sym c.in_default.is ∙ read in
@@ -36,7 +36,7 @@ first_block-requires c =
     let t = c.requires.0 in
     let grain = grain_of c.args.base.0 in
     let at =
-    entry_at_seen_base s.arena s.table.items s.extents c.args.self.now c.args.base.0 t c.self.view_is c.requires.1 c.requires.2
+    entry_at_seen_base s c.args.self.now c.args.base.0 t c.self.view_is c.requires.1 c.requires.2
     in
     let read = get_or_read s.table.items grain c.index.result.now at.within c.index.ensures Free ∙ at.is in
     let grains = grains_read c.in-First.is read in
@@ -52,7 +52,7 @@ overflow_mul-result c =
     let t = c.requires.0 in
     let grain = grain_of c.args.base.0 in
     let at =
-    entry_at_seen_base s.arena s.table.items s.extents c.args.self.now c.args.base.0 t c.self.view_is c.requires.1 c.requires.2
+    entry_at_seen_base s c.args.self.now c.args.base.0 t c.self.view_is c.requires.1 c.requires.2
     in
     let read = get_or_read s.table.items grain c.index.result.now at.within c.index.ensures Free ∙ at.is in
     let grains = grains_read c.in-First.is read in
@@ -74,7 +74,7 @@ returns-in_err-word c =
     let s = c.self.inside in
     let grain = grain_of c.args.base.0 in
     let low = word_of c.args.from.0 in
-    let at = entry_at_seen_base s.arena s.table.items s.extents c.args.self.now c.args.base.0 t c.self.view_is listed begins in
+    let at = entry_at_seen_base s c.args.self.now c.args.base.0 t c.self.view_is listed begins in
     let read = get_or_read s.table.items grain c.index.result.now at.within c.index.ensures Free ∙ at.is in
     let grains = grains_read c.in-First.is read in
     let high : words_of_grain * (grain + c.in-First.grains) ≡ word_of (end_of_segment t) = omega (arith, grains, at.aligned, begins) in
@@ -88,7 +88,7 @@ returns c =
     let s = c.self.inside in
     let grain = grain_of c.args.base.0 in
     let low = word_of c.args.from.0 in
-    let at = entry_at_seen_base s.arena s.table.items s.extents c.args.self.now c.args.base.0 t c.self.view_is listed begins in
+    let at = entry_at_seen_base s c.args.self.now c.args.base.0 t c.self.view_is listed begins in
     let read = get_or_read s.table.items grain c.index.result.now at.within c.index.ensures Free ∙ at.is in
     let grains = grains_read c.in-First.is read in
     let high : words_of_grain * (grain + c.in-First.grains) ≡ word_of (end_of_segment t) = omega (arith, grains, at.aligned, begins) in

@@ -1,0 +1,194 @@
+// What a collection asks of the segments: condemned segments, kept and grey blocks, and summaries.
+#![tactic(auto)]
+
+ghost use Rattle.std.specs.Prelude.{◌≡◌, ℕ, true, false, ◌+◌, ◌*◌, ◌<◌, ◌≤◌, nat_lt, IfSome, IfNone, Contains};
+ghost use Rattle.mps_base.specs.Address.{words_of_grain, word_of, grain_of};
+ghost use Rattle.mps_base.specs.Segment.{Segment};
+ghost use Rattle.mps_bits.specs.Table.{bit};
+ghost use Rattle.mps_marks.specs.Marks.{grey_of};
+ghost use Rattle.mps_seg.specs.Collecting.{info_of, lowest_grey_in, first_grain_over, is_white_at, is_kept_at, is_grey_at, rank_at, condemning, collected, keeping, greying, blackening, summary_at, summarizing, noting};
+
+use super::Segs;
+use crate::SegmentInfo;
+use crate::entry::Entry;
+use mps_base::{Addr, BYTES_OF_WORD, Rank, WORDS_OF_GRAIN, ZoneSet};
+
+impl Segs {
+    /// The first grain of the segment in which an address lies.
+    fn first_grain(&self, at: Addr) -> Option<usize>
+        ensures value { result ≡ first_grain_over self.now at.0 }
+        ensures in_arena { IfSome result (λ grain. grain ≤ self.now.grains) }
+        ensures within { IfSome result (λ grain. word_of at.0 < words_of_grain * (self.now.grains + 1)) }
+    {
+        let grain = at.grain();
+        if grain >= self.firsts.len() {
+            return None;
+        }
+        let first = self.firsts[grain];
+        if first == 0 {
+            None
+        } else {
+            Some(first as usize)
+        }
+    }
+
+    /// What is known of the segment at `base`.
+    pub fn segment(&self, base: Addr) -> SegmentInfo
+        requires { (s : Segment) × Contains self.now.segments s × (s.base ≡ base.0) }
+        ensures { (s : Segment) → Contains self.now.segments s → s.base ≡ base.0 → result ≡ info_of self.now s }
+    {
+        let grain = base.grain();
+        let Entry::First {
+            grains,
+            pool,
+            generation,
+            rank,
+        } = self.table[grain]
+        else {
+            unreachable!()
+        };
+        SegmentInfo {
+            grains,
+            pool,
+            generation,
+            rank,
+            is_condemned: self.condemned.test(grain),
+        }
+    }
+
+    /// The lowest grey block of the segment at `base`.
+    pub fn grey_in(&self, base: Addr) -> Option<Addr>
+        requires { (s : Segment) × Contains self.now.segments s × (s.base ≡ base.0) }
+        ensures { (s : Segment) → Contains self.now.segments s → s.base ≡ base.0 → result ≡ lowest_grey_in self.now s }
+    {
+        let SegmentInfo { grains, rank, .. } = self.segment(base);
+        let low = base.word();
+        let word = self
+            .marks
+            .grey_in(rank, low, low + WORDS_OF_GRAIN * grains as usize)?;
+        Some(Addr(BYTES_OF_WORD * word as u64))
+    }
+
+    /// The segment at `base` is condemned from now on.
+    pub fn condemn(&mut self, base: Addr)
+        requires { (s : Segment) × Contains self.old.segments s × (s.base ≡ base.0) }
+        ensures { self.new ≡ condemning self.old base.0 }
+    {
+        self.condemned.set(base.grain());
+    }
+
+    /// Ends a collection: no segment is condemned, and no block is kept or grey.
+    pub fn end_collection(&mut self)
+        ensures { self.new ≡ collected self.old }
+    {
+        let grains = self.condemned.len();
+        self.condemned.clear_range(0, grains);
+        self.marks.clear_all();
+    }
+
+    /// Whether a block at `at` is white: it lies in a condemned segment and isn't kept.
+    pub fn is_white(&self, at: Addr) -> bool
+        ensures { result ≡ is_white_at self.now at.0 }
+    {
+        match self.first_grain(at) {
+            Some(grain) => self.condemned.test(grain) && !self.marks.is_kept(at.word()),
+            None => false,
+        }
+    }
+
+    /// Whether an address lies in one of the arena's grains, or in grain 0.
+    pub fn has_word(&self, at: Addr) -> bool
+        ensures { result ≡ nat_lt (word_of at.0) (words_of_grain * (self.now.grains + 1)) }
+    {
+        at.grain() < self.firsts.len()
+    }
+
+    /// The collection keeps the block at `at`.
+    pub fn keep(&mut self, at: Addr)
+        requires { word_of at.0 < words_of_grain * (self.old.grains + 1) }
+        ensures { self.new ≡ keeping self.old at.0 }
+    {
+        self.marks.keep(at.word());
+    }
+
+    /// Whether the collection keeps the block at `at`.
+    pub fn is_kept(&self, at: Addr) -> bool
+        requires { word_of at.0 < words_of_grain * (self.now.grains + 1) }
+        ensures { result ≡ is_kept_at self.now at.0 }
+    {
+        self.marks.is_kept(at.word())
+    }
+
+    /// Whether the block at `at` is grey: still to be scanned.
+    pub fn is_grey(&self, at: Addr) -> bool
+        requires { word_of at.0 < words_of_grain * (self.now.grains + 1) }
+        ensures { result ≡ is_grey_at self.now at.0 }
+    {
+        self.marks.is_grey(at.word())
+    }
+
+    /// The rank of the segment in which an address lies, `Exact` where it lies in none.
+    fn rank_at(&self, at: Addr) -> Rank
+        ensures { result ≡ rank_at self.now at.0 }
+    {
+        let Some(grain) = self.first_grain(at) else {
+            return Rank::Exact;
+        };
+        match self.table[grain] {
+            Entry::First { rank, .. } => rank,
+            Entry::Free => Rank::Exact,
+        }
+    }
+
+    /// The block at `at` becomes grey.
+    pub fn set_grey(&mut self, at: Addr)
+        requires { word_of at.0 < words_of_grain * (self.old.grains + 1) }
+        ensures { self.new ≡ greying self.old at.0 }
+    {
+        let rank = self.rank_at(at);
+        self.marks.set_grey(at.word(), rank);
+    }
+
+    /// The block at `at` is grey no longer.
+    pub fn blacken(&mut self, at: Addr)
+        requires { word_of at.0 < words_of_grain * (self.old.grains + 1) }
+        ensures { self.new ≡ blackening self.old at.0 }
+    {
+        self.marks.blacken(at.word());
+    }
+
+    /// The zones to which references in the segment at `base` may lead.
+    pub fn summary(&self, base: Addr) -> ZoneSet
+        requires { grain_of base.0 ≤ self.now.grains }
+        ensures { result.0 ≡ summary_at self.now base.0 }
+    {
+        ZoneSet(self.summaries[base.grain()])
+    }
+
+    /// Sets the summary of the segment at `base`, as a scan of all its blocks may do that found the zones of all its references.
+    pub fn set_summary(&mut self, base: Addr, zones: ZoneSet)
+        requires { grain_of base.0 ≤ self.old.grains }
+        ensures { self.new ≡ summarizing self.old base.0 zones.0 }
+    {
+        self.summaries[base.grain()] = zones.0;
+    }
+
+    /// Notes that a reference to `target` was stored at `holder`: the summary of the segment over `holder` gains the zone of the target.
+    pub fn note_write(&mut self, holder: Addr, target: Addr)
+        ensures { self.new ≡ noting self.old holder.0 target.0 }
+    {
+        if let Some(grain) = self.first_grain(holder) {
+            self.summaries[grain] |= 1 << (target.grain() % 64);
+        }
+    }
+
+    /// A grey block of a segment of a rank; None where there is none. Which one it is is open.
+    pub fn next_grey(&mut self, rank: Rank) -> Option<Addr>
+        ensures unchanged { self.new ≡ self.old }
+        ensures sound { IfSome result (λ at. bit (grey_of rank self.old.marks) (word_of at.0) ≡ true) }
+        ensures complete { IfNone result ((word : ℕ) → bit (grey_of rank self.old.marks) word ≡ false) }
+    {
+        let word = self.marks.next_grey(rank)?;
+        Some(Addr(BYTES_OF_WORD * word as u64))
+    }
+}
