@@ -22,7 +22,7 @@ cat > $program/src/main.rt <<'P'
 // How long a block takes in the segments.
 #![tactic(auto)]
 
-ghost use Rattle.std.specs.Prelude.{◌<◌, ◌≤◌};
+ghost use Rattle.std.specs.Prelude.{◌≡◌, ◌<◌, ◌≤◌};
 ghost use Rattle.mps_seg.specs.Segs.{max_block_words};
 
 use mps_base::{Addr, Rank, Refusal, Trail};

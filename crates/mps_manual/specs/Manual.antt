@@ -10,7 +10,8 @@ use Rattle.mps_base.specs.declared.names.Rank.TheVariants.{Exact}
 use Rattle.mps_base.specs.declared.refusal.Refusal.{Refusal}
 use Rattle.mps_base.specs.declared.refusal.Refusal.TheVariants.{BadSize}
 use Rattle.mps_arena.specs.Arena.{answer_of_placement}
-use Rattle.mps_seg.specs.Segs.{SegsState, max_block_words, segments_after, moves_after}
+use Rattle.mps_seg.specs.Segs.{SegsState, max_block_words, segments_after, noted_for, moves_after}
+use Rattle.mps_marks.specs.Marks.{without_marks}
 use Rattle.mps_seg.specs.Placing.{placement_in_gaps}
 
 -- in place of a size: blocks of any sizes
@@ -31,6 +32,8 @@ answer_of_alloc size s pool words =
 abbrev pub allocated : SegsState → (pool words : ℕ) → Addr → SegsState
 allocated s pool words at = record s {
   segments = segments_after (placement_in_gaps s pool Exact words) pool 0 Exact s.segments;
+  condemned = noted_for (placement_in_gaps s pool Exact words) false s.condemned;
+  summaries = noted_for (placement_in_gaps s pool Exact words) 0 s.summaries;
   covered = with_run (record { from = word_of at.0; count = words }) s.covered;
   blocks = with_run (record { from = word_of at.0; count = words }) s.blocks;
 }
@@ -42,7 +45,11 @@ moves_allocated s moves pool words at = with_move (moves_after (placement_in_gap
 -- ---- free
 
 abbrev pub block_removed : SegsState → Address → SegsState
-block_removed s at = record s { covered = without_run (word_of at) s.covered; blocks = without_run (word_of at) s.blocks }
+block_removed s at = record s {
+  covered = without_run (word_of at) s.covered;
+  blocks = without_run (word_of at) s.blocks;
+  marks = without_marks (word_of at) s.marks;
+}
 
 abbrev pub is_none : List Run → Bool
 is_none [] = true

@@ -3,9 +3,11 @@ pub mod CoveredWords
 pub mod Covering
 pub mod Entries
 pub mod FirstGrain
+pub mod GapSegment
 pub mod Giving
 pub mod HeldSegments
 pub mod Marked
+pub mod NextSegment
 pub mod OpenGaps
 pub mod Placements
 pub mod Seen

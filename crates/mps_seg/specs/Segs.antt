@@ -1,8 +1,8 @@
 -- What a caller sees of the segments, and the results of their calls.
-use Rattle.std.specs.Prelude.{ℕ, ◌+◌, ◌*◌, ◌≤◌, ◌≡◌, ◌≢◌, Bool, false, List, [], map, replicate, slice_set, Contains}
+use Rattle.std.specs.Prelude.{ℕ, ◌+◌, ◌*◌, ◌≤◌, ◌≡◌, ◌≢◌, Bool, true, false, nat_le, Option, find, List, [], map, replicate, slice_set, Contains}
 use Rattle.mps_base.specs.Run.{Run, end_of, IsAscending, with_run, runs_within}
 use Rattle.mps_base.specs.Address.{words_of_grain, word_of, grains_needed, address_of_grain, address_of_word}
-use Rattle.mps_base.specs.Segment.{Segment, end_of_segment, grains_of_segment, with_segment}
+use Rattle.mps_base.specs.Segment.{Segment, end_of_segment, grains_of_segment, with_segment, is_open_to, is_in_segment}
 use Rattle.mps_base.specs.Placement.{Placement, Place, NewSegment, OverLimit, NoFreeRun, run_placement}
 use Rattle.mps_base.specs.Trail.{Moves, with_move}
 use Rattle.mps_base.specs.declared.address.Addr.{Addr}
@@ -105,6 +105,17 @@ pub record IsOpenRun (grains : ℕ) (held : List Run) (covered : List Run) (r : 
 -- a run of words that lies in a segment and of which no word is covered
 abbrev pub CanCover : SegsState → Run → Type 0
 CanCover state r = IsOpenRun state.grains (held_runs state) state.covered r
+
+-- an address lies in a segment that is open to a pool and a rank
+pub record LiesInOpen (ss : List Segment) (pool : ℕ) (rank : Rank) (at : ℕ) : Type 0 where
+  pub segment : Segment
+  pub there : Contains ss segment
+  pub opened : is_open_to pool rank segment ≡ true
+  pub inside : is_in_segment segment at ≡ true
+
+-- the lowest segment that begins at an address or above
+abbrev pub segment_from : List Segment → ℕ → Option Segment
+segment_from ss from = find (λ s. nat_le from s.base) ss
 
 -- the address at which a segment begins
 abbrev pub base_address : Segment → Addr

@@ -19,6 +19,12 @@ segments_of_entries grain (First grains pool generation rank ∷ entries) =
     record { base = address_of_grain grain; grains = grains; pool = pool; generation = generation; rank = rank } ∷ segments_of_entries
     (suc grain) entries
 
+-- the first grain at which a segment begins, where the first entry is that of a grain
+abbrev pub first_entry : ℕ → List Entry → Option ℕ
+first_entry grain [] = None
+first_entry grain (Free ∷ entries) = first_entry (suc grain) entries
+first_entry grain (First grains pool generation rank ∷ entries) = Some grain
+
 unfoldable pub segments_in : List Entry → List Segment
 segments_in table = segments_of_entries 0 table
 

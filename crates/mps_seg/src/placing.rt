@@ -1,10 +1,10 @@
 // Where a block or a reservation is placed.
 #![tactic(auto)]
 
-ghost use Rattle.std.specs.Prelude.{◌≡◌, ◌<◌, ◌≤◌, IfOk};
+ghost use Rattle.std.specs.Prelude.{◌≡◌, ◌<◌, ◌≤◌, false, IfOk};
 ghost use Rattle.mps_base.specs.Address.{word_of};
 ghost use Rattle.mps_arena.specs.Arena.{answer_of_placement};
-ghost use Rattle.mps_seg.specs.Segs.{max_block_words, segments_after, moves_after, CanCover};
+ghost use Rattle.mps_seg.specs.Segs.{max_block_words, segments_after, noted_for, moves_after, CanCover};
 ghost use Rattle.mps_seg.specs.Placing.{placement_in_gaps};
 
 use crate::Segs;
@@ -26,6 +26,8 @@ impl Segs {
         ensures value { result ≡ answer_of_placement (placement_in_gaps self.old pool rank words) }
         ensures state { self.new ≡ record self.old {
           segments = segments_after (placement_in_gaps self.old pool rank words) pool 0 rank self.old.segments;
+          condemned = noted_for (placement_in_gaps self.old pool rank words) false self.old.condemned;
+          summaries = noted_for (placement_in_gaps self.old pool rank words) 0 self.old.summaries;
         } }
         ensures moves { trail.new ≡ moves_after (placement_in_gaps self.old pool rank words) pool 0 trail.old }
         ensures free { IfOk result (λ at. CanCover self.new (record { from = word_of at.0; count = words })) }

@@ -10,7 +10,7 @@ ghost use Rattle.mps_arena.specs.Arena.{max_grains, answer_of_placement, cleared
 ghost use Rattle.mps_extents.specs.Extents.{run_over, first_run, AreWhole};
 ghost use Rattle.mps_marks.specs.Marks.{without_marks};
 ghost use Rattle.mps_seg.specs.Table.{IsWholeAt, IsCountAt, gaps_at};
-ghost use Rattle.mps_seg.specs.Segs.{SegsState, max_block_words, new_segments, placement_for, segments_after, noted_for, moves_after, held_runs, at_word, base_address, IsEmptyAt, IsUsed, CanCover};
+ghost use Rattle.mps_seg.specs.Segs.{SegsState, max_block_words, new_segments, placement_for, segments_after, noted_for, moves_after, held_runs, at_word, base_address, IsEmptyAt, IsUsed, CanCover, LiesInOpen};
 ghost use Rattle.std.specs.Borrow.{sem};
 ghost use Rattle.mps_seg.specs.Lending.{LendsSegmentWords};
 
@@ -161,6 +161,7 @@ impl Segs {
         requires { 0 < words }
         ensures value { result ≡ option_map at_word (lowest_fitting words (gaps_of self.now.covered self.now.segments pool rank)) }
         ensures free { IfSome result (λ at. CanCover self.now (record { from = word_of at.0; count = words })) }
+        ensures in_segment { IfSome result (λ at. LiesInOpen self.now.segments pool rank at.0) }
     {
         for (grain, entry) in self.table.iter().enumerate() {
             let covered = self.counts[grain];

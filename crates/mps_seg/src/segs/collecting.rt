@@ -1,17 +1,18 @@
 // What a collection asks of the segments: condemned segments, kept and grey blocks, and summaries.
 #![tactic(auto)]
 
-ghost use Rattle.std.specs.Prelude.{◌≡◌, ℕ, true, false, ◌+◌, ◌*◌, ◌<◌, ◌≤◌, nat_lt, IfSome, IfNone, Contains};
-ghost use Rattle.mps_base.specs.Address.{words_of_grain, word_of, grain_of};
+ghost use Rattle.std.specs.Prelude.{◌≡◌, ℕ, true, false, ◌+◌, ◌*◌, ◌<◌, ◌≤◌, nat_lt, IfSome, IfNone, Contains, option_map};
+ghost use Rattle.mps_base.specs.Address.{words_of_grain, word_of, grain_of, address_of_grain};
 ghost use Rattle.mps_base.specs.Segment.{Segment};
 ghost use Rattle.mps_bits.specs.Table.{bit};
 ghost use Rattle.mps_marks.specs.Marks.{grey_of};
+ghost use Rattle.mps_seg.specs.Segs.{base_address, segment_from};
 ghost use Rattle.mps_seg.specs.Collecting.{info_of, lowest_grey_in, first_grain_over, is_white_at, is_kept_at, is_grey_at, rank_at, condemning, collected, keeping, greying, blackening, summary_at, summarizing, noting};
 
 use super::Segs;
 use crate::SegmentInfo;
-use crate::entry::Entry;
-use mps_base::{Addr, BYTES_OF_WORD, Rank, WORDS_OF_GRAIN, ZoneSet};
+use crate::entry::{Entry, first_entry_from};
+use mps_base::{Addr, BYTES_OF_GRAIN, BYTES_OF_WORD, Rank, WORDS_OF_GRAIN, ZoneSet};
 
 impl Segs {
     /// The first grain of the segment in which an address lies.
@@ -54,6 +55,15 @@ impl Segs {
             rank,
             is_condemned: self.condemned.test(grain),
         }
+    }
+
+    /// The base of the lowest segment that begins at `from` or above.
+    pub fn next_segment(&self, from: Addr) -> Option<Addr>
+        ensures { result ≡ option_map base_address (segment_from self.now.segments from.0) }
+    {
+        let start = grain_from(from);
+        let next = first_entry_from(&self.table, start)?;
+        Some(Addr(BYTES_OF_GRAIN * next as u64))
     }
 
     /// The lowest grey block of the segment at `base`.
@@ -190,5 +200,18 @@ impl Segs {
     {
         let word = self.marks.next_grey(rank)?;
         Some(Addr(BYTES_OF_WORD * word as u64))
+    }
+}
+
+/// The lowest grain that begins at an address or above.
+fn grain_from(at: Addr) -> usize
+    ensures sound { at.0 ≤ address_of_grain result }
+    ensures lowest { address_of_grain result < at.0 + address_of_grain 1 }
+{
+    let grain = at.grain();
+    if at.0 % BYTES_OF_GRAIN == 0 {
+        grain
+    } else {
+        grain + 1
     }
 }

@@ -3,8 +3,9 @@ use Rattle.std.proofs.lemmas.List.{drop_all, get_or_read}
 use Rattle.mps_base.specs.Run.{Run, lowest_fitting}
 use Rattle.mps_seg.specs.declared.entry.Entry.{Entry}
 use Rattle.mps_seg.specs.declared.entry.Entry.TheVariants.{Free}
-use Rattle.mps_seg.specs.Segs.{SegsState, at_word, CanCover}
+use Rattle.mps_seg.specs.Segs.{SegsState, at_word, CanCover, LiesInOpen}
 use Rattle.mps_seg.specs.Table.{gaps_at, IsWholeAt, IsCountAt}
+use Rattle.mps_seg.proofs.GapSegment.{gap_in_open_segment}
 use Rattle.mps_seg.proofs.Seen.{seen_by}
 use Rattle.mps_seg.proofs.CoveredWords.{count_at}
 use Rattle.mps_seg.proofs.HeldSegments.{whole_at, gap_at_is_free}
@@ -60,6 +61,20 @@ returns-in-Some-clause-free c =
     subst R c.self.view_is (subst P (sym shifted)
     (gap_at_is_free arena table extents c.self.invariant.0 grain (get_or table grain Free) c.args.pool c.args.rank c.args.words
     c.in-Some.word refl c.requires (sym here)))
+
+pub returns-in-Some-clause-in_segment : goal.returns-in-Some-clause-in_segment
+returns-in-Some-clause-in_segment c =
+    let table = c.self.inside.table.items in
+    let extents = c.self.inside.extents in
+    let grain = c.loop-grain.grain in
+    let Q : List Entry → Type 0 =
+    λ es. Some c.in-Some.word ≡ lowest_fitting c.args.words (gaps_at grain (get_or es grain Free) c.args.pool c.args.rank extents)
+    in
+    let here = subst Q c.deref-entry-items.ensures.value c.in-Some.ensures.value in
+    let R : SegsState → Type 0 = λ st. LiesInOpen st.segments c.args.pool c.args.rank (bytes_of_word * c.in-Some.word) in
+    subst R c.self.view_is
+    (gap_in_open_segment c.self.inside.arena table extents c.self.invariant.0 grain (get_or table grain Free) c.args.pool c.args.rank
+    c.args.words c.in-Some.word refl c.requires (sym here))
 
 pub loop-grain-preserved : goal.loop-grain-preserved
 loop-grain-preserved c =
