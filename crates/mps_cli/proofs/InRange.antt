@@ -1,5 +1,5 @@
 -- The calls of lines have their numbers in the ranges of the script.
-use Rattle.std.proofs.Common.{◌≡◌, ℕ, ◌≤◌, Bool, true, false, Option, Some, None, List, [], ◌∷◌, length, refl, ap, subst, arith, option_and_then, option_map, unwrap_or, if◌then◌else◌, nat_lt, nat_le}
+use Rattle.std.proofs.Common.{◌≡◌, ℕ, ◌≤◌, Bool, true, false, Option, Some, None, List, [], ◌∷◌, length, refl, ap, subst, arith, option_and_then, option_map, if◌then◌else◌, nat_lt, nat_le}
 use Rattle.std.specs.Prelude.{Ok, Err, ◌&&◌, codes, bytes_eq, IsTrue}
 use Rattle.std.proofs.lemmas.Bool.Decides.{nat_tests}
 use Rattle.mps_model.specs.declared.call.Call.{Call}
@@ -10,8 +10,8 @@ use Rattle.mps_numerals.specs.Decimal.{decimal_number}
 use Rattle.mps_script.specs.Number.{number_of, number_within, prefixed_hexadecimal}
 use Rattle.mps_script.specs.Name.{name_of, slot_of}
 use Rattle.mps_script.specs.Head.{head_of}
-use Rattle.mps_script.specs.Form.{Form, kinds, kinds_on_chains, formats, ranks, keyword, grains_from, length_of_root, capacities, padded, chain, automatic_pool, pool_on_chain, pool_mfs, pool_mvff, pool, init, start, cell_forms, allocation_forms, slot_forms, area_forms, collection_forms, dependency_forms, root_forms, making_forms, call_in, command_call, begins_comment, call_of_words}
-use Rattle.mps_script.specs.Line.{call_of_line, max_line_bytes}
+use Rattle.mps_script.specs.Form.{Form, kinds, kinds_on_chains, formats, ranks, keyword, grains_from, length_of_root, capacities, padded, chain, automatic_pool, pool_on_chain, pool_mfs, pool_mvff, pool, init, start, cell_forms, allocation_forms, slot_forms, area_forms, collection_forms, dependency_forms, root_forms, making_forms, call_in, command_call}
+use Rattle.mps_script.specs.Line.{begins_comment, or_bad, call_of_words, call_of_line, max_line_bytes}
 use Rattle.mps_script.specs.declared.line.BadLine.{BadLine}
 use Rattle.mps_first_heap.specs.Unsupported.{IsInRange}
 
@@ -310,22 +310,24 @@ command_in_range word ws =
 
 -- ---- lines
 
-or_other : (o : Option Call) → AreInRange o → IsInRange (unwrap_or o call.Other)
-or_other None h = tt
-or_other (Some c) h = h c refl
+or_bad_in_range : (o : Option Call) (c : Call) → AreInRange o → or_bad o ≡ Ok (Some c) → IsInRange c
+or_bad_in_range None c h e = absurd (let wrong : or_bad None ≡ Ok (Some c) = e in cc)
+or_bad_in_range (Some d) c h e = h c (let same : Ok (Some d) ≡ Ok (Some c) = e in cc)
 
-words_in_range : (ws : List (List ℕ)) → AreInRange (call_of_words ws)
-words_in_range [] = nothing_in_range
-words_in_range (word ∷ ws) =
-    either_in_range (begins_comment word) None (Some (unwrap_or (command_call word ws) call.Other)) nothing_in_range
-    (call_is_in_range (unwrap_or (command_call word ws) call.Other) (or_other (command_call word ws) (command_in_range word ws)))
+word_in_range : (comment : Bool) (o : Option Call) (c : Call) → AreInRange o
+    → (if comment then Ok None else or_bad o) ≡ Ok (Some c) → IsInRange c
+word_in_range true o c h e = absurd (let wrong : Ok None ≡ Ok (Some c) = e in cc)
+word_in_range false o c h e = or_bad_in_range o c h e
 
-line_in_range : (b : Bool) (bad : BadLine) (o : Option Call) (c : Call) → AreInRange o → (if b then Err bad else Ok o) ≡ Ok (Some c)
+words_in_range : (ws : List (List ℕ)) (c : Call) → call_of_words ws ≡ Ok (Some c) → IsInRange c
+words_in_range [] c e = absurd (let wrong : Ok None ≡ Ok (Some c) = e in cc)
+words_in_range (word ∷ ws) c e = word_in_range (begins_comment word) (command_call word ws) c (command_in_range word ws) e
+
+line_in_range : (long : Bool) (bad : BadLine) (ws : List (List ℕ)) (c : Call) → (if long then Err bad else call_of_words ws) ≡ Ok (Some c)
     → IsInRange c
-line_in_range true bad o c h e = absurd (let a : Err bad ≡ Ok (Some c) = e in cc)
-line_in_range false bad o c h e = h c (let a : Ok o ≡ Ok (Some c) = e in cc)
+line_in_range true bad ws c e = absurd (let wrong : Err bad ≡ Ok (Some c) = e in cc)
+line_in_range false bad ws c e = words_in_range ws c e
 
 -- the call of a line is in range
 pub call_in_range : (line : List ℕ) (c : Call) → call_of_line line ≡ Ok (Some c) → IsInRange c
-call_in_range line c e =
-    line_in_range (nat_lt max_line_bytes (length line)) (record {}) (call_of_words (words line)) c (words_in_range (words line)) e
+call_in_range line c e = line_in_range (nat_lt max_line_bytes (length line)) (record {}) (words line) c e

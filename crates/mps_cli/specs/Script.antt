@@ -167,7 +167,7 @@ LogsThenPrints records answer (Err stop.LogFailed) old new = LogsNotAll records 
 LogsThenPrints records answer (Err stop.WriteFailed) old new = PrintsNotAll records answer old new
 LogsThenPrints records answer ending old new = ⊥
 
-pub a_comment_has_no_command : commands_from 1 (codes "# x" ∷ codes "foo" ∷ []) ≡ record { line = 2; call = call.Other } ∷ []
+pub a_comment_has_no_command : commands_from 1 (codes "# x" ∷ codes "live" ∷ []) ≡ record { line = 2; call = call.Live } ∷ []
 a_comment_has_no_command = refl
 
 -- the run of a script ended with a status: what was printed and logged is that of a history of its commands, and the ending

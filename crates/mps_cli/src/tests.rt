@@ -44,12 +44,10 @@ const FULL_ARENA: &[u8] =
 const FULL_ARENA_ANSWERS: &[u8] =
     b"ok\nok\nok\nok\nrefused 4\nok\nok\nrefused 10 1 1 1\nunsupported\n";
 
-/// Bytes that are no white space, and calls that come too early, too small and again.
-const NO_WHITE_SPACE: &[u8] =
-    b"table t 4\narena 0 8\narena 8 8\r\narena\t8 8\narena 8\x00 8\n\xc3\xa9\n arena  8   9 \narena 8 8\n";
+/// Commands that come too early, again, and before they are built.
+const OUT_OF_TURN: &[u8] = b"table t 4\n arena  8   9 \narena 8 8\nlive\n";
 
-const NO_WHITE_SPACE_ANSWERS: &[u8] =
-    b"unsupported\nunsupported\nunsupported\nunsupported\nunsupported\nunsupported\nok\nunsupported\n";
+const OUT_OF_TURN_ANSWERS: &[u8] = b"unsupported\nok\nunsupported\nunsupported\n";
 
 /// The header of a log.
 const HEADER: &[u8] = b"MPSLOG\x01\x00";

@@ -1,7 +1,7 @@
 -- The forms of commands: the command word, and after it the words, each in its form and with its range. A command word stands
 -- once; where it has several forms, `or` stands between them. A name, a slot, a head, a decimal number and a number in either
 -- form are read by `name_of`, `slot_of`, `head_of`, `decimal_number` and `number_of`.
-use Rattle.std.specs.Prelude.{ℕ, ◌==◌, ◌-◌, Bool, false, nat_le, ◌&&◌, if◌then◌else◌, codes, Option, Some, None, option_map, unwrap_or, List, [], ◌∷◌, ◌++◌, length, replicate}
+use Rattle.std.specs.Prelude.{ℕ, ◌-◌, nat_le, ◌&&◌, if◌then◌else◌, codes, Option, Some, None, option_map, List, [], ◌∷◌, ◌++◌, length, replicate}
 use Rattle.std.specs.Str.{bytes_eq}
 use Rattle.mps_base.specs.declared.names.Kind.{Kind}
 use Rattle.mps_base.specs.declared.names.Kind.TheVariants as kind
@@ -198,13 +198,3 @@ command_call word ws =
     (first_of_two (call_in dependency_forms word ws)
     (first_of_two (call_in root_forms word ws)
     (call_in making_forms word ws)))))))
-
--- the word begins with `#`
-abbrev pub begins_comment : List ℕ → Bool
-begins_comment [] = false
-begins_comment (b ∷ bs) = b == 35
-
--- the call of a line's words: none where there are no words or they are a comment
-abbrev pub call_of_words : List (List ℕ) → Option Call
-call_of_words [] = None
-call_of_words (word ∷ ws) = if begins_comment word then None else Some (unwrap_or (command_call word ws) call.Other)

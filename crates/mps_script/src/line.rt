@@ -1,13 +1,12 @@
 // The call of a line.
 ghost use Rattle.std.specs.Prelude.{◌≡◌};
-ghost use Rattle.mps_script.specs.Form.{begins_comment};
-ghost use Rattle.mps_script.specs.Line.{call_of_line};
+ghost use Rattle.mps_script.specs.Line.{begins_comment, call_of_line};
 
 use crate::forms::command_call;
 use crate::words::next_word;
 use mps_model::Call;
 
-/// The line is not in the grammar: it has more than 4096 bytes.
+/// The line is in the form of no command, or has more than 4096 bytes.
 #[derive(Clone, Copy, Debug, PartialEq, Eq)]
 pub struct BadLine;
 
@@ -24,22 +23,21 @@ fn is_comment(word: &[u8]) -> bool
     }
 }
 
-/// The call of a line, which has no line feed; none where it is empty, of spaces alone or a comment. A line in no form
-/// that is built is the call `Other`.
+/// The call of a line, which has no line feed; none where it is empty, of spaces alone or a comment.
 pub fn call_of(line: &[u8]) -> Result<Option<Call>, BadLine>
     ensures { result ≡ call_of_line line.now }
 {
     if line.len() > MAX_LINE_BYTES {
         return Err(BadLine);
     }
-    match next_word(line) {
-        None => Ok(None),
-        Some((word, arguments)) => {
-            if is_comment(word) {
-                Ok(None)
-            } else {
-                Ok(Some(command_call(word, arguments).unwrap_or(Call::Other)))
-            }
-        }
+    let Some((word, arguments)) = next_word(line) else {
+        return Ok(None);
+    };
+    if is_comment(word) {
+        return Ok(None);
+    }
+    match command_call(word, arguments) {
+        None => Err(BadLine),
+        Some(call) => Ok(Some(call)),
     }
 }

@@ -1,7 +1,7 @@
 // Scripts on standard input.
 use super::{
     COMMENTS, Ends, FIRST, FIRST_ANSWERS, FIRST_LOG, FULL_ARENA, FULL_ARENA_ANSWERS, HEADER,
-    NO_WHITE_SPACE, NO_WHITE_SPACE_ANSWERS, compare, run,
+    OUT_OF_TURN, OUT_OF_TURN_ANSWERS, compare, run,
 };
 use mps_base::{DeskCall, MemDesk};
 use std::alloc::{AllocError, Global};
@@ -64,7 +64,7 @@ fn compare_log(rt: &impl Abort, desk: &MemDesk, case: &ScriptCase) {
 }
 
 /// Whole and in pieces of 1 and of 7 bytes, the first script has its answers, and its log byte for byte. Then scripts that
-/// have no command, an arena that is full, and bytes that are no white space.
+/// have no command, an arena that is full, and commands out of turn.
 const SCRIPTS: [ScriptCase; 7] = [
     ScriptCase {
         script: FIRST,
@@ -139,12 +139,12 @@ const SCRIPTS: [ScriptCase; 7] = [
         log_bytes: 136,
     },
     ScriptCase {
-        script: NO_WHITE_SPACE,
+        script: OUT_OF_TURN,
         most: 0,
         failing: None,
         ends: Ends {
             status: 0,
-            printed: NO_WHITE_SPACE_ANSWERS,
+            printed: OUT_OF_TURN_ANSWERS,
             reported: b"",
         },
         log: HEADER,
@@ -244,6 +244,83 @@ fn each_call_of_the_desk_may_fail(rt: HostRuntime) -> Result<(), Fail> {
     Ok(())
 }
 
+/// A line in the form of no command, after lines that are in the grammar, and what these answer.
+struct BadLineCase {
+    before: &'static [u8],
+    answers: &'static [u8],
+    log_bytes: usize,
+    lines: &'static [&'static [u8]],
+}
+
+/// An unknown command, words too few and too many, numbers out of their range and in a wrong form, and bytes that are no white
+/// space: where `arena` may stand, and after it.
+const BAD_LINES: [BadLineCase; 2] = [
+    BadLineCase {
+        before: b"\n",
+        answers: b"",
+        log_bytes: 8,
+        lines: &[
+            b"arena 0 8",
+            b"arena 8",
+            b"arena 8 8\r",
+            b"arena\t8 8",
+            b"arena 8\x00 8",
+            b"\t# x",
+        ],
+    },
+    BadLineCase {
+        before: b"arena 8 8\n",
+        answers: b"ok\n",
+        log_bytes: 32,
+        lines: &[
+            b"foo",
+            b"\xc3\xa9",
+            b"table t",
+            b"table t 1 1",
+            b"table t 0",
+            b"table t 01",
+            b"table T 1",
+            b"table\tt 1",
+            b"live\r",
+            b"live\x00",
+        ],
+    },
+];
+
+fn check_bad_line(
+    rt: &impl Abort,
+    alloc: Global,
+    case: &BadLineCase,
+    line: &[u8],
+) -> Result<(), Fail> {
+    let mut script = Vec::from_slice(alloc, case.before)?;
+    script.extend_from_slice(line)?;
+    script.extend_from_slice(b"\narena 8 8\n")?;
+    let expected = ScriptCase {
+        script: b"",
+        most: 0,
+        failing: None,
+        ends: Ends {
+            status: 6,
+            printed: case.answers,
+            reported: b"mps: script line 2: bad line\n",
+        },
+        log: HEADER,
+        log_bytes: case.log_bytes,
+    };
+    check_script(rt, alloc, &script, &expected)
+}
+
+#[test]
+fn a_line_in_the_form_of_no_command_is_bad(rt: HostRuntime) -> Result<(), Fail> {
+    for case in &BAD_LINES {
+        for line in case.lines {
+            check_bad_line(&rt, rt.alloc(), case, line)?;
+        }
+    }
+    Ok(())
+}
+
 /// A script whose second line has n bytes.
 #[derive(Clone, Copy)]
 struct LongLine {
@@ -253,7 +330,7 @@ struct LongLine {
 
 fn check_long_line(rt: &impl Abort, alloc: Global, long: &LongLine) -> Result<(), Fail> {
     let mut script = Vec::from_slice(alloc, b"arena 8 8\n")?;
-    script.resize(long.length.saturating_add(10), b'x')?;
+    script.resize(long.length.saturating_add(10), b'#')?;
     script.extend_from_slice(b"\ntable t 1\n")?;
     check_script(rt, alloc, &script, &long.case)
 }
@@ -268,7 +345,7 @@ const LONG_LINES: [LongLine; 3] = [
             failing: Some((DeskCall::Err, 2)),
             ends: Ends {
                 status: 0,
-                printed: b"ok\nunsupported\nok\n",
+                printed: b"ok\nok\n",
                 reported: b"",
             },
             log: HEADER,
