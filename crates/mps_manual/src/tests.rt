@@ -1,91 +1,173 @@
 // Each refusal, and what a free gives back.
-ghost use Rattle.std.specs.Prelude.{◌<◌, length};
+ghost use Rattle.std.specs.Prelude.{◌<◌};
 
 use crate::Manual;
 use mps_base::{Addr, Move, Refusal, Trail};
 use mps_seg::Segs;
-use std::alloc::AllocError;
+use std::alloc::{AllocError, Global};
+use std::process::Abort;
 
-/// Allocates a block of a pool, None where there is no such pool.
-fn make(
+/// A block that is asked for, and the answer.
+struct Case {
+    pool: u32,
+    words: u32,
+    answer: Result<Addr, Refusal>,
+}
+
+/// What is asked of an arena of three grains with a limit of two, one after the other. Pool 0 has blocks of any sizes, pool 1 blocks
+/// of 500 words.
+const CASES: [Case; 7] = [
+    Case {
+        pool: 0,
+        words: 0,
+        answer: Err(Refusal::BadSize),
+    },
+    Case {
+        pool: 0,
+        words: 65_537,
+        answer: Err(Refusal::BadSize),
+    },
+    Case {
+        pool: 1,
+        words: 499,
+        answer: Err(Refusal::BadSize),
+    },
+    Case {
+        pool: 0,
+        words: 10,
+        answer: Ok(Addr(0x1000)),
+    },
+    Case {
+        pool: 1,
+        words: 500,
+        answer: Ok(Addr(0x2000)),
+    },
+    Case {
+        pool: 0,
+        words: 502,
+        answer: Ok(Addr(0x1050)),
+    },
+    Case {
+        pool: 0,
+        words: 513,
+        answer: Err(Refusal::CommitLimit {
+            committed: 2,
+            need: 2,
+            limit: 2,
+        }),
+    },
+];
+
+/// Two pools: one of blocks of any sizes, and one of blocks of `size` words.
+fn two_pools(alloc: Global, size: u32) -> Result<Manual, AllocError> {
+    let mut manual = Manual::new(alloc);
+    manual.add(0)?;
+    manual.add(size)?;
+    Ok(manual)
+}
+
+/// Allocates a block of a pool; BadName where there is no such pool.
+fn make_with(
     manual: &Manual,
     segs: &mut Segs,
     trail: &mut Trail,
     pool: u32,
     words: u32,
-) -> Option<Result<Addr, Refusal>>
+) -> Result<Addr, Refusal>
     requires { 1 < trail.old.spare }
 {
-    if (pool as usize) < manual.pools() {
-        Some(manual.alloc(segs, trail, pool, words))
-    } else {
-        None
+    if pool as usize >= manual.pools() {
+        return Err(Refusal::BadName);
     }
+    manual.alloc(segs, trail, pool, words)
 }
 
-/// Frees the block over a byte, and returns where it began.
-fn free_over(manual: &Manual, segs: &mut Segs, trail: &mut Trail, pool: u32, n: u64) -> Option<Addr>
-    requires listed { pool < length manual.now }
-    requires fits { 1 < trail.old.spare }
+/// Does the same with a trail of its own.
+fn make(
+    alloc: Global,
+    manual: &Manual,
+    segs: &mut Segs,
+    pool: u32,
+    words: u32,
+) -> Result<Addr, Refusal> {
+    let mut trail = Trail::new(alloc, 2).map_err(|_| Refusal::OutOfMemory)?;
+    make_with(manual, segs, &mut trail, pool, words)
+}
+
+/// Frees the block of a pool that lies over a byte, and returns where it began; None where there is none.
+fn free_with(manual: &Manual, segs: &mut Segs, trail: &mut Trail, pool: u32, n: u64) -> Option<Addr>
+    requires { 1 < trail.old.spare }
 {
+    if pool as usize >= manual.pools() {
+        return None;
+    }
     let at = segs.block_at(n)?;
     manual.free(segs, trail, pool, at);
     Some(at)
 }
 
+fn compare_made(rt: &impl Abort, alloc: Global, manual: &Manual, segs: &mut Segs, case: &Case) {
+    let answer = make(alloc, manual, segs, case.pool, case.words);
+    assert!(rt; answer == case.answer, "{} words", case.words);
+}
+
+fn compare_all(rt: &impl Abort, alloc: Global, manual: &Manual, segs: &mut Segs) {
+    for case in &CASES {
+        compare_made(rt, alloc, manual, segs, case);
+    }
+}
+
+/// Frees the block over a byte, and compares where it began and the moves.
+fn compare_freed(
+    rt: &impl Abort,
+    alloc: Global,
+    manual: &Manual,
+    segs: &mut Segs,
+    pool: u32,
+    n: u64,
+    moves: &[Move],
+) -> Result<(), AllocError> {
+    let mut trail = Trail::new(alloc, 2)?;
+    let began = free_with(manual, segs, &mut trail, pool, n);
+    let block = moves.first().map(|first| *first
+        == Move::Free {
+            at: began.unwrap_or(Addr(0)),
+        });
+    assert!(rt; block == Some(true) && trail.moves() == moves);
+    Ok(())
+}
+
+/// A block of each pool is made and freed; the segment of the first pool is given back, that of the second stays.
+fn make_and_free(
+    rt: &impl Abort,
+    alloc: Global,
+    manual: &Manual,
+    segs: &mut Segs,
+) -> Result<(), AllocError> {
+    assert!(rt; make(alloc, manual, segs, 0, 4) == Ok(Addr(0x1000)));
+    assert!(rt; make(alloc, manual, segs, 1, 4) == Ok(Addr(0x2000)));
+    let second = [Move::Free { at: Addr(0x2000) }];
+    compare_freed(rt, alloc, manual, segs, 1, 0x2007, &second)?;
+    let first = [
+        Move::Free { at: Addr(0x1000) },
+        Move::Unseg { base: Addr(0x1000) },
+    ];
+    compare_freed(rt, alloc, manual, segs, 0, 0x101f, &first)
+}
+
 #[test]
 fn blocks_lie_in_the_lowest_gap(rt: HostRuntime) -> Result<(), AllocError> {
-    let mut manual = Manual::new(rt.alloc());
-    manual.add(0)?;
-    manual.add(500)?;
+    let manual = two_pools(rt.alloc(), 500)?;
     let mut segs = Segs::new(rt.alloc(), 3, 2)?;
-    for (pool, words, want) in [
-        (0u32, 0u32, Err(Refusal::BadSize)),
-        (0, 65_537, Err(Refusal::BadSize)),
-        (1, 499, Err(Refusal::BadSize)),
-        (0, 10, Ok(Addr(0x1000))),
-        (1, 500, Ok(Addr(0x2000))),
-        (0, 502, Ok(Addr(0x1050))),
-        (
-            0,
-            513,
-            Err(Refusal::CommitLimit {
-                committed: 2,
-                need: 2,
-                limit: 2,
-            }),
-        ),
-    ] {
-        let mut trail = Trail::new(rt.alloc(), 2)?;
-        let got = make(&manual, &mut segs, &mut trail, pool, words);
-        assert!(rt; got == Some(want), "{words} words");
-    }
+    compare_all(&rt, rt.alloc(), &manual, &mut segs);
     Ok(())
 }
 
 #[test]
 fn an_empty_segment_is_given_back(rt: HostRuntime) -> Result<(), AllocError> {
-    let mut manual = Manual::new(rt.alloc());
-    manual.add(0)?;
-    manual.add(4)?;
+    let manual = two_pools(rt.alloc(), 4)?;
     let mut segs = Segs::new(rt.alloc(), 2, 2)?;
-    let mut trail = Trail::new(rt.alloc(), 2)?;
-    assert!(rt; manual.alloc(&mut segs, &mut trail, 0, 4) == Ok(Addr(0x1000)));
-    let mut trail = Trail::new(rt.alloc(), 2)?;
-    assert!(rt; manual.alloc(&mut segs, &mut trail, 1, 4) == Ok(Addr(0x2000)));
-    let mut trail = Trail::new(rt.alloc(), 2)?;
-    assert!(rt; free_over(&manual, &mut segs, &mut trail, 1, 0x2007) == Some(Addr(0x2000)));
-    assert_eq!(rt; trail.moves().len(), 1);
-    let mut trail = Trail::new(rt.alloc(), 2)?;
-    assert!(rt; free_over(&manual, &mut segs, &mut trail, 0, 0x101f) == Some(Addr(0x1000)));
-    assert!(rt;
-        trail.moves()
-            == [
-                Move::Free { at: Addr(0x1000) },
-                Move::Unseg { base: Addr(0x1000) }
-            ]
-            .as_slice()
-    );
+    make_and_free(&rt, rt.alloc(), &manual, &mut segs)?;
     assert_eq!(rt; segs.committed(), 1);
     Ok(())
 }

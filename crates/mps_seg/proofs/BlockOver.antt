@@ -1,5 +1,5 @@
 -- The block that a search by an address finds.
-use Rattle.std.proofs.Common.{ℕ, ◌≡◌, List, Contains, refl, ap, subst, arith, ◌/◌, Option, Some, None, option_map}
+use Rattle.std.proofs.Common.{ℕ, ◌≡◌, List, Contains, refl, ap, subst, arith, Option, Some, None, option_map}
 use Rattle.mps_base.specs.Run.{Run}
 use Rattle.mps_base.specs.Address.{word_of}
 use Rattle.mps_base.specs.declared.address.Addr.{Addr}

@@ -1,5 +1,5 @@
 -- How many words of each segment are covered.
-use Rattle.std.proofs.Common.{ℕ, ◌+◌, ◌<◌, ◌≡◌, false, List, [], ◌∷◌, length, get_or, set, Contains, refl, sym, ap, ◌∙◌, subst, inl, inr, arith, ◌^◌, replicate, ◌≤◌, ◌⊎◌, cond, leb, ltb, ◌*◌, ◌/◌, ◌≢◌, ◌&&◌, Some, map, length-set, ◌-◌, get_or-set_same, get_or-set_other}
+use Rattle.std.proofs.Common.{ℕ, ◌+◌, ◌<◌, ◌≡◌, false, List, [], ◌∷◌, length, get_or, set, Contains, refl, sym, ap, ◌∙◌, subst, inl, inr, arith, ◌^◌, replicate, ◌≤◌, ◌⊎◌, cond, leb, ltb, ◌*◌, ◌≢◌, ◌&&◌, Some, map, length-set, ◌-◌, get_or-set_same, get_or-set_other}
 use Rattle.std.proofs.lemmas.Bool.{cases_lt, cases_Bool, cond-true, cond-false, le-leb, lt-ltb, lt-leb, le-ltb, and_from, and_left, and_right, cases_eq}
 use Rattle.std.proofs.lemmas.List.{length-replicate, get_or-replicate}
 use Rattle.mps_base.proofs.Runs.{with_run_first, with_run_later, without_run_first, without_run_later, contains_cases, contains_first, contains_later, contained_bounds, in_lowest_gap, total-cons, total-le}

@@ -1,5 +1,5 @@
 -- The table by grain: the segments that its entries are, and the runs of grains that these hold.
-use Rattle.std.proofs.Common.{ℕ, zero, suc, ◌+◌, ◌<◌, ◌≡◌, Bool, List, [], ◌∷◌, length, get_or, set, Contains, refl, sym, ap, ◌∙◌, subst, inl, inr, arith, replicate, ◌≤◌, ◌⊎◌, ltb, ◌/◌, not, eqb, map}
+use Rattle.std.proofs.Common.{ℕ, zero, suc, ◌+◌, ◌<◌, ◌≡◌, Bool, List, [], ◌∷◌, length, get_or, set, Contains, refl, sym, ap, ◌∙◌, subst, inl, inr, arith, replicate, ◌≤◌, ◌⊎◌, ltb, not, eqb, map}
 use Rattle.std.proofs.lemmas.Bool.{cond-true, cond-false, lt-ltb, le-ltb, eq-eqb, ne_eqb}
 use Rattle.mps_base.proofs.Runs.{with_run_first, with_run_later, without_run_first, without_run_later, contains_first, contains_later}
 use Rattle.mps_base.specs.Address.{address_of_grain, grain_of}

@@ -4,7 +4,6 @@ use Rattle.std.proofs.lemmas.Bool.{cases_Bool, cond-true, cond-false}
 use Rattle.std.proofs.lemmas.List.{get_or_read}
 use Rattle.mps_base.proofs.Runs.{contained_bounds}
 use Rattle.mps_base.specs.Address.{grain_of}
-use Rattle.mps_base.specs.Run.{Run}
 use Rattle.mps_base.specs.declared.address.Addr.{Addr}
 use Rattle.mps_base.specs.declared.names.Rank.TheVariants.{Exact}
 use Rattle.mps_seg.specs.declared.segment_info.SegmentInfo.{SegmentInfo}
@@ -14,7 +13,7 @@ use Rattle.mps_seg.specs.Segs.{SegsState, base_address}
 use Rattle.mps_seg.specs.declared.entry.Entry.{Entry}
 use Rattle.mps_seg.specs.declared.entry.Entry.TheVariants.{Free, First}
 use Rattle.mps_seg.specs.declared.segs.Segs.TheInside.{Inside}
-use Rattle.mps_seg.proofs.Entries.{EntryAtBase, entry_at_seen_base}
+use Rattle.mps_seg.proofs.Entries.{entry_at_seen_base}
 use Rattle.mps_seg.proofs.Seen.{seen_by, IsSoundInside}
 use Rattle.mps_seg.proofs.SegmentOver.{base_of_grain, run_from_first}
 

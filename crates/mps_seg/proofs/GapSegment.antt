@@ -1,5 +1,5 @@
 -- The segment in which a gap lies.
-use Rattle.std.proofs.Common.{ℕ, zero, suc, ◌+◌, ◌*◌, ◌<◌, ◌≤◌, ◌≡◌, ◌&&◌, Bool, true, List, [], ◌∷◌, get_or, Contains, refl, sym, ap, ◌∙◌, subst, inl, inr, arith, eqb, leb, ltb, Option, Some, None}
+use Rattle.std.proofs.Common.{ℕ, zero, suc, ◌+◌, ◌*◌, ◌<◌, ◌≡◌, ◌&&◌, true, List, [], ◌∷◌, get_or, Contains, refl, sym, ap, ◌∙◌, subst, inl, inr, arith, eqb, leb, ltb, Some, None}
 use Rattle.std.proofs.lemmas.Bool.{cases_Bool, cond-true, cond-false, le-leb, lt-ltb, and_from}
 use Rattle.mps_base.proofs.Runs.{in_lowest_gap}
 use Rattle.mps_base.specs.Address.{address_of_grain, words_of_grain, bytes_of_word}

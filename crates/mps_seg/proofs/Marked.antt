@@ -1,5 +1,5 @@
 -- The tables of marks, of condemned segments and of summaries keep their sizes.
-use Rattle.std.proofs.Common.{ℕ, zero, suc, ◌+◌, ◌-◌, ◌*◌, ◌<◌, ◌≤◌, ◌≡◌, Option, Some, None, inl, inr, sym, Bool, true, false, List, set, replicate, ◌∙◌, length-set, arith}
+use Rattle.std.proofs.Common.{ℕ, zero, suc, ◌+◌, ◌-◌, ◌*◌, ◌<◌, ◌≤◌, ◌≡◌, Some, None, inl, inr, sym, Bool, true, false, List, set, replicate, ◌∙◌, length-set, arith}
 use Rattle.std.proofs.lemmas.Bool.{cases_Bool, cond-true, cond-false}
 use Rattle.std.proofs.lemmas.List.{length-replicate}
 use Rattle.mps_base.specs.Address.{words_of_grain}

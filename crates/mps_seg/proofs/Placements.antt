@@ -1,5 +1,5 @@
 -- What the placement of a new run can be, and what the arena answers.
-use Rattle.std.proofs.Common.{ℕ, ◌+◌, ◌≡◌, List, length, refl, ap, ◌∙◌, inl, inr, arith, ◌≤◌, ◌*◌, ◌/◌, Option, Some, None, Result, Ok, Err}
+use Rattle.std.proofs.Common.{ℕ, ◌+◌, ◌≡◌, List, length, refl, ap, ◌∙◌, inl, inr, arith, ◌≤◌, ◌*◌, Option, Some, None, Result, Ok, Err}
 use Rattle.std.proofs.lemmas.Bool.{cases_lt, lt-ltb, le-ltb}
 use Rattle.mps_base.specs.Address.{address_of_grain, grain_of, bytes_of_grain}
 use Rattle.mps_base.specs.Placement.{NewSegment, run_placement, Placement, Place, OverLimit, NoFreeRun}

@@ -1,5 +1,5 @@
 -- The segment over an address, by the run of grains over its grain.
-use Rattle.std.proofs.Common.{◌<◌, ◌+◌, length, get_or, ℕ, suc, ◌≡◌, Bool, List, [], ◌∷◌, Contains, refl, sym, ap, ◌∙◌, inl, inr, arith, ◌≤◌, leb, ltb, ◌/◌, ◌≢◌, Option, Some, None, map, option_map}
+use Rattle.std.proofs.Common.{◌<◌, ◌+◌, length, get_or, ℕ, suc, ◌≡◌, Bool, List, [], ◌∷◌, Contains, refl, sym, ap, ◌∙◌, inl, inr, arith, ◌≤◌, leb, ltb, ◌≢◌, Option, Some, None, map, option_map}
 use Rattle.std.proofs.lemmas.Bool.{cases_lt, cases_Bool, cond-true, cond-false, le-leb, lt-ltb, lt-leb, le-ltb, and_from, and_left, and_right}
 use Rattle.mps_base.proofs.Runs.{contained_bounds}
 use Rattle.mps_base.specs.Address.{address_of_grain, grain_of}

@@ -1,5 +1,5 @@
 -- What is known of the tables where a new segment is taken.
-use Rattle.std.proofs.Common.{ℕ, Bool, false, ◌+◌, ◌*◌, ◌^◌, ◌<◌, ◌≤◌, ◌≡◌, Some, Ok, List, length, map, set, sym, ap, ◌∙◌, subst, arith}
+use Rattle.std.proofs.Common.{ℕ, false, ◌+◌, ◌*◌, ◌^◌, ◌<◌, ◌≤◌, ◌≡◌, Some, Ok, List, length, map, set, sym, ap, ◌∙◌, subst, arith}
 use Rattle.mps_base.specs.Run.{Run, gaps, lowest_fitting, with_run}
 use Rattle.mps_base.specs.Address.{words_of_grain, grain_of, word_of, grains_needed}
 use Rattle.mps_base.specs.Placement.{Placement, NewSegment}

@@ -1,14 +1,14 @@
 -- What a collection knows of blocks and segments: which are condemned, kept and grey, and where the references of a segment may lead.
-use Rattle.std.specs.Prelude.{◌≡◌, ℕ, Bool, true, false, not, ◌&&◌, ◌||◌, Option, Some, None, option_map, List, length, replicate, slice_index, slice_set, bit_or}
+use Rattle.std.specs.Prelude.{◌≡◌, ℕ, Bool, true, false, not, ◌&&◌, ◌||◌, Option, Some, None, option_map, List, [], ◌∷◌, length, replicate, slice_index, slice_set, bit_or, refl}
 use Rattle.mps_base.specs.Address.{Address, Grain, grain_of, word_of}
 use Rattle.mps_base.specs.Segment.{Segment, segment_over, end_of_segment}
 use Rattle.mps_base.specs.Zones.{zone_bit_of}
 use Rattle.mps_base.specs.declared.address.Addr.{Addr}
 use Rattle.mps_base.specs.declared.names.Rank.{Rank}
-use Rattle.mps_base.specs.declared.names.Rank.TheVariants.{Exact}
-use Rattle.mps_bits.specs.Table.{bit, next_set_below}
+use Rattle.mps_base.specs.declared.names.Rank.TheVariants.{Exact, Weak}
+use Rattle.mps_bits.specs.Table.{bit, next_set_below, lowest_from}
 use Rattle.mps_marks.specs.Marks.{no_marks, grey_of, with_grey, blackened}
-use Rattle.mps_seg.specs.Segs.{SegsState, at_word}
+use Rattle.mps_seg.specs.Segs.{SegsState, new_segments, at_word}
 use Rattle.mps_seg.specs.declared.segment_info.SegmentInfo.{SegmentInfo}
 
 -- the first grain of the segment in which an address lies
@@ -100,3 +100,60 @@ noting_in s (Some grain) target =
 -- the summary of the segment in which the holder lies has the zone of the target too
 abbrev pub noting : SegsState → (holder target : Address) → SegsState
 noting s holder target = noting_in s (first_grain_over s holder) target
+
+-- ---- vectors
+
+-- two grains: a condemned segment at 0x1000, where the block at 0x1010 is kept, and one of weak blocks at 0x2000, where the first
+-- block is grey
+abbrev exact_segment : Segment
+exact_segment = record { base = 0x1000; grains = 1; pool = 0; generation = 0; rank = Exact }
+
+abbrev weak_segment : Segment
+weak_segment = record { base = 0x2000; grains = 1; pool = 1; generation = 0; rank = Weak }
+
+abbrev held : SegsState
+held = record (new_segments 2 2) { segments = exact_segment ∷ weak_segment ∷ [] }
+
+abbrev example : SegsState
+example = greying (keeping (condemning held 0x1000) 0x1010) 0x2000
+
+pub a_white_block : is_white_at example 0x1000 ≡ true
+unfolding bit
+a_white_block = refl
+
+pub a_kept_block_is_black : is_black_at example 0x1010 ≡ true
+unfolding bit
+a_kept_block_is_black = refl
+
+pub a_grey_block_is_not_black : is_black_at example 0x2000 ≡ false
+unfolding bit
+a_grey_block_is_not_black = refl
+
+pub nothing_is_white_outside_segments : is_white_at example 0x3000 ≡ false
+nothing_is_white_outside_segments = refl
+
+pub a_grey_block_has_the_rank_of_its_segment : lowest_grey_in example weak_segment ≡ Some (record { 0 = 0x2000 })
+unfolding next_set_below lowest_from bit
+a_grey_block_has_the_rank_of_its_segment = refl
+
+pub the_other_segment_has_none : lowest_grey_in example exact_segment ≡ None
+unfolding next_set_below lowest_from bit
+the_other_segment_has_none = refl
+
+pub none_is_grey_any_longer : lowest_grey_in (blackening example 0x2000) weak_segment ≡ None
+unfolding next_set_below lowest_from bit
+none_is_grey_any_longer = refl
+
+pub a_collection_that_is_over : collected example ≡ held
+a_collection_that_is_over = refl
+
+pub a_zone_is_noted : (noting example 0x1018 0x43008).summaries ≡ 0 ∷ 8 ∷ 0 ∷ []
+a_zone_is_noted = refl
+
+pub a_holder_in_no_segment : noting example 0x3000 0x43008 ≡ example
+a_holder_in_no_segment = refl
+
+pub what_is_known_of_a_segment :
+    info_of example exact_segment ≡ record { grains = 1; pool = 0; generation = 0; rank = Exact; is_condemned = true }
+unfolding bit
+what_is_known_of_a_segment = refl

@@ -1,4 +1,3 @@
-use Rattle.std.proofs.Common.{◌/◌}
 use Rattle.mps_seg.proofs.BlockOver.{block_found}
 use Rattle.mps_seg.proofs.tests.free_over.Goals as goal
 use Rattle.mps_base.specs.Address.{word_of}

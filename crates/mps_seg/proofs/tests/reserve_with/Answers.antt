@@ -1,4 +1,4 @@
-use Rattle.std.proofs.Common.{◌/◌, Contains, sym, subst}
+use Rattle.std.proofs.Common.{Contains, sym, subst}
 use Rattle.mps_base.specs.Run.{Run}
 use Rattle.mps_seg.specs.Segs.{SegsState}
 use Rattle.mps_extents.proofs.ApartRuns.{contains_put}

@@ -1,4 +1,4 @@
-use Rattle.std.proofs.Common.{◌/◌, sym, arith}
+use Rattle.std.proofs.Common.{sym, arith}
 use Rattle.mps_extents.proofs.RunOver.{run_over-le}
 use Rattle.mps_seg.proofs.segs.Segs.block_at.Goals as goal
 use Rattle.mps_base.specs.Address.{word_of}

@@ -1,4 +1,4 @@
-use Rattle.std.proofs.Common.{ℕ, ◌≡◌, Bool, false, List, length, replicate, sym, ap, ◌∙◌}
+use Rattle.std.proofs.Common.{ℕ, ◌≡◌, Bool, false, List, length, replicate, ap, ◌∙◌}
 use Rattle.mps_bits.specs.Table.{with_range}
 use Rattle.mps_marks.proofs.Tally.{cleared}
 use Rattle.mps_marks.specs.Marks.{MarkTables, no_marks}

@@ -1,4 +1,4 @@
-use Rattle.std.proofs.Common.{ℕ, ◌<◌, ◌≡◌, length, sym, ap, arith}
+use Rattle.std.proofs.Common.{◌<◌, ◌≡◌, length, sym, arith}
 use Rattle.mps_base.specs.Address.{grain_of}
 use Rattle.mps_base.specs.Segment.{segment_over}
 use Rattle.mps_seg.proofs.FirstGrain.{no_first_grain, first_grain_is, first_grain_within}

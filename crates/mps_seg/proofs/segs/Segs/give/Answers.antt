@@ -6,7 +6,7 @@ use Rattle.mps_seg.specs.declared.entry.Entry.TheVariants.{Free, First}
 use Rattle.mps_seg.specs.Segs.{SegsState}
 use Rattle.mps_seg.proofs.Seen.{seen_by}
 use Rattle.mps_seg.proofs.CoveredWords.{Noted}
-use Rattle.mps_seg.proofs.Giving.{Giving, giving, grains_read}
+use Rattle.mps_seg.proofs.Giving.{giving, grains_read}
 use Rattle.mps_seg.proofs.segs.Segs.give.Goals as goal
 
 pub index-requires : goal.index-requires

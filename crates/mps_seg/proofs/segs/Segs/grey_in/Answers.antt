@@ -1,5 +1,5 @@
-use Rattle.std.proofs.Common.{ℕ, ◌+◌, ◌*◌, ◌≤◌, ◌≡◌, sym, ap, ◌∙◌, arith}
-use Rattle.mps_base.specs.Address.{grain_of, word_of, words_of_grain}
+use Rattle.std.proofs.Common.{◌+◌, ◌*◌, ◌≡◌, sym, ap, ◌∙◌, arith}
+use Rattle.mps_base.specs.Address.{grain_of, words_of_grain}
 use Rattle.mps_marks.specs.Marks.{grey_of}
 use Rattle.mps_seg.specs.declared.segment_info.SegmentInfo.{SegmentInfo}
 use Rattle.mps_seg.proofs.Entries.{entry_at_seen_base}

@@ -1,4 +1,4 @@
-use Rattle.std.proofs.Common.{ℕ, suc, ◌*◌, ◌/◌, ◌≡◌, ◌≤◌, ◌<◌, List, [], Option, Some, None, option_map, length, get_or, drop, refl, sym, ap, ◌∙◌, subst, arith, add-one}
+use Rattle.std.proofs.Common.{ℕ, suc, ◌*◌, ◌≡◌, ◌≤◌, ◌<◌, List, [], Option, Some, None, option_map, length, get_or, drop, refl, sym, ap, ◌∙◌, subst, arith, add-one}
 use Rattle.std.proofs.lemmas.List.{drop_all, get_or_read}
 use Rattle.mps_base.specs.Run.{Run, lowest_fitting}
 use Rattle.mps_seg.specs.declared.entry.Entry.{Entry}

@@ -1,4 +1,4 @@
-use Rattle.std.proofs.Common.{ℕ, ◌≡◌, List, Option, option_map, drop, sym, ap, ◌∙◌}
+use Rattle.std.proofs.Common.{ℕ, List, Option, option_map, drop, sym, ap, ◌∙◌}
 use Rattle.mps_seg.specs.Segs.{SegsState, base_address, segment_from}
 use Rattle.mps_seg.specs.Table.{first_entry}
 use Rattle.mps_seg.specs.declared.entry.Entry.{Entry}

@@ -5,7 +5,6 @@ use Rattle.mps_bits.specs.Table.{bit}
 use Rattle.mps_seg.specs.Segs.{SegsState}
 use Rattle.mps_seg.specs.declared.entry.Entry.{Entry}
 use Rattle.mps_seg.specs.declared.entry.Entry.TheVariants.{Free, First}
-use Rattle.mps_seg.specs.declared.segment_info.SegmentInfo.{SegmentInfo}
 use Rattle.mps_seg.proofs.Entries.{entry_at_seen_base}
 use Rattle.mps_seg.proofs.FirstGrain.{in_condemned, info_of_entry}
 use Rattle.mps_seg.proofs.segs.Segs.segment.Goals as goal
