@@ -6,10 +6,10 @@ use Rattle.mps_base.specs.Run.{Run, IsAscending, gaps, lowest_fitting, longest, 
 use Rattle.mps_base.proofs.Runs.{in_lowest_gap, lowest_fitting_later, lowest_gap_here, last_gap_short, longest_last, longest_front, IsAscending-bounds, total-with_run, total-without_run, IsAscending-without_run}
 use Rattle.mps_arena.specs.Grains.{runs_in, runs_from}
 use Rattle.mps_base.specs.Placement.{Placement, NewSegment, run_placement}
-use Rattle.mps_arena.specs.Arena.{ArenaMemory, max_grains, held_after, new_arena}
+use Rattle.mps_arena.specs.Arena.{ArenaMemory, held_after, new_arena}
 use Rattle.mps_arena.specs.Inside.{IsSoundArena, memory_of}
 use Rattle.mps_arena.proofs.Table.{runs_later, runs_at_free, runs_at_run, runs_from-nil, runs_from-zero, runs_from-set, runs_from-empty, entry_of_run, IsAscending-from_lower}
-use Rattle.mps_base.specs.Address.{words_of_grain}
+use Rattle.mps_base.specs.Address.{words_of_grain, max_grains}
 
 -- the runs from a grain on
 abbrev pub rest : List ℕ → ℕ → List Run

@@ -8,10 +8,6 @@ use Rattle.mps_base.specs.declared.address.Addr.{Addr}
 use Rattle.mps_base.specs.declared.refusal.Refusal.{Refusal}
 use Rattle.mps_base.specs.declared.refusal.Refusal.TheVariants.{CommitLimit, NoRun}
 
--- the most grains that an arena may have
-abbrev pub max_grains : ℕ
-max_grains = 2048
-
 -- An arena uses the grains 1 to `grains`. Its words are numbered from the first word of grain 0, which is never used. `held` are
 -- the runs of grains that were taken and not given back, in ascending order.
 pub record ArenaMemory : Type 0 where

@@ -2,8 +2,8 @@
 use Rattle.std.specs.Prelude.{ℕ, ◌*◌, ◌+◌, ◌-◌, ◌≤◌, ◌<◌, ◌≡◌, List, length}
 use Rattle.mps_base.specs.Run.{IsAscending, total}
 use Rattle.mps_arena.specs.Grains.{runs_in}
-use Rattle.mps_arena.specs.Arena.{ArenaMemory, max_grains}
-use Rattle.mps_base.specs.Address.{words_of_grain}
+use Rattle.mps_arena.specs.Arena.{ArenaMemory}
+use Rattle.mps_base.specs.Address.{words_of_grain, max_grains}
 
 -- what a caller sees of an arena with these words, this table of runs and this limit
 abbrev pub memory_of : List ℕ → List ℕ → ℕ → ArenaMemory

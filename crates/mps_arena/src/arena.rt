@@ -3,8 +3,8 @@
 
 ghost use Rattle.std.specs.Prelude.{◌≡◌, ◌+◌, ◌*◌, ◌/◌, ◌%◌, ◌<◌, ◌≤◌, length, IfOk, IfErr, OnOk, Contains, slice_index, slice_set, slice_range, MatchResult};
 ghost use Rattle.mps_base.specs.Run.{total, with_run, without_run};
-ghost use Rattle.mps_base.specs.Address.{bytes_of_word, bytes_of_grain, grain_of, word_of};
-ghost use Rattle.mps_arena.specs.Arena.{ArenaMemory, max_grains, new_arena, placement_in, answer_of_placement, held_after, cleared_words, copied_words};
+ghost use Rattle.mps_base.specs.Address.{bytes_of_word, bytes_of_grain, grain_of, word_of, max_grains};
+ghost use Rattle.mps_arena.specs.Arena.{ArenaMemory, new_arena, placement_in, answer_of_placement, held_after, cleared_words, copied_words};
 ghost use Rattle.std.specs.Borrow.{sem};
 ghost use Rattle.mps_arena.specs.Lending.{LendsArenaWords};
 

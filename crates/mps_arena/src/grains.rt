@@ -3,8 +3,8 @@
 
 ghost use Rattle.std.specs.Prelude.{◌≡◌, ◌+◌, ◌<◌, ◌≤◌, None, Some, length, slice_index, IfOk, IfErr, MatchResult};
 ghost use Rattle.mps_base.specs.Run.{IsAscending, gaps, lowest_fitting, longest};
-ghost use Rattle.mps_arena.specs.Arena.{max_grains};
 ghost use Rattle.mps_arena.specs.Grains.{runs_in};
+ghost use Rattle.mps_base.specs.Address.{max_grains};
 
 /// Where the lowest run of `need` free grains begins. Where no free run is that long, the length of the longest one.
 pub(crate) fn lowest_free(table: &[u32], need: u32) -> Result<u32, u32>

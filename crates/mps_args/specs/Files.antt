@@ -1,7 +1,7 @@
 -- Words that name files.
 use Rattle.std.specs.Prelude.{◌≡◌, ℕ, ◌==◌, Bool, true, false, ◌||◌, not, codes, List, [], ◌∷◌, refl}
 use Rattle.std.specs.Str.{bytes_eq}
-use Rattle.mps_base.specs.Desk.{standard_input}
+use Rattle.mps_desk.specs.Desk.{standard_input}
 
 -- not empty, and not beginning with `-`
 abbrev pub is_file : List ℕ → Bool

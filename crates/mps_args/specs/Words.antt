@@ -10,7 +10,7 @@ use Rattle.std.specs.Prelude.{◌≡◌, ℕ, nat_le, ◌&&◌, if◌then◌else
 use Rattle.std.specs.Str.{bytes_eq}
 use Rattle.mps_numerals.specs.Decimal.{decimal_number}
 use Rattle.mps_args.specs.Meaning.{Meaning, Runs, Converts, Reads, Lists, Generates}
-use Rattle.mps_base.specs.Desk.{standard_input}
+use Rattle.mps_desk.specs.Desk.{standard_input}
 use Rattle.mps_args.specs.Files.{is_file, is_file_to_read, usual_log}
 use Rattle.mps_args.specs.Kinds.{kinds_named, all_kinds}
 

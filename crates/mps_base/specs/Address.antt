@@ -30,6 +30,14 @@ bytes_of_grain = 4096
 abbrev pub zones : ℕ
 zones = 64
 
+-- the most grains that an arena may have
+abbrev pub max_grains : ℕ
+max_grains = 2048
+
+-- the most words that a block may have
+abbrev pub max_block_words : ℕ
+max_block_words = 65536
+
 -- the grain in which an address lies
 abbrev pub grain_of : Address → Grain
 grain_of at = at / bytes_of_grain

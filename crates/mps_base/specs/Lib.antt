@@ -1,14 +1,10 @@
 pub mod Address
-pub mod Desk
-pub mod Held
-pub mod HostDesk
-pub mod MemDesk
 pub mod Name
+pub mod Put
 pub mod Run
 pub mod Segment
 pub mod Placement
 pub mod PoolKind
-pub mod QuietDesk
 pub mod Record
 pub mod Zones
 pub mod Staleness

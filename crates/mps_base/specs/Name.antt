@@ -1,6 +1,8 @@
 -- The grammar of names: a letter a to z and then at most 15 letters a to z, digits or underscores.
 use Rattle.std.specs.Prelude.{◌≡◌, ℕ, Bool, true, false, ◌&&◌, ◌||◌, ◌==◌, nat_le, nat_lt, List, [], ◌∷◌, length, codes, refl}
 use Rattle.std.specs.List.{list_all}
+use Rattle.std.specs.Str.{bytes_eq}
+use Rattle.mps_base.specs.declared.names.Name.{Name}
 
 -- the most bytes of a name
 abbrev pub max_name_bytes : ℕ
@@ -26,6 +28,10 @@ is_name_byte byte = is_letter byte || (is_digit byte || (byte == underscore))
 abbrev pub is_name : List ℕ → Bool
 is_name [] = false
 is_name (first ∷ rest) = is_letter first && (nat_lt (length rest) max_name_bytes && list_all is_name_byte rest)
+
+-- the same bytes
+abbrev pub same_name : Name → Name → Bool
+same_name these those = these.len == those.len && bytes_eq these.bytes those.bytes
 
 pub letters_digits_and_underscores : is_name (codes "ring_2") ≡ true
 letters_digits_and_underscores = refl

@@ -1,6 +1,7 @@
 -- Runs of consecutive numbers: of words, where blocks and reservations lie, or of grains, where segments do. The gaps
 -- between runs are where something new may be placed.
 use Rattle.std.specs.Prelude.{ℕ, ◌≡◌, ◌+◌, ◌-◌, ◌≤◌, ◌<◌, max, ◌==◌, ◌&&◌, nat_le, nat_lt, sum_by, if◌then◌else◌, Option, Some, None, List, [], ◌∷◌, ◌++◌, refl}
+use Rattle.mps_base.specs.Put.{put}
 
 -- `count` numbers from `from` on
 pub record Run : Type 0 where
@@ -45,8 +46,7 @@ longest (r ∷ rs) = max r.count (longest rs)
 
 -- one more run among ascending runs
 abbrev pub with_run : Run → List Run → List Run
-with_run r [] = r ∷ []
-with_run r (s ∷ rs) = if nat_lt r.from s.from then r ∷ s ∷ rs else s ∷ with_run r rs
+with_run r rs = put (λ (s : Run). s.from) r rs
 
 -- the runs without the one that begins at a number
 abbrev pub without_run : ℕ → List Run → List Run

@@ -2,6 +2,7 @@
 use Rattle.std.specs.Prelude.{ℕ, ◌≡◌, ◌+◌, ◌*◌, Bool, true, false, not, ◌&&◌, ◌==◌, nat_le, nat_lt, if◌then◌else◌, Option, Some, None, List, [], ◌∷◌, filter, find, refl}
 use Rattle.std.specs.List.{flat_map}
 use Rattle.mps_base.specs.Address.{Address, bytes_of_grain, words_of_grain, grain_of, word_of}
+use Rattle.mps_base.specs.Put.{put}
 use Rattle.mps_base.specs.Run.{Run, gaps, runs_within}
 use Rattle.mps_base.specs.declared.names.Rank.{Rank}
 use Rattle.mps_base.specs.declared.names.Rank.TheVariants as rank
@@ -34,8 +35,7 @@ grains_of_segment s = record { from = grain_of s.base; count = s.grains }
 
 -- one more segment, in ascending order
 abbrev pub with_segment : Segment → List Segment → List Segment
-with_segment new [] = new ∷ []
-with_segment new (s ∷ ss) = if nat_lt new.base s.base then new ∷ s ∷ ss else s ∷ with_segment new ss
+with_segment new ss = put (λ (s : Segment). s.base) new ss
 
 -- the segments but the one that begins at an address
 abbrev pub without_segment : List Segment → Address → List Segment

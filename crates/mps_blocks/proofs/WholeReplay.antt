@@ -2,7 +2,7 @@
 use Rattle.std.proofs.Common.{◌≡◌, ℕ, List, [], ◌++◌, true, length, take, Option, Some, Result, Ok, Err, refl, sym, ap, subst, ◌∙◌, arith}
 use Rattle.std.specs.Prelude.{OnOk, IfErr}
 use Rattle.std.specs.Option.{option_map}
-use Rattle.mps_base.specs.Desk.{Outside}
+use Rattle.mps_desk.specs.Desk.{Outside}
 use Rattle.mps_base.specs.Record.{header_bytes}
 use Rattle.mps_event.specs.declared.version.Version.{Version}
 use Rattle.mps_event.specs.Event.{number_of_version}

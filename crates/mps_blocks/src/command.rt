@@ -16,7 +16,7 @@ ghost use Rattle.mps_blocks.specs.Replaying.{PendingReplays, NextReplays, AllRep
 use crate::bad_replay::BadReplay;
 use crate::listing::{print_listing, sorted_addresses};
 use crate::replay::{Replay, ReplayFault};
-use mps_base::Desk;
+use mps_desk::Desk;
 use mps_event::{RecordRef, Version, first};
 use mps_log_reader::{BadLog, Input, MAX_RECORD_BYTES, after_the_last, open_log};
 use mps_report::{Output, Stop, report_ending};

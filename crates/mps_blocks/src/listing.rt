@@ -8,7 +8,7 @@ ghost use Rattle.mps_blocks.specs.Listing.{block_line, listing};
 
 use crate::replay::Extent;
 use indexmap::IndexMap;
-use mps_base::{Desk, Failed};
+use mps_desk::{Desk, Failed};
 use mps_report::Output;
 use std::alloc::{AllocError, Global};
 

@@ -1,6 +1,6 @@
 -- What a run leaves, however it ends: from the command that ends it to the whole run.
 use Rattle.std.proofs.Common.{◌≡◌, ◌≢◌, ℕ, ◌+◌, ◌⊎◌, true, false, Option, Some, None, Result, Ok, Err, List, [], ◌∷◌, ◌++◌, take, drop, refl, sym, ◌∙◌, ap, append-nil, subst, inl, inr}
-use Rattle.mps_base.specs.Desk.{Outside, OnlyReports}
+use Rattle.mps_desk.specs.Desk.{Outside, OnlyReports}
 use Rattle.mps_base.specs.Record.{records_bytes}
 use Rattle.mps_model.specs.declared.call.Call.{Call}
 use Rattle.mps_model.specs.Step.{Step}

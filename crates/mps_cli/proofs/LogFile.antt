@@ -3,8 +3,8 @@ use Rattle.std.proofs.Common.{◌≡◌, ◌⊎◌, ℕ, Option, Some, None, Err
 use Rattle.std.specs.Option.{option_map}
 use Rattle.std.proofs.lemmas.List.{append_cancel_left}
 use Rattle.std.proofs.lemmas.Slice.Eq.{bytes_eq-Decides}
-use Rattle.mps_base.specs.Desk.{Outside, File, Files, OnlyReports, file_named, with_file, with_more, made_for_log, after_log}
-use Rattle.mps_base.proofs.Files.{file_named-with_file_other}
+use Rattle.mps_desk.specs.Desk.{Outside, File, Files, OnlyReports, file_named, with_file, with_more, made_for_log, after_log}
+use Rattle.mps_desk.proofs.Files.{file_named-with_file_other}
 use Rattle.mps_model.specs.Log.{log_bytes}
 use Rattle.mps_log_reader.specs.Ending.{is_input_verdict, IsUnopened}
 use Rattle.mps_report.specs.declared.stop.Stop.TheVariants as stop

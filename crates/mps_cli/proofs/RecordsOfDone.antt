@@ -1,7 +1,7 @@
 -- The records of a command that was done: of its move, which has a record or has none, and then its own.
 use Rattle.std.proofs.Common.{◌≡◌, ℕ, Bool, true, false, nat_lt, if◌then◌else◌, Some, None, Result, Ok, Err, OnOk, OnErr, [], refl}
-use Rattle.mps_base.specs.Desk.{Outside}
-use Rattle.mps_base.specs.declared.desk.Failed.{Failed}
+use Rattle.mps_desk.specs.Desk.{Outside}
+use Rattle.mps_desk.specs.declared.desk.Failed.{Failed}
 use Rattle.mps_base.specs.declared.moves.Move.{Move}
 use Rattle.mps_base.specs.declared.names.Kind.{Kind}
 use Rattle.mps_base.specs.declared.names.Name.{Name}

@@ -1,6 +1,6 @@
 -- The report at the end of a run, and the status.
 use Rattle.std.proofs.Common.{◌≡◌, ℕ, ◌≤◌, true, Ok, Err, OnOk, IfErr, refl, sym, ◌∙◌, ap, arith, subst, inl, inr}
-use Rattle.mps_base.specs.Desk.{Outside, OnlyReports, HasRisen}
+use Rattle.mps_desk.specs.Desk.{Outside, OnlyReports, HasRisen}
 use Rattle.mps_log_reader.specs.Ending.{is_input_verdict}
 use Rattle.mps_report.specs.declared.stop.Stop.TheVariants as stop
 use Rattle.mps_report.specs.Reports.{report_of, status_of, status_of_ending, HasReportedEnding}

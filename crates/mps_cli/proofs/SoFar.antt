@@ -3,7 +3,7 @@ use Rattle.std.proofs.Common.{◌≡◌, ℕ, ◌+◌, ◌<◌, ◌≤◌, true,
 use Rattle.std.specs.List.{list_all}
 use Rattle.std.proofs.lemmas.List.{map-append, length-take-le}
 use Rattle.std.proofs.lemmas.Grind.{flat_map-append, common_steps}
-use Rattle.mps_base.specs.Desk.{Outside, OnlyReads}
+use Rattle.mps_desk.specs.Desk.{Outside, OnlyReads}
 use Rattle.mps_base.specs.Record.{record_bytes, records_bytes}
 use Rattle.mps_model.specs.Step.{Step, History}
 use Rattle.mps_model.specs.Log.{log_from, log_of, pools_made}

@@ -1,7 +1,7 @@
 -- The step of a command that was done, from what was logged and printed of it.
 use Rattle.std.proofs.Common.{◌≡◌, ◌≢◌, ℕ, Bool, false, Ok, Err, OnOk, OnErr, IfErr, [], ◌∷◌, ◌++◌, List, length, take, refl, sym, ◌∙◌, ap, arith, append-nil}
 use Rattle.std.specs.Prelude.{◌↔◌, IsTrue}
-use Rattle.mps_base.specs.Desk.{Outside}
+use Rattle.mps_desk.specs.Desk.{Outside}
 use Rattle.mps_base.specs.Record.{records_bytes}
 use Rattle.mps_model.specs.declared.call.Call.{Call}
 use Rattle.mps_model.specs.declared.reply.Reply.{Reply}

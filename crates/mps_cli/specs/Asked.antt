@@ -1,7 +1,7 @@
 -- What the program does, by what its words ask for. In the files of the outside a script, a log to read and a text are
 -- found by their names; `-` is standard input.
 use Rattle.std.specs.Prelude.{ℕ, ◌≡◌, ◌≢◌, ◌⊎◌, true, codes, Option, Some, None, List, [], ◌∷◌, refl}
-use Rattle.mps_base.specs.Desk.{Outside}
+use Rattle.mps_desk.specs.Desk.{Outside}
 use Rattle.mps_report.specs.declared.stop.Stop.TheVariants as stop
 use Rattle.mps_report.specs.Reports.{report_of, ReportsStatus}
 use Rattle.mps_report.specs.Streams.{Prints, Reports}

@@ -1,7 +1,7 @@
 -- How a run ends, what is reported of it, and the fault that is its cause.
 use Rattle.std.specs.Prelude.{ℕ, ◌≡◌, ◌≤◌, ◌⊎◌, Bool, true, false, codes, decimal, Result, Ok, Err, List, ◌++◌, refl}
 use Rattle.std.specs.Fmt.{digits}
-use Rattle.mps_base.specs.Desk.{Outside}
+use Rattle.mps_desk.specs.Desk.{Outside}
 use Rattle.mps_report.specs.declared.stop.Stop.{Stop}
 use Rattle.mps_report.specs.declared.stop.Stop.TheVariants as stop
 use Rattle.mps_report.specs.Causes.{CauseOf}

@@ -1,6 +1,6 @@
 -- What a run leaves printed and logged, however it ends.
 use Rattle.std.specs.Prelude.{ℕ, ◌≡◌, ◌+◌, ◌⊎◌, Err, List, [], ◌∷◌, ◌++◌, length, take, drop, codes, refl, IsTrue}
-use Rattle.mps_base.specs.Desk.{Outside, OnlyReports}
+use Rattle.mps_desk.specs.Desk.{Outside, OnlyReports}
 use Rattle.mps_base.specs.Record.{record_bytes, records_bytes, limit_set_code}
 use Rattle.mps_model.specs.declared.call.Call.TheVariants as call
 use Rattle.mps_model.specs.declared.reply.Reply.TheVariants as reply

@@ -1,7 +1,7 @@
 -- What becomes of the files in a run.
 use Rattle.std.specs.Prelude.{◌≡◌, ◌≢◌, ◌⊎◌, List, ℕ, Some, None, [], ◌∷◌, codes, refl}
 use Rattle.std.specs.Option.{option_map}
-use Rattle.mps_base.specs.Desk.{Outside, Files, file_named, with_file}
+use Rattle.mps_desk.specs.Desk.{Outside, Files, file_named, with_file}
 use Rattle.mps_model.specs.Step.{History}
 use Rattle.mps_model.specs.Log.{log_bytes}
 use Rattle.mps_cli.specs.Script.{HasRun}

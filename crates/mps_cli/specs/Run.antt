@@ -1,6 +1,6 @@
 -- What `run` does.
 use Rattle.std.specs.Prelude.{ℕ, ◌≡◌, ◌≢◌, true, Some, List}
-use Rattle.mps_base.specs.Desk.{Outside}
+use Rattle.mps_desk.specs.Desk.{Outside}
 use Rattle.mps_report.specs.Reports.{ReportsStatus}
 use Rattle.mps_log_reader.specs.Ending.{IsUnopened, is_input_verdict}
 use Rattle.mps_log_reader.specs.Opening.{OpensNothing}

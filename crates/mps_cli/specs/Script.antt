@@ -1,7 +1,7 @@
 -- The run of a script: its commands, each with its line, and what was printed and logged for them.
 use Rattle.std.specs.Prelude.{ℕ, ◌≡◌, ◌↔◌, ◌+◌, ◌<◌, IsTrue, Bool, true, false, Option, Some, None, Result, Ok, Err, List, [], ◌∷◌, ◌++◌, map, length, take, drop, codes, refl}
 use Rattle.std.specs.List.{flat_map, list_all}
-use Rattle.mps_base.specs.Desk.{Outside, HasRisen}
+use Rattle.mps_desk.specs.Desk.{Outside, HasRisen}
 use Rattle.mps_base.specs.Record.{records_bytes, header_bytes}
 use Rattle.mps_base.specs.Address.{last_u32}
 use Rattle.mps_model.specs.declared.call.Call.{Call}

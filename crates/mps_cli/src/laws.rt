@@ -1,7 +1,7 @@
 // A law of the program.
 
 ghost use Rattle.std.specs.Prelude.{◌≡◌, ℕ, List, Some, true};
-ghost use Rattle.mps_base.specs.Desk.{Outside, Files};
+ghost use Rattle.mps_desk.specs.Desk.{Outside, Files};
 ghost use Rattle.mps_log_reader.specs.Ending.{is_input_verdict};
 ghost use Rattle.mps_cli.specs.Run.{RunsScript};
 ghost use Rattle.mps_cli.specs.LogFile.{HoldsLog};

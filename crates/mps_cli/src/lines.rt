@@ -1,10 +1,11 @@
 // The lines of the input, one by one, across reads of any size.
 ghost use Rattle.std.specs.Prelude.{◌≡◌, ◌<◌, ◌≤◌, ◌↔◌, ℕ, [], length, IfOk, IfSome, OnErr};
-ghost use Rattle.mps_base.specs.Desk.{HasRisen, OnlyReads};
+ghost use Rattle.mps_desk.specs.Desk.{HasRisen, OnlyReads};
 ghost use Rattle.mps_cli.specs.Buffer.{nothing_read, length_of_line, rest_of_script, HeldGives, TakesIn, ComesNextOf, IsLast};
 
 use crate::next::Next;
-use mps_base::{Desk, Failed, length_before};
+use mps_base::length_before;
+use mps_desk::{Desk, Failed};
 use mps_script::MAX_LINE_BYTES;
 use std::alloc::{AllocError, Global};
 use std::marker::Model;

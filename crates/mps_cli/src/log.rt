@@ -10,7 +10,8 @@ ghost use Rattle.mps_cli.specs.Records.{pool_number as number_of_pool, records_o
 ghost use Rattle.mps_cli.specs.Script.{log_header as header_of_log};
 ghost use Rattle.mps_report.specs.Streams.{Logs, LogsPart};
 
-use mps_base::{Addr, Desk, Failed, Move};
+use mps_base::{Addr, Move};
+use mps_desk::{Desk, Failed};
 use mps_event::{Event, MFS_NUMBER, MVFF_NUMBER, Version, header_of, kind_number, put};
 use mps_first_heap::Done;
 use mps_model::{Call, Reply};

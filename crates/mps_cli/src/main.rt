@@ -13,7 +13,7 @@ mod run;
 #[cfg(test)]
 mod tests;
 
-use mps_base::HostDesk;
+use mps_desk::HostDesk;
 use mps_report::{NoBadPlace, Stop, report_ending};
 use std::alloc::AllocError;
 use std::io::ErrorKind;

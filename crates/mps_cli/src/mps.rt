@@ -1,6 +1,6 @@
 // The top call.
 ghost use Rattle.std.specs.Prelude.{◌≡◌, ◌≢◌, ◌↔◌, None, Some, true};
-ghost use Rattle.mps_base.specs.Desk.{HasRisen};
+ghost use Rattle.mps_desk.specs.Desk.{HasRisen};
 ghost use Rattle.mps_log_reader.specs.Ending.{is_input_verdict};
 ghost use Rattle.mps_args.specs.Runnable.{IsRunnable};
 ghost use Rattle.mps_args.specs.Seen.{meaning_of, texts};
@@ -11,7 +11,7 @@ ghost use Rattle.mps_cli.specs.Script.{NoFaultRose};
 
 use crate::run::run_script;
 use mps_args::{Command, command_of};
-use mps_base::Desk;
+use mps_desk::Desk;
 use mps_report::Notice;
 use mps_tools::{blocks, cnv, generate, txt};
 use std::alloc::Global;

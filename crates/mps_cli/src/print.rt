@@ -3,7 +3,7 @@ ghost use Rattle.std.specs.Prelude.{◌≤◌, OnOk, OnErr};
 ghost use Rattle.mps_report.specs.Streams.{Prints, PrintsPart};
 ghost use Rattle.mps_script.specs.Text.{text_of};
 
-use mps_base::{Desk, Failed};
+use mps_desk::{Desk, Failed};
 use mps_model::Reply;
 use mps_report::print_all;
 use mps_script::{MAX_ANSWER_BYTES, put_text};

@@ -1,7 +1,7 @@
 // The run of a script.
 ghost use Rattle.std.specs.Prelude.{◌≡◌, ◌≢◌, ◌≤◌, ◌∷◌, ◌⊎◌, [], List, ℕ, true, false, Some, Err, IfOk, IfErr, OnOk, OnErr};
 ghost use Rattle.std.specs.Option.{option_map};
-ghost use Rattle.mps_base.specs.Desk.{HasRisen, OnlyReads, made_for_log};
+ghost use Rattle.mps_desk.specs.Desk.{HasRisen, OnlyReads, made_for_log};
 ghost use Rattle.mps_base.specs.Record.{records_bytes};
 ghost use Rattle.mps_first_heap.specs.Unsupported.{IsInRange};
 ghost use Rattle.mps_log_reader.specs.Ending.{is_input_verdict};
@@ -24,7 +24,7 @@ use crate::lines::Lines;
 use crate::log::{log_header, log_records};
 use crate::next::Next;
 use crate::print::print;
-use mps_base::Desk;
+use mps_desk::Desk;
 use mps_first_heap::{Done, FirstHeap};
 use mps_model::Call;
 use mps_report::{Stop, report_ending};

@@ -8,7 +8,7 @@ mod scripts;
 mod words;
 
 use crate::mps::mps;
-use mps_base::MemDesk;
+use mps_desk::MemDesk;
 use std::alloc::{AllocError, Global};
 use std::process::Abort;
 

@@ -20,7 +20,7 @@ ghost use Rattle.mps_report.specs.Reports.{report_of};
 ghost use Rattle.mps_report.specs.Streams.{LeavesLogAlone, Reports};
 ghost use Rattle.mps_log_reader.specs.BadLog.{text_of_bad_log};
 
-use mps_base::Desk;
+use mps_desk::Desk;
 use mps_event::{Event, Kinds, RecordRef, Version, first};
 use mps_log_reader::{
     BadLog, Input, MAX_RECORD_BYTES, after_the_last, flush_after, make_room, open_log,

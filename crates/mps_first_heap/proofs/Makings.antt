@@ -12,7 +12,7 @@ use Rattle.mps_base.specs.declared.names.Rank.{Rank}
 use Rattle.mps_base.specs.declared.names.Rank.TheVariants as rank
 use Rattle.mps_model.specs.declared.call.Call.TheVariants as call
 use Rattle.mps_model.specs.declared.reply.Reply.TheVariants as reply
-use Rattle.mps_model.specs.Graph.{Thing, TableThing, PoolThing, PointThing, same_name, thing_in}
+use Rattle.mps_model.specs.Graph.{Thing, TableThing, PoolThing, PointThing, thing_in}
 use Rattle.mps_model.specs.World.{World, PointMemory}
 use Rattle.mps_model.specs.History.{live_blocks, with_client_remembered}
 use Rattle.mps_model.specs.Reply.{answer_from, world_from}
@@ -25,6 +25,7 @@ use Rattle.mps_first_heap.proofs.Worlds.{parts_by, world_by, world_of-parts, is_
 use Rattle.mps_first_heap.proofs.Steps.{right_step, unsupported_step}
 use Rattle.mps_first_heap.proofs.NamedThings.{names_made, not_taken, same_name_itself}
 use Rattle.mps_first_heap.proofs.Acts.{act_of_table, act_of_pool, act_of_point}
+use Rattle.mps_base.specs.Name.{same_name}
 
 -- ---- things that are not made yet
 

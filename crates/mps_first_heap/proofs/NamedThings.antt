@@ -5,9 +5,10 @@ use Rattle.std.specs.Str.{bytes_eq}
 use Rattle.std.proofs.lemmas.Slice.Eq.{bytes_eq-Decides}
 use Rattle.std.proofs.lemmas.Bool.{and_parts, and_from, eqb-true, eq-eqb, or_parts}
 use Rattle.mps_base.specs.declared.names.Name.{Name}
-use Rattle.mps_model.specs.Graph.{NamedThing, Thing, TableThing, PoolThing, PointThing, same_name, thing_in}
+use Rattle.mps_model.specs.Graph.{NamedThing, Thing, TableThing, PoolThing, PointThing, thing_in}
 use Rattle.mps_first_heap.specs.HeapState.{HeapState, is_named, is_name_taken}
 use Rattle.mps_first_heap.specs.StandsFor.{thing_of}
+use Rattle.mps_base.specs.Name.{same_name}
 
 -- names that are the same are equal
 pub same_name_equal : (these those : Name) → same_name these those ≡ true → these ≡ those

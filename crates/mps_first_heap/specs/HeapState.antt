@@ -5,7 +5,7 @@ use Rattle.mps_base.specs.declared.names.Name.{Name}
 use Rattle.mps_base.specs.declared.names.Slot.{Slot}
 use Rattle.mps_format.specs.Fields.{size_field}
 use Rattle.mps_format.specs.Front.{is_front, front_layout}
-use Rattle.mps_model.specs.Graph.{same_name}
+use Rattle.mps_base.specs.Name.{same_name}
 
 pub record HeapState : Type 0 where
   -- the grains of the arena, numbered from 1; 0 before it is made
@@ -38,14 +38,6 @@ the_pool = 0
 -- the number of the format `front`
 abbrev pub front_format : ℕ
 front_format = 1
-
--- the most grains that an arena has, and that its limit is
-abbrev pub max_grains : ℕ
-max_grains = 2048
-
--- the most words that a block has
-abbrev pub max_block_words : ℕ
-max_block_words = 65536
 
 -- the state before the arena is made
 abbrev pub empty_heap : HeapState

@@ -11,7 +11,8 @@ use Rattle.mps_model.specs.Making.{most_slots}
 use Rattle.mps_model.specs.World.{World, Collected, empty_world}
 use Rattle.mps_model.specs.Checked.{Act, Checked}
 use Rattle.mps_model.specs.Reply.{act}
-use Rattle.mps_first_heap.specs.HeapState.{front_format, max_grains}
+use Rattle.mps_first_heap.specs.HeapState.{front_format}
+use Rattle.mps_base.specs.Address.{max_grains}
 
 -- the numbers of a call are in the ranges of the script
 abbrev pub IsInRange : Call → Type 0

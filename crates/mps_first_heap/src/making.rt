@@ -1,8 +1,8 @@
 // The calls that make things.
 ghost use Rattle.std.specs.Prelude.{◌≡◌, ◌≤◌, IfOk, OnErr};
-ghost use Rattle.mps_first_heap.specs.HeapState.{max_grains};
 ghost use Rattle.mps_first_heap.specs.Outcome.{HasOutcome, is_arena_made, after_arena, after_table, after_pool, after_point};
 ghost use Rattle.mps_first_heap.specs.View.{state_of};
+ghost use Rattle.mps_base.specs.Address.{max_grains};
 
 use crate::arena::Arena;
 use crate::done::{Done, THE_POOL, reply_only};

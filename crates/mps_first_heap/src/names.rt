@@ -1,8 +1,8 @@
 // What the names stand for.
 ghost use Rattle.std.specs.Prelude.{◌≡◌, ◌&&◌, not};
-ghost use Rattle.mps_model.specs.Graph.{same_name};
 ghost use Rattle.mps_first_heap.specs.HeapState.{is_named, is_name_taken, has_slot, is_point, is_pool};
 ghost use Rattle.mps_first_heap.specs.View.{state_of};
+ghost use Rattle.mps_base.specs.Name.{same_name};
 
 use crate::arena::Arena;
 use mps_base::{Name, Slot};

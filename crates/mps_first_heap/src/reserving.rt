@@ -1,9 +1,8 @@
 // Reserving a block at the point.
 ghost use Rattle.std.specs.Prelude.{◌≡◌, ◌≤◌, ◌<◌, ◌+◌, ◌-◌, ◌*◌, ◌^◌, IsTrue};
-ghost use Rattle.mps_base.specs.Address.{grains_needed};
+ghost use Rattle.mps_base.specs.Address.{grains_needed, max_block_words};
 ghost use Rattle.mps_format.specs.Fields.{size_field};
 ghost use Rattle.mps_format.specs.Front.{is_front};
-ghost use Rattle.mps_first_heap.specs.HeapState.{max_block_words};
 ghost use Rattle.mps_first_heap.specs.Outcome.{HasOutcome, reserved_in_buffer, with_segment_taken, segment_move, reserve_after, reserve_placed, after_reserve};
 ghost use Rattle.mps_first_heap.specs.View.{state_of};
 

@@ -3,7 +3,7 @@ use Rattle.std.proofs.Common.{◌≡◌, ℕ, ◌+◌, ◌<◌, ◌≤◌, Bool,
 use Rattle.std.specs.Prelude.{IfSome}
 use Rattle.std.specs.Option.{option_map}
 use Rattle.std.proofs.lemmas.List.{append-nil, length-append, take-append-drop, take-append-le, take_at}
-use Rattle.mps_base.specs.Desk.{Outside}
+use Rattle.mps_desk.specs.Desk.{Outside}
 use Rattle.mps_base.specs.Record.{Record, header_bytes, records_bytes}
 use Rattle.mps_event.specs.declared.version.Version.{Version}
 use Rattle.mps_event.specs.Event.{number_of_version}

@@ -3,7 +3,7 @@ use Rattle.std.proofs.Common.{◌≡◌, ℕ, ◌≤◌, List, [], ◌++◌, len
 use Rattle.std.specs.Option.{option_map}
 use Rattle.std.proofs.lemmas.List.{append_cancel_left, take-append-drop}
 use Rattle.std.proofs.Math.Seq.{take-append_seam}
-use Rattle.mps_base.specs.Desk.{Outside}
+use Rattle.mps_desk.specs.Desk.{Outside}
 use Rattle.mps_report.specs.Streams.{PrintsPart}
 use Rattle.mps_report.proofs.Outside.{risen_earlier}
 use Rattle.mps_log_reader.specs.PutOut.{put_out, Grows, PutsOut, PutsPart, PrintsAsFar}

@@ -4,7 +4,7 @@ use Rattle.std.specs.Prelude.{IfSome}
 use Rattle.std.specs.Option.{option_map}
 use Rattle.std.proofs.lemmas.List.{append-nil, drop-drop, drop-take, length-append, length-drop, length-take, nil_from_length, take_at}
 use Rattle.std.proofs.Math.Seq.{take-add}
-use Rattle.mps_base.specs.Desk.{Outside, HasRisen, OnlyReads}
+use Rattle.mps_desk.specs.Desk.{Outside, HasRisen, OnlyReads}
 use Rattle.mps_log_reader.specs.Input.{Buffered, ReadsMore}
 use Rattle.mps_log_reader.proofs.Left.{nothing_in_front, one_in_front}
 use Rattle.mps_report.proofs.Outside.{risen_later, risen_earlier}

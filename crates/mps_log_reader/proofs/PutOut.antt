@@ -1,7 +1,7 @@
 -- What was put out, whether or not it is known.
 use Rattle.std.proofs.Common.{◌≡◌, ℕ, List, [], ◌++◌, Option, Some, None, refl, sym, ap, append_assoc}
 use Rattle.std.specs.Option.{option_map}
-use Rattle.mps_base.specs.Desk.{Outside}
+use Rattle.mps_desk.specs.Desk.{Outside}
 use Rattle.mps_report.specs.Streams.{FlushedPrefix}
 use Rattle.mps_report.proofs.Appended.{appended_empty, appended_both}
 use Rattle.mps_log_reader.specs.PutOut.{put_out}

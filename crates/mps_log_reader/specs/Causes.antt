@@ -1,6 +1,6 @@
 -- The causes of a reader's stop, and what its status says of the outside.
 use Rattle.std.specs.Prelude.{◌≡◌, ℕ, ◌⊎◌, true, Result, Ok, Err}
-use Rattle.mps_base.specs.Desk.{Outside, HasRisen}
+use Rattle.mps_desk.specs.Desk.{Outside, HasRisen}
 use Rattle.mps_report.specs.declared.stop.Stop.{Stop}
 use Rattle.mps_report.specs.declared.stop.Stop.TheVariants as stop
 use Rattle.mps_report.specs.Causes.{CauseOf}

@@ -1,7 +1,7 @@
 -- The input of a tool: what was read and not taken yet, and how it goes on.
 use Rattle.std.specs.Prelude.{◌≡◌, ℕ, ◌≤◌, ◌⊎◌, Bool, true, false, IfSome, List, [], ◌++◌}
 use Rattle.std.specs.Option.{option_map}
-use Rattle.mps_base.specs.Desk.{Outside, HasRisen, OnlyReads}
+use Rattle.mps_desk.specs.Desk.{Outside, HasRisen, OnlyReads}
 
 -- what was read and not taken yet, whether all was read, and whether a read failed
 pub record Buffered : Type 0 where

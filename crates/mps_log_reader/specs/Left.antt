@@ -1,7 +1,7 @@
 -- What is left of an input, and the end of it.
 use Rattle.std.specs.Prelude.{◌≡◌, ℕ, ◌<◌, false, Option, IfSome, Result, Ok, Err, List, [], ◌++◌, length}
 use Rattle.std.specs.Option.{option_map}
-use Rattle.mps_base.specs.Desk.{Outside}
+use Rattle.mps_desk.specs.Desk.{Outside}
 use Rattle.mps_report.specs.declared.stop.Stop.{Stop}
 use Rattle.mps_report.specs.declared.stop.Stop.TheVariants as stop
 use Rattle.mps_log_reader.specs.Input.{Buffered}

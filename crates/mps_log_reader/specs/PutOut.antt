@@ -1,7 +1,7 @@
 -- What was put out: printed, or gathered to be printed.
 use Rattle.std.specs.Prelude.{◌≡◌, ℕ, ◌⊎◌, Option, Result, Err, List, ◌++◌, take}
 use Rattle.std.specs.Option.{option_map}
-use Rattle.mps_base.specs.Desk.{Outside, HasRisen}
+use Rattle.mps_desk.specs.Desk.{Outside, HasRisen}
 use Rattle.mps_report.specs.declared.stop.Stop.{Stop}
 use Rattle.mps_report.specs.declared.stop.Stop.TheVariants as stop
 

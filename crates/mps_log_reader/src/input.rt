@@ -3,10 +3,10 @@
 ghost use Rattle.std.specs.Prelude.{◌≡◌, ◌≤◌, ◌<◌, ◌+◌, ◌-◌, ◌++◌, ◌⊎◌, [], length, take, drop, true, false, IfOk, IfSome, OnErr};
 ghost use Rattle.std.specs.Option.{option_map};
 ghost use Rattle.std.specs.Bool.{OnTrue, OnFalse};
-ghost use Rattle.mps_base.specs.Desk.{HasRisen, OnlyReads};
+ghost use Rattle.mps_desk.specs.Desk.{HasRisen, OnlyReads};
 ghost use Rattle.mps_log_reader.specs.Input.{Buffered, ReadsMore, IsReadable};
 
-use mps_base::{Desk, Failed};
+use mps_desk::{Desk, Failed};
 use std::alloc::{AllocError, Global};
 use std::marker::Model;
 

@@ -1,7 +1,7 @@
 // The header, the room for what is printed, and the end: what the readers of a log and of its text share.
 
 ghost use Rattle.std.specs.Prelude.{◌≡◌, ◌≢◌, ◌≤◌, ◌+◌, ◌++◌, ◌⊎◌, ℕ, List, [], Some, true, false, length, IfErr, OnOk, OnErr};
-ghost use Rattle.mps_base.specs.Desk.{HasRisen};
+ghost use Rattle.mps_desk.specs.Desk.{HasRisen};
 ghost use Rattle.mps_log_reader.specs.Causes.{IsCaused, StopIsJustified, WorksOnInput};
 ghost use Rattle.mps_report.specs.Streams.{LeavesLogAlone, FlushedPrefix, PrintsPart};
 ghost use Rattle.mps_log_reader.specs.Input.{IsAtEnd, IsComplete};
@@ -10,7 +10,7 @@ ghost use Rattle.mps_log_reader.specs.PutOut.{put_out, IsToFlush, PrintsAsFar};
 ghost use Rattle.mps_log_reader.specs.Opening.{OpensNothing, first_line, IsCutHeader, OpensWith, TakesHeader};
 
 use crate::input::Input;
-use mps_base::Desk;
+use mps_desk::Desk;
 use mps_event::{Version, header};
 use mps_report::{Output, Stop};
 

@@ -1,6 +1,6 @@
 -- What the calls of manual pools do to the segments.
 use Rattle.std.specs.Prelude.{ℕ, ◌≡◌, ◌==◌, ◌&&◌, ◌||◌, nat_le, Bool, true, false, if◌then◌else◌, Option, Some, None, Result, Err, List, [], ◌∷◌, refl}
-use Rattle.mps_base.specs.Address.{Address, word_of}
+use Rattle.mps_base.specs.Address.{Address, word_of, max_block_words}
 use Rattle.mps_base.specs.Run.{Run, with_run, without_run, runs_within}
 use Rattle.mps_base.specs.Segment.{Segment, end_of_segment, segment_over, without_segment}
 use Rattle.mps_base.specs.Trail.{Moves, with_move}
@@ -10,7 +10,7 @@ use Rattle.mps_base.specs.declared.names.Rank.TheVariants.{Exact}
 use Rattle.mps_base.specs.declared.refusal.Refusal.{Refusal}
 use Rattle.mps_base.specs.declared.refusal.Refusal.TheVariants.{BadSize}
 use Rattle.mps_arena.specs.Arena.{answer_of_placement}
-use Rattle.mps_seg.specs.Segs.{SegsState, max_block_words, segments_after, noted_for, moves_after}
+use Rattle.mps_seg.specs.Segs.{SegsState, segments_after, noted_for, moves_after}
 use Rattle.mps_marks.specs.Marks.{without_marks}
 use Rattle.mps_seg.specs.Placing.{placement_in_gaps}
 

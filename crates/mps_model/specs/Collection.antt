@@ -1,5 +1,5 @@
 -- What a running collection remembers.
-use Rattle.std.specs.Prelude.{ℕ, Bool, not, ◌||◌, List}
+use Rattle.std.specs.Prelude.{ℕ, Bool, not, ◌||◌, List, []}
 use Rattle.mps_base.specs.Address.{Id, Address}
 use Rattle.mps_model.specs.Graph.{Graph, contains}
 use Rattle.mps_model.specs.Reachable.{IsLinked}
@@ -37,6 +37,24 @@ pub record Collection : Type 0 where
   pub units : ℕ
   -- how many units were asked of it by steps and polls
   pub spent : ℕ
+
+-- a collection that condemned nothing, begun where this is the graph
+abbrev pub empty_collection : Graph → Collection
+empty_collection g = record {
+  condemned_segments = [];
+  condemned = [];
+  pinned = [];
+  placed = [];
+  had = [];
+  graph_at_flip = g;
+  origins = [];
+  registered_before = 0;
+  examined = 0;
+  phase = Tracing;
+  reclaimed_to = 0;
+  units = 0;
+  spent = 0;
+}
 
 abbrev pub is_condemned : Collection → (id : Id) → Bool
 is_condemned c id = contains c.condemned id

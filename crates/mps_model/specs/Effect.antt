@@ -11,7 +11,7 @@ use Rattle.mps_base.specs.declared.moves.Move.TheVariants as moves
 use Rattle.mps_base.specs.declared.names.Rank.TheVariants as rank
 use Rattle.mps_base.specs.Segment.{Segment, is_in_segment, with_segment, without_segment, words_of_segment, grains_of_segment, end_of_segment}
 use Rattle.mps_model.specs.Graph.{Graph, Point, Reservation, contains, position_of_first, without_first, is_automatic, with_last, with_target_cell, graph_with_cells, ids_in_slots}
-use Rattle.mps_model.specs.Collection.{Collection, Tracing, Splatting, Reclaiming}
+use Rattle.mps_model.specs.Collection.{Collection, empty_collection, Splatting, Reclaiming}
 use Rattle.mps_model.specs.World.{World, PointMemory, is_automatic_kind, pool_is, is_copying_pool, pool_at, id_at, is_live_and, object_is, live_automatic_ids, has_area_word, segment_of, with_tail, pool_of, words_of, target_generation_for, empty_run}
 
 -- ---- what a flip condemns
@@ -92,20 +92,13 @@ origins_at_flip w condemned =
 
 -- the collection that a flip begins, which condemns these objects in these segments
 abbrev pub collection_of : World → List Segment → (condemned : List ℕ) → Collection
-collection_of w segments condemned = record {
+collection_of w segments condemned = record (empty_collection w.graph) {
   condemned_segments = map (λ (s : Segment). s.base) segments;
   condemned = condemned;
   pinned = filter (has_area_word w) condemned;
-  placed = [];
-  had = [];
-  graph_at_flip = w.graph;
   origins = origins_at_flip w condemned;
   registered_before = length w.graph.registered;
-  examined = 0;
-  phase = Tracing;
-  reclaimed_to = 0;
   units = units_of w;
-  spent = 0;
 }
 
 abbrev pub collection_at_flip : World → Condemnation → Collection

@@ -1,12 +1,13 @@
 -- The object graph: what a client sees of a heap in which nothing ever moves or is freed. An object is known by its id, its
 -- position in the list of objects. The graph has no address, segment, mark, forwarding word or generation.
-use Rattle.std.specs.Prelude.{ℕ, zero, suc, ◌+◌, ◌-◌, Bool, true, false, ◌&&◌, ◌==◌, bytes_eq, if◌then◌else◌, Option, Some, None, option_and_then, option_map, is_some, List, [], ◌∷◌, ◌++◌, map, length, slice_get, slice_set}
+use Rattle.std.specs.Prelude.{ℕ, zero, suc, ◌+◌, ◌-◌, Bool, true, false, ◌&&◌, ◌==◌, if◌then◌else◌, Option, Some, None, option_and_then, option_map, is_some, List, [], ◌∷◌, ◌++◌, map, length, slice_get, slice_set}
 use Rattle.std.specs.List.{list_any, flat_map}
 use Rattle.std.specs.Option.{option_map_or}
 use Rattle.mps_base.specs.Address.{Id}
 use Rattle.mps_base.specs.declared.names.Name.{Name}
 use Rattle.mps_base.specs.declared.names.Rank.{Rank}
 use Rattle.mps_format.specs.Layout.{Layout}
+use Rattle.mps_base.specs.Name.{same_name}
 
 -- a cell of an automatic object
 pub data Cell : Type 0 where
@@ -144,9 +145,6 @@ entries (None ∷ os) = entries os
 entries (Some n ∷ os) = n ∷ entries os
 
 -- ---- names
-
-abbrev pub same_name : Name → Name → Bool
-same_name these those = these.len == those.len && bytes_eq these.bytes those.bytes
 
 -- what a name stands for
 abbrev pub thing_in : List NamedThing → Name → Option Thing

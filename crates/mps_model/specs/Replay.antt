@@ -1,6 +1,7 @@
 -- Replaying a log: which blocks are live at its end. The blocks stand in ascending order of their addresses.
 use Rattle.std.specs.Prelude.{◌≡◌, ℕ, Bool, ◌==◌, nat_lt, if◌then◌else◌, Option, Some, None, option_and_then, is_some, List, [], ◌∷◌, slice_index, refl}
 use Rattle.mps_base.specs.Address.{Address}
+use Rattle.mps_base.specs.Put.{put}
 use Rattle.mps_base.specs.Record.{Record, commit_code, alloc_code, move_code, stay_code, post_code, free_code}
 
 -- a live block: its address, its size in words, and the number of its pool
@@ -24,8 +25,7 @@ is_live store address = is_some (block_at store address)
 
 -- one more block, before the first that begins after it
 abbrev pub with_block : Block → Store → Store
-with_block new [] = new ∷ []
-with_block new (b ∷ bs) = if nat_lt new.at b.at then new ∷ b ∷ bs else b ∷ with_block new bs
+with_block new bs = put (λ (b : Block). b.at) new bs
 
 -- all but the block at an address
 abbrev pub without_block : Store → (address : Address) → Store

@@ -1,18 +1,15 @@
 -- What a caller sees of the names: a finite map from names to things.
 use Rattle.std.specs.Prelude.{ℕ, ◌≡◌, ◌==◌, ◌&&◌, Bool, false, Option, Some, None, List, [], ◌∷◌, refl}
 use Rattle.std.specs.Map.{lookup}
-use Rattle.std.specs.Str.{bytes_eq}
 use Rattle.mps_base.specs.declared.names.Name.{Name}
 use Rattle.mps_names.specs.declared.names.Thing.{Thing}
 use Rattle.mps_names.specs.declared.names.Thing.TheVariants as thing
+use Rattle.mps_base.specs.Name.{same_name}
 
 -- The names that are taken, each with its thing, in an order that is open, and how many more fit without memory.
 pub record NamesState : Type 0 where
   pub entries : List (Name × Thing)
   pub room : ℕ
-
-abbrev pub same_name : Name → Name → Bool
-same_name these those = these.len == those.len && bytes_eq these.bytes those.bytes
 
 -- the thing that has a name, among these
 abbrev pub thing_in : List (Name × Thing) → Name → Option Thing

@@ -3,7 +3,7 @@ use Rattle.std.proofs.Common.{◌≡◌, ℕ, ◌+◌, ◌-◌, ◌≤◌, Optio
 use Rattle.std.specs.Option.{option_map}
 use Rattle.std.proofs.Math.Seq.{take-add, take-append_seam}
 use Rattle.std.proofs.lemmas.List.{take_all, take_rest, take-append-drop}
-use Rattle.mps_base.specs.Desk.{Outside, File, Files, HasRisen, OnlyLogs, OnlyReads, with_more, with_logged, after_log}
+use Rattle.mps_desk.specs.Desk.{Outside, File, Files, HasRisen, OnlyLogs, OnlyReads, with_more, with_logged, after_log}
 use Rattle.mps_report.proofs.Outside.{risen_earlier}
 use Rattle.mps_report.specs.Streams.{appended, Logs, LogsPart, LogTakes}
 use Rattle.mps_report.proofs.Appended.{appended_empty, appended_twice}

@@ -3,7 +3,7 @@ use Rattle.std.proofs.Common.{◌≡◌, ℕ, ◌+◌, ◌-◌, ◌≤◌, List,
 use Rattle.std.specs.Option.{option_map}
 use Rattle.std.proofs.lemmas.List.{append-nil, take_all, take_rest}
 use Rattle.std.proofs.Math.Seq.{take-add}
-use Rattle.mps_base.specs.Desk.{Outside, HasRisen, OnlyPrints, OnlyReports, added}
+use Rattle.mps_desk.specs.Desk.{Outside, HasRisen, OnlyPrints, OnlyReports, added}
 use Rattle.mps_report.specs.Streams.{Prints, PrintsPart, Reports}
 use Rattle.mps_report.proofs.Appended.{appended_empty, appended_both}
 

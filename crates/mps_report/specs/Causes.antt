@@ -1,5 +1,5 @@
 -- The cause of a stop.
-use Rattle.mps_base.specs.Desk.{Outside, HasRisen}
+use Rattle.mps_desk.specs.Desk.{Outside, HasRisen}
 use Rattle.mps_report.specs.declared.stop.Stop.{Stop}
 use Rattle.mps_report.specs.declared.stop.Stop.TheVariants as stop
 

@@ -1,7 +1,7 @@
 -- Why a program stops, with what it reports then and its status.
 use Rattle.std.specs.Prelude.{◌≡◌, ℕ, codes, List, Result, Ok, Err, ◌++◌}
 use Rattle.std.specs.Option.{option_map}
-use Rattle.mps_base.specs.Desk.{Outside}
+use Rattle.mps_desk.specs.Desk.{Outside}
 use Rattle.mps_report.specs.Streams.{HasReported}
 use Rattle.mps_report.specs.declared.stop.Stop.{Stop}
 use Rattle.mps_report.specs.declared.stop.Stop.TheVariants as stop

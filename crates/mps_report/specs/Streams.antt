@@ -1,7 +1,7 @@
 -- What a program does to the outside: it prints, logs and reports whole pieces.
 use Rattle.std.specs.Prelude.{◌≡◌, ℕ, ◌≤◌, ◌⊎◌, Option, Some, None, List, ◌++◌, take, codes, refl}
 use Rattle.std.specs.Option.{option_map}
-use Rattle.mps_base.specs.Desk.{Outside, HasRisen, OnlyLogs, OnlyPrints, OnlyReports, after_log}
+use Rattle.mps_desk.specs.Desk.{Outside, HasRisen, OnlyLogs, OnlyPrints, OnlyReports, after_log}
 
 -- the known bytes, and a piece after them
 abbrev pub appended : Option (List ℕ) → List ℕ → Option (List ℕ)

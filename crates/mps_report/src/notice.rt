@@ -4,7 +4,7 @@ ghost use Rattle.std.specs.Prelude.{◌≡◌, ◌≤◌, ◌+◌, ◌++◌, len
 ghost use Rattle.mps_report.specs.Streams.{Reports};
 
 use crate::write::report_all;
-use mps_base::Desk;
+use mps_desk::Desk;
 use mps_numerals::{put_decimal, put_text};
 use std::marker::Model;
 

@@ -5,7 +5,7 @@ ghost use Rattle.mps_numerals.specs.Hexadecimal.{hexadecimal};
 ghost use Rattle.mps_report.specs.Streams.{Prints, PrintsPart, FlushedPrefix};
 
 use crate::write::print_settled;
-use mps_base::{Desk, Failed};
+use mps_desk::{Desk, Failed};
 use mps_numerals::{put_decimal, put_hexadecimal, put_text};
 use std::alloc::{AllocError, Global};
 use std::marker::Model;

@@ -5,7 +5,7 @@ ghost use Rattle.mps_report.specs.Reports.{status_of, report_of};
 ghost use Rattle.mps_report.specs.Streams.{Reports};
 
 use crate::notice::Notice;
-use mps_base::Desk;
+use mps_desk::Desk;
 
 /// What is bad in an input, and where.
 pub trait BadPlace: Copy {

@@ -3,7 +3,7 @@
 ghost use Rattle.std.specs.Prelude.{◌≡◌, OnOk, OnErr};
 ghost use Rattle.mps_report.specs.Streams.{Prints, PrintsPart, Logs, LogsPart, Reports};
 
-use mps_base::{Desk, Failed};
+use mps_desk::{Desk, Failed};
 
 /// Prints a whole piece.
 pub fn print_all<D: Desk>(bytes: &[u8], desk: &mut D) -> Result<(), Failed>

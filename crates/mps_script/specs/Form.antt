@@ -14,6 +14,7 @@ use Rattle.mps_script.specs.Reading.{first_of_two, named_in, onto, each, none, o
 use Rattle.mps_script.specs.Number.{number_of, number_within, prefixed_hexadecimal}
 use Rattle.mps_script.specs.Name.{name_of, slot_of}
 use Rattle.mps_script.specs.Head.{head_of}
+use Rattle.mps_base.specs.Address.{max_grains}
 
 -- ---- words of few values
 
@@ -38,10 +39,6 @@ abbrev pub keyword : List ℕ → List ℕ → Option (List ℕ)
 keyword text word = if bytes_eq word text then Some word else None
 
 -- ---- numbers in ranges
-
--- the most grains of an arena
-abbrev pub max_grains : ℕ
-max_grains = 2048
 
 -- the most slots of a table, words of an area and places of a table of blocks
 abbrev pub max_slots : ℕ

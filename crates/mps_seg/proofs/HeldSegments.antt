@@ -3,11 +3,11 @@ use Rattle.std.proofs.Common.{ℕ, ◌+◌, ◌<◌, ◌≡◌, List, [], ◌∷
 use Rattle.std.proofs.lemmas.Bool.{cases_Bool, cond-true, cond-false}
 use Rattle.std.proofs.lemmas.List.{length-replicate}
 use Rattle.mps_base.proofs.Runs.{contains_first, contains_later, contained_bounds, in_lowest_gap, IsAscending-without_run}
-use Rattle.mps_base.specs.Address.{address_of_grain, words_of_grain}
+use Rattle.mps_base.specs.Address.{address_of_grain, words_of_grain, max_grains}
 use Rattle.mps_base.specs.Run.{Run, IsAscending, with_run, without_run, end_of, runs_within, gaps, lowest_fitting}
 use Rattle.mps_base.specs.Segment.{Segment, same_rank, grains_of_segment, with_segment}
 use Rattle.mps_base.specs.declared.names.Rank.{Rank}
-use Rattle.mps_arena.specs.Arena.{ArenaMemory, max_grains, new_arena}
+use Rattle.mps_arena.specs.Arena.{ArenaMemory, new_arena}
 use Rattle.mps_extents.specs.Extents.{nothing_covered, ExtentLists, AreWhole}
 use Rattle.mps_seg.specs.Segs.{IsOpenRun, LiesIn}
 use Rattle.mps_seg.specs.Table.{gaps_in_grains, segments_in, IsHeld, segments_of_entries, gaps_at, IsWholeAt}

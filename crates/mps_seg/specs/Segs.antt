@@ -10,10 +10,6 @@ use Rattle.mps_base.specs.declared.moves.Move.TheVariants.{Seg}
 use Rattle.mps_base.specs.declared.names.Rank.{Rank}
 use Rattle.mps_marks.specs.Marks.{MarkTables, no_marks}
 
--- the most words that a block may have
-abbrev pub max_block_words : ℕ
-max_block_words = 65536
-
 -- The words of the arena, its size and its limit in grains, the segments that it holds in ascending order, and the runs of words that
 -- blocks and reservations cover, in ascending order.
 pub record SegsState : Type 0 where

@@ -2,9 +2,9 @@
 use Rattle.std.specs.Prelude.{ℕ, suc, ◌==◌, ◌&&◌, if◌then◌else◌, ◌+◌, ◌*◌, ◌≤◌, ◌<◌, ◌≡◌, Bool, Option, Some, None, List, [], ◌∷◌, length, get_or, map, Contains}
 use Rattle.mps_base.specs.declared.names.Rank.{Rank}
 use Rattle.mps_base.specs.Run.{Run, end_of, gaps, total, IsAscending, runs_within}
-use Rattle.mps_base.specs.Address.{words_of_grain, address_of_grain}
+use Rattle.mps_base.specs.Address.{words_of_grain, address_of_grain, max_grains}
 use Rattle.mps_base.specs.Segment.{Segment, grains_of_segment, same_rank}
-use Rattle.mps_arena.specs.Arena.{ArenaMemory, max_grains}
+use Rattle.mps_arena.specs.Arena.{ArenaMemory}
 use Rattle.mps_marks.specs.Marks.{MarkTables}
 use Rattle.mps_seg.specs.declared.entry.Entry.{Entry}
 use Rattle.mps_seg.specs.declared.entry.Entry.TheVariants.{Free, First}

@@ -2,9 +2,9 @@
 #![tactic(auto)]
 
 ghost use Rattle.std.specs.Prelude.{◌≡◌, ◌<◌, ◌≤◌, false, IfOk};
-ghost use Rattle.mps_base.specs.Address.{word_of};
+ghost use Rattle.mps_base.specs.Address.{word_of, max_block_words};
 ghost use Rattle.mps_arena.specs.Arena.{answer_of_placement};
-ghost use Rattle.mps_seg.specs.Segs.{max_block_words, segments_after, noted_for, moves_after, CanCover};
+ghost use Rattle.mps_seg.specs.Segs.{segments_after, noted_for, moves_after, CanCover};
 ghost use Rattle.mps_seg.specs.Placing.{placement_in_gaps};
 
 use crate::Segs;

@@ -3,14 +3,14 @@
 
 ghost use Rattle.std.specs.Prelude.{◌≡◌, ℕ, true, false, ◌+◌, ◌*◌, ◌/◌, ◌%◌, ◌^◌, ◌<◌, ◌≤◌, IfOk, IfErr, IfSome, OnOk, MatchResult, Contains, option_map, length, slice_index, slice_set, slice_range};
 ghost use Rattle.mps_base.specs.Run.{IsAscending, with_run, without_run, gaps, lowest_fitting, runs_within, total};
-ghost use Rattle.mps_base.specs.Address.{bytes_of_word, word_of};
+ghost use Rattle.mps_base.specs.Address.{bytes_of_word, word_of, max_grains, max_block_words};
 ghost use Rattle.mps_base.specs.Segment.{Segment, end_of_segment, same_rank, segment_over, without_segment, gaps_of};
 ghost use Rattle.mps_base.specs.Trail.{with_move};
-ghost use Rattle.mps_arena.specs.Arena.{max_grains, answer_of_placement, cleared_words, copied_words};
+ghost use Rattle.mps_arena.specs.Arena.{answer_of_placement, cleared_words, copied_words};
 ghost use Rattle.mps_extents.specs.Extents.{run_over, first_run, AreWhole};
 ghost use Rattle.mps_marks.specs.Marks.{without_marks};
 ghost use Rattle.mps_seg.specs.Table.{IsWholeAt, IsCountAt, gaps_at};
-ghost use Rattle.mps_seg.specs.Segs.{SegsState, max_block_words, new_segments, placement_for, segments_after, noted_for, moves_after, held_runs, at_word, base_address, IsEmptyAt, IsUsed, CanCover, LiesInOpen};
+ghost use Rattle.mps_seg.specs.Segs.{SegsState, new_segments, placement_for, segments_after, noted_for, moves_after, held_runs, at_word, base_address, IsEmptyAt, IsUsed, CanCover, LiesInOpen};
 ghost use Rattle.std.specs.Borrow.{sem};
 ghost use Rattle.mps_seg.specs.Lending.{LendsSegmentWords};
 

@@ -1,6 +1,6 @@
 // Placements at the edges, words, marks and summaries, and many pseudo-random steps that are compared with plain tables.
 ghost use Rattle.std.specs.Prelude.{◌<◌, ◌≤◌, ◌≡◌};
-ghost use Rattle.mps_seg.specs.Segs.{max_block_words};
+ghost use Rattle.mps_base.specs.Address.{max_block_words};
 
 use crate::Segs;
 use mps_base::{Addr, Rank, Refusal, Trail, ZoneSet};

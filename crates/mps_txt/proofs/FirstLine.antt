@@ -5,7 +5,7 @@ use Rattle.std.specs.List.{AllByRecursion}
 use Rattle.std.specs.Option.{option_map}
 use Rattle.std.proofs.lemmas.List.{append-nil, length-append}
 use Rattle.std.proofs.lemmas.List.Elements.{recursion_from_All, All-from_recursion}
-use Rattle.mps_base.specs.Desk.{Outside}
+use Rattle.mps_desk.specs.Desk.{Outside}
 use Rattle.mps_event.specs.declared.version.Version.{Version}
 use Rattle.mps_event.specs.declared.version.Version.TheVariants.{One, Two}
 use Rattle.mps_report.specs.declared.stop.Stop.{Stop}

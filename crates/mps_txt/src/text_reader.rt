@@ -2,7 +2,7 @@
 
 ghost use Rattle.std.specs.Prelude.{◌≡◌, ◌≢◌, ◌≤◌, ◌+◌, ◌⊎◌, ℕ, List, Some, true, false, None, [], length, IfOk, IfErr, IfSome, IfNone, OnOk, OnErr};
 ghost use Rattle.mps_base.specs.Record.{Record};
-ghost use Rattle.mps_base.specs.Desk.{HasRisen};
+ghost use Rattle.mps_desk.specs.Desk.{HasRisen};
 ghost use Rattle.mps_event.specs.declared.version.Version.{Version};
 ghost use Rattle.mps_report.specs.Reports.{ReportsStatus};
 ghost use Rattle.mps_report.specs.Streams.{LeavesLogAlone};
@@ -24,7 +24,7 @@ use crate::labels::{LabelFault, Labels};
 use crate::readable_line::{label_before, put_readable_line};
 use crate::record_line::record_of_line;
 use crate::words::index_of;
-use mps_base::Desk;
+use mps_desk::Desk;
 use mps_event::Version;
 use mps_log_reader::{Input, after_the_last, flush_after, make_room, put_first_line};
 use mps_report::{Output, Stop, report_ending};

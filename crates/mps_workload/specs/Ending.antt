@@ -1,6 +1,6 @@
 -- How the printing of a generated script ends.
 use Rattle.std.specs.Prelude.{◌≡◌, ℕ, codes, Result, Ok, Err, List}
-use Rattle.mps_base.specs.Desk.{Outside}
+use Rattle.mps_desk.specs.Desk.{Outside}
 use Rattle.mps_report.specs.declared.stop.Stop.{Stop}
 use Rattle.mps_report.specs.declared.stop.Stop.TheVariants as stop
 use Rattle.mps_report.specs.declared.stop.NoBadPlace.{NoBadPlace}

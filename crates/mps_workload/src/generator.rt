@@ -7,7 +7,7 @@ ghost use Rattle.mps_workload.specs.Script.{script};
 ghost use Rattle.mps_report.specs.Streams.{Prints, PrintsPart, Gathers, Reports};
 
 use crate::lines::GenLines;
-use mps_base::{Desk, Failed};
+use mps_desk::{Desk, Failed};
 use mps_report::{NoBadPlace, Output, Stop, report_ending};
 use std::alloc::Global;
 

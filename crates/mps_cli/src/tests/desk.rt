@@ -1,5 +1,6 @@
-// What no clause of `mps_base` says: that calls succeed with ample memory, and what becomes of real files.
-use mps_base::{Addr, Desk, DeskCall, Failed, HostDesk, MemDesk, Move, Trail};
+// What no clause of `mps_desk` says: that calls succeed with ample memory, and what becomes of real files.
+use mps_base::{Addr, Move, Trail};
+use mps_desk::{Desk, DeskCall, Failed, HostDesk, MemDesk};
 use std::fs::{remove_file, write};
 use std::process::Abort;
 use std::test::Fail;

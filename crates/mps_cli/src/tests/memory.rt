@@ -1,6 +1,6 @@
 // A run without memory.
 use super::{FIRST, FIRST_ANSWERS, run};
-use mps_base::MemDesk;
+use mps_desk::MemDesk;
 use std::alloc::Global;
 use std::process::Abort;
 use std::test::Fail;

@@ -3,7 +3,7 @@ use super::{
     COMMENTS, Ends, FIRST, FIRST_ANSWERS, FIRST_LOG, FULL_ARENA, FULL_ARENA_ANSWERS, HEADER,
     OUT_OF_TURN, OUT_OF_TURN_ANSWERS, compare, run,
 };
-use mps_base::{DeskCall, MemDesk};
+use mps_desk::{DeskCall, MemDesk};
 use std::alloc::{AllocError, Global};
 use std::process::Abort;
 use std::test::Fail;

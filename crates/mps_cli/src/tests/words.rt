@@ -1,6 +1,6 @@
 // The words of the command line.
 use super::{Ends, FIRST, FIRST_ANSWERS, FIRST_LOG, GENERATED, HEADER, USAGE, compare, run};
-use mps_base::MemDesk;
+use mps_desk::MemDesk;
 use std::alloc::Global;
 use std::process::Abort;
 use std::test::Fail;

@@ -1,6 +1,6 @@
 // What a tool answers at a desk in memory.
 use crate::{Kinds, blocks, cnv, txt};
-use mps_base::{DeskCall, MemDesk};
+use mps_desk::{DeskCall, MemDesk};
 use std::alloc::{AllocError, Global};
 use std::process::Abort;
 

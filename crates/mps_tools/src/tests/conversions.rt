@@ -3,7 +3,7 @@ use super::answers::{Case, Tool, compare, compare_in_pieces, damaged};
 use super::logs::MOVED;
 use crate::Kinds;
 use bitflags::Flags;
-use mps_base::DeskCall;
+use mps_desk::DeskCall;
 use std::test::Fail;
 
 // The portable text of `MOVED`.

@@ -1,7 +1,7 @@
 // The live blocks of whole and damaged logs.
 use super::answers::{Case, Tool, compare, compare_in_pieces, damaged};
 use super::logs::MOVED;
-use mps_base::DeskCall;
+use mps_desk::DeskCall;
 use std::test::Fail;
 
 // Two blocks are labelled. After the header there are Commit at 8, Alloc at 40, Intern at 72, Label at 104 and Label at 128.

@@ -1,6 +1,6 @@
 // The readable text of whole and damaged texts.
 use super::answers::{Case, Tool, compare, compare_in_pieces};
-use mps_base::DeskCall;
+use mps_desk::DeskCall;
 use std::alloc::{AllocError, Global};
 use std::process::Abort;
 use std::test::Fail;

@@ -1,6 +1,6 @@
 // Generated scripts over a desk in memory, and line by line.
 use crate::{GenLines, generate};
-use mps_base::MemDesk;
+use mps_desk::MemDesk;
 use std::test::Fail;
 
 const OF_NO_STEPS: &[u8] =

@@ -1,5 +1,5 @@
 use Rattle.std.proofs.Common.{◌≡◌, ◌≤◌, ◌-◌, length}
-use Rattle.mps_base.specs.Desk.{OnlyReads}
+use Rattle.mps_desk.specs.Desk.{OnlyReads}
 use Rattle.mps_cli.specs.Buffer.{rest_of_script}
 use Rattle.mps_cli.proofs.lines.Lines.next.Given as goal
 

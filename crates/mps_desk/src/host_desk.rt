@@ -1,6 +1,6 @@
 // The desk over real files and the standard streams.
 ghost use Rattle.std.specs.Prelude.{◌≡◌, ◌≤◌, None, length, IfSome};
-ghost use Rattle.mps_base.specs.Desk.{Outside};
+ghost use Rattle.mps_desk.specs.Desk.{Outside};
 
 use crate::held::Held;
 use crate::host_file::{
@@ -44,7 +44,7 @@ enum Input {
 }
 
 impl Model for HostDesk {
-    ghost use Rattle.mps_base.specs.HostDesk.{FaultCounts};
+    ghost use Rattle.mps_desk.specs.HostDesk.{FaultCounts};
 
     ghost Value = { FaultCounts };
 
@@ -57,7 +57,7 @@ impl Model for HostDesk {
 }
 
 impl HostDesk {
-    ghost use Rattle.mps_base.specs.HostDesk.{no_faults};
+    ghost use Rattle.mps_desk.specs.HostDesk.{no_faults};
 
     /// A desk with no input and no log yet.
     pub fn new(rt: &HostRuntime, alloc: Global) -> HostDesk

@@ -1,7 +1,7 @@
 // A desk in memory, for tests.
 ghost use Rattle.std.specs.Prelude.{◌≡◌, ◌<◌, ◌≤◌, ◌+◌, ◌↔◌, min, ℕ, [], ◌∷◌, ◌++◌, length, take, drop, Some, None, IsTrue, IsErr, IfOk, IfSome, OnOk, OnErr};
 ghost use Rattle.std.specs.Option.{option_copied};
-ghost use Rattle.mps_base.specs.Desk.{text_in};
+ghost use Rattle.mps_desk.specs.Desk.{text_in};
 
 use crate::calls::CallList;
 use crate::stored_file::{StoredFile, add_to_log, bytes_of_file, make_file, put_file};
@@ -48,7 +48,7 @@ pub struct MemDesk {
 impl Model for MemDesk {
     ghost use Rattle.std.specs.Prelude.{◌<◌, ◌≤◌, length, drop, string_bytes};
     ghost use Rattle.std.specs.Option.{option_map};
-    ghost use Rattle.mps_base.specs.MemDesk.{DeskInMemory};
+    ghost use Rattle.mps_desk.specs.MemDesk.{DeskInMemory};
 
     ghost Value = { DeskInMemory };
 
@@ -75,8 +75,8 @@ impl Model for MemDesk {
 }
 
 impl MemDesk {
-    ghost use Rattle.mps_base.specs.Desk.{file_named, with_file};
-    ghost use Rattle.mps_base.specs.MemDesk.{new_desk, with_failing};
+    ghost use Rattle.mps_desk.specs.Desk.{file_named, with_file};
+    ghost use Rattle.mps_desk.specs.MemDesk.{new_desk, with_failing};
 
     /// A desk with no files, at which no call is to fail.
     pub fn new(alloc: Global) -> MemDesk
@@ -162,8 +162,8 @@ impl MemDesk {
 
 impl Desk for MemDesk {
     ghost use Rattle.std.specs.Prelude.{◌≡◌, ◌<◌, ◌↔◌, min, [], ◌++◌, length, take, drop, Some, None, refl, IsErr, IsNone, IfOk, OnOk, OnErr};
-    ghost use Rattle.mps_base.specs.Desk.{SameElsewhere, text_in, made_for_log, after_log};
-    ghost use Rattle.mps_base.specs.MemDesk.{outside_of, one_more_call, next_count, IsNextListed};
+    ghost use Rattle.mps_desk.specs.Desk.{SameElsewhere, text_in, made_for_log, after_log};
+    ghost use Rattle.mps_desk.specs.MemDesk.{outside_of, one_more_call, next_count, IsNextListed};
 
     ghost outside = { outside_of };
 

@@ -1,8 +1,8 @@
 use Rattle.std.proofs.Common.{◌≡◌, ◌++◌, length, sym, ◌∙◌, ap, ℕ, List, [], Option, Some, None, false, arith}
 use Rattle.std.proofs.lemmas.List.{take_all}
 use Rattle.std.specs.Io.KnownBytes.{Appends}
-use Rattle.mps_base.specs.Held.{IsCarriedOn}
-use Rattle.mps_base.proofs.held.Held.take.Goals as goal
+use Rattle.mps_desk.specs.Held.{IsCarriedOn}
+use Rattle.mps_desk.proofs.held.Held.take.Goals as goal
 
 -- all that waited is written, and the whole piece waits
 carried_on : (old new : Option (List ℕ)) (waiting piece left : List ℕ) → Appends old new waiting → left ≡ piece

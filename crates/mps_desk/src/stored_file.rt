@@ -2,8 +2,8 @@
 ghost use Rattle.std.specs.Prelude.{◌≡◌, [], ◌++◌, string_bytes, IfOk, OnOk, OnErr};
 ghost use Rattle.std.specs.Option.{option_copied, option_map};
 ghost use Rattle.std.specs.Str.{bytes_eq};
-ghost use Rattle.mps_base.specs.Desk.{file_named, with_file, with_more, with_logged};
-ghost use Rattle.mps_base.specs.MemDesk.{index_of_file};
+ghost use Rattle.mps_desk.specs.Desk.{file_named, with_file, with_more, with_logged};
+ghost use Rattle.mps_desk.specs.MemDesk.{index_of_file};
 
 use std::alloc::{AllocError, Global};
 use std::marker::Model;
@@ -17,7 +17,7 @@ pub struct StoredFile {
 
 impl Model for StoredFile {
     ghost use Rattle.std.specs.Prelude.{string_bytes};
-    ghost use Rattle.mps_base.specs.Desk.{File};
+    ghost use Rattle.mps_desk.specs.Desk.{File};
 
     ghost Value = { File };
 

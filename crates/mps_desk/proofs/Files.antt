@@ -1,8 +1,8 @@
 -- Files by their names and indices.
 use Rattle.std.proofs.Common.{◌≡◌, ℕ, ◌<◌, ◌≤◌, ◌≢◌, Some, None, List, [], ◌∷◌, ◌++◌, length, get_or, set, refl, arith}
 use Rattle.std.proofs.lemmas.Slice.Eq.{bytes_eq-Decides}
-use Rattle.mps_base.specs.Desk.{File, file_named, with_file, with_more, text_in}
-use Rattle.mps_base.specs.MemDesk.{index_of_file}
+use Rattle.mps_desk.specs.Desk.{File, file_named, with_file, with_more, text_in}
+use Rattle.mps_desk.specs.MemDesk.{index_of_file}
 
 pub file_named-at_index : (fs : List File) (name : List ℕ) (d : File) → index_of_file fs name < length fs
     → file_named fs name ≡ Some (get_or fs (index_of_file fs name) d).bytes

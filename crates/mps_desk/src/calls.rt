@@ -1,6 +1,6 @@
 // Which calls of one kind are to fail.
 ghost use Rattle.std.specs.Prelude.{◌≡◌, ◌↔◌, [], IsTrue, OnOk, OnErr};
-ghost use Rattle.mps_base.specs.MemDesk.{one_more_call, one_more_failing, IsNextListed};
+ghost use Rattle.mps_desk.specs.MemDesk.{one_more_call, one_more_failing, IsNextListed};
 
 use std::alloc::{AllocError, Global};
 use std::marker::Model;
@@ -13,7 +13,7 @@ pub struct CallList {
 }
 
 impl Model for CallList {
-    ghost use Rattle.mps_base.specs.MemDesk.{Calls};
+    ghost use Rattle.mps_desk.specs.MemDesk.{Calls};
 
     ghost Value = { Calls };
 

@@ -1,9 +1,9 @@
 -- A desk in memory: its files, what was read and written, and which of its calls are to fail.
 use Rattle.std.specs.Prelude.{ℕ, ◌≡◌, ◌+◌, ◌-◌, ◌^◌, nat_lt, Some, None, List, [], ◌∷◌, ◌++◌, Contains, if◌then◌else◌, refl}
 use Rattle.std.specs.Str.{bytes_eq}
-use Rattle.mps_base.specs.Desk.{Outside, File, Files, text_in, last_count}
-use Rattle.mps_base.specs.declared.mem_desk.DeskCall.{DeskCall}
-use Rattle.mps_base.specs.declared.mem_desk.DeskCall.TheVariants.{Open, Read, Create, Log, Out, Err}
+use Rattle.mps_desk.specs.Desk.{Outside, File, Files, text_in, last_count}
+use Rattle.mps_desk.specs.declared.mem_desk.DeskCall.{DeskCall}
+use Rattle.mps_desk.specs.declared.mem_desk.DeskCall.TheVariants.{Open, Read, Create, Log, Out, Err}
 
 -- the calls of one kind: how many were made, and the numbers of those that are to fail, counted from 1
 pub record Calls : Type 0 where

@@ -1,6 +1,6 @@
 use Rattle.std.proofs.Common.{◌≡◌, ◌+◌, drop}
-use Rattle.mps_base.specs.MemDesk.{index_of_file}
-use Rattle.mps_base.proofs.stored_file.index_of.Given as goal
+use Rattle.mps_desk.specs.MemDesk.{index_of_file}
+use Rattle.mps_desk.proofs.stored_file.index_of.Given as goal
 
 -- the index is the same, counted from where the search stands
 abbrev pub invariant-loop-index : goal.invariant-loop-index

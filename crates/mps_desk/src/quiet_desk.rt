@@ -1,6 +1,6 @@
 // A desk that reads a borrowed text and forgets what is written.
 ghost use Rattle.std.specs.Prelude.{◌≡◌, [], None, Some};
-ghost use Rattle.mps_base.specs.Desk.{Outside};
+ghost use Rattle.mps_desk.specs.Desk.{Outside};
 
 use crate::{Desk, Failed};
 use std::marker::Model;
@@ -13,7 +13,7 @@ pub struct QuietDesk<'a> {
 }
 
 impl<'a> Model for QuietDesk<'a> {
-    ghost use Rattle.mps_base.specs.QuietDesk.{BorrowedText};
+    ghost use Rattle.mps_desk.specs.QuietDesk.{BorrowedText};
 
     ghost Value = { BorrowedText };
 

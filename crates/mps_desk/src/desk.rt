@@ -1,7 +1,7 @@
 // The outside world as the program sees it: one input, one log, what is printed and what is reported.
 ghost use Rattle.std.specs.Prelude.{◌≡◌, ◌<◌, ◌≤◌, ◌++◌, ◌↔◌, [], ℕ, List, length, take, IfOk, IfSome, IsSome, OnOk, OnErr};
 ghost use Rattle.std.specs.Option.{option_map};
-ghost use Rattle.mps_base.specs.Desk.{Outside, HasRisen, OnlyReads, OnlyLogs, OnlyPrints, OnlyReports, SameFiles, SameElsewhere, made_for_log, after_log, text_in, added};
+ghost use Rattle.mps_desk.specs.Desk.{Outside, HasRisen, OnlyReads, OnlyLogs, OnlyPrints, OnlyReports, SameFiles, SameElsewhere, made_for_log, after_log, text_in, added};
 
 use thiserror::Error;
 

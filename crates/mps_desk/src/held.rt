@@ -1,7 +1,7 @@
 // Bytes that wait to be written.
 ghost use Rattle.std.specs.Prelude.{◌≡◌, ◌<◌, ◌≤◌, [], ◌++◌, true, false, length, take, IsTrue, IfNone, IfSome, OnSome};
 ghost use Rattle.std.specs.Io.KnownBytes.{Appends};
-ghost use Rattle.mps_base.specs.Held.{IsCarriedOn, HasRoom, max_held_bytes};
+ghost use Rattle.mps_desk.specs.Held.{IsCarriedOn, HasRoom, max_held_bytes};
 
 use std::alloc::Global;
 use std::io::Write;
@@ -19,7 +19,7 @@ pub struct Held {
 
 impl Model for Held {
     ghost use Rattle.std.specs.Prelude.{◌≤◌, vec_len, vec_capacity};
-    ghost use Rattle.mps_base.specs.Held.{Waiting};
+    ghost use Rattle.mps_desk.specs.Held.{Waiting};
 
     ghost Value = { Waiting };
 

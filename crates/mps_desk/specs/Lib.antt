@@ -1,0 +1,5 @@
+pub mod Desk
+pub mod Held
+pub mod HostDesk
+pub mod MemDesk
+pub mod QuietDesk
