@@ -142,7 +142,8 @@ pub moved : (es removed : Entries) (from to : ℕ) (x : Extent) → (from ≡ to
     → Changes es removed from None → after_making (store_of removed) to x.words x.pool ≡ after_moving (store_of es) from to
 moved es removed from to x apart there removal =
     let block : block_at (store_of es) from ≡ Some (block_of (from, x)) = block_at-store es from ∙ ap (shown from) there in
-    let same : found_at removed to ≡ found_at es to = removal to ∙ ap (λ (c : Bool). cond c None (found_at es to)) (apart_test from to apart) in
+    let same : found_at removed to ≡ found_at es to =
+    removal to ∙ ap (λ (c : Bool). cond c None (found_at es to)) (apart_test from to apart) in
     let live : is_live (store_of removed) to ≡ is_live (store_of es) to =
     is_live-store removed to ∙ ap is_some same ∙ sym (is_live-store es to) in
     let store : store_of removed ≡ without_block (store_of es) from = sym (dropped es removed from removal) in

@@ -28,7 +28,8 @@ blocks_at es (at ∷ rest) = block_there at (lookup (nat_eq at) es) ++ blocks_at
 abbrev two : List (ℕ × Extent)
 two = (0x2000, record { words = 3; pool = 0 }) ∷ (0x1000, record { words = 4; pool = 1 }) ∷ []
 
-pub the_blocks_ascend : store_of two ≡ block_of (0x1000, record { words = 4; pool = 1 }) ∷ block_of (0x2000, record { words = 3; pool = 0 }) ∷ []
+pub the_blocks_ascend : store_of two
+    ≡ block_of (0x1000, record { words = 4; pool = 1 }) ∷ block_of (0x2000, record { words = 3; pool = 0 }) ∷ []
 the_blocks_ascend = refl
 
 pub an_address_without_a_block : blocks_at two (0x1000 ∷ 0x1800 ∷ []) ≡ block_of (0x1000, record { words = 4; pool = 1 }) ∷ []

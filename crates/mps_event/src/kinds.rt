@@ -26,7 +26,8 @@ impl Flags for Kinds {
 
     ghost exact = { ⊤ };
 
-    ghost table = { (codes "ARENA", 1) ∷ (codes "POOL", 2) ∷ (codes "TRACE", 4) ∷ (codes "SEG", 8) ∷ (codes "REF", 16) ∷ (codes "OBJECT", 32) ∷ (codes "USER", 64) ∷ [] };
+    ghost table = { (codes "ARENA", 1) ∷ (codes "POOL", 2) ∷ (codes "TRACE", 4) ∷ (codes "SEG", 8) ∷ (codes "REF", 16)
+        ∷ (codes "OBJECT", 32) ∷ (codes "USER", 64) ∷ [] };
 
     ghost set_of = { λ kinds. kinds.0 };
 

@@ -113,5 +113,6 @@ pub nonzero_are_live : (xs : List ℕ) → filter (λ entry. not (entry == 0)) x
 nonzero_are_live [] = refl
 nonzero_are_live (zero ∷ xs) = nonzero_are_live xs
 nonzero_are_live (suc n ∷ xs) =
-    ap (λ (b : Bool). cond b (suc n ∷ filter (λ entry. not (entry == 0)) xs) (filter (λ entry. not (entry == 0)) xs)) (live_is_nonzero (suc n))
+    ap (λ (b : Bool). cond b (suc n ∷ filter (λ entry. not (entry == 0)) xs) (filter (λ entry. not (entry == 0)) xs))
+    (live_is_nonzero (suc n))
     ∙ ap (λ (ys : List ℕ). suc n ∷ ys) (nonzero_are_live xs)

@@ -65,7 +65,8 @@ position_passed (suc n ∷ xs) (suc i) (suc j) at after within is none =
     none_found (suc n == at) (position_of (live (take i xs)) at) (position_of (live (take j xs)) at) none
     (λ before. position_passed xs i j at (omega (arith, after)) (omega (arith, within)) is before)
 
-one_within : (b : Bool) (r : Option ℕ) (n p : ℕ) → (if b then Some 0 else option_map (λ q. q + 1) r) ≡ Some p → ((q : ℕ) → r ≡ Some q → q < n)
+one_within : (b : Bool) (r : Option ℕ) (n p : ℕ) → (if b then Some 0 else option_map (λ q. q + 1) r) ≡ Some p
+    → ((q : ℕ) → r ≡ Some q → q < n)
     → p < suc n
 one_within true r n p is next = omega (arith, ap (λ (o : Option ℕ). option_map_or (λ q. q) o 0) is)
 one_within false None n p is next = absurd (some_is_not_none p (sym is))

@@ -8,7 +8,7 @@ ghost use Rattle.mps_final.specs.Inside.{live, max_entries, IsEntry, StandBefore
 /// As many entries again as there may be registrations: so removed ones are taken out at most once in 65,536 calls.
 pub(crate) const MAX_ENTRIES: usize = 131_072;
 
-/// Where the last search ended: so many registrations stand before the entry at this index.
+/// Where the last search ended: n registrations stand before the entry at this index.
 #[derive(Clone, Copy)]
 pub(crate) struct Cursor {
     pub(crate) position: usize,

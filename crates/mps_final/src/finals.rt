@@ -78,8 +78,10 @@ impl Finals {
     /// Takes away the first registration of the block at an address. Refuses `NotRegistered` where it has none.
     pub fn unregister(&mut self, at: Addr) -> Result<(), Refusal>
         requires { 0 < at.0 }
-        ensures state { MatchOption (position_of self.old.registered at.0) (self.new ≡ self.old) (λ position. self.new ≡ without_registration self.old position) }
-        ensures value { MatchOption (position_of self.old.registered at.0) (result ≡ Err Refusal.NotRegistered) (λ position. result ≡ Ok tt) }
+        ensures state { MatchOption (position_of self.old.registered at.0) (self.new ≡ self.old)
+            (λ position. self.new ≡ without_registration self.old position) }
+        ensures value { MatchOption (position_of self.old.registered at.0) (result ≡ Err Refusal.NotRegistered)
+            (λ position. result ≡ Ok tt) }
     {
         let Some(position) = self.registered.position_of(at.0) else {
             return Err(Refusal::NotRegistered);

@@ -57,6 +57,7 @@ generations_of_chain c pool chain sound within is =
 pub seen_at : {A : Type 0} (f : A → List ℕ) (xs : List A) (i : ℕ) (x : A) → i < length xs → x ≡ get_or xs i x → get_or (map f xs) i [] ≡ f x
 seen_at f xs i x within is = get_or-map f xs i x [] within ∙ ap f (sym is)
 
-pub some_generation : (chains : List (List ℕ)) (of_pool : List (Option ℕ)) (chain : ℕ) → IsSoundChains chains of_pool → chain < length chains
+pub some_generation : (chains : List (List ℕ)) (of_pool : List (Option ℕ)) (chain : ℕ) → IsSoundChains chains of_pool
+    → chain < length chains
     → IsChain (get_or chains chain [])
 some_generation chains of_pool chain sound within = sound.each chain [] within

@@ -4,7 +4,7 @@
 
 ghost use Rattle.mps_laws.specs.OneHistory.{LogTellsOneHistory};
 
-/// Commands with their lines, their answers and the log determine the history: a log can't be told in two ways.
+/// Commands with their lines, their answers and the log determine the history: no two histories have one log.
 pub fn a_log_tells_one_history()
     ensures { LogTellsOneHistory }
 {}

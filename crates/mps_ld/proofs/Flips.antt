@@ -17,7 +17,14 @@ use Rattle.mps_ld.specs.Flips.{AreFlips, all_zones, last_four}
 
 and_over_or : (z a b : ℕ) → bit_and z (bit_or a b) ≡ bit_or (bit_and z a) (bit_and z b)
 and_over_or z a b = same_from_bits (bit_and z (bit_or a b)) (bit_or (bit_and z a) (bit_and z b)) (λ i.
-    omega (arith, bit_at_and z (bit_or a b) i, bit_at_or a b i, bit_at_or (bit_and z a) (bit_and z b) i, bit_at_and z a i, bit_at_and z b i))
+    omega (
+      arith,
+      bit_at_and z (bit_or a b) i,
+      bit_at_or a b i,
+      bit_at_or (bit_and z a) (bit_and z b) i,
+      bit_at_and z a i,
+      bit_at_and z b i,
+    ))
 
 or_assoc_bits : (a b c : ℕ) → bit_or (bit_or a b) c ≡ bit_or a (bit_or b c)
 or_assoc_bits a b c = same_from_bits (bit_or (bit_or a b) c) (bit_or a (bit_or b c)) (λ i.

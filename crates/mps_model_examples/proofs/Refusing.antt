@@ -13,7 +13,7 @@ false_is_not_true h = absurd cc
 pub cannot_follow : (history : History) (s : Step) → (IsLegalStep (world_after_history history) s → ⊥) → CannotFollow history s
 cannot_follow history s refused = not_legal_then empty_world (world_after_history history) history s [] refl refused
 
--- the same, where the world is told
+-- the same, where the world is known
 pub cannot_follow_from : (v : World) (history : History) (s : Step) → world_after_steps empty_world history ≡ v → (IsLegalStep v s → ⊥)
     → CannotFollow history s
 cannot_follow_from v history s leaves refused = not_legal_then empty_world v history s [] leaves refused

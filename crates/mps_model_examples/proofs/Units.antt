@@ -1,4 +1,4 @@
--- Moves of a collection that are told as a row of pieces.
+-- Moves of a collection that are a row of pieces.
 use Rattle.std.proofs.Common.{◌≡◌, ℕ, refl, subst, List, [], inl, inr, ◌<◌}
 use Rattle.std.specs.Prelude.{IsTrue}
 use Rattle.mps_base.specs.declared.moves.Move.{Move}

@@ -1,4 +1,4 @@
--- A chain of two generations: what survives goes to the next one, and a flip condemns the generations that it is told.
+-- A chain of two generations: what survives goes to the next one, and a flip condemns the generations that it names.
 use Rattle.std.specs.Prelude.{ℕ, false, Option, Some, None, List, [], ◌∷◌, ◌++◌, replicate}
 use Rattle.mps_base.specs.Run.{Run}
 use Rattle.mps_base.specs.declared.moves.Move.{Move}

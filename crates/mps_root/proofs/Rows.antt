@@ -54,7 +54,8 @@ pub area_made_from : {old now new : RootsState} {key n : ℕ} → old ≡ now �
 area_made_from {old} {now} {new} {key} {n} same made = let P : RootsState → Type 0 = λ s. IsAreaMade s new key n in subst P same made
 
 -- a place is written, in a list of rows without keys
-pub place_written : {A B : Type 0} (items : A → List B) (xs : List A) (number index : ℕ) (value : B) (old new : A) → number < length (map items xs)
+pub place_written : {A B : Type 0} (items : A → List B) (xs : List A) (number index : ℕ) (value : B) (old new : A)
+    → number < length (map items xs)
     → old ≡ get_or xs number old → items new ≡ slice_set (items old) index value
     → map items (slice_set xs number new)
     ≡ slice_set (map items xs) number (slice_set (slice_index_or (map items xs) number []) index value)

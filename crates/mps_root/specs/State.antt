@@ -39,7 +39,8 @@ module _ {A : Type 0} where
 
   -- another item at an index under a key
   abbrev pub with_item : List (Option (List A)) → (key index : ℕ) → A → List (Option (List A))
-  with_item rows key index value = slice_set rows key (Some (slice_set (option_map_or (λ items. items) (slice_index_or rows key None) []) index value))
+  with_item rows key index value =
+      slice_set rows key (Some (slice_set (option_map_or (λ items. items) (slice_index_or rows key None) []) index value))
 
 -- there is a place of this index in a table of blocks
 pub record HasPlace (blocks : List (List ℕ)) (number index : ℕ) : Type 0 where

@@ -10,7 +10,8 @@ use Rattle.mps_final.proofs.entries.position_in.Goals as goal
 pub returns-then-entry-at : goal.returns-then-entry-at
 returns-then-entry-at c =
     ap (λ (k : ℕ). Some k) (sym c.loop-entry.invariant.before)
-    ∙ sym (position_found c.args.entries.now c.loop-entry.entry-index c.args.at c.loop-entry-test.true c.if-entry-at.true c.requires c.loop-entry.invariant.none)
+    ∙ sym (position_found c.args.entries.now c.loop-entry.entry-index c.args.at c.loop-entry-test.true c.if-entry-at.true c.requires
+    c.loop-entry.invariant.none)
 
 pub loop-entry-preserved : goal.loop-entry-preserved
 loop-entry-preserved c =
