@@ -13,7 +13,7 @@ use Rattle.mps_script.specs.Head.{head_of}
 use Rattle.mps_script.specs.Form.{Form, kinds, kinds_on_chains, formats, ranks, keyword, grains_from, length_of_root, capacities, padded, chain, automatic_pool, pool_on_chain, pool_mfs, pool_mvff, pool, init, start, cell_forms, allocation_forms, slot_forms, area_forms, collection_forms, dependency_forms, root_forms, making_forms, call_in, command_call}
 use Rattle.mps_script.specs.Line.{begins_comment, or_bad, call_of_words, call_of_line, max_line_bytes}
 use Rattle.mps_script.specs.declared.line.BadLine.{BadLine}
-use Rattle.mps_first_heap.specs.Unsupported.{IsInRange}
+use Rattle.mps_first_heap.specs.Built.{IsInRange}
 
 -- the call, where there is one, is in range
 abbrev AreInRange : Option Call → Type 0

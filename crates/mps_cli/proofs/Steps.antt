@@ -16,7 +16,7 @@ use Rattle.mps_first_heap.specs.HeapState.{HeapState}
 use Rattle.mps_first_heap.specs.declared.done.Done.{Done}
 use Rattle.mps_first_heap.specs.StandsFor.{StandsFor, moves_of, step_of}
 use Rattle.mps_first_heap.specs.RightStep.{IsLegalCall, StandsAfter, IsReplayedCall, IsUnsupportedExactly, IsNewPoolNumber, ArePoolsCounted}
-use Rattle.mps_first_heap.specs.Unsupported.{is_unsupported_call}
+use Rattle.mps_first_heap.specs.Built.{is_unsupported_call}
 use Rattle.mps_report.specs.declared.stop.Stop.TheVariants as stop
 use Rattle.mps_script.specs.Text.{text_of}
 use Rattle.mps_cli.specs.Ending.{Ending, is_verdict}

@@ -12,7 +12,7 @@ use Rattle.mps_model.specs.World.{World, empty_world}
 use Rattle.mps_model.specs.History.{IsLegalFrom, IsLegalHistory}
 use Rattle.mps_first_heap.specs.HeapState.{HeapState}
 use Rattle.mps_first_heap.specs.StandsFor.{StandsFor}
-use Rattle.mps_first_heap.specs.Unsupported.{call_takes_memory}
+use Rattle.mps_first_heap.specs.Built.{call_takes_memory}
 use Rattle.mps_script.specs.Line.{lines_of}
 use Rattle.mps_report.specs.Streams.{appended}
 use Rattle.mps_report.specs.declared.stop.Stop.{Stop}

@@ -15,7 +15,7 @@ use Rattle.mps_model.specs.Replay.{replay, replay_from}
 use Rattle.mps_model.specs.History.{IsLegalFrom, IsLegalHistory, world_after, world_after_steps, world_after_history, live_blocks}
 use Rattle.mps_first_heap.specs.HeapState.{HeapState}
 use Rattle.mps_first_heap.specs.StandsFor.{StandsFor}
-use Rattle.mps_first_heap.specs.Unsupported.{is_unsupported_call}
+use Rattle.mps_first_heap.specs.Built.{is_unsupported_call}
 use Rattle.mps_model.specs.Text.{line_of_answer}
 use Rattle.mps_script.specs.declared.line.BadLine.{BadLine}
 use Rattle.mps_script.specs.Line.{call_of_line, lines_of}

@@ -3,7 +3,7 @@ ghost use Rattle.std.specs.Prelude.{◌≡◌, ◌≢◌, ◌≤◌, ◌∷◌, 
 ghost use Rattle.std.specs.Option.{option_map};
 ghost use Rattle.mps_desk.specs.Desk.{HasRisen, OnlyReads, made_for_log};
 ghost use Rattle.mps_base.specs.Record.{records_bytes};
-ghost use Rattle.mps_first_heap.specs.Unsupported.{IsInRange};
+ghost use Rattle.mps_first_heap.specs.Built.{IsInRange};
 ghost use Rattle.mps_log_reader.specs.Ending.{is_input_verdict};
 ghost use Rattle.mps_log_reader.specs.Opening.{OpensNothing};
 ghost use Rattle.mps_report.specs.Causes.{CauseOf};

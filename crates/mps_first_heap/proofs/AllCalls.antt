@@ -13,7 +13,7 @@ use Rattle.mps_first_heap.specs.HeapState.{HeapState, empty_heap}
 use Rattle.mps_first_heap.specs.Outcome.{outcome}
 use Rattle.mps_first_heap.specs.Outcome.{HasOutcome}
 use Rattle.mps_first_heap.specs.StandsFor.{Past, Agrees, StandsFor, world_of, step_of}
-use Rattle.mps_first_heap.specs.Unsupported.{IsInRange}
+use Rattle.mps_first_heap.specs.Built.{IsInRange}
 use Rattle.mps_first_heap.specs.RightStep.{IsRightStep, IsLegalCall, StandsAfter, IsReplayedCall, IsUnsupportedExactly, IsNewPoolNumber, ArePoolsCounted, number_of_new_pool}
 use Rattle.mps_first_heap.proofs.Steps.{unsupported_step}
 use Rattle.mps_first_heap.proofs.Numbers.{right_number}

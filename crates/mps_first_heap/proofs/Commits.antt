@@ -11,8 +11,8 @@ use Rattle.mps_base.specs.declared.names.Slot.{Slot}
 use Rattle.mps_format.specs.Fields.{size_field}
 use Rattle.mps_format.specs.Front.{is_front}
 use Rattle.mps_model.specs.declared.call.Call.TheVariants as call
-use Rattle.mps_model.specs.Checked.{Checked, Numbered, point_named}
-use Rattle.mps_model.specs.Graph.{Object, Point}
+use Rattle.mps_model.specs.Checked.{point_named}
+use Rattle.mps_model.specs.Graph.{Object}
 use Rattle.mps_model.specs.Flip.{at_address}
 use Rattle.mps_model.specs.Log.{records_of_step}
 use Rattle.mps_model.specs.Replay.{replay_from, after_making}

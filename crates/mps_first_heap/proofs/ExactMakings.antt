@@ -17,7 +17,7 @@ use Rattle.mps_model.specs.World.{World, Pool}
 use Rattle.mps_first_heap.specs.HeapState.{HeapState, is_name_taken, is_pool}
 use Rattle.mps_first_heap.specs.Outcome.{accepted_if, pool_made_if, is_arena_made, may_make_first, is_amc, is_implemented_pool, is_exact, after_arena, after_table, after_pool, after_point}
 use Rattle.mps_first_heap.specs.StandsFor.{Past, Agrees, world_of, one_if, point_with, some_if, reservation_of_words, front_pool}
-use Rattle.mps_first_heap.specs.Unsupported.{is_implemented, is_unreported}
+use Rattle.mps_first_heap.specs.Built.{is_built, is_unreported}
 use Rattle.mps_first_heap.proofs.Worlds.{parts_by, world_of-parts}
 use Rattle.mps_first_heap.proofs.Acts.{act_of_table, act_of_pool, act_of_point}
 use Rattle.mps_first_heap.proofs.NamedThings.{not_taken}
@@ -99,7 +99,7 @@ pool_taken : (h : HeapState) (p : Past) (name : Name) → Agrees h p → is_name
 pool_taken h p name a e k format = let t = taken_thing h p name a e in let named = t.1 in rw named refl
 
 not_built : (name : Name) (k : Kind) (format : ℕ) → is_implemented_pool k format ≡ false
-    → not (is_implemented (call.Pool name k format)) ≡ true
+    → not (is_built (call.Pool name k format)) ≡ true
 not_built name kind.Amc format e = ap not e
 not_built name kind.Amcz format e = refl
 not_built name kind.Ams format e = refl

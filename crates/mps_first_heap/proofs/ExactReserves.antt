@@ -20,7 +20,7 @@ use Rattle.mps_model.specs.World.{World, pool_at}
 use Rattle.mps_first_heap.specs.HeapState.{HeapState, is_point}
 use Rattle.mps_first_heap.specs.Outcome.{ok_with_move, after_reserve, reserve_placed, reserve_after, with_segment_taken, unsupported}
 use Rattle.mps_first_heap.specs.StandsFor.{Past, Agrees, world_of, some_if, reservation_of_words}
-use Rattle.mps_first_heap.specs.Unsupported.{is_unreported, is_reported}
+use Rattle.mps_first_heap.specs.Built.{is_unreported, is_reported}
 use Rattle.mps_first_heap.proofs.Worlds.{parts_by, world_of-parts}
 use Rattle.mps_first_heap.proofs.Acts.{reserve_bad_head, reserve_open}
 use Rattle.mps_first_heap.proofs.Premises.{NamesPoint, MayReserve, names_point}

@@ -17,7 +17,7 @@ use Rattle.mps_model.specs.World.{World}
 use Rattle.mps_first_heap.specs.HeapState.{HeapState, is_point, has_slot, is_number_cell, head_at}
 use Rattle.mps_first_heap.specs.Outcome.{accepted_if, may_init, after_init, after_commit, number_reply_at, number_reply}
 use Rattle.mps_first_heap.specs.StandsFor.{Past, Agrees, world_of, cells_at, point_with, some_if, reservation_of_words, address_in_slot, end_of_objects}
-use Rattle.mps_first_heap.specs.Unsupported.{is_reported, is_unreported, is_unsupported_call}
+use Rattle.mps_first_heap.specs.Built.{is_reported, is_unreported, is_unsupported_call}
 use Rattle.mps_first_heap.proofs.Worlds.{parts_by, world_of-parts, number_cell_at, object_there}
 use Rattle.mps_first_heap.proofs.Premises.{NamesPoint, HasSlot, HoldsObject, names_point, slot_facts, object_facts}
 use Rattle.mps_first_heap.proofs.Acts.{act_of_init, act_of_commit, init_not_open, init_no_number, commit_not_open, number_no_number}

@@ -26,7 +26,7 @@ use Rattle.mps_model.specs.History.{moved_world, after_own_segment, IsPoll, segm
 use Rattle.mps_model.specs.Reply.{answer_from, world_from}
 use Rattle.mps_first_heap.specs.HeapState.{HeapState, is_point}
 use Rattle.mps_first_heap.specs.Outcome.{Outcome, with_segment_taken, with_reply, ok_with_move, reply_only, unsupported, reserved_in_buffer, segment_move, reserve_after, reserve_placed, after_reserve}
-use Rattle.mps_first_heap.specs.StandsFor.{Past, Agrees, world_of, world_with, step_of, object_of_words, cells_in, segment_from, segments_from, point_with, reservation_of_words, end_of_objects}
+use Rattle.mps_first_heap.specs.StandsFor.{Past, Agrees, world_of, world_with, step_of, object_of_words, cells_in, segments_from, point_with, reservation_of_words, end_of_objects}
 use Rattle.mps_first_heap.specs.RightStep.{IsRightStep}
 use Rattle.mps_first_heap.proofs.Cells.{objects-set_after, blocks-set_after, slice_index-set_same, new_cells_at, blocks_later, length_new_cells}
 use Rattle.mps_first_heap.proofs.Worlds.{parts_by, world_by, world_of-parts, pool_with_point, made_with_pool, buffer_is_inside, live_blocks-world_of, stored}

@@ -1,6 +1,6 @@
 pub mod HeapState
 pub mod Outcome
 pub mod StandsFor
-pub mod Unsupported
+pub mod Built
 pub mod View
 pub mod RightStep

@@ -11,7 +11,7 @@ use Rattle.mps_model.specs.History.{IsLegalStep, world_after, live_blocks}
 use Rattle.mps_first_heap.specs.declared.done.Done.{Done}
 use Rattle.mps_first_heap.specs.HeapState.{HeapState}
 use Rattle.mps_first_heap.specs.StandsFor.{StandsFor, step_of, some_if}
-use Rattle.mps_first_heap.specs.Unsupported.{is_unsupported_call}
+use Rattle.mps_first_heap.specs.Built.{is_unsupported_call}
 
 -- the records of the step, replayed from the live blocks before it, give those after it, however many pools there were
 abbrev pub IsReplayed : World → Step → Type 0

@@ -2,7 +2,7 @@
 ghost use Rattle.std.specs.Prelude.{◌≡◌, IfOk, OnErr, IsTrue};
 ghost use Rattle.mps_first_heap.specs.Outcome.{HasOutcome, outcome};
 ghost use Rattle.mps_first_heap.specs.View.{state_of};
-ghost use Rattle.mps_first_heap.specs.Unsupported.{IsInRange, call_takes_memory};
+ghost use Rattle.mps_first_heap.specs.Built.{IsInRange, call_takes_memory};
 
 use crate::arena::Arena;
 use crate::done::{Done, reply_only};

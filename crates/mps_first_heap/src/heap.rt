@@ -28,7 +28,7 @@ impl FirstHeap {
     ghost use Rattle.mps_first_heap.specs.StandsFor.{StandsFor};
     ghost use Rattle.mps_first_heap.specs.RightStep.{IsLegalCall, StandsAfter, IsReplayedCall, IsUnsupportedExactly};
     ghost use Rattle.mps_first_heap.specs.RightStep.{IsNewPoolNumber, ArePoolsCounted};
-    ghost use Rattle.mps_first_heap.specs.Unsupported.{IsInRange, call_takes_memory};
+    ghost use Rattle.mps_first_heap.specs.Built.{IsInRange, call_takes_memory};
 
     /// The heap before its arena is made. It takes no memory.
     pub fn new(alloc: Global) -> FirstHeap

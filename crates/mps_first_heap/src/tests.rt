@@ -1,6 +1,6 @@
 // Scripts: calls on a new heap, and what each does.
 ghost use Rattle.std.specs.Prelude.{IsTrue};
-ghost use Rattle.mps_first_heap.specs.Unsupported.{IsInRange};
+ghost use Rattle.mps_first_heap.specs.Built.{IsInRange};
 
 use crate::{Done, FirstHeap};
 use mps_base::{Addr, Kind, Move, Name, Rank, Refusal, Slot};
@@ -198,7 +198,7 @@ fn a_full_arena(rt: HostRuntime) {
         (reserve(WHOLE_GRAIN), Reply::Ok, segment()),
         (commit(0), Reply::Ok, committed(0x1000, 512)),
         (reserve(ONE_REFERENCE), Reply::Refused(full), None),
-        (Call::Other, NO, None),
+        (Call::Live, NO, None),
         (number(0, 511), Reply::Number(0), None),
     ];
     run(&rt, rt.alloc(), &steps);

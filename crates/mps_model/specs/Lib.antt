@@ -1,3 +1,4 @@
+pub mod FirstCall
 pub mod Answer
 pub mod Step
 pub mod Log

@@ -67,7 +67,7 @@ act_in w (call.DependencyMerge dependency source) = act_dependency_merge w depen
 act_in w (call.DependencyStale dependency) = act_dependency_stale w dependency
 act_in w call.Live = act_live w
 act_in w (call.Dump at) = act_dump w at
--- a line in no form that is built, and the calls that have an arm of their own below
+-- the calls that have an arm of their own below
 act_in w _ = says reply.Unsupported w
 
 -- the same of any call. `marked` counts for `poke` alone

@@ -252,7 +252,4 @@ pub enum Call {
     Dump {
         at: u64,
     },
-
-    /// A line that is in no form that is built.
-    Other,
 }

@@ -45,7 +45,6 @@ never_refused =
     ∷ replies call.Park reply.Ok
     ∷ replies call.Release reply.Ok
     ∷ replies call.Live (reply.Pair 3 9)
-    ∷ replies call.Other reply.Unsupported
     ∷ []
 
 abbrev pub never_refused_while_running : List Row

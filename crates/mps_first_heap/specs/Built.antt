@@ -1,4 +1,4 @@
--- Which calls the first heap does not support.
+-- What is built: which calls the heap supports, and which of them take memory.
 use Rattle.std.specs.Prelude.{◌≤◌, Bool, true, false, nat_lt, not, ◌||◌, ◌==◌, if◌then◌else◌, Ok, Err, length, ◌≡◌, ◌∷◌, [], None, refl}
 use Rattle.mps_base.specs.declared.names.Kind.TheVariants as kind
 use Rattle.mps_base.specs.declared.names.Rank.TheVariants as rank
@@ -7,6 +7,7 @@ use Rattle.mps_base.specs.declared.refusal.Refusal.TheVariants as refusal
 use Rattle.mps_model.specs.declared.call.Call.{Call}
 use Rattle.mps_model.specs.declared.call.Call.TheVariants as call
 use Rattle.mps_base.specs.declared.names.Name.{Name}
+use Rattle.mps_model.specs.FirstCall.{is_arena}
 use Rattle.mps_model.specs.Making.{most_slots}
 use Rattle.mps_model.specs.World.{World, Collected, empty_world}
 use Rattle.mps_model.specs.Checked.{Act, Checked}
@@ -20,22 +21,17 @@ IsInRange (call.Arena grains limit) = (1 ≤ grains) × (grains ≤ max_grains) 
 IsInRange (call.Table table length) = (1 ≤ length) × (length ≤ most_slots)
 IsInRange _ = Unit {0}
 
--- whether a call has one of the eight forms that are implemented
-abbrev pub is_implemented : Call → Bool
-is_implemented (call.Arena grains limit) = true
-is_implemented (call.Table table length) = true
-is_implemented (call.Pool pool kind.Amc format) = format == front_format
-is_implemented (call.Point point pool rank.Exact) = true
-is_implemented (call.Reserve point head) = true
-is_implemented (call.InitNumber point cell value) = true
-is_implemented (call.Commit point target) = true
-is_implemented (call.Number slot cell) = true
-is_implemented _ = false
-
--- whether it makes the arena
-abbrev pub is_arena : Call → Bool
-is_arena (call.Arena grains limit) = true
-is_arena _ = false
+-- what is built: whether a call has one of eight forms
+abbrev pub is_built : Call → Bool
+is_built (call.Arena grains limit) = true
+is_built (call.Table table length) = true
+is_built (call.Pool pool kind.Amc format) = format == front_format
+is_built (call.Point point pool rank.Exact) = true
+is_built (call.Reserve point head) = true
+is_built (call.InitNumber point cell value) = true
+is_built (call.Commit point target) = true
+is_built (call.Number slot cell) = true
+is_built _ = false
 
 -- whether the arena was made
 abbrev pub has_arena : World → Bool
@@ -65,7 +61,7 @@ is_unreported (Err why) = not (is_reported why)
 
 abbrev pub is_unsupported_call : World → Call → Bool
 is_unsupported_call w call =
-    not (is_implemented call) || is_out_of_turn w call || makes_second w call || is_unreported (act false w w call)
+    not (is_built call) || is_out_of_turn w call || makes_second w call || is_unreported (act false w w call)
 
 -- whether a call takes memory: it makes the arena or a table
 abbrev pub call_takes_memory : Call → Bool
