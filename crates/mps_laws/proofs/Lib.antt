@@ -1,3 +1,6 @@
 pub mod RecordsOfMoves
 pub mod Lines
 pub mod OneHistory
+pub mod InOrder
+pub mod Occupancy
+pub mod Blocks
