@@ -4,3 +4,5 @@ pub mod OneHistory
 pub mod InOrder
 pub mod Occupancy
 pub mod Blocks
+pub mod ApartRuns
+pub mod Segments
