@@ -6,3 +6,5 @@ pub mod Occupancy
 pub mod Blocks
 pub mod ApartRuns
 pub mod Segments
+pub mod Lookups
+pub mod LaidOut
