@@ -184,3 +184,30 @@ module _ (g : Occupancy) (shapes : List Shape) (addresses : List (Option Address
           absurd (e.0 (placed.apart a from n (kept_covers g after a n e.1 c) (h.rest n (at_occupant b from n f d))))
       both a b n (inr (inr e)) (inr (inr f)) c d =
           placed.apart a b n (kept_covers g after a n e.1 c) (kept_covers g after b n f.1 d)
+
+-- an arena whose segments stay
+pub laid_out_again : (limit : ℕ) (g : Occupancy) (shapes : List Shape) (addresses : List (Option Address)) (points : List (Option PointShape)) (memories : List PointMemory) (tails : List Tail)
+    → IsLaidOut limit g → length addresses ≡ length shapes → length memories ≡ length points
+    → ((id : ℕ) (s : Shape) → slice_get shapes id ≡ Some s → IsRightShape g.pools s)
+    → ((n : ℕ) (p : PointShape) → entry_at points n ≡ Some p → IsRightPointShape g.pools p)
+    → ArePlaced (changed g shapes addresses points memories tails) → IsLaidOut limit (changed g shapes addresses points memories tails)
+laid_out_again limit g shapes addresses points memories tails laid lengths lengths' right right' placed = record {
+  in_range = laid.in_range;
+  lengths = lengths;
+  memories = lengths';
+  shapes = right;
+  points = right';
+  ascending = laid.ascending;
+  aligned = laid.aligned;
+  ranked = laid.ranked;
+  condemned = laid.condemned;
+  distinct = laid.distinct;
+  placed = placed;
+}
+
+-- and in which words are at hand elsewhere
+pub at_hand_again : (limit : ℕ) (g : Occupancy) (memories : List PointMemory) (tails : List Tail) → IsLaidOut limit g
+    → length memories ≡ length g.memories → ArePlaced (record g { memories = memories; tails = tails })
+    → IsLaidOut limit (record g { memories = memories; tails = tails })
+at_hand_again limit g memories tails laid same placed =
+    laid_out_again limit g g.shapes g.addresses g.points memories tails laid laid.lengths (same ∙ laid.memories) laid.shapes laid.points placed

@@ -8,3 +8,6 @@ pub mod ApartRuns
 pub mod Segments
 pub mod Lookups
 pub mod LaidOut
+pub mod PoolKinds
+pub mod Tails
+pub mod Holding

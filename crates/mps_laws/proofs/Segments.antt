@@ -23,7 +23,7 @@ IsAligned s = address_of_grain (grain_of s.base) ≡ s.base
 abbrev pub AreAligned : List Segment → Type 0
 AreAligned ss = AllByRecursion IsAligned ss
 
-abbrev base_of : Segment → ℕ
+abbrev pub base_of : Segment → ℕ
 base_of s = s.base
 
 abbrev first_of : Run → ℕ
