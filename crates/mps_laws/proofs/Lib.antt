@@ -11,3 +11,4 @@ pub mod LaidOut
 pub mod PoolKinds
 pub mod Tails
 pub mod Holding
+pub mod Moving

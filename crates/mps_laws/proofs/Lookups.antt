@@ -104,3 +104,8 @@ entry_within_set xs i j x y e =
     written (z ∷ zs) zero (suc j) same e = absurd (omega (arith, same))
     written (z ∷ zs) (suc i) zero same e = absurd (omega (arith, same))
     written (z ∷ zs) (suc i) (suc j) same e = written zs i j (omega (arith, same)) e
+
+pub entry_at-set_none : {X : Type 0} (xs : List (Option X)) (i : ℕ) → entry_at (slice_set xs i None) i ≡ None
+entry_at-set_none [] i = refl
+entry_at-set_none (y ∷ ys) zero = refl
+entry_at-set_none (y ∷ ys) (suc i) = entry_at-set_none ys i
