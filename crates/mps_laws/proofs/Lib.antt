@@ -12,3 +12,5 @@ pub mod PoolKinds
 pub mod Tails
 pub mod Holding
 pub mod Moving
+pub mod Condemning
+pub mod Making

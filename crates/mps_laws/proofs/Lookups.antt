@@ -60,7 +60,7 @@ pub map-with_last : {X Y : Type 0} (f : X → Y) (xs : List X) (x : X) → map f
 map-with_last f [] x = refl
 map-with_last f (y ∷ ys) x = ap (λ rest. f y ∷ rest) (map-with_last f ys x)
 
-abbrev opened : {X : Type 0} → Option (Option X) → Option X
+abbrev pub opened : {X : Type 0} → Option (Option X) → Option X
 opened o = option_and_then (λ entry. entry) o
 
 pub entry_at-set_other : {X : Type 0} (xs : List (Option X)) (i j : ℕ) (x : Option X) → (i ≡ j → ⊥)
