@@ -14,3 +14,4 @@ pub mod Holding
 pub mod Moving
 pub mod Condemning
 pub mod Making
+pub mod Reserving

@@ -217,21 +217,21 @@ module _ (limit : ℕ) (g : Occupancy) (laid : IsLaidOut limit g) where
     abbrev pub with_block_at : List (Option PointShape) → Occupancy
     with_block_at points = record g { shapes = with_last g.shapes s; addresses = with_last g.addresses (Some at); points = points }
 
-    new_run : (points : List (Option PointShape)) → run_of (with_block_at points) (OfBlock (length g.shapes)) ≡ extent at s.words
+    pub new_run : (points : List (Option PointShape)) → run_of (with_block_at points) (OfBlock (length g.shapes)) ≡ extent at s.words
     new_run points =
         ap (λ o. run_of_block o (entry_at (with_last g.addresses (Some at)) (length g.shapes))) (slice_get-at_last g.shapes s)
         ∙ ap (run_of_block (Some s)) (ap (entry_at (with_last g.addresses (Some at))) (sym laid.lengths) ∙ entry_at-at_last g.addresses (Some at))
 
-    new_pool : (points : List (Option PointShape)) → pool_of_occupant (with_block_at points) (OfBlock (length g.shapes)) ≡ s.pool
+    pub new_pool : (points : List (Option PointShape)) → pool_of_occupant (with_block_at points) (OfBlock (length g.shapes)) ≡ s.pool
     new_pool points = ap (λ o. option_map_or (λ (t : Shape). t.pool) o 0) (slice_get-at_last g.shapes s)
 
-    new_rank : (points : List (Option PointShape)) → rank_of_occupant (with_block_at points) (OfBlock (length g.shapes)) ≡ rank_where s.is_weak
+    pub new_rank : (points : List (Option PointShape)) → rank_of_occupant (with_block_at points) (OfBlock (length g.shapes)) ≡ rank_where s.is_weak
     new_rank points = ap (λ o. option_map_or (λ (t : Shape). rank_where t.is_weak) o rank.Exact) (slice_get-at_last g.shapes s)
 
     none_block : (a : Option Address) → (run_of_block None a).count ≡ 0
     none_block a = refl
 
-    blocks_kept : (points : List (Option PointShape)) (id : ℕ) → (OfBlock id ≡ OfBlock (length g.shapes)) ⊎ IsKept g (with_block_at points) (OfBlock id)
+    pub blocks_kept : (points : List (Option PointShape)) (id : ℕ) → (OfBlock id ≡ OfBlock (length g.shapes)) ⊎ IsKept g (with_block_at points) (OfBlock id)
     blocks_kept points id =
         elim (cases_order id (length g.shapes)) [
           | inl e ↦ inl (ap OfBlock e)
@@ -248,7 +248,7 @@ module _ (limit : ℕ) (g : Occupancy) (laid : IsLaidOut limit g) where
               inr (inr (ap (λ o. (run_of_block o (entry_at (with_last g.addresses (Some at)) id)).count) (slice_get-after_last g.shapes s id high)))
         ]
 
-    right_shapes : (id : ℕ) (t : Shape) → slice_get (with_last g.shapes s) id ≡ Some t → IsRightShape g.pools t
+    pub right_shapes : (id : ℕ) (t : Shape) → slice_get (with_last g.shapes s) id ≡ Some t → IsRightShape g.pools t
     right_shapes id t e =
         elim (cases_order id (length g.shapes)) [
           | inl f ↦
@@ -258,7 +258,7 @@ module _ (limit : ℕ) (g : Occupancy) (laid : IsLaidOut limit g) where
           | inr (inr high) ↦ absurd (none-some t (sym (slice_get-after_last g.shapes s id high) ∙ e))
         ]
 
-    more_lengths : length (with_last g.addresses (Some at)) ≡ length (with_last g.shapes s)
+    pub more_lengths : length (with_last g.addresses (Some at)) ≡ length (with_last g.shapes s)
     more_lengths = length-with_last g.addresses (Some at) ∙ ap (λ n. n + 1) laid.lengths ∙ sym (length-with_last g.shapes s)
 
     -- where nobody had words
