@@ -6,7 +6,7 @@ use Rattle.std.specs.Prelude.{if◌then◌else◌, nat_lt, nat_le, ◌&&◌}
 use Rattle.std.specs.List.{AllByRecursion}
 use Rattle.mps_base.specs.Run.{Run, Covers, IsAscending, end_of, gaps, between, lowest_fitting, with_run, in_order, runs_within}
 use Rattle.mps_base.proofs.Runs.{with_run_first, with_run_later, IsAscending-lower, IsAscending-bounds, last_gap_short, lowest_fitting_here, lowest_fitting_later}
-use Rattle.mps_laws.proofs.InOrder.{all_weaker, all_put}
+use Rattle.mps_laws.proofs.InOrder.{all_weaker, all_append, all_put}
 
 -- no number lies in both
 abbrev pub AreApart : Run → Run → Type 0
@@ -235,3 +235,21 @@ put_apart low high new (r ∷ rs) asc =
           let past = put_above (end_of r) high new rs a.2 in
           ((λ n i j. omega (arith, past, i.0, j.1)), put_apart (end_of r) high new rs a.2)
     ]
+
+pub put_below : (low high : ℕ) (new : Run) (rs : List Run) → IsAscending low high (with_run new rs) → end_of new ≤ high
+put_below low high new [] asc = asc.2
+put_below low high new (r ∷ rs) asc =
+    elim (cases_lt new.from r.from) [
+      | inl before ↦
+          let a = subst (IsAscending low high) (with_run_first new r rs before) asc in
+          IsAscending-bounds (end_of new) high (r ∷ rs) a.2
+      | inr after ↦
+          let a = subst (IsAscending low high) (with_run_later new r rs after) asc in
+          put_below (end_of r) high new rs a.2
+    ]
+
+pub apart_append : (xs ys : List Run) → AreAllApart xs → AreAllApart ys → AllByRecursion (λ x. AllByRecursion (AreApart x) ys) xs
+    → AreAllApart (xs ++ ys)
+apart_append [] ys these those across = those
+apart_append (x ∷ xs) ys these those across =
+    (all_append (AreApart x) xs ys these.0 across.0, apart_append xs ys these.1 those across.1)

@@ -15,3 +15,5 @@ pub mod Moving
 pub mod Condemning
 pub mod Making
 pub mod Reserving
+pub mod Covered
+pub mod Gaps
