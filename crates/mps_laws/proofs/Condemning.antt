@@ -138,7 +138,7 @@ ended_laid_out limit g laid = recondemned limit g [] laid (λ o base some h free
 
 -- ---- a flip
 
-abbrev without_reserved : Option PointShape → Option PointShape
+abbrev pub without_reserved : Option PointShape → Option PointShape
 without_reserved None = None
 without_reserved (Some p) = Some (record p { reserved = None })
 

@@ -17,3 +17,6 @@ pub mod Making
 pub mod Reserving
 pub mod Covered
 pub mod Gaps
+pub mod Finding
+pub mod LegalMoves
+pub mod ReplayOfMoves
