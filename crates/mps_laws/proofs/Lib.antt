@@ -20,3 +20,4 @@ pub mod Gaps
 pub mod Finding
 pub mod LegalMoves
 pub mod ReplayOfMoves
+pub mod Acts

@@ -109,3 +109,8 @@ pub entry_at-set_none : {X : Type 0} (xs : List (Option X)) (i : ℕ) → entry_
 entry_at-set_none [] i = refl
 entry_at-set_none (y ∷ ys) zero = refl
 entry_at-set_none (y ∷ ys) (suc i) = entry_at-set_none ys i
+
+pub entry_is_there : {X : Type 0} (xs : List (Option X)) (i : ℕ) (x : X) → entry_at xs i ≡ Some x → slice_get xs i ≡ Some (Some x)
+entry_is_there [] i x e = absurd (none-some x e)
+entry_is_there (y ∷ ys) zero x e = ap Some e
+entry_is_there (y ∷ ys) (suc i) x e = entry_is_there ys i x e
