@@ -21,3 +21,4 @@ pub mod Finding
 pub mod LegalMoves
 pub mod ReplayOfMoves
 pub mod Acts
+pub mod Steps
