@@ -58,7 +58,7 @@ numbered-is n (Some x) p e =
     let same : record { number = n; value = x } ≡ p = cc in (ap (λ (q : Numbered _). q.number) same, ap (λ (q : Numbered _). Some q.value) same)
 numbered-is n None p e = absurd (cc)
 
-named_by : {A : Type 0} (o : Option ℕ) (look : ℕ → Option A) (p : Numbered A)
+pub named_by : {A : Type 0} (o : Option ℕ) (look : ℕ → Option A) (p : Numbered A)
     → (required o refusal.BadName >>= (λ number. numbered number (look number))) ≡ Ok p → (o ≡ Some p.number) × (look p.number ≡ Some p.value)
 named_by None look p e = absurd (cc)
 named_by (Some n) look p e =

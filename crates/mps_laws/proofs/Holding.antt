@@ -50,6 +50,12 @@ placed_by grains commit held need grain count false (Some place) e f h =
     let same' : need ≡ count = cc in
     (ap Some same, same')
 
+-- a placement in free grains has as many as are needed
+pub need_of_placement : (grains commit : ℕ) (held : List Run) (need grain count : ℕ)
+    → run_placement grains commit held need ≡ NewSegment grain count → need ≡ count
+need_of_placement grains commit held need grain count h =
+    (placed_by grains commit held need grain count (nat_lt commit (total held + need)) (lowest_fitting need (gaps 1 (grains + 1) held)) refl refl h).1
+
 -- what a placement in free grains gives is fresh
 pub fresh_of_placement : (limit grains commit need grain count : ℕ) (segments : List Segment) (s : Segment) → grains < limit → 0 < need
     → IsAscending 1 limit (map grains_of_segment segments)

@@ -22,3 +22,5 @@ pub mod LegalMoves
 pub mod ReplayOfMoves
 pub mod Acts
 pub mod Steps
+pub mod ManualSteps
+pub mod FreeSteps

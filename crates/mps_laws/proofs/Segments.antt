@@ -219,3 +219,11 @@ found_among test (t ∷ ts) s e =
       | true ↦ (λ is f. let same = same_Some t s f in (inl same, subst (λ (u : Segment). test u ≡ true) same is))
       | false ↦ (λ is f. let rest = found_among test ts s f in (inr rest.0, rest.1))
     ] refl e
+
+-- two that begin at one address are one
+pub same_by_base : (low limit : ℕ) (ss : List Segment) (s t : Segment) → IsAscending low limit (map grains_of_segment ss)
+    → IsAmong s ss → IsAmong t ss → s.base ≡ t.base → s ≡ t
+same_by_base low limit ss s t asc h k e =
+    let a = segment_bounds low limit ss s asc h in
+    let b = segment_bounds low limit ss t asc k in
+    same_segment low limit ss s t asc h k (grain_of t.base) (omega (arith, e), omega (arith, e, a.1)) (omega arith, omega (arith, b.1))
