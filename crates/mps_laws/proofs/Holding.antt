@@ -90,7 +90,7 @@ with_buffer-is : (memories : List PointMemory) (point : ℕ) (words : Run) (m : 
 with_buffer-is memories point words m e =
     ap (λ o. option_map_or (λ (memory : PointMemory). slice_set memories point (record memory { buffer = words })) o memories) e
 
-own_buffer : (memories : List PointMemory) (point : ℕ) (words : Run) (m : PointMemory) → slice_get memories point ≡ Some m
+pub own_buffer : (memories : List PointMemory) (point : ℕ) (words : Run) (m : PointMemory) → slice_get memories point ≡ Some m
     → run_of_buffer (slice_get (with_buffer memories point words) point) ≡ words
 own_buffer memories point words m e =
     ap (λ ms. run_of_buffer (slice_get ms point)) (with_buffer-is memories point words m e)

@@ -24,3 +24,4 @@ pub mod Acts
 pub mod Steps
 pub mod ManualSteps
 pub mod FreeSteps
+pub mod ReserveSteps
