@@ -25,3 +25,4 @@ pub mod Steps
 pub mod ManualSteps
 pub mod FreeSteps
 pub mod ReserveSteps
+pub mod ReserveReplayed

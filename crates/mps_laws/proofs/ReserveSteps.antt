@@ -215,7 +215,7 @@ module _ (limit : ℕ) (v : World) (laid : HasLayout limit v) (p : Numbered Poin
       there_is v.point_memories p.number
       (omega (arith, laid.memories, Rattle.std.proofs.lemmas.List.length-map v.graph.points shape_of_point, entry_within v.graph.points p.number p.value there))
 
-  in_own_buffer : is_copying_pool v p.value.pool ≡ true
+  pub in_own_buffer : is_copying_pool v p.value.pool ≡ true
       → HasLayout limit (with_reserved (with_change buffered_world) p reservation'
       (address_of_placement (placement_of (with_change buffered_world) (ForReserve p.number (length cells)))))
   in_own_buffer copying =
@@ -235,7 +235,7 @@ module _ (limit : ℕ) (v : World) (laid : HasLayout limit v) (p : Numbered Poin
       ∙ ap (λ b. if b then Place (words_of_segment own).from else new_segment_for a (length cells)) (le-leb (length cells) (512 * grains) own_size))
 
   -- in the gap of all of it
-  in_own_gap : is_copying_pool v p.value.pool ≡ false
+  pub in_own_gap : is_copying_pool v p.value.pool ≡ false
       → HasLayout limit (with_reserved (with_change (holding v own)) p reservation'
       (address_of_placement (placement_of (with_change (holding v own)) (ForReserve p.number (length cells)))))
   in_own_gap manual =
