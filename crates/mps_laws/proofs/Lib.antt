@@ -26,3 +26,4 @@ pub mod ManualSteps
 pub mod FreeSteps
 pub mod ReserveSteps
 pub mod ReserveReplayed
+pub mod Replay
