@@ -1,8 +1,8 @@
 -- What the calls that neither reserve nor make a block change of what lies where.
-use Rattle.std.proofs.Common.{◌≡◌, ◌∙◌, ◌⊎◌, ℕ, ◌+◌, Bool, true, false, refl, sym, ap, List, [], ◌∷◌, length, Option, Some, None, Ok, Err, subst, inl, inr}
+use Rattle.std.proofs.Common.{◌≡◌, ◌∙◌, ℕ, ◌+◌, Bool, true, false, refl, sym, ap, List, [], ◌∷◌, length, Option, Some, None, Ok, Err, subst, inl, inr}
 use Rattle.std.proofs.lemmas.Bool.{false≢true, true≢false, cases_Bool}
 use Rattle.std.proofs.lemmas.Option.{none-some, same_Some, slice_get-map}
-use Rattle.std.specs.Prelude.{map, slice_get, slice_set, option_map, option_and_then, not, ◌&&◌, ◌||◌, nat_le, nat_lt, is_some, is_none, if◌then◌else◌}
+use Rattle.std.specs.Prelude.{map, slice_get, slice_set, option_map, not, ◌&&◌, ◌||◌, nat_le, nat_lt, is_some, is_none, if◌then◌else◌}
 use Rattle.std.specs.Option.{option_map_or}
 use Rattle.mps_base.specs.Staleness.{is_stale}
 use Rattle.mps_base.specs.declared.names.Name.{Name}
@@ -13,15 +13,15 @@ use Rattle.mps_model.specs.declared.call.Call.{Call}
 use Rattle.mps_model.specs.declared.call.Call.TheVariants as call
 use Rattle.mps_model.specs.Graph.{Graph, Object, Point, Reservation, Cell, NumberCell, AreaWord, Body, Automatic, Manual, Thing, ChainThing, PoolThing, TableThing, AreaThing, BlocksThing, PointThing, DependencyThing, TransformThing, CacheThing, entry_at, object_at, size_of_body, is_weak_body, with_last, with_target_cell, graph_with_cells, position_of_first, thing_named}
 use Rattle.mps_model.specs.World.{World, Pool, PointMemory, Dependency, Collected, OneSize, AnySize, block_of_word, committed, id_at, is_running, empty_run, is_weak_kind, is_automatic_kind}
-use Rattle.mps_model.specs.Checked.{Act, Checked, Found, Numbered, ◌>>=◌, ◌>>◌, as_point, as_pool, number_named, numbered, required, refuse_when, says, done, tells, chain_named, pool_named, point_named, dependency_named, slot_in, word_in, block_place_in, object_in, cells_of_body, number_at, reference_at, with_graph}
+use Rattle.mps_model.specs.Checked.{Act, Checked, Found, Numbered, ◌>>=◌, ◌>>◌, as_point, as_pool, number_named, numbered, required, refuse_when, done, tells, chain_named, pool_named, point_named, dependency_named, slot_in, word_in, block_place_in, object_in, cells_of_body, number_at, reference_at, with_graph}
 use Rattle.mps_model.specs.Making.{graph_without_root, is_block_size, is_weak_rank, live_points, may_have_point, most_chains, most_dependencies, most_points, most_pools, refuse_at_limit, refuse_root, refuse_taken}
 use Rattle.mps_model.specs.Allocating.{block_in, body_with_word, graph_with_word, with_reservation, with_reserved_cells, words_at}
 use Rattle.mps_model.specs.Accessing.{Poked, AsBlock, AsNumber, AsMarked, act_poke_in, act_poked, held_in, poked, same_target}
 use Rattle.mps_model.specs.Collecting.{act_message_in, most_registrations, without_registration}
 use Rattle.mps_model.specs.Reply.{act}
-use Rattle.mps_laws.proofs.Lookups.{map-slice_set, map-with_last, slice_set-same, length-slice_set, entry_is_there, slice_get-kept}
+use Rattle.mps_laws.proofs.Lookups.{map-slice_set, map-with_last, slice_set-same, length-slice_set, entry_is_there}
 use Rattle.mps_laws.proofs.Occupancy.{Occupancy, PointShape, shape_of, shape_of_point, reserved_words, occupancy_of}
-use Rattle.mps_laws.proofs.LaidOut.{IsLaidOut, IsRightPointShape, kind_in}
+use Rattle.mps_laws.proofs.LaidOut.{IsLaidOut, IsRightPointShape}
 use Rattle.mps_laws.proofs.LegalMoves.{condemned_kept, cells_kept, shapes_written, length-with_target_cell}
 use Rattle.mps_laws.proofs.Making.{pool_laid_out, point_laid_out, dropped_laid_out}
 use Rattle.mps_laws.proofs.PoolKinds.{kind_of_pool}

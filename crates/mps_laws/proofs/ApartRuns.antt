@@ -1,11 +1,10 @@
 -- Runs that are apart, in any order: put in order they ascend, and what lies in a gap between them is apart from each.
-use Rattle.std.proofs.Common.{◌≡◌, ◌∙◌, ◌⊎◌, ℕ, ◌+◌, ◌<◌, ◌≤◌, Bool, true, false, refl, sym, ap, List, [], ◌∷◌, ◌++◌, Option, Some, None, subst, inl, inr, arith, append-nil, ◌-◌}
+use Rattle.std.proofs.Common.{◌≡◌, ◌∙◌, ◌⊎◌, ℕ, ◌<◌, ◌≤◌, Bool, true, false, refl, sym, ap, List, [], ◌∷◌, ◌++◌, Some, None, subst, inl, inr, arith, append-nil, ◌-◌}
 use Rattle.std.proofs.lemmas.Bool.{cases_lt, lt-ltb, le-ltb, lt-leb, le-leb}
-use Rattle.std.proofs.lemmas.Option.{none-some, same_Some}
 use Rattle.std.specs.Prelude.{if◌then◌else◌, nat_lt, nat_le, ◌&&◌}
 use Rattle.std.specs.List.{AllByRecursion}
 use Rattle.mps_base.specs.Run.{Run, Covers, IsAscending, end_of, gaps, between, lowest_fitting, with_run, in_order, runs_within}
-use Rattle.mps_base.proofs.Runs.{with_run_first, with_run_later, IsAscending-lower, IsAscending-bounds, last_gap_short, lowest_fitting_here, lowest_fitting_later}
+use Rattle.mps_base.proofs.Runs.{with_run_first, with_run_later, IsAscending-bounds, last_gap_short, lowest_fitting_here, lowest_fitting_later}
 use Rattle.mps_laws.proofs.InOrder.{all_weaker, all_append, all_put}
 
 -- no number lies in both
@@ -47,8 +46,7 @@ ascending_with_run low high r [] within apart asc =
 ascending_with_run low high r (s ∷ rs) within apart asc =
     elim (cases_lt r.from s.from) [
       | inl before ↦
-          subst (IsAscending low high) (sym (with_run_first r s rs before))
-          (
+          subst (IsAscending low high) (sym (with_run_first r s rs before)) (
             within.above,
             within.some,
             (
@@ -58,18 +56,17 @@ ascending_with_run low high r (s ∷ rs) within apart asc =
               ],
               asc.1,
               asc.2,
-            )
+            ),
           )
       | inr after ↦
           let past : end_of s ≤ r.from = elim (apart_parts r s apart.0 within.some asc.1) [
             | inl h ↦ omega (arith, after, h, within.some)
             | inr h ↦ h
           ] in
-          subst (IsAscending low high) (sym (with_run_later r s rs after))
-          (
+          subst (IsAscending low high) (sym (with_run_later r s rs after)) (
             asc.0,
             asc.1,
-            ascending_with_run (end_of s) high r rs (record { above = past; below = within.below; some = within.some }) apart.1 asc.2
+            ascending_with_run (end_of s) high r rs (record { above = past; below = within.below; some = within.some }) apart.1 asc.2,
           )
     ]
 
@@ -129,11 +126,10 @@ module _ (from to : ℕ) where
                   (ascending_within start (end_of r) high rs order later ends.1 asc.2)
               | inl below ↦
                   subst (IsAscending start to)
-                  (sym (taken_in r rs (nat_le from r.from) (nat_lt r.from to) (le-leb from r.from above) (lt-ltb r.from to below)))
-                  (
+                  (sym (taken_in r rs (nat_le from r.from) (nat_lt r.from to) (le-leb from r.from above) (lt-ltb r.from to below))) (
                     starts r.from asc.0 above,
                     asc.1,
-                    ascending_within (end_of r) (end_of r) high rs (ends.0 above below) (λ n h k. h) ends.1 asc.2
+                    ascending_within (end_of r) (end_of r) high rs (ends.0 above below) (λ n h k. h) ends.1 asc.2,
                   )
             ]
       ]

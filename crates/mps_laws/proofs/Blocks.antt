@@ -1,11 +1,11 @@
 -- Live blocks as a replay holds them, over lists of shapes and addresses alone: what one move of a block does to them.
-use Rattle.std.proofs.Common.{◌≡◌, ◌∙◌, ◌⊎◌, ℕ, zero, suc, ◌+◌, ◌≤◌, true, false, refl, sym, ap, List, [], ◌∷◌, ◌++◌, length, Option, Some, None, subst, inl, inr, arith, add-zero, append-nil}
+use Rattle.std.proofs.Common.{◌≡◌, ◌∙◌, ℕ, zero, suc, ◌+◌, ◌≤◌, refl, sym, ap, List, [], ◌∷◌, ◌++◌, length, Option, Some, None, subst, arith, add-zero, append-nil}
 use Rattle.std.proofs.lemmas.Option.{none-some, same_Some}
-use Rattle.std.specs.Prelude.{slice_get, slice_set, ◌≢◌, if◌then◌else◌, ◌==◌, nat_lt, is_some, option_and_then, map}
+use Rattle.std.specs.Prelude.{slice_get, slice_set, ◌≢◌, if◌then◌else◌, ◌==◌, is_some, option_and_then, map}
 use Rattle.std.specs.Option.{option_map_or}
 use Rattle.std.specs.List.{AllByRecursion}
 use Rattle.mps_model.specs.Graph.{Object, entry_at, size_of}
-use Rattle.mps_model.specs.World.{World, live_ids, numbers_of}
+use Rattle.mps_model.specs.World.{World, numbers_of}
 use Rattle.mps_model.specs.History.{live_blocks, blocks_of_ids, block_of}
 use Rattle.mps_model.specs.Replay.{Store, Block, with_block, without_block, block_at, after_making, after_moving, after_touching, after_freeing}
 use Rattle.mps_laws.proofs.InOrder.{put_all, without_key, of_key, put_all-with, put_all-without, of_key-none, of_key-put_all, all_put_all}

@@ -1,11 +1,9 @@
 -- A collection begins and ends, and a segment in which nothing lies is given back: the arena stays laid out.
-use Rattle.std.proofs.Common.{◌≡◌, ◌∙◌, ◌⊎◌, ℕ, ◌<◌, Bool, true, false, refl, sym, ap, List, [], ◌∷◌, length, Option, Some, None, subst, inl, inr, arith}
+use Rattle.std.proofs.Common.{◌≡◌, ◌∙◌, ◌⊎◌, ℕ, ◌<◌, Bool, true, false, refl, sym, ap, List, [], ◌∷◌, Option, Some, None, subst, inl, inr, arith}
 use Rattle.std.proofs.lemmas.List.{length-map}
-use Rattle.std.proofs.lemmas.Bool.{cases_Bool, cases_eq, false≢true, true≢false, eq-eqb, eqb-true, ne_eqb, or_cases, or_left, or_right}
+use Rattle.std.proofs.lemmas.Bool.{cases_Bool, false≢true, true≢false, eq-eqb, eqb-true, ne_eqb, or_cases, or_left, or_right}
 use Rattle.std.proofs.lemmas.Option.{none-some, same_Some, slice_get-map}
 use Rattle.std.specs.Prelude.{map, slice_get, option_map, filter, not, ◌==◌, ◌||◌, ◌≢◌, if◌then◌else◌}
-use Rattle.std.specs.Option.{option_map_or}
-use Rattle.std.specs.List.{AllByRecursion}
 use Rattle.mps_base.specs.Address.{Address, grain_of}
 use Rattle.mps_base.specs.Run.{Run, IsAscending, end_of}
 use Rattle.mps_base.specs.Segment.{Segment, grains_of_segment, without_segment}
@@ -13,7 +11,7 @@ use Rattle.mps_model.specs.Graph.{Point, Reservation, contains, without_first, e
 use Rattle.mps_model.specs.World.{PointMemory}
 use Rattle.mps_model.specs.Effect.{doomed, without_buffer}
 use Rattle.mps_laws.proofs.Lookups.{opened}
-use Rattle.mps_laws.proofs.Occupancy.{Occupancy, Occupant, OfBlock, OfReservation, OfBuffer, OfTail, PointShape, shape_of_point, reserved_words, run_of, run_of_reservation, run_of_buffer, pool_of_occupant, rank_of_occupant}
+use Rattle.mps_laws.proofs.Occupancy.{Occupancy, Occupant, OfBlock, OfReservation, OfBuffer, OfTail, PointShape, shape_of_point, reserved_words, run_of, run_of_reservation, run_of_buffer}
 use Rattle.mps_laws.proofs.LaidOut.{Home, HomeOf, ArePlaced, IsLaidOut, IsRightPointShape, IsKept, AreDistinct, is_at_hand, kind_in, placed_kept, laid_out_again}
 use Rattle.mps_laws.proofs.Segments.{IsAmong, IsAligned, all_without, among_kept, ascending_without, segment_bounds}
 
@@ -24,7 +22,7 @@ pub contains-filter : (test : Segment → Bool) (ss : List Segment) (base : Addr
 contains-filter test [] base h = absurd (false≢true h)
 contains-filter test (s ∷ ss) base h =
     elim (test s) as (λ b. contains (map (λ (s : Segment). s.base) (if b then s ∷ filter test ss else filter test ss)) base ≡ true
-        → (t : Segment) × IsAmong t (s ∷ ss) × (t.base ≡ base)) [
+    → (t : Segment) × IsAmong t (s ∷ ss) × (t.base ≡ base)) [
       | true ↦
           (λ g. elim (or_cases (s.base == base) (contains (map (λ (t : Segment). t.base) (filter test ss)) base) g) [
             | inl e ↦ (s, inl refl, eqb-true s.base base e)

@@ -1,21 +1,20 @@
 -- The runs that blocks and reservations cover, as a list: they are those of the occupants that aren't at hand, and they ascend.
-use Rattle.std.proofs.Common.{◌≡◌, ◌∙◌, ◌⊎◌, ℕ, zero, suc, ◌+◌, ◌*◌, ◌<◌, ◌≤◌, Bool, true, false, refl, sym, ap, List, [], ◌∷◌, ◌++◌, length, Option, Some, None, subst, inl, inr, arith}
-use Rattle.std.proofs.lemmas.Bool.{cases_lt, cases_Bool, cases_eq, false≢true, true≢false}
+use Rattle.std.proofs.Common.{◌≡◌, ◌∙◌, ℕ, zero, suc, ◌*◌, ◌<◌, Bool, true, false, refl, sym, ap, List, [], ◌∷◌, ◌++◌, length, Option, Some, None, subst, arith}
+use Rattle.std.proofs.lemmas.Bool.{false≢true, true≢false}
 use Rattle.std.proofs.lemmas.Option.{none-some, same_Some}
 use Rattle.std.specs.Prelude.{map, slice_get, ◌≢◌, ◌||◌, ◌==◌, not}
 use Rattle.std.specs.Option.{option_map_or}
 use Rattle.std.specs.List.{AllByRecursion, list_any}
 use Rattle.mps_base.specs.Address.{Address, address_of_word}
-use Rattle.mps_base.specs.Run.{Run, Covers, IsAscending, end_of, in_order}
-use Rattle.mps_base.specs.Segment.{Segment, words_of_segment, is_in_segment}
+use Rattle.mps_base.specs.Run.{Run, Covers, IsAscending, in_order}
+use Rattle.mps_base.specs.Segment.{Segment, words_of_segment}
 use Rattle.mps_model.specs.Graph.{Object, Point, Reservation, entry_at}
-use Rattle.mps_model.specs.World.{World, PointMemory, extent, extents_of, extent_of_reservation, reserved_extents, covered, begins_in, is_empty_segment}
-use Rattle.mps_laws.proofs.InOrder.{all_weaker, all_append}
-use Rattle.mps_laws.proofs.ApartRuns.{AreApart, AreAllApart, IsRunWithin, apart_append, all_in_order, all_from_in_order, ascending_in_order}
-use Rattle.mps_laws.proofs.Lookups.{there_is, entry_within}
+use Rattle.mps_model.specs.World.{World, PointMemory, extent, extents_of, extent_of_reservation, reserved_extents, covered, begins_in}
+use Rattle.mps_laws.proofs.InOrder.{all_append}
+use Rattle.mps_laws.proofs.ApartRuns.{AreApart, AreAllApart, IsRunWithin, apart_append, all_from_in_order, ascending_in_order}
 use Rattle.mps_laws.proofs.Segments.{IsAmong, among_aligned, in_segment, segment_bounds, same_segment}
 use Rattle.mps_laws.proofs.Occupancy.{Occupancy, Occupant, OfBlock, OfReservation, OfBuffer, OfTail, Shape, PointShape, shape_of, shape_of_point, occupancy_of, run_of, run_of_block, run_of_reservation, run_of_reserved}
-use Rattle.mps_laws.proofs.LaidOut.{IsLaidOut, ArePlaced, is_at_hand}
+use Rattle.mps_laws.proofs.LaidOut.{IsLaidOut, is_at_hand}
 
 -- ---- by shapes
 

@@ -1,5 +1,5 @@
 -- What is found at an address, and what a fact of what is found gives.
-use Rattle.std.proofs.Common.{◌≡◌, ◌∙◌, ℕ, zero, suc, ◌+◌, Bool, true, false, refl, sym, ap, List, [], ◌∷◌, Option, Some, None, subst, arith, add-zero}
+use Rattle.std.proofs.Common.{◌≡◌, ◌∙◌, ℕ, zero, suc, ◌+◌, true, false, refl, sym, ap, List, [], ◌∷◌, Option, Some, None, subst, arith, add-zero}
 use Rattle.std.proofs.lemmas.Option.{none-some, same_Some}
 use Rattle.std.proofs.lemmas.Bool.{false≢true, eqb-true, eq-eqb}
 use Rattle.std.specs.Prelude.{if◌then◌else◌}
@@ -33,8 +33,8 @@ found_from : (at first : ℕ) (addresses : List (Option ℕ)) (id : ℕ) → fir
 found_from at first [] id e = absurd (none-some id e)
 found_from at first (p ∷ ps) id e =
     elim (is_at at p) as (λ t. is_at at p ≡ t
-        → first_id (if t then first ∷ numbers_of (is_at at) (first + 1) ps else numbers_of (is_at at) (first + 1) ps) ≡ Some id
-        → (i : ℕ) × (id ≡ first + i) × (entry_at (p ∷ ps) i ≡ Some at)) [
+    → first_id (if t then first ∷ numbers_of (is_at at) (first + 1) ps else numbers_of (is_at at) (first + 1) ps) ≡ Some id
+    → (i : ℕ) × (id ≡ first + i) × (entry_at (p ∷ ps) i ≡ Some at)) [
       | true ↦ (λ t f. (zero, sym (same_Some first id f) ∙ sym (add-zero first), is_at-some at p t))
       | false ↦
           (λ t f. let rest = found_from at (first + 1) ps id f in (suc rest.0, (let h = rest.1 in omega (arith, h)), rest.2))
@@ -57,7 +57,7 @@ some_from at first (p ∷ ps) zero e =
     (first, ap (λ t. first_id (if t then first ∷ numbers_of (is_at at) (first + 1) ps else numbers_of (is_at at) (first + 1) ps)) (is_here at p e))
 some_from at first (p ∷ ps) (suc i) e =
     elim (is_at at p) as (λ t. (id : ℕ)
-        × (first_id (if t then first ∷ numbers_of (is_at at) (first + 1) ps else numbers_of (is_at at) (first + 1) ps) ≡ Some id)) [
+    × (first_id (if t then first ∷ numbers_of (is_at at) (first + 1) ps else numbers_of (is_at at) (first + 1) ps) ≡ Some id)) [
       | true ↦ (first, refl)
       | false ↦ some_from at (first + 1) ps i e
     ]

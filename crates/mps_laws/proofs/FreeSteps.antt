@@ -1,10 +1,10 @@
 -- The law of replay for a step that frees a manual block, and gives its segment back where nothing is left in it.
-use Rattle.std.proofs.Common.{◌≡◌, ◌∙◌, ℕ, zero, suc, ◌<◌, Bool, true, false, refl, sym, ap, List, [], ◌∷◌, ◌++◌, Option, Some, None, Ok, Err, subst, inl, inr}
-use Rattle.std.proofs.lemmas.Bool.{cases_Bool, false≢true, true≢false, and_parts}
+use Rattle.std.proofs.Common.{◌≡◌, ◌∙◌, ℕ, zero, suc, Bool, true, false, refl, sym, ap, List, [], ◌∷◌, ◌++◌, Option, Some, None, Ok, Err, subst}
+use Rattle.std.proofs.lemmas.Bool.{false≢true, and_parts}
 use Rattle.std.proofs.lemmas.Option.{none-some, same_Some}
-use Rattle.std.specs.Prelude.{slice_get, slice_set, option_and_then, is_some, not, ◌&&◌, if◌then◌else◌}
+use Rattle.std.specs.Prelude.{slice_get, option_and_then, is_some, ◌&&◌, if◌then◌else◌}
 use Rattle.std.specs.Option.{option_map_or}
-use Rattle.std.specs.List.{list_any, list_all, flat_map}
+use Rattle.std.specs.List.{list_all, flat_map}
 use Rattle.mps_base.specs.Address.{Address}
 use Rattle.mps_base.specs.Segment.{Segment, is_in_segment}
 use Rattle.mps_base.specs.declared.moves.Move.{Move}
@@ -14,16 +14,16 @@ use Rattle.mps_base.specs.declared.refusal.Refusal.TheVariants as refusal
 use Rattle.mps_model.specs.declared.call.Call.TheVariants as call
 use Rattle.mps_model.specs.Answer.{Answer, is_refused, is_unsupported}
 use Rattle.mps_model.specs.Graph.{Slots, entries, entry_at, ids_in_blocks}
-use Rattle.mps_model.specs.World.{World, id_at, is_live, segment_of, covered, begins_in, is_any_size_kind, is_copying_kind, is_empty_segment, pool_is}
-use Rattle.mps_model.specs.Checked.{Checked, Found, Numbered, ◌>>=◌, required, block_place_in, entry_in, number_named, numbered, as_blocks}
+use Rattle.mps_model.specs.World.{World, id_at, is_live, segment_of, is_any_size_kind, is_copying_kind, is_empty_segment, pool_is}
+use Rattle.mps_model.specs.Checked.{Checked, Found, ◌>>=◌, required, block_place_in, entry_in, number_named, numbered, as_blocks}
 use Rattle.mps_model.specs.Accessing.{address_or_null}
-use Rattle.mps_model.specs.Effect.{world_after_move, world_after_moves, after_free, after_unseg, where_one}
+use Rattle.mps_model.specs.Effect.{world_after_moves, after_free, where_one}
 use Rattle.mps_model.specs.Log.{records_of, records_of_step}
-use Rattle.mps_model.specs.Replay.{Store, replay_from, after_freeing}
+use Rattle.mps_model.specs.Replay.{replay_from, after_freeing}
 use Rattle.mps_model.specs.Flip.{at_address}
-use Rattle.mps_model.specs.History.{world_after, free_of, free_at, give_back_empty, moves_of_free, unless_refused}
-use Rattle.mps_laws.proofs.Occupancy.{Occupancy, Occupant, occupancy_of, run_of}
-use Rattle.mps_laws.proofs.LaidOut.{IsLaidOut, is_at_hand, kind_in}
+use Rattle.mps_model.specs.History.{world_after, free_of, give_back_empty, moves_of_free, unless_refused}
+use Rattle.mps_laws.proofs.Occupancy.{Occupancy, occupancy_of}
+use Rattle.mps_laws.proofs.LaidOut.{kind_in}
 use Rattle.mps_laws.proofs.Finding.{id_at-there}
 use Rattle.mps_laws.proofs.LegalMoves.{HasLayout, IsReplayed, blocks_of, different, free_is}
 use Rattle.mps_laws.proofs.PoolKinds.{not_copying_and_any_size}
@@ -116,8 +116,8 @@ module _ (limit pools line : ℕ) (w : World) (laid : HasLayout limit w) where
   given_back v laid' None held = record { layout = laid'; blocks = refl }
   given_back v laid' (Some s) held =
       elim (pool_is is_any_size_kind v s.pool && is_empty_segment v s) as (λ b. (pool_is is_any_size_kind v s.pool && is_empty_segment v s) ≡ b
-          → IsReplayed limit v (world_after_moves v (if b then moves.Unseg (at_address s.base) ∷ [] else []))
-          (replay_from (blocks_of (occupancy_of v)) (records_of (if b then moves.Unseg (at_address s.base) ∷ [] else []) line))) [
+      → IsReplayed limit v (world_after_moves v (if b then moves.Unseg (at_address s.base) ∷ [] else []))
+      (replay_from (blocks_of (occupancy_of v)) (records_of (if b then moves.Unseg (at_address s.base) ∷ [] else []) line))) [
         | true ↦
             (λ is.
             let parts = and_parts (pool_is is_any_size_kind v s.pool) (is_empty_segment v s) is in

@@ -1,20 +1,19 @@
 -- Where something is placed in the gaps of segments, nobody has words; and a new segment has a gap that is long enough.
-use Rattle.std.proofs.Common.{◌≡◌, ◌∙◌, ◌⊎◌, ℕ, ◌+◌, ◌-◌, ◌*◌, ◌<◌, ◌≤◌, Bool, true, false, refl, sym, ap, List, [], ◌∷◌, ◌++◌, Option, Some, None, subst, inl, inr, arith}
+use Rattle.std.proofs.Common.{◌≡◌, ◌∙◌, ◌⊎◌, ℕ, ◌+◌, ◌-◌, ◌*◌, ◌<◌, ◌≤◌, Bool, true, false, refl, sym, ap, List, [], ◌∷◌, ◌++◌, Some, subst, inl, inr, arith}
 use Rattle.std.proofs.lemmas.Bool.{cases_lt, cases_Bool, cases_eq, false≢true, true≢false, and_parts, and_from, eqb-true, eq-eqb, le-leb, or_left, or_right}
-use Rattle.std.proofs.lemmas.Option.{none-some, same_Some}
+use Rattle.std.proofs.lemmas.Option.{none-some}
 use Rattle.std.specs.Prelude.{map, slice_get, ◌≢◌, ◌||◌, ◌&&◌, ◌==◌, not, nat_le, filter, if◌then◌else◌}
 use Rattle.std.specs.List.{AllByRecursion, list_any, flat_map}
-use Rattle.mps_base.specs.Address.{word_of, address_of_word}
-use Rattle.mps_base.specs.Run.{Run, Covers, IsAscending, end_of, gaps, between, lowest_fitting, in_order, runs_within, with_run}
-use Rattle.mps_base.specs.Segment.{Segment, end_of_segment, words_of_segment, is_open_to, same_rank, gaps_in, gaps_of, is_in_segment}
+use Rattle.mps_base.specs.Address.{word_of}
+use Rattle.mps_base.specs.Run.{Run, Covers, IsAscending, end_of, gaps, lowest_fitting, runs_within}
+use Rattle.mps_base.specs.Segment.{Segment, end_of_segment, words_of_segment, is_open_to, same_rank, gaps_in, gaps_of}
 use Rattle.mps_base.specs.declared.names.Rank.{Rank}
 use Rattle.mps_base.specs.declared.names.Rank.TheVariants as rank
 use Rattle.mps_base.proofs.Runs.{between_some}
 use Rattle.mps_model.specs.World.{is_copying_kind}
-use Rattle.mps_laws.proofs.InOrder.{all_weaker}
 use Rattle.mps_laws.proofs.ApartRuns.{AreApart, EndsWithin, ascending_within, all_runs_within, all_in_order, all_from_in_order, lowest_gap, put_apart, put_below}
-use Rattle.mps_laws.proofs.Segments.{IsAmong, IsAligned, among_aligned, same_by_word, segment_bounds}
-use Rattle.mps_laws.proofs.Occupancy.{Occupancy, Occupant, OfBlock, OfReservation, OfBuffer, OfTail, run_of}
+use Rattle.mps_laws.proofs.Segments.{IsAmong, among_aligned, same_by_word}
+use Rattle.mps_laws.proofs.Occupancy.{Occupancy, Occupant, run_of}
 use Rattle.mps_laws.proofs.LaidOut.{IsLaidOut, kind_in, is_at_hand}
 use Rattle.mps_laws.proofs.Covered.{covered_in, listed, all_listed, each_listed, covered_ascending}
 
@@ -35,7 +34,7 @@ in_either : (need : ℕ) (xs ys : List Run) (p : ℕ) → lowest_fitting need (x
 in_either need [] ys p h = inr h
 in_either need (x ∷ xs) ys p h =
     elim (nat_le need x.count) as (λ b. (if b then Some x.from else lowest_fitting need (xs ++ ys)) ≡ Some p
-        → ((if b then Some x.from else lowest_fitting need xs) ≡ Some p) ⊎ (lowest_fitting need ys ≡ Some p)) [
+    → ((if b then Some x.from else lowest_fitting need xs) ≡ Some p) ⊎ (lowest_fitting need ys ≡ Some p)) [
       | true ↦ (λ g. inl g)
       | false ↦ (λ g. in_either need xs ys p g)
     ] h
@@ -52,7 +51,7 @@ found_in : (test : Segment → Bool) (f : Segment → List Run) (ss : List Segme
 found_in test f [] need p h = absurd (none-some p h)
 found_in test f (s ∷ ss) need p h =
     elim (test s) as (λ b. test s ≡ b → lowest_fitting need (flat_map f (if b then s ∷ filter test ss else filter test ss)) ≡ Some p
-        → IsFoundIn test f (s ∷ ss) need p) [
+    → IsFoundIn test f (s ∷ ss) need p) [
       | true ↦
           (λ is g. elim (in_either need (f s) (flat_map f (filter test ss)) p g) [
             | inl here ↦ record { segment = s; held = inl refl; passes = is; fits = here }
@@ -168,7 +167,7 @@ fits_somewhere : (need : ℕ) (rs : List Run) → list_any (λ (r : Run). nat_le
 fits_somewhere need [] h = absurd (false≢true h)
 fits_somewhere need (r ∷ rs) h =
     elim (nat_le need r.count) as (λ b. (b || list_any (λ (x : Run). nat_le need x.count) rs) ≡ true
-        → (word : ℕ) × ((if b then Some r.from else lowest_fitting need rs) ≡ Some word)) [
+    → (word : ℕ) × ((if b then Some r.from else lowest_fitting need rs) ≡ Some word)) [
       | true ↦ (λ g. (r.from, refl))
       | false ↦ (λ g. fits_somewhere need rs g)
     ] h

@@ -1,13 +1,13 @@
 -- A segment more, where no segment was held: nobody has words in it until it is given to a tail or a buffer.
-use Rattle.std.proofs.Common.{◌≡◌, ◌∙◌, ◌⊎◌, ℕ, ◌+◌, ◌*◌, ◌/◌, ◌<◌, ◌≤◌, Bool, true, false, refl, sym, ap, List, [], ◌∷◌, length, Option, Some, None, subst, inl, inr, arith}
-use Rattle.std.proofs.lemmas.Bool.{cases_Bool, cases_eq, true≢false, false≢true}
-use Rattle.std.proofs.lemmas.Option.{none-some, same_Some, slice_get_within}
-use Rattle.std.specs.Prelude.{map, slice_get, slice_set, nat_lt, ◌≢◌, if◌then◌else◌}
+use Rattle.std.proofs.Common.{◌≡◌, ◌∙◌, ◌⊎◌, ℕ, ◌+◌, ◌/◌, ◌<◌, Bool, true, false, refl, sym, ap, List, [], ◌∷◌, length, Option, Some, None, subst, inl, inr, arith}
+use Rattle.std.proofs.lemmas.Bool.{cases_Bool, cases_eq, false≢true}
+use Rattle.std.proofs.lemmas.Option.{slice_get_within}
+use Rattle.std.specs.Prelude.{map, slice_get, slice_set, nat_lt, ◌≢◌}
 use Rattle.std.specs.Option.{option_map_or}
 use Rattle.std.specs.List.{AllByRecursion}
 use Rattle.mps_base.specs.Address.{Address, address_of_grain, grain_of}
-use Rattle.mps_base.specs.Placement.{Placement, Place, NewSegment, OverLimit, NoFreeRun, run_placement}
-use Rattle.mps_base.specs.Run.{Run, Covers, IsAscending, end_of, with_run, gaps, lowest_fitting, total}
+use Rattle.mps_base.specs.Placement.{NewSegment, OverLimit, run_placement}
+use Rattle.mps_base.specs.Run.{Run, Covers, IsAscending, with_run, gaps, lowest_fitting, total}
 use Rattle.mps_base.specs.Segment.{Segment, grains_of_segment, words_of_segment, with_segment}
 use Rattle.mps_base.specs.declared.names.Rank.{Rank}
 use Rattle.mps_base.specs.declared.names.Rank.TheVariants as rank
@@ -18,7 +18,7 @@ use Rattle.mps_laws.proofs.InOrder.{all_put}
 use Rattle.mps_laws.proofs.ApartRuns.{AreApart, lowest_gap, put_apart}
 use Rattle.mps_laws.proofs.Segments.{IsAmong, IsAligned, base_of, among_with, among_new, among_aligned, aligned_with, grains_with, grain_of_word, segment_bounds}
 use Rattle.mps_laws.proofs.Occupancy.{Occupancy, Occupant, OfBlock, OfReservation, OfBuffer, OfTail, PointShape, run_of, run_of_buffer, run_of_reservation, run_of_reserved}
-use Rattle.mps_laws.proofs.LaidOut.{Home, HomeOf, ArePlaced, IsLaidOut, IsRightlyRanked, IsKept, kind_in, placed_new, at_hand_again}
+use Rattle.mps_laws.proofs.LaidOut.{Home, HomeOf, IsLaidOut, IsRightlyRanked, IsKept, kind_in, placed_new, at_hand_again}
 use Rattle.mps_laws.proofs.Tails.{with_tail_of, own_tail, cases_tail}
 use Rattle.mps_laws.proofs.Lookups.{slice_get-set_same, slice_get-set_other, length-slice_set, there_is, entry_within}
 
@@ -224,19 +224,19 @@ module _ (limit : ℕ) (g : Occupancy) (s : Segment) (laid : IsLaidOut limit g) 
       let own = own_tail g.tails s.pool s.generation (words_of_segment s) in
       at_hand_again limit holding_it g.memories (with_tail_of g.tails s.pool s.generation (words_of_segment s)) held refl
       (placed_new holding_it g.shapes g.addresses g.points g.memories (with_tail_of g.tails s.pool s.generation (words_of_segment s))
-            (OfTail s.pool s.generation) tailed_kept
-            (λ some. subst (Home (with_segment s g.segments) g.pools g.condemned (OfTail s.pool s.generation) s.pool rank.Exact) (sym own) (record {
-              segment = s;
-              held = among_new s g.segments;
-              of_pool = refl;
-              of_rank = exact;
-              above = omega arith;
-              below = omega arith;
-              copying = λ _. copying;
-              spared = λ _. fresh_spared;
-              to_end = λ _. refl;
-            }))
-            (λ o n c d. fresh_unoccupied o n c (subst (λ (r : Run). Covers r n) own d)) held.placed)
+      (OfTail s.pool s.generation) tailed_kept
+      (λ some. subst (Home (with_segment s g.segments) g.pools g.condemned (OfTail s.pool s.generation) s.pool rank.Exact) (sym own) (record {
+        segment = s;
+        held = among_new s g.segments;
+        of_pool = refl;
+        of_rank = exact;
+        above = omega arith;
+        below = omega arith;
+        copying = λ _. copying;
+        spared = λ _. fresh_spared;
+        to_end = λ _. refl;
+      }))
+      (λ o n c d. fresh_unoccupied o n c (subst (λ (r : Run). Covers r n) own d)) held.placed)
 
   -- ---- given to a buffer
 
@@ -271,16 +271,16 @@ module _ (limit : ℕ) (g : Occupancy) (s : Segment) (laid : IsLaidOut limit g) 
       home = subst (Home (with_segment s g.segments) g.pools g.condemned (OfBuffer point)
           (option_map_or (λ (q : PointShape). q.pool) (entry_at g.points point) 0)
           (option_map_or (λ (q : PointShape). q.rank) (entry_at g.points point) rank.Exact)) (sym own) (record {
-        segment = s;
-        held = among_new s g.segments;
-        of_pool = pool_is (entry_at g.points point) e;
-        of_rank = rank_is (entry_at g.points point) e;
-        above = omega arith;
-        below = omega arith;
-        copying = λ _. copying;
-        spared = λ _. fresh_spared;
-        to_end = λ h. absurd (false≢true h);
-      })
+            segment = s;
+            held = among_new s g.segments;
+            of_pool = pool_is (entry_at g.points point) e;
+            of_rank = rank_is (entry_at g.points point) e;
+            above = omega arith;
+            below = omega arith;
+            copying = λ _. copying;
+            spared = λ _. fresh_spared;
+            to_end = λ h. absurd (false≢true h);
+          })
 
       buffered_kept : (point : ℕ) (o : Occupant) → (o ≡ OfBuffer point) ⊎ IsKept holding_it (buffered point) o
       buffered_kept point (OfBlock id) = inr (inl (record { run = refl; pool = refl; rank = refl }))

@@ -1,5 +1,5 @@
 -- What an arena is laid out by: whoever has words has them alone, and in a held segment. By components, not by worlds.
-use Rattle.std.proofs.Common.{◌≡◌, ◌∙◌, ◌⊎◌, ℕ, ◌+◌, ◌<◌, ◌≤◌, Bool, true, false, refl, sym, ap, List, [], ◌∷◌, length, Option, Some, None, subst, inl, inr, arith}
+use Rattle.std.proofs.Common.{◌≡◌, ◌∙◌, ◌⊎◌, ℕ, ◌<◌, ◌≤◌, Bool, true, false, sym, List, [], ◌∷◌, length, Option, Some, subst, inl, inr, arith}
 use Rattle.std.specs.Prelude.{map, slice_get, ◌≢◌}
 use Rattle.std.specs.Option.{option_map_or}
 use Rattle.std.specs.List.{AllByRecursion}

@@ -1,36 +1,27 @@
 -- Each legal move of the collector keeps an arena laid out, and its record makes of the live blocks those after it.
-use Rattle.std.proofs.Common.{◌≡◌, ◌∙◌, ◌⊎◌, ℕ, ◌+◌, ◌<◌, ◌≤◌, Bool, true, false, refl, sym, ap, List, [], ◌∷◌, length, Option, Some, None, subst, inl, inr, arith}
-use Rattle.std.proofs.lemmas.Bool.{cases_Bool, cases_eq, false≢true, true≢false, leb-true, eqb-true}
-use Rattle.std.proofs.lemmas.Option.{none-some, same_Some, slice_get-map}
+use Rattle.std.proofs.Common.{◌≡◌, ◌∙◌, ℕ, ◌+◌, ◌<◌, ◌≤◌, Bool, true, false, refl, sym, ap, List, length, Option, Some, None, inl, inr, arith}
+use Rattle.std.proofs.lemmas.Bool.{cases_Bool, false≢true, leb-true}
+use Rattle.std.proofs.lemmas.Option.{slice_get-map}
 use Rattle.std.proofs.lemmas.List.{length-map}
-use Rattle.std.specs.Prelude.{map, slice_get, slice_set, option_map, option_and_then, filter, find, not, nat_le, nat_lt, ◌==◌, ◌≢◌, if◌then◌else◌, IsTrue}
+use Rattle.std.specs.Prelude.{map, slice_get, slice_set, option_map, nat_le, nat_lt, if◌then◌else◌}
 use Rattle.std.specs.Option.{option_map_or}
-use Rattle.std.specs.List.{list_any}
 use Rattle.mps_base.specs.Address.{Address, address_of_word, address_of_grain, grains_needed}
 use Rattle.mps_base.specs.Placement.{Placement, Place, NewSegment, OverLimit, NoFreeRun, run_placement}
 use Rattle.mps_base.specs.Run.{Run, gaps, lowest_fitting, total}
-use Rattle.mps_base.specs.Segment.{Segment, with_segment, without_segment, words_of_segment}
-use Rattle.mps_base.specs.declared.moves.Move.{Move}
-use Rattle.mps_base.specs.declared.moves.Move.TheVariants as moves
+use Rattle.mps_base.specs.Segment.{Segment, words_of_segment}
 use Rattle.mps_model.specs.Graph.{Graph, Object, Cell, Body, Automatic, Manual, contains, without_first, entry_at, object_at, size_of_body, body_with_cells, object_with_cells, graph_with_cells, with_target_cell, retargeted, is_automatic}
 use Rattle.mps_model.specs.Collection.{Collection}
 use Rattle.mps_model.specs.World.{World, id_at, segment_at, object_is, pool_of, words_of, tail_of, is_copying_pool, is_copying_object, is_copying_kind, target_generation_for, held_grains, covered, begins_in, with_tail}
 use Rattle.mps_model.specs.Effect.{world_after_move, world_after_moves, after_segment, after_moved, after_splat, after_post, after_free, with_collection, with_address, giving_back, reclaiming, placing, splatting, posting, registration_of, segment_base_of, segment_of_move, words_after, condemned_by, condemnation_of, is_condemned_by, world_flipped, doomed_graph, without_buffer}
 use Rattle.mps_model.specs.Placement.{placement_at_front, new_segment_for}
-use Rattle.mps_model.specs.LegalMove.{ForOne, IsPlaceAt, IsNewSegmentAt, IsLegalMove, IsLegalMoved, IsLegalStay, IsLegalSplat, IsLegalPost, IsLegalSweep, IsLegalUnseg, IsSegmentForMove, AreLegalMoves, first_move}
-use Rattle.mps_model.specs.Log.{record_of, records_of}
-use Rattle.mps_model.specs.Replay.{Store, store_after, replay_from}
+use Rattle.mps_model.specs.LegalMove.{IsPlaceAt, IsNewSegmentAt}
+use Rattle.mps_model.specs.Replay.{Store}
 use Rattle.mps_laws.proofs.Lookups.{length-slice_set, map-slice_set, slice_set-same, there_is, entry_within}
-use Rattle.mps_laws.proofs.Occupancy.{Occupancy, Occupant, OfBlock, Shape, shape_of, shape_of_point, occupancy_of, condemned_in, run_of, run_of_block}
+use Rattle.mps_laws.proofs.Occupancy.{Occupancy, Occupant, OfBlock, Shape, shape_of, occupancy_of, condemned_in, run_of, run_of_block}
 use Rattle.mps_laws.proofs.LaidOut.{IsLaidOut, is_at_hand, kind_in}
-use Rattle.mps_laws.proofs.Blocks.{stored, blocks_in, AreDifferent, IsPlaced, replay-moved, replay-freed, replay-touched}
-use Rattle.mps_laws.proofs.Finding.{ForBoth, for_both, for_one, id_at-found}
+use Rattle.mps_laws.proofs.Blocks.{stored, blocks_in, AreDifferent, IsPlaced}
 use Rattle.mps_laws.proofs.Holding.{IsFresh, fresh_of_placement, held_laid_out, tailed_laid_out}
-use Rattle.mps_laws.proofs.Moving.{IsMoving, moved_laid_out, moved_to_free, freed_laid_out, words_after_in}
-use Rattle.mps_laws.proofs.Condemning.{ended_laid_out, condemning_laid_out, given_back_laid_out, doomed_shapes, without_first-none, without_reserved}
-use Rattle.mps_laws.proofs.Covered.{covered_in, covered-shapes, empty_is_no_home}
-use Rattle.mps_laws.proofs.Segments.{IsAmong, found_among}
-use Rattle.mps_laws.proofs.Tails.{with_tail_of}
+use Rattle.mps_laws.proofs.Condemning.{without_first-none}
 
 -- the arena of a world is laid out
 abbrev pub HasLayout : (limit : ℕ) → World → Type 0
@@ -133,7 +124,7 @@ pub free_is : (w : World) (id at : ℕ)
     → occupancy_of (after_free w id at) ≡ record (occupancy_of w) { addresses = slice_set w.addresses id None }
 free_is w id at =
     elim (object_is is_automatic w id) as (λ b. occupancy_of (if b then with_collection (with_address w id None) (reclaiming (segment_base_of w at))
-        else with_address w id None) ≡ record (occupancy_of w) { addresses = slice_set w.addresses id None }) [
+    else with_address w id None) ≡ record (occupancy_of w) { addresses = slice_set w.addresses id None }) [
       | true ↦ collection_kept (with_address w id None) (reclaiming (segment_base_of w at)) (λ c. refl)
       | false ↦ refl
     ]
@@ -167,7 +158,7 @@ pub at_front : (w : World) (r : Run) (words at : ℕ) → IsPlaceAt (placement_a
     → (words ≤ r.count) × (address_of_word r.from ≡ at)
 at_front w r words at h =
     elim (nat_le words r.count) as (λ b. nat_le words r.count ≡ b → IsPlaceAt (if b then Place r.from else new_segment_for w words) at
-        → (words ≤ r.count) × (address_of_word r.from ≡ at)) [
+    → (words ≤ r.count) × (address_of_word r.from ≡ at)) [
       | true ↦ (λ b g. (leb-true words r.count b, g))
       | false ↦ (λ b g. absurd (no_place w words at g))
     ] refl h
@@ -183,7 +174,7 @@ pub new_at_front : (w : World) (r : Run) (words base grains : ℕ) → IsNewSegm
     → (grain : ℕ) × (new_segment_for w words ≡ NewSegment grain grains) × (address_of_grain grain ≡ base)
 new_at_front w r words base grains h =
     elim (nat_le words r.count) as (λ b. IsNewSegmentAt (if b then Place r.from else new_segment_for w words) base grains
-        → (grain : ℕ) × (new_segment_for w words ≡ NewSegment grain grains) × (address_of_grain grain ≡ base)) [
+    → (grain : ℕ) × (new_segment_for w words ≡ NewSegment grain grains) × (address_of_grain grain ≡ base)) [
       | true ↦ (λ g. absurd g)
       | false ↦ (λ g. new_segment_is (new_segment_for w words) base grains g)
     ] h
@@ -229,8 +220,8 @@ pub segment_layout : (limit : ℕ) (w : World) (base grains pool generation : �
 segment_layout limit w base grains pool generation laid fresh =
     let s = segment_of_move base grains pool generation in
     elim (is_copying_pool w pool) as (λ b. is_copying_pool w pool ≡ b
-        → HasLayout limit (if b then with_tail (Rattle.mps_model.specs.Effect.holding w s) s.pool s.generation (words_of_segment s)
-        else Rattle.mps_model.specs.Effect.holding w s)) [
+    → HasLayout limit (if b then with_tail (Rattle.mps_model.specs.Effect.holding w s) s.pool s.generation (words_of_segment s)
+    else Rattle.mps_model.specs.Effect.holding w s)) [
       | true ↦ (λ copying. tailed_laid_out limit (occupancy_of w) s laid fresh refl copying)
       | false ↦ (λ other. held_laid_out limit (occupancy_of w) s laid fresh (exact_ranked w base grains pool generation))
     ] refl
@@ -238,7 +229,7 @@ segment_layout limit w base grains pool generation laid fresh =
 pub segment_blocks : (w : World) (s : Segment) → blocks_of (occupancy_of (after_segment w s)) ≡ blocks_of (occupancy_of w)
 segment_blocks w s =
     elim (is_copying_pool w s.pool) as (λ b. blocks_of (occupancy_of (if b then with_tail (Rattle.mps_model.specs.Effect.holding w s) s.pool s.generation (words_of_segment s)
-        else Rattle.mps_model.specs.Effect.holding w s)) ≡ blocks_of (occupancy_of w)) [
+    else Rattle.mps_model.specs.Effect.holding w s)) ≡ blocks_of (occupancy_of w)) [
       | true ↦ refl
       | false ↦ refl
     ]

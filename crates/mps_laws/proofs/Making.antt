@@ -1,22 +1,21 @@
 -- What calls make: an arena of other grains, a pool more, a point more or one dropped, a block where a reservation was, a new
 -- block or reservation where nobody had words, a reservation at a prefix of a buffer. The arena stays laid out.
-use Rattle.std.proofs.Common.{◌≡◌, ◌∙◌, ◌⊎◌, ℕ, zero, suc, ◌+◌, ◌-◌, ◌*◌, ◌<◌, ◌≤◌, Bool, true, false, refl, sym, ap, List, [], ◌∷◌, length, Option, Some, None, subst, inl, inr, arith}
-use Rattle.std.proofs.lemmas.Bool.{cases_Bool, cases_eq, cases_order, false≢true, true≢false}
-use Rattle.std.proofs.lemmas.Option.{none-some, same_Some, slice_get_within}
-use Rattle.std.specs.Prelude.{map, slice_get, slice_set, ◌≢◌}
+use Rattle.std.proofs.Common.{◌≡◌, ◌∙◌, ◌⊎◌, ℕ, zero, suc, ◌+◌, ◌<◌, ◌≤◌, refl, sym, ap, List, [], ◌∷◌, length, Option, Some, None, subst, inl, inr, arith}
+use Rattle.std.proofs.lemmas.Bool.{cases_eq, cases_order, false≢true}
+use Rattle.std.proofs.lemmas.Option.{none-some, same_Some}
+use Rattle.std.specs.Prelude.{map, slice_get, slice_set}
 use Rattle.std.specs.Option.{option_map_or}
-use Rattle.std.specs.List.{AllByRecursion}
-use Rattle.mps_base.specs.Address.{Address, word_of, address_of_word}
+use Rattle.mps_base.specs.Address.{Address, word_of}
 use Rattle.mps_base.specs.Run.{Run, Covers, IsAscending, end_of}
 use Rattle.mps_base.specs.Segment.{Segment, grains_of_segment, words_of_segment}
 use Rattle.mps_base.specs.declared.names.Rank.{Rank}
 use Rattle.mps_base.specs.declared.names.Rank.TheVariants as rank
 use Rattle.mps_model.specs.Graph.{entry_at, with_last}
-use Rattle.mps_model.specs.World.{Pool, PointMemory, extent, empty_run, is_copying_kind, is_weak_kind}
+use Rattle.mps_model.specs.World.{Pool, PointMemory, extent, is_copying_kind, is_weak_kind}
 use Rattle.mps_laws.proofs.InOrder.{all_weaker}
-use Rattle.mps_laws.proofs.Lookups.{opened, slice_get-last, slice_get-at_last, slice_get-after_last, slice_get-set_same, slice_get-set_other, entry_at-last, entry_at-at_last, entry_at-after_last, entry_at-set_same, entry_at-set_other, entry_at-set_none, entry_within, entry_within_set, length-with_last, length-slice_set, there_is}
+use Rattle.mps_laws.proofs.Lookups.{slice_get-last, slice_get-at_last, slice_get-after_last, slice_get-set_other, entry_at-last, entry_at-at_last, entry_at-after_last, entry_at-set_other, entry_at-set_none, entry_within, entry_within_set, length-with_last, length-slice_set, there_is}
 use Rattle.mps_laws.proofs.Occupancy.{Occupancy, Occupant, OfBlock, OfReservation, OfBuffer, OfTail, Shape, PointShape, run_of, run_of_block, run_of_reservation, run_of_reserved, run_of_buffer, pool_of_occupant, rank_of_occupant, rank_where}
-use Rattle.mps_laws.proofs.LaidOut.{Home, HomeOf, ArePlaced, IsLaidOut, IsRightShape, IsRightPointShape, IsRightlyRanked, IsKept, IsSame, IsGiven, kind_in, is_at_hand, is_tail, changed, placed_given, placed_kept, placed_new, laid_out_again}
+use Rattle.mps_laws.proofs.LaidOut.{Home, IsLaidOut, IsRightShape, IsRightPointShape, IsRightlyRanked, IsKept, placed_kept, placed_new, laid_out_again}
 use Rattle.mps_laws.proofs.PoolKinds.{kind_in-more}
 use Rattle.mps_laws.proofs.Segments.{IsAmong}
 

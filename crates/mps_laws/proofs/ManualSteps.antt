@@ -1,53 +1,46 @@
 -- The law of replay for steps that make and free manual blocks.
-use Rattle.std.proofs.Common.{◌≡◌, ◌∙◌, ◌⊎◌, ℕ, ◌+◌, ◌*◌, ◌<◌, ◌≤◌, Bool, true, false, refl, sym, ap, List, [], ◌∷◌, ◌++◌, length, Option, Some, None, Ok, Err, subst, inl, inr, arith}
-use Rattle.std.proofs.lemmas.Bool.{cases_Bool, false≢true, true≢false, and_parts, leb-true, eqb-true, or_cases}
-use Rattle.std.proofs.lemmas.Option.{none-some, same_Some}
-use Rattle.std.proofs.lemmas.List.{length-map, length-replicate}
-use Rattle.std.specs.Prelude.{map, slice_get, option_and_then, find, not, replicate, nat_le, ◌&&◌, ◌||◌, ◌==◌, is_some, if◌then◌else◌}
+use Rattle.std.proofs.Common.{◌≡◌, ◌∙◌, ℕ, ◌<◌, Bool, true, false, refl, sym, ap, List, Option, Some, None, Ok, Err, subst, arith}
+use Rattle.std.proofs.lemmas.Bool.{false≢true, and_parts, leb-true}
+use Rattle.std.proofs.lemmas.List.{length-replicate}
+use Rattle.std.specs.Prelude.{map, option_and_then, not, replicate, nat_le, ◌==◌, is_some, if◌then◌else◌}
 use Rattle.std.specs.Option.{option_map_or}
-use Rattle.std.specs.List.{list_any, list_all, flat_map}
 use Rattle.mps_base.specs.Address.{Address, word_of, address_of_word, address_of_grain, grains_needed}
 use Rattle.mps_base.specs.Placement.{Placement, Place, NewSegment, OverLimit, NoFreeRun}
-use Rattle.mps_base.specs.Run.{Run, Covers, end_of, lowest_fitting}
+use Rattle.mps_base.specs.Run.{Run, lowest_fitting}
 use Rattle.mps_base.specs.Segment.{Segment, with_segment, words_of_segment, gaps_of}
 use Rattle.mps_base.specs.declared.moves.Move.{Move}
-use Rattle.mps_base.specs.declared.moves.Move.TheVariants as moves
 use Rattle.mps_base.specs.declared.names.Name.{Name}
 use Rattle.mps_base.specs.declared.names.Rank.TheVariants as rank
 use Rattle.mps_base.specs.declared.names.Slot.{Slot}
 use Rattle.mps_base.specs.declared.refusal.Refusal.{Refusal}
 use Rattle.mps_base.specs.declared.refusal.Refusal.TheVariants as refusal
 use Rattle.mps_model.specs.declared.call.Call.TheVariants as call
-use Rattle.mps_model.specs.Answer.{Answer, is_refused, is_unsupported}
-use Rattle.mps_model.specs.Graph.{Object, Manual, Slots, contains, entries, entry_at, with_last, ids_in_blocks}
-use Rattle.mps_model.specs.World.{World, Pool, PoolKind, Collected, OneSize, AnySize, id_at, is_live, segment_of, covered, begins_in, is_automatic_kind, is_any_size_kind, is_copying_kind, is_copying_pool, is_empty_segment, pool_is, with_tail}
-use Rattle.mps_model.specs.Checked.{Act, Checked, Found, Numbered, ◌>>=◌, ◌>>◌, required, refuse_when, done, pool_named, block_place_in, entry_in, number_named, numbered, as_blocks}
+use Rattle.mps_model.specs.Answer.{Answer, is_unsupported}
+use Rattle.mps_model.specs.Graph.{Manual, with_last}
+use Rattle.mps_model.specs.World.{World, Pool, PoolKind, Collected, OneSize, AnySize, covered, is_automatic_kind, is_copying_pool, with_tail}
+use Rattle.mps_model.specs.Checked.{Act, Checked, Found, Numbered, ◌>>=◌, ◌>>◌, refuse_when, done, pool_named, block_place_in}
 use Rattle.mps_model.specs.Making.{is_block_size}
-use Rattle.mps_model.specs.Allocating.{act_alloc, act_free, allows_size, graph_allocated, refuse_without_place, address_of_placement}
-use Rattle.mps_model.specs.Accessing.{address_or_null}
+use Rattle.mps_model.specs.Allocating.{act_alloc, allows_size, graph_allocated, refuse_without_place, address_of_placement}
 use Rattle.mps_model.specs.Placement.{ForAlloc, placement_of, placement_in_gaps, new_segment_for}
-use Rattle.mps_model.specs.Effect.{world_after_move, world_after_moves, after_segment, after_free, after_unseg, where_one, holding, segment_of_move}
+use Rattle.mps_model.specs.Effect.{world_after_moves, after_segment, holding, segment_of_move}
 use Rattle.mps_model.specs.LegalMove.{IsPlaceAt}
 use Rattle.mps_model.specs.Reply.{answer_from, world_from}
-use Rattle.mps_model.specs.Log.{record_of, records_of, records_of_step}
-use Rattle.mps_model.specs.Replay.{Store, replay_from, after_making, after_freeing}
-use Rattle.mps_model.specs.Flip.{at_address}
-use Rattle.mps_model.specs.History.{world_after, alloc_at, moves_of_alloc, segment_taken, free_of, free_at, give_back_empty, moves_of_free, unless_refused}
-use Rattle.mps_laws.proofs.Lookups.{map-with_last, entry_within}
-use Rattle.mps_laws.proofs.Occupancy.{Occupancy, Occupant, Shape, shape_of, shape_of_point, occupancy_of, run_of}
-use Rattle.mps_laws.proofs.LaidOut.{IsLaidOut, IsRightShape, is_at_hand, kind_in}
-use Rattle.mps_laws.proofs.Blocks.{replay-made, AreDifferent}
-use Rattle.mps_laws.proofs.Covered.{covered_in, covered-shapes}
-use Rattle.mps_laws.proofs.Finding.{id_at-found, id_at-there}
-use Rattle.mps_laws.proofs.Gaps.{IsOpenRoom, room_in_gap}
+use Rattle.mps_model.specs.Log.{records_of, records_of_step}
+use Rattle.mps_model.specs.Replay.{Store, replay_from, after_making}
+use Rattle.mps_model.specs.History.{world_after, alloc_at, moves_of_alloc, unless_refused}
+use Rattle.mps_laws.proofs.Lookups.{map-with_last}
+use Rattle.mps_laws.proofs.Occupancy.{Shape, shape_of, occupancy_of}
+use Rattle.mps_laws.proofs.LaidOut.{IsLaidOut, IsRightShape}
+use Rattle.mps_laws.proofs.Blocks.{replay-made}
+use Rattle.mps_laws.proofs.Covered.{covered-shapes}
+use Rattle.mps_laws.proofs.Gaps.{room_in_gap}
 use Rattle.mps_laws.proofs.Holding.{fresh_unoccupied}
-use Rattle.mps_laws.proofs.LegalMoves.{HasLayout, IsReplayed, blocks_of, different, no_place, fresh_segment, exact_ranked}
+use Rattle.mps_laws.proofs.LegalMoves.{HasLayout, IsReplayed, blocks_of, no_place, fresh_segment, exact_ranked}
 use Rattle.mps_laws.proofs.Making.{IsRoom, block_laid_out, room_free}
-use Rattle.mps_laws.proofs.PoolKinds.{manual_not_copying, not_copying_and_any_size}
-use Rattle.mps_laws.proofs.ReplayOfMoves.{freed_replayed, given_back_replayed}
-use Rattle.mps_laws.proofs.Segments.{IsAmong, among_new, among_with, found_among}
-use Rattle.mps_laws.proofs.Acts.{pool_named-is, required-is, named_by}
-use Rattle.mps_laws.proofs.Steps.{answered_step, plain_step, as_replayed}
+use Rattle.mps_laws.proofs.PoolKinds.{manual_not_copying}
+use Rattle.mps_laws.proofs.Segments.{among_new}
+use Rattle.mps_laws.proofs.Acts.{pool_named-is}
+use Rattle.mps_laws.proofs.Steps.{answered_step}
 
 -- ---- what an alloc comes to
 
@@ -270,4 +263,3 @@ module _ (limit pools line : ℕ) (w : World) (laid : HasLayout limit w) where
       (alloc_case w (world_after_moves w ms) pool words into) (due ∙ ap (λ b. unless_refused b (moves_of_alloc w (pool_named w pool) words)) is))
 
 -- ---- a manual block is freed
-

@@ -1,20 +1,19 @@
 -- A block that moves to a prefix of the words at hand, and a block that is freed: the arena stays laid out.
-use Rattle.std.proofs.Common.{◌≡◌, ◌∙◌, ◌⊎◌, ℕ, ◌+◌, ◌-◌, ◌*◌, ◌<◌, ◌≤◌, Bool, true, false, refl, sym, ap, List, Option, Some, None, subst, inl, inr, arith}
-use Rattle.std.proofs.lemmas.Bool.{cases_Bool, cases_eq, false≢true, true≢false}
+use Rattle.std.proofs.Common.{◌≡◌, ◌∙◌, ◌⊎◌, ℕ, ◌+◌, ◌-◌, ◌*◌, ◌<◌, ◌≤◌, true, refl, sym, ap, List, Option, Some, None, subst, inl, inr, arith}
+use Rattle.std.proofs.lemmas.Bool.{cases_Bool, cases_eq, false≢true}
 use Rattle.std.proofs.lemmas.Option.{slice_get_within}
 use Rattle.std.specs.Prelude.{slice_get, slice_set, ◌≢◌}
 use Rattle.std.specs.Option.{option_map_or}
-use Rattle.mps_base.specs.Address.{Address, word_of, address_of_word}
-use Rattle.mps_base.specs.Run.{Run, Covers, end_of}
-use Rattle.mps_base.specs.Segment.{Segment, segment_over, end_of_segment, words_of_segment}
-use Rattle.mps_base.specs.declared.names.Rank.{Rank}
+use Rattle.mps_base.specs.Address.{word_of, address_of_word}
+use Rattle.mps_base.specs.Run.{Run}
+use Rattle.mps_base.specs.Segment.{Segment, segment_over, end_of_segment}
 use Rattle.mps_base.specs.declared.names.Rank.TheVariants as rank
 use Rattle.mps_model.specs.Graph.{entry_at}
 use Rattle.mps_model.specs.World.{extent, empty_run, is_copying_kind}
 use Rattle.mps_model.specs.Effect.{rest_of_segment}
 use Rattle.mps_laws.proofs.Lookups.{entry_at-set_same, entry_at-set_other, entry_at-set_none, length-slice_set, there_is, entry_within}
-use Rattle.mps_laws.proofs.Occupancy.{Occupancy, Occupant, OfBlock, OfReservation, OfBuffer, OfTail, Shape, run_of, run_of_block, run_of_tail, pool_of_occupant, rank_of_occupant, rank_where}
-use Rattle.mps_laws.proofs.LaidOut.{Home, HomeOf, IsLaidOut, IsKept, IsGiven, kind_in, is_tail, changed, placed_given, placed_kept, laid_out_again}
+use Rattle.mps_laws.proofs.Occupancy.{Occupancy, Occupant, OfBlock, OfReservation, OfBuffer, OfTail, Shape, run_of, run_of_block, run_of_tail, rank_where}
+use Rattle.mps_laws.proofs.LaidOut.{HomeOf, IsLaidOut, IsKept, IsGiven, kind_in, is_tail, placed_given, placed_kept, laid_out_again}
 use Rattle.mps_laws.proofs.PoolKinds.{not_copying_and_weak}
 use Rattle.mps_laws.proofs.Segments.{IsAligned, among_aligned, found_segment}
 use Rattle.mps_laws.proofs.Tails.{with_tail_of, own_tail, cases_tail}
@@ -98,11 +97,14 @@ module _ (limit : ℕ) (g : Occupancy) (id to generation : ℕ) (s : Shape) (lai
   kept (OfBlock j) =
       elim (cases_eq id j) [
         | inl e ↦ inl (ap OfBlock (sym e))
-        | inr n ↦ inr (inr ((λ e. false≢true (ap is_tail e)), inl (record {
-          run = ap (run_of_block (slice_get g.shapes j)) (entry_at-set_other g.addresses id j (Some to) n);
-          pool = refl;
-          rank = refl;
-        })))
+        | inr n ↦ inr (inr (
+          (λ e. false≢true (ap is_tail e)),
+          inl (record {
+            run = ap (run_of_block (slice_get g.shapes j)) (entry_at-set_other g.addresses id j (Some to) n);
+            pool = refl;
+            rank = refl;
+          }),
+        ))
       ]
   kept (OfReservation point) = inr (inr ((λ e. false≢true (ap is_tail e)), inl (record { run = refl; pool = refl; rank = refl })))
   kept (OfBuffer point) = inr (inr ((λ e. false≢true (ap is_tail e)), inl (record { run = refl; pool = refl; rank = refl })))

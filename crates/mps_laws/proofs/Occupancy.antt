@@ -1,5 +1,5 @@
 -- What lies where in the arena: of a world what tells the words of its blocks and reservations, and those at hand.
-use Rattle.std.specs.Prelude.{◌≡◌, ℕ, Bool, true, false, ◌+◌, ◌≤◌, ◌<◌, Option, Some, None, List, [], map, length, if◌then◌else◌, slice_get, find, refl}
+use Rattle.std.specs.Prelude.{ℕ, Bool, true, false, Option, Some, None, List, [], map, length, if◌then◌else◌, slice_get, find}
 use Rattle.std.specs.Option.{option_map_or}
 use Rattle.mps_base.specs.Address.{Address}
 use Rattle.mps_base.specs.Run.{Run}
@@ -8,7 +8,7 @@ use Rattle.mps_base.specs.declared.names.Rank.{Rank}
 use Rattle.mps_base.specs.declared.names.Rank.TheVariants as rank
 use Rattle.mps_model.specs.Graph.{Object, Point, Reservation, entry_at, size_of, is_weak_object}
 use Rattle.mps_model.specs.Collection.{Collection}
-use Rattle.mps_model.specs.World.{World, Pool, PoolKind, PointMemory, Tail, extent, empty_run, is_tail_of}
+use Rattle.mps_model.specs.World.{World, Pool, PointMemory, Tail, extent, empty_run, is_tail_of}
 
 -- what of an object tells where it may lie
 pub record Shape : Type 0 where

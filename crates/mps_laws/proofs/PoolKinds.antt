@@ -3,7 +3,6 @@ use Rattle.std.proofs.Common.{◌≡◌, ◌∙◌, ℕ, Bool, true, false, refl
 use Rattle.std.proofs.lemmas.Bool.{false≢true}
 use Rattle.std.specs.Prelude.{slice_get}
 use Rattle.std.specs.Option.{option_map_or}
-use Rattle.mps_base.specs.declared.names.Kind.{Kind}
 use Rattle.mps_base.specs.declared.names.Kind.TheVariants as kind
 use Rattle.mps_model.specs.Graph.{with_last}
 use Rattle.mps_model.specs.World.{Pool, PoolKind, Collected, OneSize, AnySize, is_copying_kind, is_weak_kind, is_any_size_kind, is_automatic_kind}

@@ -1,6 +1,6 @@
 -- The law of replay: whole steps, and histories.
-use Rattle.std.proofs.Common.{◌≡◌, ◌∙◌, ◌⊎◌, ℕ, ◌+◌, ◌<◌, ◌≤◌, Bool, true, false, refl, sym, ap, List, [], ◌∷◌, ◌++◌, length, Option, Some, None, subst, inl, inr, arith, max}
-use Rattle.std.proofs.lemmas.Bool.{false≢true, true≢false}
+use Rattle.std.proofs.Common.{◌≡◌, ◌∙◌, ◌⊎◌, ℕ, ◌+◌, ◌≤◌, Bool, true, false, refl, sym, ap, List, [], ◌∷◌, Some, None, subst, inl, inr, arith, max}
+use Rattle.std.proofs.lemmas.Bool.{false≢true}
 use Rattle.std.proofs.lemmas.Option.{none-some}
 use Rattle.std.proofs.lemmas.List.{length-map}
 use Rattle.std.specs.Prelude.{MatchBool, option_and_then}
@@ -9,7 +9,7 @@ use Rattle.mps_format.specs.Layout.{Layout}
 use Rattle.mps_base.specs.declared.moves.Move.{Move}
 use Rattle.mps_model.specs.declared.call.Call.{Call}
 use Rattle.mps_model.specs.declared.call.Call.TheVariants as call
-use Rattle.mps_model.specs.Answer.{Answer, is_unsupported, is_block}
+use Rattle.mps_model.specs.Answer.{Answer, is_unsupported}
 use Rattle.mps_model.specs.World.{World, empty_world_of}
 use Rattle.mps_model.specs.Effect.{world_after_moves}
 use Rattle.mps_model.specs.LegalMove.{AreLegalMoves}
@@ -20,12 +20,10 @@ use Rattle.mps_model.specs.History.{IsLegalStep, IsAnsweredStep, IsLegalFrom, mo
 use Rattle.mps_model.proofs.Appending.{replay_from-append}
 use Rattle.mps_laws.specs.Replay.{StepReplaysToLiveBlocks, LogReplaysToLiveBlocks}
 use Rattle.mps_laws.proofs.Occupancy.{Occupant, OfBlock, OfReservation, OfBuffer, OfTail, occupancy_of, shape_of, run_of}
-use Rattle.mps_laws.proofs.LaidOut.{IsLaidOut}
 use Rattle.mps_laws.proofs.Blocks.{live_blocks-stored}
 use Rattle.mps_laws.proofs.LegalMoves.{HasLayout, IsReplayed, blocks_of}
 use Rattle.mps_laws.proofs.ReplayOfMoves.{moves_replayed}
 use Rattle.mps_laws.proofs.Making.{arena_laid_out}
-use Rattle.mps_laws.proofs.Acts.{is_placing}
 use Rattle.mps_laws.proofs.Steps.{with_command, answered_step, plain_step, commit_step}
 use Rattle.mps_laws.proofs.ManualSteps.{alloc_step}
 use Rattle.mps_laws.proofs.FreeSteps.{BlocksAreLive, free_step}
@@ -121,8 +119,7 @@ steps_replayed limit pools w [] laid live legal = (record { limit = limit; layou
 steps_replayed limit pools w (s ∷ ss) laid live legal =
     let one = legal_step_replayed limit pools s.line w laid live s.call s.moves s.answer legal.0 in
     let rest = steps_replayed (limit_after limit s.call) (pools + pools_made_by s.call s.answer) (world_after w s) ss one.layout
-    (live_after w s live legal.0) legal.1 in
-    (
+    (live_after w s live legal.0) legal.1 in (
       record { limit = rest.0.limit; layout = rest.0.layout; live = rest.0.live },
       replay_from-append (blocks_of (occupancy_of w)) (records_of_step pools s) (log_from (pools + pools_made_by s.call s.answer) ss)
           ∙ ap (λ o. option_and_then (λ after. replay_from after (log_from (pools + pools_made_by s.call s.answer) ss)) o) one.blocks ∙ rest.1,

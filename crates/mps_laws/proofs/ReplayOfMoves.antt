@@ -1,8 +1,8 @@
 -- The law of replay for the collector's moves: one after the other they keep an arena laid out, and their records make of the
 -- live blocks those after them.
-use Rattle.std.proofs.Common.{◌≡◌, ◌∙◌, ◌⊎◌, ℕ, ◌+◌, ◌<◌, ◌≤◌, Bool, true, false, refl, sym, ap, List, [], ◌∷◌, length, Option, Some, None, subst, inl, inr, arith}
-use Rattle.std.proofs.lemmas.Bool.{cases_Bool, false≢true, true≢false, eqb-true}
-use Rattle.std.specs.Prelude.{map, slice_get, slice_set, option_map, option_and_then, find, not, ◌==◌, ◌≢◌, if◌then◌else◌}
+use Rattle.std.proofs.Common.{◌≡◌, ◌∙◌, ℕ, ◌<◌, ◌≤◌, Bool, true, false, refl, sym, ap, List, [], ◌∷◌, Option, Some, None, subst, inl, inr}
+use Rattle.std.proofs.lemmas.Bool.{cases_Bool, false≢true, eqb-true}
+use Rattle.std.specs.Prelude.{map, slice_set, option_and_then, not, ◌==◌, ◌≢◌}
 use Rattle.std.specs.Option.{option_map_or}
 use Rattle.std.specs.List.{list_any}
 use Rattle.mps_base.specs.Address.{Address}
@@ -12,14 +12,14 @@ use Rattle.mps_base.specs.declared.moves.Move.TheVariants as moves
 use Rattle.mps_model.specs.Graph.{Object, contains, without_first, object_at}
 use Rattle.mps_model.specs.Collection.{Collection}
 use Rattle.mps_model.specs.World.{World, id_at, segment_at, pool_of, words_of, tail_of, is_copying_pool, target_generation_for, covered, begins_in}
-use Rattle.mps_model.specs.Effect.{world_after_move, world_after_moves, after_moved, after_splat, after_post, after_free, after_unseg, after_flip, where_one, with_collection, with_address, giving_back, placing, segment_of_move, condemnation_of, is_condemned_by, world_flipped}
+use Rattle.mps_model.specs.Effect.{world_after_move, world_after_moves, after_moved, after_splat, after_post, after_free, after_unseg, after_flip, where_one, with_collection, placing, segment_of_move, condemnation_of, is_condemned_by, world_flipped}
 use Rattle.mps_model.specs.LegalMove.{ForOne, IsLegalMove, IsLegalSegment, IsLegalMoved, IsLegalStay, IsLegalSplat, IsLegalPost, IsLegalSweep, IsLegalUnseg, IsSegmentForMove, AreLegalMoves, first_move}
 use Rattle.mps_model.specs.Log.{record_of, records_of}
-use Rattle.mps_model.specs.Replay.{Store, store_after, replay_from, after_moving, after_touching, after_freeing}
+use Rattle.mps_model.specs.Replay.{store_after, replay_from, after_moving, after_touching, after_freeing}
 use Rattle.mps_laws.proofs.Occupancy.{Occupancy, Occupant, occupancy_of, condemned_in, shape_of, run_of}
-use Rattle.mps_laws.proofs.LaidOut.{IsLaidOut, is_at_hand, kind_in}
+use Rattle.mps_laws.proofs.LaidOut.{IsLaidOut, is_at_hand}
 use Rattle.mps_laws.proofs.Blocks.{replay-moved, replay-freed, replay-touched}
-use Rattle.mps_laws.proofs.Finding.{ForBoth, for_both, for_one, id_at-found}
+use Rattle.mps_laws.proofs.Finding.{for_both, for_one, id_at-found}
 use Rattle.mps_laws.proofs.Holding.{IsFresh}
 use Rattle.mps_laws.proofs.Moving.{IsMoving, moved_laid_out, moved_to_free, freed_laid_out, words_after_in}
 use Rattle.mps_laws.proofs.Condemning.{ended_laid_out, condemning_laid_out, given_back_laid_out, doomed_shapes}

@@ -1,5 +1,5 @@
 -- The law of replay for whole steps that reserve.
-use Rattle.std.proofs.Common.{◌≡◌, ◌∙◌, ℕ, ◌+◌, ◌<◌, Bool, true, false, refl, sym, ap, List, [], ◌∷◌, ◌++◌, length, Option, Some, None, Ok, Err, subst, arith}
+use Rattle.std.proofs.Common.{◌≡◌, ◌∙◌, ℕ, ◌+◌, ◌<◌, Bool, true, false, refl, sym, ap, List, [], ◌∷◌, length, Option, Some, None, Ok, Err, subst, arith}
 use Rattle.std.proofs.lemmas.List.{map-append}
 use Rattle.std.specs.Prelude.{option_map, option_and_then, not, is_some, if◌then◌else◌}
 use Rattle.mps_base.specs.Address.{address_of_grain}
@@ -15,7 +15,7 @@ use Rattle.mps_model.specs.Collection.{Collection}
 use Rattle.mps_model.specs.World.{World, Pool, id_at, is_copying_pool, object_is, pool_at}
 use Rattle.mps_model.specs.Graph.{is_automatic}
 use Rattle.mps_model.specs.Checked.{Act, Checked, Numbered, ◌>>=◌, ◌>>◌, required, refuse_when, done, as_point, number_named, point_named}
-use Rattle.mps_model.specs.Allocating.{Reserving, act_reserve, check_reserve, refuse_without_place, address_of_placement, with_reserved, takes_head, layout_of}
+use Rattle.mps_model.specs.Allocating.{Reserving, check_reserve, refuse_without_place, address_of_placement, with_reserved, takes_head, layout_of}
 use Rattle.mps_model.specs.Placement.{ForReserve, placement_of}
 use Rattle.mps_model.specs.Effect.{world_after_move, world_after_moves, after_segment, after_moved, after_splat, after_post, after_free, where_one, with_collection, with_address, placing, reclaiming, segment_base_of, segment_of_move, holding}
 use Rattle.mps_model.specs.LegalMove.{AreLegalMoves}
@@ -46,7 +46,7 @@ one_names w (Some id) change each = each id
 free_names : (w : World) (id at : ℕ) → (after_free w id at).graph.names ≡ w.graph.names
 free_names w id at =
     elim (object_is is_automatic w id) as (λ b. (if b then with_collection (with_address w id None) (reclaiming (segment_base_of w at))
-        else with_address w id None).graph.names ≡ w.graph.names) [
+    else with_address w id None).graph.names ≡ w.graph.names) [
       | true ↦ refl
       | false ↦ refl
     ]
@@ -54,7 +54,7 @@ free_names w id at =
 segment_names : (w : World) (s : Rattle.mps_base.specs.Segment.Segment) → (after_segment w s).graph.names ≡ w.graph.names
 segment_names w s =
     elim (is_copying_pool w s.pool) as (λ b. (if b then Rattle.mps_model.specs.World.with_tail (holding w s) s.pool s.generation (Rattle.mps_base.specs.Segment.words_of_segment s)
-        else holding w s).graph.names ≡ w.graph.names) [
+    else holding w s).graph.names ≡ w.graph.names) [
       | true ↦ refl
       | false ↦ refl
     ]
@@ -187,12 +187,12 @@ module _ (limit : ℕ) (v : World) (name : Name) (head : ℕ) (units : Option �
       subst (λ u. IsReservedIn limit v (world_from u (reserve_in u name head r)))
       (sym (asking_is units (Rattle.mps_model.specs.History.with_segment_for_point v s r.point.number)))
       (elim (is_copying_pool v r.point.value.pool) as (λ b. is_copying_pool v r.point.value.pool ≡ b → IsReservedIn limit v (world_from
-          (with_collection (if b then record (holding v own) {
-            point_memories = Rattle.mps_model.specs.History.with_buffer v.point_memories r.point.number (Rattle.mps_base.specs.Segment.words_of_segment s);
-          } else holding v own) (asked units))
-          (reserve_in (with_collection (if b then record (holding v own) {
-            point_memories = Rattle.mps_model.specs.History.with_buffer v.point_memories r.point.number (Rattle.mps_base.specs.Segment.words_of_segment s);
-          } else holding v own) (asked units)) name head r))) [
+      (with_collection (if b then record (holding v own) {
+        point_memories = Rattle.mps_model.specs.History.with_buffer v.point_memories r.point.number (Rattle.mps_base.specs.Segment.words_of_segment s);
+      } else holding v own) (asked units))
+      (reserve_in (with_collection (if b then record (holding v own) {
+        point_memories = Rattle.mps_model.specs.History.with_buffer v.point_memories r.point.number (Rattle.mps_base.specs.Segment.words_of_segment s);
+      } else holding v own) (asked units)) name head r))) [
         | true ↦
             (λ copying. reserved_by (with_collection (record (holding v own) {
               point_memories = Rattle.mps_model.specs.History.with_buffer v.point_memories r.point.number (Rattle.mps_base.specs.Segment.words_of_segment s);

@@ -1,50 +1,36 @@
 -- The law of replay for a step that reserves: its poll, the segment that it takes, and the reservation.
-use Rattle.std.proofs.Common.{◌≡◌, ◌∙◌, ◌⊎◌, ℕ, zero, suc, ◌+◌, ◌-◌, ◌*◌, ◌<◌, ◌≤◌, Bool, true, false, refl, sym, ap, List, [], ◌∷◌, ◌++◌, length, take, Option, Some, None, Ok, Err, subst, inl, inr, arith}
-use Rattle.std.proofs.lemmas.Bool.{cases_Bool, false≢true, true≢false, le-leb}
-use Rattle.std.proofs.lemmas.Option.{none-some, same_Some, slice_get-map}
+use Rattle.std.proofs.Common.{◌≡◌, ◌∙◌, ℕ, suc, ◌-◌, ◌*◌, ◌<◌, ◌≤◌, Bool, true, false, refl, sym, ap, List, [], ◌∷◌, ◌++◌, length, take, Some, subst, arith}
+use Rattle.std.proofs.lemmas.Bool.{le-leb}
+use Rattle.std.proofs.lemmas.Option.{slice_get-map}
 use Rattle.std.proofs.lemmas.List.{map-append}
-use Rattle.std.specs.Prelude.{map, slice_get, slice_set, option_map, option_and_then, not, nat_le, filter, is_some, if◌then◌else◌}
+use Rattle.std.specs.Prelude.{map, slice_get, slice_set, option_map, option_and_then, nat_le, filter, if◌then◌else◌}
 use Rattle.std.specs.Option.{option_map_or}
 use Rattle.mps_base.specs.Address.{Address, word_of, address_of_word, address_of_grain, grains_needed}
-use Rattle.mps_base.specs.Placement.{Placement, Place, NewSegment, OverLimit, NoFreeRun}
-use Rattle.mps_base.specs.Run.{Run, Covers, end_of, lowest_fitting}
-use Rattle.mps_base.specs.Segment.{Segment, words_of_segment, grains_of_segment, gaps_of, with_segment}
+use Rattle.mps_base.specs.Placement.{Place, NewSegment}
+use Rattle.mps_base.specs.Run.{lowest_fitting}
+use Rattle.mps_base.specs.Segment.{Segment, words_of_segment, grains_of_segment, gaps_of}
 use Rattle.mps_base.specs.declared.moves.Move.{Move}
-use Rattle.mps_base.specs.declared.moves.Move.TheVariants as moves
-use Rattle.mps_base.specs.declared.names.Name.{Name}
 use Rattle.mps_base.specs.declared.names.Rank.TheVariants as rank
-use Rattle.mps_base.specs.declared.refusal.Refusal.{Refusal}
-use Rattle.mps_base.specs.declared.refusal.Refusal.TheVariants as refusal
-use Rattle.mps_model.specs.declared.call.Call.TheVariants as call
-use Rattle.mps_model.specs.Answer.{Answer, is_unsupported}
-use Rattle.mps_model.specs.Graph.{Point, Reservation, Cell, entry_at, new_cells}
+use Rattle.mps_model.specs.Graph.{Point, Reservation, Cell, entry_at}
 use Rattle.mps_model.specs.Collection.{Collection}
-use Rattle.mps_model.specs.World.{World, Pool, PointMemory, covered, is_copying_pool, is_copying_kind, empty_run, pool_at, id_at}
+use Rattle.mps_model.specs.World.{World, PointMemory, covered, is_copying_pool}
 use Rattle.mps_model.specs.Making.{is_weak_rank}
-use Rattle.mps_model.specs.Checked.{Act, Checked, Numbered, ◌>>=◌, ◌>>◌, required, refuse_when, done, as_point, number_named, point_named}
-use Rattle.mps_model.specs.Allocating.{Reserving, act_reserve, check_reserve, refuse_without_place, address_of_placement, with_reserved, buffer_after, without_front, takes_head, layout_of}
+use Rattle.mps_model.specs.Checked.{Numbered}
+use Rattle.mps_model.specs.Allocating.{address_of_placement, with_reserved, buffer_after, without_front}
 use Rattle.mps_model.specs.Placement.{ForReserve, placement_of, placement_at_point, placement_at_front, placement_in_gaps, new_segment_for, buffer_of}
 use Rattle.mps_model.specs.Effect.{world_after_move, world_after_moves, holding, segment_of_move, where_one}
-use Rattle.mps_model.specs.LegalMove.{IsPlaceAt, IsNewSegmentAt, AreLegalMoves}
-use Rattle.mps_model.specs.Reply.{answer_from, world_from}
-use Rattle.mps_model.specs.Log.{records_of, records_of_step}
-use Rattle.mps_model.specs.Replay.{Store, replay_from}
-use Rattle.mps_model.specs.Policy.{units_asked}
-use Rattle.mps_model.specs.History.{world_after, asking, own_segment, moves_of_poll, last_move, is_segment_taken, after_own_segment, with_segment_for_point, with_buffer, rank_of_point, segment_of_reserve, segment_taken, segment_where_judged}
-use Rattle.mps_model.proofs.Appending.{replay_from-append}
+use Rattle.mps_model.specs.LegalMove.{IsPlaceAt}
+use Rattle.mps_model.specs.History.{own_segment, moves_of_poll, is_segment_taken, with_buffer, rank_of_point}
 use Rattle.mps_laws.proofs.Lookups.{map-slice_set, there_is, entry_within, entry_is_there}
-use Rattle.mps_laws.proofs.Occupancy.{Occupancy, Occupant, OfBuffer, PointShape, shape_of_point, reserved_words, occupancy_of, run_of, run_of_buffer}
-use Rattle.mps_laws.proofs.LaidOut.{IsLaidOut, IsRightlyRanked, kind_in}
+use Rattle.mps_laws.proofs.Occupancy.{PointShape, shape_of_point, reserved_words, occupancy_of}
+use Rattle.mps_laws.proofs.LaidOut.{IsLaidOut, IsRightlyRanked}
 use Rattle.mps_laws.proofs.Covered.{covered_in, covered-shapes}
 use Rattle.mps_laws.proofs.Gaps.{room_in_gap, gap_in_empty}
 use Rattle.mps_laws.proofs.Holding.{IsFresh, need_of_placement, held_laid_out, buffered_laid_out, fresh_unoccupied, own_buffer}
 use Rattle.mps_laws.proofs.LegalMoves.{HasLayout, IsReplayed, blocks_of, no_place, at_front, fresh_segment}
 use Rattle.mps_laws.proofs.ManualSteps.{place_in_gaps, new_in_gaps}
-use Rattle.mps_laws.proofs.ReplayOfMoves.{moves_replayed}
 use Rattle.mps_laws.proofs.Reserving.{reserved_laid_out, buffer_reserved_laid_out}
-use Rattle.mps_laws.proofs.Segments.{IsAmong, among_new}
-use Rattle.mps_laws.proofs.Acts.{point_named-is, required-is}
-use Rattle.mps_laws.proofs.Steps.{answered_step, asking_kept, as_replayed}
+use Rattle.mps_laws.proofs.Segments.{among_new}
 
 -- ---- the moves of a poll, and then the own segment
 
@@ -145,9 +131,9 @@ module _ (limit : ℕ) (a : World) (laid : HasLayout limit a) (p : Numbered Poin
   reserved_at_place word e =
       subst (λ q. HasLayout limit (with_reserved a p reservation (address_of_placement q))) (sym e)
       (elim (is_copying_pool a p.value.pool) as (λ b. is_copying_pool a p.value.pool ≡ b
-          → (if b then placement_at_front a (buffer_of a p.number) (length cells)
-          else placement_in_gaps a (gaps_of (covered a) a.segments p.value.pool p.value.rank) (length cells)) ≡ Place word
-          → HasLayout limit (with_reserved a p reservation (address_of_word word))) [
+      → (if b then placement_at_front a (buffer_of a p.number) (length cells)
+      else placement_in_gaps a (gaps_of (covered a) a.segments p.value.pool p.value.rank) (length cells)) ≡ Place word
+      → HasLayout limit (with_reserved a p reservation (address_of_word word))) [
         | true ↦ (λ is f. in_buffer word is f)
         | false ↦ (λ isnt f. in_gap word isnt f)
       ] refl (sym placed_as ∙ e))
@@ -159,11 +145,11 @@ new_for : (v : World) (n : ℕ) (p : Point) (words grain grains : ℕ) → place
     → new_segment_for v words ≡ NewSegment grain grains
 new_for v n p words grain grains e =
     elim (is_copying_pool v p.pool) as (λ b. (if b then placement_at_front v (buffer_of v n) words
-        else placement_in_gaps v (gaps_of (covered v) v.segments p.pool p.rank) words) ≡ NewSegment grain grains
-        → new_segment_for v words ≡ NewSegment grain grains) [
+    else placement_in_gaps v (gaps_of (covered v) v.segments p.pool p.rank) words) ≡ NewSegment grain grains
+    → new_segment_for v words ≡ NewSegment grain grains) [
       | true ↦
           (λ f. elim (nat_le words (buffer_of v n).count) as (λ b. (if b then Place (buffer_of v n).from else new_segment_for v words) ≡ NewSegment grain grains
-              → new_segment_for v words ≡ NewSegment grain grains) [
+          → new_segment_for v words ≡ NewSegment grain grains) [
             | true ↦ (λ h. absurd (cc))
             | false ↦ (λ h. h)
           ] f)

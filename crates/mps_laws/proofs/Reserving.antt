@@ -4,7 +4,7 @@ use Rattle.std.proofs.lemmas.Bool.{cases_eq, false≢true}
 use Rattle.std.proofs.lemmas.Option.{none-some, same_Some, slice_get_within}
 use Rattle.std.specs.Prelude.{slice_get, slice_set, ◌≢◌}
 use Rattle.std.specs.Option.{option_map_or}
-use Rattle.mps_base.specs.Address.{Address, word_of, address_of_word}
+use Rattle.mps_base.specs.Address.{word_of, address_of_word}
 use Rattle.mps_base.specs.Run.{Run, Covers, end_of}
 use Rattle.mps_base.specs.Segment.{Segment, words_of_segment}
 use Rattle.mps_base.specs.declared.names.Rank.{Rank}
@@ -14,8 +14,8 @@ use Rattle.mps_model.specs.Making.{is_weak_rank}
 use Rattle.mps_model.specs.World.{PointMemory, extent}
 use Rattle.mps_model.specs.Allocating.{without_front}
 use Rattle.mps_laws.proofs.Lookups.{entry_at-set_same, entry_at-set_other, entry_within, entry_within_set, slice_get-set_same, slice_get-set_other, length-slice_set, there_is}
-use Rattle.mps_laws.proofs.Occupancy.{Occupancy, Occupant, OfBlock, OfReservation, OfBuffer, OfTail, Shape, PointShape, run_of, run_of_block, run_of_reservation, run_of_reserved, run_of_buffer, pool_of_occupant, rank_of_occupant, rank_where}
-use Rattle.mps_laws.proofs.LaidOut.{Home, HomeOf, IsLaidOut, IsRightShape, IsRightPointShape, IsKept, IsGiven, is_tail, placed_given, placed_new, laid_out_again}
+use Rattle.mps_laws.proofs.Occupancy.{Occupancy, Occupant, OfBlock, OfReservation, OfBuffer, OfTail, Shape, PointShape, run_of, run_of_block, run_of_reservation, run_of_reserved, run_of_buffer, rank_where}
+use Rattle.mps_laws.proofs.LaidOut.{IsLaidOut, IsRightShape, IsRightPointShape, IsKept, IsGiven, placed_given, placed_new, laid_out_again}
 use Rattle.mps_laws.proofs.Making.{blocks_kept, new_run, new_pool, new_rank, right_shapes, more_lengths}
 use Rattle.mps_laws.proofs.Segments.{IsAmong}
 
@@ -297,12 +297,15 @@ module _ (limit : ℕ) (g : Occupancy) (laid : IsLaidOut limit g) (n : ℕ) (p :
     committed_kept (OfReservation q) =
         elim (cases_eq n q) [
           | inl e ↦ inr (inl (ap OfReservation (sym e)))
-          | inr other ↦ inr (inr ((λ e. other (sym (ap point_in e))), inl (record {
-            run =
-                ap (λ o. run_of_reservation o (slice_get g.memories q)) (entry_at-set_other g.points n q (Some (reserving None)) other);
-            pool = same_pool None q;
-            rank = same_rank None q;
-          })))
+          | inr other ↦ inr (inr (
+            (λ e. other (sym (ap point_in e))),
+            inl (record {
+              run =
+                  ap (λ o. run_of_reservation o (slice_get g.memories q)) (entry_at-set_other g.points n q (Some (reserving None)) other);
+              pool = same_pool None q;
+              rank = same_rank None q;
+            }),
+          ))
         ]
     committed_kept (OfBuffer q) =
         inr (inr ((λ e. false≢true (ap is_reservation e)), inl (record { run = refl; pool = same_pool None q; rank = same_rank None q })))

@@ -1,15 +1,14 @@
 -- Held segments: which one an address lies in, and where a new one is put.
-use Rattle.std.proofs.Common.{◌≡◌, ◌∙◌, ◌⊎◌, ℕ, ◌+◌, ◌*◌, ◌/◌, ◌<◌, ◌≤◌, Bool, true, false, refl, sym, ap, List, [], ◌∷◌, Option, Some, None, subst, inl, inr, arith}
-use Rattle.std.proofs.lemmas.Bool.{cases_lt, cases_Bool, and_parts, and_from, leb-true, ltb-true, le-leb, lt-ltb, true≢false, false≢true}
+use Rattle.std.proofs.Common.{◌≡◌, ◌∙◌, ◌⊎◌, ℕ, ◌+◌, ◌*◌, ◌/◌, ◌<◌, ◌≤◌, Bool, true, false, refl, sym, ap, List, [], ◌∷◌, Some, subst, inl, inr, arith}
+use Rattle.std.proofs.lemmas.Bool.{cases_lt, and_parts, and_from, leb-true, ltb-true, le-leb, lt-ltb, false≢true}
 use Rattle.std.proofs.lemmas.Option.{none-some, same_Some}
-use Rattle.std.specs.Prelude.{if◌then◌else◌, nat_lt, nat_le, ◌&&◌, map, find, filter, not, ◌==◌}
+use Rattle.std.specs.Prelude.{if◌then◌else◌, nat_lt, nat_le, map, find, not, ◌==◌}
 use Rattle.std.specs.List.{AllByRecursion}
-use Rattle.mps_base.specs.Address.{Address, grain_of, address_of_grain, address_of_word, word_of}
+use Rattle.mps_base.specs.Address.{Address, grain_of, address_of_grain, address_of_word}
 use Rattle.mps_base.specs.Run.{Run, Covers, IsAscending, end_of, with_run}
 use Rattle.mps_base.specs.Segment.{Segment, grains_of_segment, words_of_segment, end_of_segment, is_in_segment, with_segment, without_segment, segment_over}
 use Rattle.mps_base.proofs.Runs.{IsAscending-bounds, IsAscending-lower}
 use Rattle.mps_laws.proofs.InOrder.{put-lower, put-higher}
-use Rattle.mps_laws.proofs.ApartRuns.{AreApart}
 
 -- a value is among these
 abbrev pub IsAmong : {X : Type 0} → X → List X → Type 0
@@ -111,7 +110,7 @@ pub among_kept : (base : Address) (t : Segment) (ss : List Segment) → not (t.b
 among_kept base t [] other h = h
 among_kept base t (u ∷ us) other h =
     elim (not (u.base == base)) as (λ b. not (u.base == base) ≡ b
-        → IsAmong t (if b then u ∷ without_segment us base else without_segment us base)) [
+    → IsAmong t (if b then u ∷ without_segment us base else without_segment us base)) [
       | true ↦
           (λ is. elim h [
             | inl e ↦ inl e
@@ -138,7 +137,7 @@ pub ascending_without : (low limit : ℕ) (base : Address) (ss : List Segment) �
 ascending_without low limit base [] asc = asc
 ascending_without low limit base (u ∷ us) asc =
     elim (not (u.base == base)) as (λ b. IsAscending low limit (map grains_of_segment (if b then u ∷ without_segment us base
-        else without_segment us base))) [
+    else without_segment us base))) [
       | true ↦ (asc.0, asc.1, ascending_without (end_of (grains_of_segment u)) limit base us asc.2)
       | false ↦
           IsAscending-lower (end_of (grains_of_segment u)) low limit (map grains_of_segment (without_segment us base))
@@ -200,7 +199,7 @@ pub found_segment : (low limit : ℕ) (ss : List Segment) (s : Segment) → IsAs
 found_segment low limit [] s asc all h n c = absurd h
 found_segment low limit (t ∷ ts) s asc all h n c =
     elim (is_in_segment t (address_of_word n)) as (λ b. is_in_segment t (address_of_word n) ≡ b
-        → (if b then Some t else segment_over ts (address_of_word n)) ≡ Some s) [
+    → (if b then Some t else segment_over ts (address_of_word n)) ≡ Some s) [
       | true ↦
           (λ is. ap Some (same_by_word low limit (t ∷ ts) t s asc all (inl refl) h n (of_in_segment t n all.0 is) c))
       | false ↦

@@ -1,12 +1,11 @@
 -- The law of replay for whole steps whose call neither reserves nor makes a block; and for a commit.
-use Rattle.std.proofs.Common.{◌≡◌, ◌∙◌, ◌⊎◌, ℕ, ◌+◌, ◌<◌, ◌≤◌, Bool, true, false, refl, sym, ap, List, [], ◌∷◌, ◌++◌, length, Option, Some, None, Ok, Err, subst, inl, inr, arith, max}
-use Rattle.std.proofs.lemmas.Bool.{cases_Bool, false≢true, true≢false}
-use Rattle.std.proofs.lemmas.Option.{none-some, same_Some, slice_get-map}
+use Rattle.std.proofs.Common.{◌≡◌, ◌∙◌, ℕ, ◌+◌, Bool, true, false, refl, sym, ap, List, [], length, Option, Some, None, Ok, Err, subst, arith}
+use Rattle.std.proofs.lemmas.Bool.{true≢false}
+use Rattle.std.proofs.lemmas.Option.{slice_get-map}
 use Rattle.std.proofs.lemmas.List.{length-map}
-use Rattle.std.specs.Prelude.{map, slice_get, slice_set, option_map, option_and_then, MatchBool, if◌then◌else◌}
+use Rattle.std.specs.Prelude.{map, slice_set, option_map, option_and_then, if◌then◌else◌}
 use Rattle.std.specs.Option.{option_map_or}
 use Rattle.mps_base.specs.declared.moves.Move.{Move}
-use Rattle.mps_base.specs.declared.moves.Move.TheVariants as moves
 use Rattle.mps_base.specs.declared.names.Name.{Name}
 use Rattle.mps_base.specs.declared.names.Slot.{Slot}
 use Rattle.mps_base.specs.declared.refusal.Refusal.{Refusal}
@@ -14,22 +13,21 @@ use Rattle.mps_base.specs.declared.refusal.Refusal.TheVariants as refusal
 use Rattle.mps_model.specs.declared.call.Call.{Call}
 use Rattle.mps_model.specs.declared.call.Call.TheVariants as call
 use Rattle.mps_model.specs.declared.reply.Reply.TheVariants as reply
-use Rattle.mps_model.specs.Answer.{Answer, is_accepted, is_block, is_refused, is_unsupported}
-use Rattle.mps_model.specs.Graph.{Point, Reservation, entry_at, with_last, ids_of_client, object_at}
+use Rattle.mps_model.specs.Answer.{Answer, is_accepted, is_block, is_unsupported}
+use Rattle.mps_model.specs.Graph.{Point, Reservation, entry_at, with_last, ids_of_client}
 use Rattle.mps_model.specs.World.{World, PointMemory}
 use Rattle.mps_model.specs.Checked.{Act, Checked, Found, Numbered, ◌>>=◌, required, says, done, point_named, slot_in, with_graph}
 use Rattle.mps_model.specs.Allocating.{act_commit, with_reservation, world_committed, committed_object, reserved_address}
-use Rattle.mps_model.specs.Effect.{world_after_moves, with_collection}
+use Rattle.mps_model.specs.Effect.{world_after_moves}
 use Rattle.mps_model.specs.Reply.{act, answer_from, world_from}
-use Rattle.mps_model.specs.Log.{record_of, records_of, records_of_step, records_of_command, records_of_accepted}
+use Rattle.mps_model.specs.Log.{records_of, records_of_step, records_of_command, records_of_accepted}
 use Rattle.mps_model.specs.Replay.{Store, replay_from, after_making}
 use Rattle.mps_model.specs.Step.{Step}
-use Rattle.mps_model.specs.Flip.{at_address}
-use Rattle.mps_model.specs.History.{asking, judged_world, moved_world, after_its_moves, remembering, with_client_remembered, world_after, world_after_call, if_accepted, moves_of_commit, commit_of}
+use Rattle.mps_model.specs.History.{asking, judged_world, moved_world, remembering, with_client_remembered, world_after, if_accepted, moves_of_commit, commit_of}
 use Rattle.mps_model.specs.Policy.{units_asked}
 use Rattle.mps_model.proofs.Appending.{replay_from-append}
-use Rattle.mps_laws.proofs.Lookups.{map-slice_set, map-with_last, there_is, entry_within, entry_is_there, slice_set-same}
-use Rattle.mps_laws.proofs.Occupancy.{Occupancy, PointShape, shape_of, shape_of_point, reserved_words, occupancy_of}
+use Rattle.mps_laws.proofs.Lookups.{map-slice_set, map-with_last, there_is, entry_within, entry_is_there}
+use Rattle.mps_laws.proofs.Occupancy.{PointShape, shape_of, shape_of_point, reserved_words, occupancy_of}
 use Rattle.mps_laws.proofs.LaidOut.{IsLaidOut}
 use Rattle.mps_laws.proofs.Blocks.{replay-made}
 use Rattle.mps_laws.proofs.LegalMoves.{HasLayout, IsReplayed, blocks_of, collection_kept}
@@ -144,7 +142,7 @@ commit_last : (w : World) (point : Name) (p : Numbered Point) (slot : Found (Opt
     → CommitCase w point (if r.is_doomed then says reply.Flipped (with_graph w (with_reservation w.graph p None)) else done (world_committed w p r slot))
 commit_last w point p slot r e f =
     elim (r.is_doomed) as (λ b. r.is_doomed ≡ b
-        → CommitCase w point (if b then says reply.Flipped (with_graph w (with_reservation w.graph p None)) else done (world_committed w p r slot))) [
+    → CommitCase w point (if b then says reply.Flipped (with_graph w (with_reservation w.graph p None)) else done (world_committed w p r slot))) [
       | true ↦ (λ is. flips p r e f is)
       | false ↦ (λ isnt. makes p r slot e f isnt)
     ] refl
