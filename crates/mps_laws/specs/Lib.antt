@@ -1,2 +1,5 @@
 pub mod OneHistory
 pub mod Replay
+pub mod Held
+pub mod Staying
+pub mod Depending

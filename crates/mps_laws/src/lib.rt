@@ -3,6 +3,9 @@
 #![tactic(auto)]
 
 ghost use Rattle.mps_laws.specs.OneHistory.{LogTellsOneHistory};
+ghost use Rattle.mps_laws.specs.Held.{HeldObjectsAreLive, GetsReachLiveObjects};
+ghost use Rattle.mps_laws.specs.Staying.{HeldBlocksStay, AddressesStayRight};
+ghost use Rattle.mps_laws.specs.Depending.{FreshDependenciesHold};
 ghost use Rattle.mps_laws.specs.Replay.{StepReplaysToLiveBlocks, LogReplaysToLiveBlocks};
 
 /// Commands with their lines, their answers and the log determine the history: no two histories have one log.
@@ -15,4 +18,34 @@ pub fn a_log_tells_one_history()
 pub fn a_log_replays_to_the_live_blocks()
     ensures step { StepReplaysToLiveBlocks }
     ensures log { LogReplaysToLiveBlocks }
+{}
+
+/// What a client holds is live, after each step: whatever stands in a slot, a hold of an area word, a message, a live
+/// reservation or a table of blocks; and where no collection runs, whatever a live object refers to.
+pub fn held_objects_are_live()
+    ensures { HeldObjectsAreLive }
+{}
+
+/// A `get` never reaches a freed block: where it is accepted the object that it reads is live, and its target slot is then
+/// null or refers to a live object, the one in the cell.
+pub fn gets_reach_live_objects()
+    ensures { GetsReachLiveObjects }
+{}
+
+/// What stands in a slot, a hold of an area word, a message or a live reservation at the end of a step stays where it is, for as
+/// long as it lives, up to the next step that has a flip: also while a collection runs, and where the client drops it meanwhile.
+pub fn held_blocks_stay()
+    ensures { HeldBlocksStay }
+{}
+
+/// The address that `addr` answers stays right up to the next step that has a flip: the object lies there for as long as it
+/// lives.
+pub fn addresses_stay_right()
+    ensures { AddressesStayRight }
+{}
+
+/// Where `ldstale` answers `no`, each block on which the dependency depends lies at the address where it was when it was added,
+/// unless it is live no more.
+pub fn fresh_dependencies_hold()
+    ensures { FreshDependenciesHold }
 {}

@@ -1,0 +1,333 @@
+-- The pools of objects and of points: they were made before these, and no pool is ever dropped.
+use Rattle.std.proofs.Common.{◌≡◌, ◌∙◌, ℕ, zero, suc, ◌+◌, ◌<◌, ◌≤◌, Bool, true, false, refl, sym, ap, subst, List, [], ◌∷◌, ◌++◌, map, length, length-append, Option, Some, None, Ok, Err, arith}
+use Rattle.std.proofs.lemmas.List.{map-append}
+use Rattle.std.proofs.lemmas.Option.{none-some, same_Some, slice_get_within}
+use Rattle.std.specs.Prelude.{if◌then◌else◌, not, is_some, slice_get, slice_set, replicate}
+use Rattle.std.specs.List.{AllByRecursion}
+use Rattle.mps_base.specs.Segment.{Segment, words_of_segment}
+use Rattle.mps_base.specs.declared.moves.Move.{Move}
+use Rattle.mps_base.specs.declared.moves.Move.TheVariants as moves
+use Rattle.mps_base.specs.declared.names.Name.{Name}
+use Rattle.mps_base.specs.declared.names.Rank.{Rank}
+use Rattle.mps_base.specs.declared.names.Slot.{Slot}
+use Rattle.mps_base.specs.declared.refusal.Refusal.TheVariants as refusal
+use Rattle.mps_model.specs.declared.call.Call.{Call}
+use Rattle.mps_model.specs.declared.call.Call.TheVariants as call
+use Rattle.mps_model.specs.declared.reply.Reply.TheVariants as reply
+use Rattle.mps_model.specs.Answer.{is_block}
+use Rattle.mps_model.specs.Step.{Step}
+use Rattle.mps_model.specs.Graph.{Object, Manual, Point, Reservation, Cell, NumberCell, entry_at, is_automatic, with_last, with_target_cell}
+use Rattle.mps_model.specs.World.{World, Pool, id_at, is_copying_pool, is_automatic_kind, object_is, with_tail}
+use Rattle.mps_model.specs.Checked.{Act, Checked, Found, Numbered, required, refuse_when, done, says, number_named, as_point, pool_named, point_named, slot_in, block_place_in, number_at, reference_at, with_graph}
+use Rattle.mps_model.specs.Making.{act_point, act_drop_point, live_points, may_have_point, most_points, refuse_at_limit, refuse_taken}
+use Rattle.mps_model.specs.Placement.{ForReserve, ForAlloc, placement_of}
+use Rattle.mps_model.specs.Allocating.{act_alloc, act_commit, act_init_number, act_init_reference, act_reserve, allows_size, check_reserve, committed_object, refuse_without_place, with_reservation, with_reserved_cells, world_committed}
+use Rattle.mps_model.specs.Effect.{where_one, world_after_move, world_after_moves, after_splat, doomed, holding, segment_of_move, with_address, with_collection, reclaiming, segment_base_of}
+use Rattle.mps_model.specs.Reply.{act, world_from}
+use Rattle.mps_model.specs.History.{after_its_moves, after_own_segment, asking, judged_world, moved_world, moves_of_poll, own_segment, rank_of_point, with_buffer, with_client_remembered, world_after}
+use Rattle.mps_model.specs.Policy.{units_asked}
+use Rattle.mps_laws.proofs.Entries.{GoesOn}
+use Rattle.mps_laws.proofs.Acts.{pool_named-is, point_named-is, ForAct, accepted, refused, with_value, after_check}
+use Rattle.mps_laws.proofs.LeftByActs.{andthen, Leaves, owners, owners-graph_with_cells, act_leaves, changes_points, makes_objects}
+use Rattle.mps_laws.proofs.LegalHistories.{IsAnswered}
+
+abbrev pub IsPoolThere : List Pool → ℕ → Type 0
+IsPoolThere pools number = number < length pools
+
+abbrev pub IsPointPoolThere : List Pool → Option Point → Type 0
+IsPointPoolThere pools None = Unit {0}
+IsPointPoolThere pools (Some p) = IsPoolThere pools p.pool
+
+-- each object and each point is of a pool that there is
+pub record ArePoolsThere (owned : List ℕ) (points : List (Option Point)) (pools : List Pool) : Type 0 where
+  pub of_objects : AllByRecursion (IsPoolThere pools) owned
+  pub of_points : AllByRecursion (IsPointPoolThere pools) points
+
+abbrev pub HasPools : World → Type 0
+HasPools w = ArePoolsThere (owners w.graph) w.graph.points w.pools
+
+-- ---- lists
+
+more_pools : (pools more : List Pool) → length pools ≤ length more → (ns : List ℕ) → AllByRecursion (IsPoolThere pools) ns
+    → AllByRecursion (IsPoolThere more) ns
+more_pools pools more grows [] all = tt
+more_pools pools more grows (n ∷ ns) all =
+    (let l : n < length pools = all.0 in omega (arith, l, grows), more_pools pools more grows ns all.1)
+
+more_for_points : (pools more : List Pool) → length pools ≤ length more → (ps : List (Option Point))
+    → AllByRecursion (IsPointPoolThere pools) ps → AllByRecursion (IsPointPoolThere more) ps
+more_for_points pools more grows [] all = tt
+more_for_points pools more grows (None ∷ ps) all = (tt, more_for_points pools more grows ps all.1)
+more_for_points pools more grows (Some p ∷ ps) all =
+    (let l : p.pool < length pools = all.0 in omega (arith, l, grows), more_for_points pools more grows ps all.1)
+
+grown : {X : Type 0} (before after : List X) → GoesOn before after → length before ≤ length after
+grown before after more =
+    let l : length (before ++ more.0) ≡ length before + length more.0 = length-append before more.0 in
+    let e : length after ≡ length (before ++ more.0) = ap length more.1 in
+    omega (arith, l, e)
+
+all-set : {X : Type 0} (Holds : X → Type 0) (xs : List X) (n : ℕ) (x : X) → AllByRecursion Holds xs → Holds x
+    → AllByRecursion Holds (slice_set xs n x)
+all-set Holds [] n x all h = tt
+all-set Holds (y ∷ ys) zero x all h = (h, all.1)
+all-set Holds (y ∷ ys) (suc n) x all h = (all.0, all-set Holds ys n x all.1 h)
+
+all-last : {X : Type 0} (Holds : X → Type 0) (xs : List X) (x : X) → AllByRecursion Holds xs → Holds x
+    → AllByRecursion Holds (with_last xs x)
+all-last Holds [] x all h = (h, tt)
+all-last Holds (y ∷ ys) x all h = (all.0, all-last Holds ys x all.1 h)
+
+pub all-at : {X : Type 0} (Holds : X → Type 0) (xs : List X) (n : ℕ) (x : X) → AllByRecursion Holds xs → slice_get xs n ≡ Some x → Holds x
+all-at Holds [] n x all there = absurd (none-some x there)
+all-at Holds (y ∷ ys) zero x all there = subst Holds (same_Some y x there) all.0
+all-at Holds (y ∷ ys) (suc n) x all there = all-at Holds ys n x all.1 there
+
+point-at : (pools : List Pool) (ps : List (Option Point)) (n : ℕ) (p : Point) → AllByRecursion (IsPointPoolThere pools) ps
+    → entry_at ps n ≡ Some p
+    → IsPoolThere pools p.pool
+point-at pools [] n p all there = absurd (none-some p there)
+point-at pools (None ∷ ps) zero p all there = absurd (none-some p there)
+point-at pools (Some q ∷ ps) zero p all there = subst (λ (x : Point). IsPoolThere pools x.pool) (same_Some q p there) all.0
+point-at pools (q ∷ ps) (suc n) p all there = point-at pools ps n p all.1 there
+
+all_doomed : (pools : List Pool) (ps : List (Option Point)) → AllByRecursion (IsPointPoolThere pools) ps
+    → AllByRecursion (IsPointPoolThere pools) (map doomed ps)
+all_doomed pools [] all = tt
+all_doomed pools (None ∷ ps) all = (tt, all_doomed pools ps all.1)
+all_doomed pools (Some p ∷ ps) all = (all.0, all_doomed pools ps all.1)
+
+-- ---- moves
+
+-- what moves leave of the pools
+pub record LeavesPools (w v : World) : Type 0 where
+  pub pools : v.pools ≡ w.pools
+  pub there : HasPools w → HasPools v
+
+as_before : (w : World) → LeavesPools w w
+as_before w = record { pools = refl; there = λ h. h }
+
+one_leaves : (w : World) (found : Option ℕ) (change : ℕ → World) → ((id : ℕ) → LeavesPools w (change id))
+    → LeavesPools w (where_one w found change)
+one_leaves w None change leaves = as_before w
+one_leaves w (Some id) change leaves = leaves id
+
+segment_leaves : (w : World) (s : Segment) (b : Bool)
+    → LeavesPools w (if b then with_tail (holding w s) s.pool s.generation (words_of_segment s) else holding w s)
+segment_leaves w s true = record { pools = refl; there = λ h. h }
+segment_leaves w s false = record { pools = refl; there = λ h. h }
+
+free_leaves : (w : World) (id at : ℕ) (b : Bool)
+    → LeavesPools w (if b then with_collection (with_address w id None) (reclaiming (segment_base_of w at)) else with_address w id None)
+free_leaves w id at true = record { pools = refl; there = λ h. h }
+free_leaves w id at false = record { pools = refl; there = λ h. h }
+
+splat_leaves : (w : World) (holder cell : ℕ) → LeavesPools w (after_splat w holder cell)
+splat_leaves w holder cell = record {
+  pools = refl;
+  there = λ h. record {
+    of_objects = subst (AllByRecursion (IsPoolThere w.pools))
+        (sym (owners-graph_with_cells w.graph holder (λ cells. with_target_cell cells cell None))) h.of_objects;
+    of_points = h.of_points;
+  };
+}
+
+pub move_leaves_pools : (w : World) (m : Move) → LeavesPools w (world_after_move w m)
+move_leaves_pools w (moves.Seg base grains pool generation) =
+    let s = segment_of_move base.0 grains pool generation in segment_leaves w s (is_copying_pool w s.pool)
+move_leaves_pools w (moves.Unseg base) = record { pools = refl; there = λ h. h }
+move_leaves_pools w (moves.Flip zones chain generation) =
+    record { pools = refl; there = λ h. record { of_objects = h.of_objects; of_points = all_doomed w.pools w.graph.points h.of_points } }
+move_leaves_pools w moves.End = record { pools = refl; there = λ h. h }
+move_leaves_pools w (moves.Moved from to) = one_leaves w (id_at w from.0) _ (λ id. record { pools = refl; there = λ h. h })
+move_leaves_pools w (moves.Stay at) = one_leaves w (id_at w at.0) _ (λ id. record { pools = refl; there = λ h. h })
+move_leaves_pools w (moves.Splat holder cell) = one_leaves w (id_at w holder.0) _ (λ id. splat_leaves w id cell)
+move_leaves_pools w (moves.Post at) = one_leaves w (id_at w at.0) _ (λ id. record { pools = refl; there = λ h. h })
+move_leaves_pools w (moves.Commit at words pool) = as_before w
+move_leaves_pools w (moves.Alloc at words pool) = as_before w
+move_leaves_pools w (moves.Free at) = one_leaves w (id_at w at.0) _ (λ id. free_leaves w id at.0 (object_is is_automatic w id))
+
+LeavesPools-then : (u v w : World) → LeavesPools u v → LeavesPools v w → LeavesPools u w
+LeavesPools-then u v w first second = record { pools = second.pools ∙ first.pools; there = λ h. second.there (first.there h) }
+
+pub moves_leave_pools : (w : World) (ms : List Move) → LeavesPools w (world_after_moves w ms)
+moves_leave_pools w [] = as_before w
+moves_leave_pools w (m ∷ ms) =
+    LeavesPools-then w (world_after_move w m) (world_after_moves (world_after_move w m) ms) (move_leaves_pools w m)
+    (moves_leave_pools (world_after_move w m) ms)
+
+own_segment_leaves : (w : World) (ms : List Move) (point : Option ℕ) → LeavesPools w (after_own_segment w ms point)
+own_segment_leaves w [] point = as_before w
+own_segment_leaves w (moves.Seg base grains pool generation ∷ ms) None = as_before w
+own_segment_leaves w (moves.Seg base grains pool generation ∷ ms) (Some point) = by_case (is_copying_pool w pool)
+  where
+    s : Segment
+    s = segment_of_move base.0 grains pool generation
+
+    by_case : (b : Bool) → LeavesPools w (if b then record (holding w (record s { rank = rank_of_point w point })) {
+      point_memories = with_buffer w.point_memories point (words_of_segment s);
+    } else holding w (record s { rank = rank_of_point w point }))
+    by_case true = record { pools = refl; there = λ h. h }
+    by_case false = record { pools = refl; there = λ h. h }
+own_segment_leaves w (_ ∷ ms) point = as_before w
+
+asking_leaves : (units : Option ℕ) (w : World) → LeavesPools w (asking units w)
+asking_leaves None w = as_before w
+asking_leaves (Some units) w = record { pools = refl; there = λ h. h }
+
+its_moves_leave : (w : World) (c : Call) (ms : List Move) → LeavesPools w (after_its_moves w c ms)
+its_moves_leave w (call.Reserve point head) ms =
+    LeavesPools-then w (world_after_moves w (moves_of_poll ms)) (after_its_moves w (call.Reserve point head) ms)
+    (moves_leave_pools w (moves_of_poll ms))
+    (own_segment_leaves (world_after_moves w (moves_of_poll ms)) (own_segment ms) (number_named w point as_point))
+its_moves_leave w _ ms = moves_leave_pools w ms
+
+pub moved_world_leaves : (w : World) (c : Call) (ms : List Move) → LeavesPools w (moved_world w c ms)
+moved_world_leaves w c ms =
+    LeavesPools-then w (after_its_moves w c ms) (moved_world w c ms) (its_moves_leave w c ms)
+    (asking_leaves (units_asked w c) (after_its_moves w c ms))
+
+-- ---- the acts that make objects or change points
+
+named_pool : (w : World) (name : Name) (p : Numbered Pool) → pool_named w name ≡ Ok p → IsPoolThere w.pools p.number
+named_pool w name p e = slice_get_within w.pools p.number p.value (pool_named-is w name p e)
+
+named_point : (w : World) (name : Name) (p : Numbered Point) → HasPools w → point_named w name ≡ Ok p → IsPoolThere w.pools p.value.pool
+named_point w name p h e = point-at w.pools w.graph.points p.number p.value h.of_points (point_named-is w name p e).1
+
+module _ (v : World) (h : HasPools v) where
+  -- a point has another reservation, or none
+  reservation_has_pools : (p : Numbered Point) (r : Option Reservation) → IsPoolThere v.pools p.value.pool
+      → HasPools (with_graph v (with_reservation v.graph p r))
+  reservation_has_pools p r there = record {
+    of_objects = h.of_objects;
+    of_points = all-set (IsPointPoolThere v.pools) v.graph.points p.number (Some (record p.value { reservation = r })) h.of_points there;
+  }
+
+  reserved_has_pools : (p : Numbered Point) (r : Reservation) (cells : List Cell) → IsPoolThere v.pools p.value.pool
+      → HasPools (with_reserved_cells v p r cells)
+  reserved_has_pools p r cells there = by_case r.is_doomed
+    where
+      by_case : (b : Bool) → HasPools (if b then v else with_graph v (with_reservation v.graph p (Some (record r { cells = cells }))))
+      by_case true = h
+      by_case false = reservation_has_pools p (Some (record r { cells = cells })) there
+
+  point_has_pools : (name pool : Name) (rank : Rank) → ForAct HasPools (act_point v name pool rank)
+  point_has_pools name pool rank =
+      after_check (refuse_taken v name) (with_value (pool_named v pool) (λ of e.
+      after_check (refuse_when (not (may_have_point of.value.kind rank)) refusal.WrongPool)
+      (after_check (refuse_at_limit (live_points v.graph) most_points) (accepted (record {
+        of_objects = h.of_objects;
+        of_points = all-last (IsPointPoolThere v.pools) v.graph.points (Some (record { pool = of.number; rank = rank; reservation = None }))
+            h.of_points (named_pool v pool of e);
+      })))))
+
+  drop_has_pools : (name : Name) → ForAct HasPools (act_drop_point v name)
+  drop_has_pools name =
+      andthen (point_named v name) (λ p. after_check (refuse_when (is_some p.value.reservation) refusal.Open) (accepted (record {
+        of_objects = h.of_objects;
+        of_points = all-set (IsPointPoolThere v.pools) v.graph.points p.number None h.of_points tt;
+      })))
+
+  reserve_has_pools : (judged : World) (name : Name) (head : ℕ) → ForAct HasPools (act_reserve judged v name head)
+  reserve_has_pools judged name head =
+      andthen (check_reserve judged name head) (λ r.
+      after_check (refuse_without_place (placement_of judged (ForReserve r.point.number (length r.cells))))
+      (with_value (point_named v name) (λ p e. accepted (record {
+        of_objects = h.of_objects;
+        of_points = all-set (IsPointPoolThere v.pools) v.graph.points p.number
+            (Some (record p.value { reservation = Some (record { head = head; cells = r.cells; is_doomed = false }) })) h.of_points
+            (named_point v name p h e);
+      }))))
+
+  number_has_pools : (name : Name) (k value : ℕ) → ForAct HasPools (act_init_number v name k value)
+  number_has_pools name k value =
+      with_value (point_named v name) (λ p e. andthen (required p.value.reservation refusal.NotOpen) (λ r.
+      after_check (number_at r.cells k)
+      (accepted (reserved_has_pools p r (slice_set r.cells k (NumberCell value)) (named_point v name p h e)))))
+
+  reference_has_pools : (name : Name) (k : ℕ) (source : Slot) → ForAct HasPools (act_init_reference v name k source)
+  reference_has_pools name k source =
+      with_value (point_named v name)
+      (λ p e. andthen (slot_in v source) (λ from. andthen (required p.value.reservation refusal.NotOpen) (λ r.
+      after_check (reference_at r.cells k)
+      (accepted (reserved_has_pools p r (with_target_cell r.cells k from.value) (named_point v name p h e))))))
+
+  commit_has_pools : (name : Name) (target : Slot) → ForAct HasPools (act_commit v name target)
+  commit_has_pools name target =
+      with_value (point_named v name)
+      (λ p e. andthen (slot_in v target) (λ slot. andthen (required p.value.reservation refusal.NotOpen) (λ r.
+      by_case p slot r (named_point v name p h e) r.is_doomed)))
+    where
+      by_case : (p : Numbered Point) (slot : Found (Option ℕ)) (r : Reservation) → IsPoolThere v.pools p.value.pool → (b : Bool)
+          → ForAct HasPools (if b then says reply.Flipped (with_graph v (with_reservation v.graph p None)) else done
+          (world_committed v p r slot))
+      by_case p slot r there true = accepted (reservation_has_pools p None there)
+      by_case p slot r there false = accepted (record {
+        of_objects = subst (AllByRecursion (IsPoolThere v.pools))
+            (sym (map-append (λ (o : Object). o.pool) v.graph.objects (committed_object p.value r ∷ [])))
+            (all-last (IsPoolThere v.pools) (owners v.graph) p.value.pool h.of_objects there);
+        of_points = all-set (IsPointPoolThere v.pools) v.graph.points p.number
+            (Some (record p.value { reservation = None })) h.of_points there;
+      })
+
+  alloc_has_pools : (judged : World) (name : Name) (words : ℕ) (place : Slot) → v.pools ≡ judged.pools
+      → ForAct HasPools (act_alloc judged v name words place)
+  alloc_has_pools judged name words place same =
+      with_value (pool_named judged name) (λ p e. after_check (refuse_when (is_automatic_kind p.value.kind) refusal.WrongPool)
+      (andthen (block_place_in judged place) (λ at. after_check (refuse_when (not (allows_size p.value.kind words)) refusal.BadSize)
+      (after_check (refuse_when (is_some at.value) refusal.NameTaken)
+      (after_check (refuse_without_place (placement_of judged (ForAlloc p.number words)))
+      (accepted (record {
+        of_objects = subst (AllByRecursion (IsPoolThere v.pools))
+            (sym (map-append (λ (o : Object). o.pool) v.graph.objects (record { pool = p.number; body = Manual (replicate words 0) } ∷ [])))
+            (all-last (IsPoolThere v.pools) (owners v.graph) p.number h.of_objects
+            (subst (λ (pools : List Pool). p.number < length pools) (sym same) (named_pool judged name p e)));
+        of_points = h.of_points;
+      })))))))
+
+  left_has_pools : (c : Call) (u : World) → changes_points c ≡ false → makes_objects c ≡ false → Leaves c v u → HasPools u
+  left_has_pools c u points objects leaves =
+      let grows = grown v.pools u.pools leaves.pools in
+      record {
+        of_objects = subst (AllByRecursion (IsPoolThere u.pools)) (sym (leaves.objects objects))
+            (more_pools v.pools u.pools grows (owners v.graph) h.of_objects);
+        of_points = subst (AllByRecursion (IsPointPoolThere u.pools)) (sym (leaves.points points))
+            (more_for_points v.pools u.pools grows v.graph.points h.of_points);
+      }
+
+  others_have_pools : (c : Call) (result : Checked Act) → changes_points c ≡ false → makes_objects c ≡ false → ForAct (Leaves c v) result
+      → ForAct HasPools result
+  others_have_pools c (Ok a) points objects (accepted leaves) = accepted (left_has_pools c a.world points objects leaves)
+  others_have_pools c (Err why) points objects refused = refused
+
+  act_has_pools : (marked : Bool) (judged : World) (c : Call) → v.pools ≡ judged.pools → ForAct HasPools (act marked judged v c)
+  act_has_pools marked judged (call.Point point pool rank) same = point_has_pools point pool rank
+  act_has_pools marked judged (call.DropPoint point) same = drop_has_pools point
+  act_has_pools marked judged (call.Reserve point head) same = reserve_has_pools judged point head
+  act_has_pools marked judged (call.InitNumber point cell value) same = number_has_pools point cell value
+  act_has_pools marked judged (call.InitReference point cell source) same = reference_has_pools point cell source
+  act_has_pools marked judged (call.Commit point target) same = commit_has_pools point target
+  act_has_pools marked judged (call.Alloc pool words place) same = alloc_has_pools judged pool words place same
+  act_has_pools marked judged c same = others_have_pools c (act marked judged v c) refl refl (act_leaves marked judged v c)
+
+-- ---- a step
+
+judged_pools : (w : World) (c : Call) (ms : List Move) → (judged_world w c ms).pools ≡ w.pools
+judged_pools w (call.Reserve point head) ms = (moves_leave_pools w (moves_of_poll ms)).pools
+judged_pools w _ ms = refl
+
+pub step_has_pools : (w : World) (s : Step) → HasPools w → IsAnswered w s → HasPools (world_after w s)
+step_has_pools w s h answered =
+    let judged = judged_world w s.call s.moves in
+    let moved = moved_world w s.call s.moves in
+    let leaves = moved_world_leaves w s.call s.moves in
+    let result = act (is_block s.answer) judged moved s.call in
+    subst HasPools (sym answered.after)
+    (after_act result (leaves.there h)
+    (act_has_pools moved (leaves.there h) (is_block s.answer) judged s.call (leaves.pools ∙ sym (judged_pools w s.call s.moves))))
+  where
+    after_act : (result : Checked Act) → HasPools (moved_world w s.call s.moves) → ForAct HasPools result
+        → HasPools (with_client_remembered (world_from (moved_world w s.call s.moves) result))
+    after_act (Ok a) before (accepted has) = has
+    after_act (Err why) before refused = before
