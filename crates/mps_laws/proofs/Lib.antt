@@ -40,5 +40,10 @@ pub mod FlippedZones
 pub mod Accounting
 pub mod Depending
 pub mod Fresh
+pub mod Same
+pub mod JoiningMoves
+pub mod QuietSteps
+pub mod HeldIds
+pub mod Referred
 pub mod PoolsThere
 pub mod Homes
