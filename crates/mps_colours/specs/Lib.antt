@@ -1,0 +1,5 @@
+pub mod Colours
+pub mod Collecting
+pub mod Fixing
+pub mod Units
+pub mod Laws
