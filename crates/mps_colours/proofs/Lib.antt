@@ -1,0 +1,4 @@
+pub mod Lists
+pub mod Reach
+pub mod Addresses
+pub mod Kept

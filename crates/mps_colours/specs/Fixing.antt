@@ -32,6 +32,7 @@ new_segment w id grain grains = segment_of_move (address_of_grain grain) grains 
 -- a segment that isn't held, and in which no object lies
 pub record IsUnused (w : World) (s : Segment) : Type 0 where
   pub not_held : segment_at w s.base ≡ None
+  pub unoccupied : IsUnoccupied w.addresses s.base
   pub no_object : (id : Id) (at : Address) → address_of w id ≡ Some at → is_in_segment s at ≡ false
 
 -- the moves by which an object is kept in a world, and the collection after them
