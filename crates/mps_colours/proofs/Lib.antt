@@ -2,3 +2,5 @@ pub mod Lists
 pub mod Reach
 pub mod Addresses
 pub mod Kept
+pub mod Joining
+pub mod KeepsLegal
