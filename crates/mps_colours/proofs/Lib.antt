@@ -4,3 +4,5 @@ pub mod Addresses
 pub mod Kept
 pub mod Joining
 pub mod KeepsLegal
+pub mod Keeping
+pub mod KeptRunning
