@@ -40,13 +40,13 @@ one_that_is P (Some x) h = (x, (refl, h))
 module _ (x : Collecting) (run : Running x) (tracing : is_tracing_band x.band ≡ true) (id : Id) (live : is_live x.world id ≡ true)
     (white : is_white_in x id ≡ true) (w' : World) (c' : Collection) (r : IsKept x.world x.running id w' c') where
   -- the collection and the world after that
-  abbrev after : Collection
+  abbrev pub after : Collection
   after = record x.running { placed = r.placed }
 
-  abbrev now : World
+  abbrev pub now : World
   now = record x.world { addresses = r.addresses; segments = r.segments; tails = r.tails; collection = Some after }
 
-  abbrev kept_state : Collecting
+  abbrev pub kept_state : Collecting
   kept_state = record x { world = now; running = after; colours = keeping x.colours id }
 
   was_live : (n : Id) → is_live now n ≡ true → is_live x.world n ≡ true
@@ -190,14 +190,14 @@ module _ (x : Collecting) (run : Running x) (tracing : is_tracing_band x.band �
       (count_by-le (is_to_scan x.running.condemned (keeping x.colours id)) (is_to_scan x.running.condemned x.colours) (live_ids x.world)
         (to_scan_before x.running.condemned x.colours id white))
 
-  no_more : units_left kept_state ≤ units_left x
+  pub no_more : units_left kept_state ≤ units_left x
   no_more = let fewer = objects_no_more in omega (arith, fewer)
 
   units : after.spent + units_left kept_state ≤ after.units
   units = let fewer = no_more in let before = run.units in omega (arith, fewer, before)
 
   -- where it survives, the invariant holds
-  kept_running : Survives after id → Running kept_state
+  pub kept_running : Survives after id → Running kept_state
   kept_running survives = record {
     runs = refl;
     different = r.different;
@@ -212,7 +212,7 @@ module _ (x : Collecting) (run : Running x) (tracing : is_tracing_band x.band �
     units = units;
   }
 
-  same_state : record x { world = w'; running = c'; colours = keeping x.colours id } ≡ kept_state
+  pub same_state : record x { world = w'; running = c'; colours = keeping x.colours id } ≡ kept_state
   same_state =
       ap (λ (w : World). record x { world = w; running = c'; colours = keeping x.colours id }) r.world
       ∙ ap (λ (c : Collection). record x {

@@ -6,3 +6,4 @@ pub mod Joining
 pub mod KeepsLegal
 pub mod Keeping
 pub mod KeptRunning
+pub mod Further
