@@ -7,3 +7,4 @@ pub mod KeepsLegal
 pub mod Keeping
 pub mod KeptRunning
 pub mod Further
+pub mod Scanning
