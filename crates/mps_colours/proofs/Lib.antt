@@ -8,3 +8,4 @@ pub mod Keeping
 pub mod KeptRunning
 pub mod Further
 pub mod Scanning
+pub mod Pieces
