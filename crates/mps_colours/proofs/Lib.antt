@@ -9,3 +9,4 @@ pub mod KeptRunning
 pub mod Further
 pub mod Scanning
 pub mod Pieces
+pub mod UnitScans

@@ -94,7 +94,7 @@ are_fixed {x} (keeps {y = z} {id} {ids} {these} {those} {c} white keep rest) run
 -- ---- an object is black then
 
 module _ (x : Collecting) (run : Running x) (id : Id) (fixed : AreTargetsKept x id) where
-  scanned_left : units_left (scanned x id) ≤ units_left x
+  pub scanned_left : units_left (scanned x id) ≤ units_left x
   scanned_left =
       let fewer = count_by-le (is_to_scan x.running.condemned (blackened x.colours id)) (is_to_scan x.running.condemned x.colours) (live_ids x.world)
           (to_scan_still x.running.condemned x.colours id) in
