@@ -10,3 +10,5 @@ pub mod Further
 pub mod Scanning
 pub mod Pieces
 pub mod UnitScans
+pub mod Gone
+pub mod Registrations
