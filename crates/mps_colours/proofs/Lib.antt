@@ -12,3 +12,4 @@ pub mod Pieces
 pub mod UnitScans
 pub mod Gone
 pub mod Registrations
+pub mod Examining
