@@ -24,6 +24,12 @@ pub two_legal : (w : World) (m n : Move) → ((before : Option Move) → IsLegal
     → ((next : Option Move) → IsLegalMove (world_after_move w m) (Some m) n next) → AreLegalAnywhere w (m ∷ n ∷ [])
 two_legal w m n first second = record { go_on = λ before more rest. (first before, (second (first_move more), rest (Some n))) }
 
+pub three_legal : (w : World) (l m n : Move) → ((before : Option Move) → IsLegalMove w before l (Some m))
+    → IsLegalMove (world_after_move w l) (Some l) m (Some n)
+    → ((next : Option Move) → IsLegalMove (world_after_move (world_after_move w l) m) (Some m) n next) → AreLegalAnywhere w (l ∷ m ∷ n ∷ [])
+three_legal w l m n first second third =
+    record { go_on = λ before more rest. (first before, (second, (third (first_move more), rest (Some n)))) }
+
 -- moves that go on
 pub legal_append : (w : World) (these those : List Move) → AreLegalAnywhere w these → AreLegalAnywhere (world_after_moves w these) those
     → AreLegalAnywhere w (these ++ those)

@@ -52,7 +52,7 @@ room_in_new w at_hand words grain count e = of_test (nat_le words at_hand.count)
         let room = room_needed words in
         subst (λ n. words ≤ 512 * n) (sym same) room
 
-aligned : (grain : ℕ) → address_of_word (word_of (address_of_grain grain)) ≡ address_of_grain grain
+pub aligned : (grain : ℕ) → address_of_word (word_of (address_of_grain grain)) ≡ address_of_grain grain
 aligned grain = omega arith
 
 own_tail : (w : World) (pool generation : ℕ) (words : Run) → tail_of (with_tail w pool generation words) pool generation ≡ words
@@ -73,7 +73,7 @@ module _ (w : World) (c : Collection) (k : Colours) (id : Id) (runs : w.collecti
   ]
 
   -- where the object is still at its address
-  moved_is_legal : (v : World) (to word : ℕ) → v.collection ≡ Some c → id_at v (address_or_null w id) ≡ Some id
+  pub moved_is_legal : (v : World) (to word : ℕ) → v.collection ≡ Some c → id_at v (address_or_null w id) ≡ Some id
       → is_copying_object v id ≡ true → placement_of v (ForMove id) ≡ Place word → address_of_word word ≡ to
       → ForObjectAt v (address_or_null w id) (λ d i. IsLegalMoved v d i to)
   moved_is_legal v to word running there copying placed at_word =
@@ -86,7 +86,7 @@ module _ (w : World) (c : Collection) (k : Colours) (id : Id) (runs : w.collecti
         at_placement = subst (λ p. IsPlaceAt p to) (sym placed) at_word;
       }))
 
-  stay_is_legal : is_copying_object w id ≡ true → has_no_room (placement_of w (ForMove id)) ≡ true
+  pub stay_is_legal : is_copying_object w id ≡ true → has_no_room (placement_of w (ForMove id)) ≡ true
       → ForObjectAt w (address_or_null w id) (IsLegalStay w)
   stay_is_legal copying room =
       for_some (λ d. ForOne (id_at w (address_or_null w id)) (IsLegalStay w d)) w.collection c runs
@@ -100,7 +100,7 @@ module _ (w : World) (c : Collection) (k : Colours) (id : Id) (runs : w.collecti
 
   module _ (grain grains : ℕ) (copying : is_copying_object w id ≡ true) (placed : placement_of w (ForMove id) ≡ NewSegment grain grains)
       (unused : IsUnused w (new_segment w id grain grains)) where
-    same_generation : generation_of (taken_for w (new_segment w id grain grains)) id ≡ generation_of w id
+    pub same_generation : generation_of (taken_for w (new_segment w id grain grains)) id ≡ generation_of w id
     same_generation =
         let s = new_segment w id grain grains in
         let at = address_or_null w id in
@@ -109,7 +109,7 @@ module _ (w : World) (c : Collection) (k : Colours) (id : Id) (runs : w.collecti
         ∙ ap (λ o. option_map_or (λ (t : Segment). t.generation) o 0) (found_beside (λ t. is_in_segment t at) s w.segments (unused.no_object id at place))
         ∙ sym (ap (λ p. option_map_or (λ (t : Segment). t.generation) (option_and_then (segment_of w) p) 0) place)
 
-    place_in_new : placement_of (taken_for w (new_segment w id grain grains)) (ForMove id) ≡ Place (word_of (address_of_grain grain))
+    pub place_in_new : placement_of (taken_for w (new_segment w id grain grains)) (ForMove id) ≡ Place (word_of (address_of_grain grain))
     place_in_new =
         let s = new_segment w id grain grains in
         let v = taken_for w s in
@@ -118,7 +118,7 @@ module _ (w : World) (c : Collection) (k : Colours) (id : Id) (runs : w.collecti
         ∙ ap (λ b. if b then Place (word_of (address_of_grain grain)) else new_segment_for v (words_of w id))
           (le-leb (words_of w id) (512 * grains) (room_in_new w (tail_of w (pool_of w id) (target_generation_for w id)) (words_of w id) grain grains placed))
 
-    segment_is_legal : IsLegalMove w None (segment_for_move w id (address_of_grain grain) grains) (Some (moved_to w id (address_of_grain grain)))
+    pub segment_is_legal : IsLegalMove w None (segment_for_move w id (address_of_grain grain) grains) (Some (moved_to w id (address_of_grain grain)))
     segment_is_legal =
         for_some (IsSegmentForMove w (address_of_grain grain) grains (pool_of w id) (target_generation_for w id) (address_of_grain grain))
         (id_at w (address_or_null w id)) id (id_at-live w id different live) (record {
@@ -128,7 +128,7 @@ module _ (w : World) (c : Collection) (k : Colours) (id : Id) (runs : w.collecti
           of_generation = refl;
         })
 
-    moves_into_legal : AreLegalAnywhere w (segment_for_move w id (address_of_grain grain) grains ∷ moved_to w id (address_of_grain grain) ∷ [])
+    pub moves_into_legal : AreLegalAnywhere w (segment_for_move w id (address_of_grain grain) grains ∷ moved_to w id (address_of_grain grain) ∷ [])
     moves_into_legal =
         two_legal w (segment_for_move w id (address_of_grain grain) grains) (moved_to w id (address_of_grain grain)) (λ before. segment_is_legal)
         (λ next. subst (λ v. IsLegalMove v (Some (segment_for_move w id (address_of_grain grain) grains)) (moved_to w id (address_of_grain grain)) next)

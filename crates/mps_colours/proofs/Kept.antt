@@ -84,11 +84,11 @@ other_base ss s base t not_held held =
 
 module _ (w : World) (c : Collection) (id : Id) (runs : w.collection ≡ Some c) (different : AreDifferent w.addresses)
     (live : is_live w id ≡ true) where
-  placed_one : (n : Id) → contains (id ∷ c.placed) n ≡ true → (n ≡ id) ⊎ (contains c.placed n ≡ true)
+  pub placed_one : (n : Id) → contains (id ∷ c.placed) n ≡ true → (n ≡ id) ⊎ (contains c.placed n ≡ true)
   placed_one n h = elim (contains_cases id c.placed n h) [ inl e ↦ inl (sym e) | inr e ↦ inr e ]
 
   -- it was marked
-  kept_marked : is_copying_object w id ≡ false → IsKept w c id w c
+  pub kept_marked : is_copying_object w id ≡ false → IsKept w c id w c
   kept_marked other = record {
     addresses = w.addresses;
     segments = w.segments;
@@ -107,7 +107,7 @@ module _ (w : World) (c : Collection) (id : Id) (runs : w.collection ≡ Some c)
   }
 
   -- it stays
-  kept_staying : IsKept w c id (with_collection w (placing id)) (placing id c)
+  pub kept_staying : IsKept w c id (with_collection w (placing id)) (placing id c)
   kept_staying = record {
     addresses = w.addresses;
     segments = w.segments;
@@ -126,7 +126,7 @@ module _ (w : World) (c : Collection) (id : Id) (runs : w.collection ≡ Some c)
   }
 
   -- it moved
-  kept_moving : (to : Address) → IsUnoccupied w.addresses to → IsKept w c id (after_moved w id to) (placing id c)
+  pub kept_moving : (to : Address) → IsUnoccupied w.addresses to → IsKept w c id (after_moved w id to) (placing id c)
   kept_moving to free = record {
     addresses = slice_set w.addresses id (Some to);
     segments = w.segments;
@@ -145,7 +145,7 @@ module _ (w : World) (c : Collection) (id : Id) (runs : w.collection ≡ Some c)
   }
 
   -- it moved into a new segment
-  kept_moving_into : (grain grains : ℕ) → IsUnused w (new_segment w id grain grains)
+  pub kept_moving_into : (grain grains : ℕ) → IsUnused w (new_segment w id grain grains)
       → IsKept w c id (after_moved (taken_for w (new_segment w id grain grains)) id (address_of_grain grain)) (placing id c)
   kept_moving_into grain grains unused =
       let s = new_segment w id grain grains in
@@ -169,10 +169,10 @@ module _ (w : World) (c : Collection) (id : Id) (runs : w.collection ≡ Some c)
       }
 
   -- the world after the moves is the one that they lead to
-  moved_leads : (to : Address) → world_after_moves w (moved_to w id to ∷ []) ≡ after_moved w id to
+  pub moved_leads : (to : Address) → world_after_moves w (moved_to w id to ∷ []) ≡ after_moved w id to
   moved_leads to = ap (λ found. where_one w found (λ n. after_moved w n to)) (id_at-live w id different live)
 
-  moved_into_leads : (grain grains : ℕ) → is_copying_object w id ≡ true
+  pub moved_into_leads : (grain grains : ℕ) → is_copying_object w id ≡ true
       → world_after_moves w (segment_for_move w id (address_of_grain grain) grains ∷ moved_to w id (address_of_grain grain) ∷ [])
       ≡ after_moved (taken_for w (new_segment w id grain grains)) id (address_of_grain grain)
   moved_into_leads grain grains copying =
@@ -181,7 +181,7 @@ module _ (w : World) (c : Collection) (id : Id) (runs : w.collection ≡ Some c)
       ∙ ap (λ found. where_one (taken_for w (new_segment w id grain grains)) found
           (λ n. after_moved (taken_for w (new_segment w id grain grains)) n to)) (id_at-live w id different live)
 
-  stay_leads : world_after_moves w (stays_at w id ∷ []) ≡ with_collection w (placing id)
+  pub stay_leads : world_after_moves w (stays_at w id ∷ []) ≡ with_collection w (placing id)
   stay_leads = ap (λ found. where_one w found (λ n. with_collection w (placing n))) (id_at-live w id different live)
 
   -- what the moves by which an object is kept leave

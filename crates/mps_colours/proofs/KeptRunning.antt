@@ -49,19 +49,19 @@ module _ (x : Collecting) (run : Running x) (tracing : is_tracing_band x.band �
   abbrev pub kept_state : Collecting
   kept_state = record x { world = now; running = after; colours = keeping x.colours id }
 
-  was_live : (n : Id) → is_live now n ≡ true → is_live x.world n ≡ true
+  pub was_live : (n : Id) → is_live now n ≡ true → is_live x.world n ≡ true
   was_live n h = sym (r.live n) ∙ h
 
-  still_live : (n : Id) → is_live x.world n ≡ true → is_live now n ≡ true
+  pub still_live : (n : Id) → is_live x.world n ≡ true → is_live now n ≡ true
   still_live n h = r.live n ∙ h
 
-  black_still : (n : Id) → is_white_in x n ≡ false → is_white_in kept_state n ≡ false
+  pub black_still : (n : Id) → is_white_in x n ≡ false → is_white_in kept_state n ≡ false
   black_still n h = still_kept x.running.condemned x.colours id n h
 
-  referred_live : AllReferredLive now.graph (is_live now)
+  pub referred_live : AllReferredLive now.graph (is_live now)
   referred_live n t h refers = still_live t (run.band.referred_live (not_reclaiming x.band tracing) n t (was_live n h) refers)
 
-  condemned : AreCondemned (object_is is_automatic now) (segment_at now) (pool_is is_automatic_kind now) after
+  pub condemned : AreCondemned (object_is is_automatic now) (segment_at now) (pool_is is_automatic_kind now) after
   condemned = record {
     objects = run.condemned.objects;
     bases = run.condemned.bases;
@@ -70,7 +70,7 @@ module _ (x : Collecting) (run : Running x) (tracing : is_tracing_band x.band �
         subst (λ o. ForOne o (λ t. IsTrue (pool_is is_automatic_kind x.world t.pool))) (sym (r.held base s.0 s.1.0)) s.1.1;
   }
 
-  coloured : AreColoured (ids_of_client now.graph) now.graph (is_live now) after.condemned (keeping x.colours id)
+  pub coloured : AreColoured (ids_of_client now.graph) now.graph (is_live now) after.condemned (keeping x.colours id)
   coloured = record {
     held_live = λ n h. still_live n (run.coloured.held_live n h);
     held = λ n h. black_still n (run.coloured.held n h);
@@ -80,7 +80,7 @@ module _ (x : Collecting) (run : Running x) (tracing : is_tracing_band x.band �
         black_still t (run.coloured.referred n t (was_live n h) before.0 before.1 refers);
   }
 
-  grey : AreGreyKept (object_is is_automatic now) (is_live now) after.condemned (keeping x.colours id)
+  pub grey : AreGreyKept (object_is is_automatic now) (is_live now) after.condemned (keeping x.colours id)
   grey = record {
     grey_live = λ n h. elim (contains_cases id x.colours.grey n h) [
       inl same ↦ subst (λ m. is_live now m ≡ true) same (still_live id live)
@@ -97,7 +97,7 @@ module _ (x : Collecting) (run : Running x) (tracing : is_tracing_band x.band �
     ];
   }
 
-  settled_now : (n : Id) → is_settled after n ≡ true → (n ≡ id) ⊎ (is_settled x.running n ≡ true)
+  pub settled_now : (n : Id) → is_settled after n ≡ true → (n ≡ id) ⊎ (is_settled x.running n ≡ true)
   settled_now n h = elim (or_cases (contains x.running.pinned n) (contains r.placed n || contains x.running.had n) h) [
     inl pinned ↦ inr (or_left (contains x.running.pinned n) (contains x.running.placed n || contains x.running.had n) pinned)
     | inr rest ↦ elim (or_cases (contains r.placed n) (contains x.running.had n) rest) [
@@ -111,13 +111,13 @@ module _ (x : Collecting) (run : Running x) (tracing : is_tracing_band x.band �
     ]
   ]
 
-  in_place_still : (n : Id) → is_kept_in_place x.running n ≡ true → is_kept_in_place after n ≡ true
+  pub in_place_still : (n : Id) → is_kept_in_place x.running n ≡ true → is_kept_in_place after n ≡ true
   in_place_still n h = elim (or_cases (contains x.running.pinned n) (contains x.running.placed n) h) [
     inl pinned ↦ or_left (contains x.running.pinned n) (contains r.placed n) pinned
     | inr placed ↦ or_right (contains x.running.pinned n) (contains r.placed n) (r.placed_still n placed)
   ]
 
-  settled : AreSettled (is_copying_object now) after (keeping x.colours id)
+  pub settled : AreSettled (is_copying_object now) after (keeping x.colours id)
   settled = record {
     settled = λ n h. elim (settled_now n h) [
       inl same ↦ subst (λ m. is_white_in kept_state m ≡ false) (sym same) (it_is_kept x.running.condemned x.colours id)
@@ -143,7 +143,7 @@ module _ (x : Collecting) (run : Running x) (tracing : is_tracing_band x.band �
     outside = λ n t h out refers. run.survivors.outside n t (was_live n h) out refers;
   }
 
-  examined : AreExamined now.graph.registered (is_live now) after (keeping x.colours id) x.next
+  pub examined : AreExamined now.graph.registered (is_live now) after (keeping x.colours id) x.next
   examined = record {
     live_registered = λ n h. still_live n (run.examined.live_registered n h);
     from = run.examined.from;
@@ -152,7 +152,7 @@ module _ (x : Collecting) (run : Running x) (tracing : is_tracing_band x.band �
     examined = λ position n h at. black_still n (run.examined.examined position n h at);
   }
 
-  band : IsInBand kept_state
+  pub band : IsInBand kept_state
   band = record {
     tracing = run.band.tracing;
     splatting = run.band.splatting;
@@ -163,7 +163,7 @@ module _ (x : Collecting) (run : Running x) (tracing : is_tracing_band x.band �
     unswept = run.band.unswept;
   }
 
-  swept : AreSwept now.addresses (segment_base_of now) (holds_something now) after (keeping x.colours id) x.cursor
+  pub swept : AreSwept now.addresses (segment_base_of now) (holds_something now) after (keeping x.colours id) x.cursor
   swept = record {
     hold = λ base h below. absurd (let first : x.cursor ≡ 0 = run.band.unswept (not_reclaiming x.band tracing) in omega (arith, first, below));
     to_go = λ n at e is.
@@ -179,10 +179,10 @@ module _ (x : Collecting) (run : Running x) (tracing : is_tracing_band x.band �
     one_left = run.swept.one_left;
   }
 
-  same_live : live_ids now ≡ live_ids x.world
+  pub same_live : live_ids now ≡ live_ids x.world
   same_live = same_live_ids x.world now r.live
 
-  objects_no_more : objects_left after.condemned (keeping x.colours id) (live_ids now)
+  pub objects_no_more : objects_left after.condemned (keeping x.colours id) (live_ids now)
       ≤ objects_left x.running.condemned x.colours (live_ids x.world)
   objects_no_more =
       subst (λ ids. count_by (is_to_scan x.running.condemned (keeping x.colours id)) ids
@@ -193,7 +193,7 @@ module _ (x : Collecting) (run : Running x) (tracing : is_tracing_band x.band �
   pub no_more : units_left kept_state ≤ units_left x
   no_more = let fewer = objects_no_more in omega (arith, fewer)
 
-  units : after.spent + units_left kept_state ≤ after.units
+  pub units : after.spent + units_left kept_state ≤ after.units
   units = let fewer = no_more in let before = run.units in omega (arith, fewer, before)
 
   -- where it survives, the invariant holds
@@ -211,6 +211,11 @@ module _ (x : Collecting) (run : Running x) (tracing : is_tracing_band x.band �
     swept = swept;
     units = units;
   }
+
+  pub same_world : w' ≡ now
+  same_world =
+      r.world
+      ∙ ap (λ (c : Collection). record x.world { addresses = r.addresses; segments = r.segments; tails = r.tails; collection = Some c }) r.running
 
   pub same_state : record x { world = w'; running = c'; colours = keeping x.colours id } ≡ kept_state
   same_state =

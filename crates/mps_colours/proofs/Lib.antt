@@ -13,3 +13,4 @@ pub mod UnitScans
 pub mod Gone
 pub mod Registrations
 pub mod Examining
+pub mod PostLegal

@@ -127,6 +127,12 @@ index_below [] i x e = absurd (none-some x e)
 index_below (y ∷ ys) zero x e = omega arith
 index_below (y ∷ ys) (suc i) x e = let h = index_below ys i x e in omega (arith, h)
 
+-- what stands somewhere is contained
+pub contains_at : (xs : List ℕ) (i n : ℕ) → slice_get xs i ≡ Some n → contains xs n ≡ true
+contains_at [] i n e = absurd (none-some n e)
+contains_at (x ∷ xs) zero n e = or_left (x == n) (contains xs n) (eq-eqb x n (same_Some x n e))
+contains_at (x ∷ xs) (suc i) n e = contains_later x xs n (contains_at xs i n e)
+
 pub slice_get-set_same : {X : Type 0} (xs : List X) (i : ℕ) (x : X) → i < length xs → slice_get (slice_set xs i x) i ≡ Some x
 slice_get-set_same [] i x h = absurd (omega (arith, h))
 slice_get-set_same (y ∷ ys) zero x h = refl

@@ -1,0 +1,78 @@
+-- An object that is white where its registration is examined is kept and posted: these moves are legal, and they are an examination.
+use Rattle.std.proofs.Common.{◌≡◌, ◌∙◌, ◌⊎◌, ℕ, suc, ◌+◌, ◌-◌, ◌<◌, ◌≤◌, Bool, true, false, refl, sym, ap, List, [], ◌∷◌, ◌++◌, length, Option, Some, None, subst, inl, inr, arith}
+use Rattle.std.proofs.lemmas.Bool.{false≢true, or_left, or_right, and_from, eq-eqb, ne_eqb, le-leb, lt-ltb}
+use Rattle.std.proofs.lemmas.Option.{same_Some}
+use Rattle.std.specs.Prelude.{◌==◌, ◌||◌, ◌&&◌, not, IsTrue, nat_le, nat_lt, slice_set}
+use Rattle.std.specs.Option.{option_map_or}
+use Rattle.mps_base.specs.Address.{Id, Address, address_of_word, address_of_grain}
+use Rattle.mps_base.specs.declared.moves.Move.{Move}
+use Rattle.mps_base.specs.declared.moves.Move.TheVariants as moves
+use Rattle.mps_model.specs.Graph.{Graph, contains, position_of_first, entry_at}
+use Rattle.mps_model.specs.Collection.{Collection, is_condemned, is_settled, is_surely_kept}
+use Rattle.mps_model.specs.World.{World, address_of, id_at, is_live, is_copying_object}
+use Rattle.mps_model.specs.Accessing.{address_or_null}
+use Rattle.mps_model.specs.Effect.{placing, with_collection, after_moved, world_after_move, world_after_moves}
+use Rattle.mps_model.specs.Flip.{at_address, segment_for_move}
+use Rattle.mps_model.specs.LegalMove.{ForOne, IsLegalMove, IsLegalPost, IsLost, is_tracing, is_due, is_kept_before, keeps_at}
+use Rattle.mps_model.specs.Units.{IsExamination, posts, stays_and_posts, moves_and_posts, moves_to_segment_and_posts}
+use Rattle.mps_colours.specs.Colours.{is_white}
+use Rattle.mps_colours.specs.Collecting.{Collecting, is_tracing_band, is_white_in, Running}
+use Rattle.mps_colours.specs.Fixing.{Keeps, marks, moves_to_place, moves_to_segment, stays, moved_to, stays_at, new_segment}
+use Rattle.mps_colours.specs.Units.{IsExaminedNext}
+use Rattle.mps_colours.proofs.Lists.{contains_at, entry_below, entry_at-set_same}
+use Rattle.mps_colours.proofs.Addresses.{id_at-live, address_of-live}
+use Rattle.mps_colours.proofs.Joining.{AreLegalAnywhere, one_legal, two_legal, three_legal, for_some}
+use Rattle.mps_colours.proofs.Registrations.{StandsFirst, position_first}
+use Rattle.mps_colours.proofs.Keeping.{is_condemned_if_white}
+use Rattle.mps_colours.proofs.Gone.{lost_after, white_is_lost}
+use Rattle.mps_colours.proofs.Kept.{taken_for, segment_leads, moved_leads, moved_into_leads, stay_leads}
+use Rattle.mps_colours.proofs.KeepsLegal.{moved_is_legal, stay_is_legal, segment_is_legal, place_in_new, aligned, white_not_settled}
+use Rattle.mps_colours.proofs.Examining.{examined_is_tracing}
+
+module _ (x : Collecting) (run : Running x) (id : Id) (due : IsExaminedNext x id) (white : is_white_in x id ≡ true) where
+  live : is_live x.world id ≡ true
+  live = run.examined.live_registered id (contains_at x.world.graph.registered x.next id due.registered)
+
+  tracing : is_tracing_band x.band ≡ true
+  tracing = examined_is_tracing x run due.before_flip
+
+  -- its registration is the first that it has
+  pub stands_first : StandsFirst x.world.graph.registered id x.next
+  stands_first = record {
+    here = due.registered;
+    not_before = λ before less e. false≢true (sym (run.examined.examined before id e (inl less)) ∙ white);
+  }
+
+  module _ (placed : List Id) (v : World) (runs : v.collection ≡ Some (record x.running { placed = placed })) (same : v.graph ≡ x.world.graph)
+      (a : Address) (there : id_at v a ≡ Some id) where
+    -- the post is legal
+    post_is_legal : (before : Option Move) → IsLost v (record x.running { placed = placed }) id
+        → (not (is_settled (record x.running { placed = placed }) id) || is_kept_before a before) ≡ true
+        → (next : Option Move) → IsLegalMove v before (moves.Post (at_address a)) next
+    post_is_legal before lost found next =
+        for_some (λ d. ForOne (id_at v a) (λ i. IsLegalPost v d before i a)) v.collection (record x.running { placed = placed }) runs
+        (for_some (λ i. IsLegalPost v (record x.running { placed = placed }) before i a) (id_at v a) id there (record {
+          tracing = run.band.tracing tracing;
+          condemned = is_condemned_if_white x.running.condemned x.colours id white;
+          lost = lost;
+          registered = for_some (λ position. IsTrue (is_due x.running position)) (position_of_first v.graph.registered id) x.next
+              (ap (λ g. position_of_first g.registered id) same ∙ position_first x.world.graph.registered id x.next stands_first)
+              (and_from (nat_le x.running.examined x.next) (nat_lt x.next x.running.registered_before)
+                (le-leb x.running.examined x.next run.examined.from) (lt-ltb x.next x.running.registered_before due.before_flip));
+          just_found = found;
+        }))
+
+  kept_before_it : (n : Id) → (n ≡ id → ⊥) → is_surely_kept (placing id x.running) n ≡ true → is_surely_kept x.running n ≡ true
+  kept_before_it n other h =
+      sym (ap (λ b. not (is_condemned x.running n) || (contains x.running.pinned n || ((b || contains x.running.placed n) || contains x.running.had n)))
+          (ne_eqb id n (λ same. other (sym same)))) ∙ h
+
+  -- after it moved or was made to stay
+  module _ (v : World) (runs : v.collection ≡ Some (placing id x.running)) (same : v.graph ≡ x.world.graph)
+      (was_live : (n : Id) → is_live v n ≡ true → is_live x.world n ≡ true) (a : Address) (there : id_at v a ≡ Some id) (m : Move)
+      (keeps : keeps_at a m ≡ true) where
+    post_after : (next : Option Move) → IsLegalMove v (Some m) (moves.Post (at_address a)) next
+    post_after next =
+        post_is_legal (id ∷ x.running.placed) v runs same a there (Some m)
+        (lost_after x run due.drained id white v (placing id x.running) same was_live kept_before_it)
+        (or_right (not (is_settled (placing id x.running) id)) (is_kept_before a (Some m)) keeps) next
