@@ -76,3 +76,83 @@ module _ (x : Collecting) (run : Running x) (id : Id) (due : IsExaminedNext x id
         post_is_legal (id ∷ x.running.placed) v runs same a there (Some m)
         (lost_after x run due.drained id white v (placing id x.running) same was_live kept_before_it)
         (or_right (not (is_settled (placing id x.running) id)) (is_kept_before a (Some m)) keeps) next
+
+  -- where an object is after a move
+  address_moved : (v : World) (to : Address) → address_of v id ≡ Some to → address_or_null v id ≡ to
+  address_moved v to e = ap (λ o. option_map_or (λ at. at) o 0) e
+
+  there_after : (to : Address) → entry_at (slice_set x.world.addresses id (Some to)) id ≡ Some to
+  there_after to = entry_at-set_same x.world.addresses id (Some to)
+      (entry_below x.world.addresses id (address_or_null x.world id) (address_of-live x.world id live))
+
+  -- what is shown of the moves
+  pub record IsPostShown (ms : List Move) (a : Address) : Type 0 where
+    pub legal : AreLegalAnywhere x.world (ms ++ moves.Post (at_address a) ∷ [])
+    pub is_examination : IsExamination (ms ++ moves.Post (at_address a) ∷ [])
+
+  shown_marked : is_copying_object x.world id ≡ false → IsPostShown [] (address_or_null x.world id)
+  shown_marked other = record {
+    legal = one_legal x.world (moves.Post (at_address (address_or_null x.world id)))
+        (λ before. post_is_legal x.running.placed x.world run.runs refl (address_or_null x.world id) (id_at-live x.world id run.different live) before
+          (white_is_lost x run due.drained id white)
+          (or_left (not (is_settled x.running id)) (is_kept_before (address_or_null x.world id) before)
+            (white_not_settled x.world x.running x.colours id run.runs run.different live (run.band.tracing tracing) white run.settled)));
+    is_examination = posts;
+  }
+
+  -- the object is found where it is after that
+  module _ (v : World) (runs : v.collection ≡ Some (placing id x.running)) (same : v.graph ≡ x.world.graph)
+      (was_live : (n : Id) → is_live v n ≡ true → is_live x.world n ≡ true) (there : id_at v (address_or_null v id) ≡ Some id) where
+    shown_moved : (to word : Address) → is_copying_object x.world id ≡ true
+        → Rattle.mps_model.specs.Placement.placement_of x.world (Rattle.mps_model.specs.Placement.ForMove id) ≡ Rattle.mps_base.specs.Placement.Place word
+        → address_of_word word ≡ to → world_after_moves x.world (moved_to x.world id to ∷ []) ≡ v → address_of v id ≡ Some to
+        → IsPostShown (moved_to x.world id to ∷ []) (address_or_null v id)
+    shown_moved to word copying placed at_word leads at = record {
+      legal = two_legal x.world (moved_to x.world id to) (moves.Post (at_address (address_or_null v id)))
+          (λ before. moved_is_legal x.world x.running x.colours id run.runs run.different live (run.band.tracing tracing) white run.settled
+            x.world to word run.runs (id_at-live x.world id run.different live) copying placed at_word)
+          (λ next. subst (λ u. IsLegalMove u (Some (moved_to x.world id to)) (moves.Post (at_address (address_or_null v id))) next) (sym leads)
+            (post_after v runs same was_live (address_or_null v id) there (moved_to x.world id to)
+              (eq-eqb to (address_or_null v id) (sym (address_moved v to at))) next));
+      is_examination = subst (λ a. IsExamination (moved_to x.world id to ∷ moves.Post (at_address a) ∷ [])) (sym (address_moved v to at)) moves_and_posts;
+    }
+
+    shown_staying : is_copying_object x.world id ≡ true
+        → Rattle.mps_model.specs.LegalMove.has_no_room (Rattle.mps_model.specs.Placement.placement_of x.world (Rattle.mps_model.specs.Placement.ForMove id)) ≡ true
+        → world_after_moves x.world (stays_at x.world id ∷ []) ≡ v → address_or_null v id ≡ address_or_null x.world id
+        → IsPostShown (stays_at x.world id ∷ []) (address_or_null v id)
+    shown_staying copying room leads at = record {
+      legal = two_legal x.world (stays_at x.world id) (moves.Post (at_address (address_or_null v id)))
+          (λ before. stay_is_legal x.world x.running x.colours id run.runs run.different live (run.band.tracing tracing) white run.settled copying room)
+          (λ next. subst (λ u. IsLegalMove u (Some (stays_at x.world id)) (moves.Post (at_address (address_or_null v id))) next) (sym leads)
+            (post_after v runs same was_live (address_or_null v id) there (stays_at x.world id)
+              (eq-eqb (address_or_null x.world id) (address_or_null v id) (sym at)) next));
+      is_examination = subst (λ a. IsExamination (stays_at x.world id ∷ moves.Post (at_address a) ∷ [])) (sym at) stays_and_posts;
+    }
+
+    shown_moved_into : (grain grains : ℕ) → is_copying_object x.world id ≡ true
+        → (placed : Rattle.mps_model.specs.Placement.placement_of x.world (Rattle.mps_model.specs.Placement.ForMove id) ≡ Rattle.mps_base.specs.Placement.NewSegment grain grains)
+        → (unused : Rattle.mps_colours.specs.Fixing.IsUnused x.world (new_segment x.world id grain grains))
+        → world_after_moves x.world (segment_for_move x.world id (address_of_grain grain) grains ∷ moved_to x.world id (address_of_grain grain) ∷ []) ≡ v
+        → address_of v id ≡ Some (address_of_grain grain)
+        → IsPostShown (segment_for_move x.world id (address_of_grain grain) grains ∷ moved_to x.world id (address_of_grain grain) ∷ []) (address_or_null v id)
+    shown_moved_into grain grains copying placed unused leads at =
+        let to = address_of_grain grain in
+        let s = segment_for_move x.world id to grains in
+        record {
+          legal = three_legal x.world s (moved_to x.world id to) (moves.Post (at_address (address_or_null v id)))
+              (λ before. segment_is_legal x.world x.running x.colours id run.runs run.different live (run.band.tracing tracing) white run.settled
+                grain grains copying placed unused)
+              (subst (λ u. IsLegalMove u (Some s) (moved_to x.world id to) (Some (moves.Post (at_address (address_or_null v id)))))
+                (sym (segment_leads x.world id grain grains copying))
+                (moved_is_legal x.world x.running x.colours id run.runs run.different live (run.band.tracing tracing) white run.settled
+                  (taken_for x.world (new_segment x.world id grain grains)) to (Rattle.mps_base.specs.Address.word_of to) run.runs
+                  (id_at-live x.world id run.different live) copying
+                  (place_in_new x.world x.running x.colours id run.runs run.different live (run.band.tracing tracing) white run.settled
+                    grain grains copying placed unused) (aligned grain)))
+              (λ next. subst (λ u. IsLegalMove u (Some (moved_to x.world id to)) (moves.Post (at_address (address_or_null v id))) next) (sym leads)
+                (post_after v runs same was_live (address_or_null v id) there (moved_to x.world id to)
+                  (eq-eqb to (address_or_null v id) (sym (address_moved v to at))) next));
+          is_examination = subst (λ a. IsExamination (s ∷ moved_to x.world id to ∷ moves.Post (at_address a) ∷ []))
+              (sym (address_moved v to at)) moves_to_segment_and_posts;
+        }
