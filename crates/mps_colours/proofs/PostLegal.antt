@@ -4,20 +4,22 @@ use Rattle.std.proofs.lemmas.Bool.{false≢true, or_left, or_right, and_from, eq
 use Rattle.std.proofs.lemmas.Option.{same_Some}
 use Rattle.std.specs.Prelude.{◌==◌, ◌||◌, ◌&&◌, not, IsTrue, nat_le, nat_lt, slice_set}
 use Rattle.std.specs.Option.{option_map_or}
-use Rattle.mps_base.specs.Address.{Id, Address, address_of_word, address_of_grain}
+use Rattle.mps_base.specs.Address.{Id, Address, word_of, address_of_word, address_of_grain}
+use Rattle.mps_base.specs.Placement.{Place, NewSegment}
 use Rattle.mps_base.specs.declared.moves.Move.{Move}
 use Rattle.mps_base.specs.declared.moves.Move.TheVariants as moves
 use Rattle.mps_model.specs.Graph.{Graph, contains, position_of_first, entry_at}
 use Rattle.mps_model.specs.Collection.{Collection, is_condemned, is_settled, is_surely_kept}
 use Rattle.mps_model.specs.World.{World, address_of, id_at, is_live, is_copying_object}
 use Rattle.mps_model.specs.Accessing.{address_or_null}
+use Rattle.mps_model.specs.Placement.{ForMove, placement_of}
 use Rattle.mps_model.specs.Effect.{placing, with_collection, after_moved, world_after_move, world_after_moves}
 use Rattle.mps_model.specs.Flip.{at_address, segment_for_move}
-use Rattle.mps_model.specs.LegalMove.{ForOne, IsLegalMove, IsLegalPost, IsLost, is_tracing, is_due, is_kept_before, keeps_at}
+use Rattle.mps_model.specs.LegalMove.{ForOne, IsLegalMove, IsLegalPost, IsLost, has_no_room, is_tracing, is_due, is_kept_before, keeps_at}
 use Rattle.mps_model.specs.Units.{IsExamination, posts, stays_and_posts, moves_and_posts, moves_to_segment_and_posts}
-use Rattle.mps_colours.specs.Colours.{is_white}
+use Rattle.mps_colours.specs.Colours.{is_white, AreDifferent}
 use Rattle.mps_colours.specs.Collecting.{Collecting, is_tracing_band, is_white_in, Running}
-use Rattle.mps_colours.specs.Fixing.{Keeps, marks, moves_to_place, moves_to_segment, stays, moved_to, stays_at, new_segment}
+use Rattle.mps_colours.specs.Fixing.{Keeps, marks, moves_to_place, moves_to_segment, stays, moved_to, stays_at, IsUnused, new_segment}
 use Rattle.mps_colours.specs.Units.{IsExaminedNext}
 use Rattle.mps_colours.proofs.Lists.{contains_at, entry_below, entry_at-set_same}
 use Rattle.mps_colours.proofs.Addresses.{id_at-live, address_of-live}
@@ -25,7 +27,7 @@ use Rattle.mps_colours.proofs.Joining.{AreLegalAnywhere, one_legal, two_legal, t
 use Rattle.mps_colours.proofs.Registrations.{StandsFirst, position_first}
 use Rattle.mps_colours.proofs.Keeping.{is_condemned_if_white}
 use Rattle.mps_colours.proofs.Gone.{lost_after, white_is_lost}
-use Rattle.mps_colours.proofs.Kept.{taken_for, segment_leads, moved_leads, moved_into_leads, stay_leads}
+use Rattle.mps_colours.proofs.Kept.{IsKept, keeps_leaves, taken_for, segment_leads, moved_leads, moved_into_leads, stay_leads}
 use Rattle.mps_colours.proofs.KeepsLegal.{moved_is_legal, stay_is_legal, segment_is_legal, place_in_new, aligned, white_not_settled}
 use Rattle.mps_colours.proofs.Examining.{examined_is_tracing}
 
@@ -104,7 +106,7 @@ module _ (x : Collecting) (run : Running x) (id : Id) (due : IsExaminedNext x id
   module _ (v : World) (runs : v.collection ≡ Some (placing id x.running)) (same : v.graph ≡ x.world.graph)
       (was_live : (n : Id) → is_live v n ≡ true → is_live x.world n ≡ true) (there : id_at v (address_or_null v id) ≡ Some id) where
     shown_moved : (to word : Address) → is_copying_object x.world id ≡ true
-        → Rattle.mps_model.specs.Placement.placement_of x.world (Rattle.mps_model.specs.Placement.ForMove id) ≡ Rattle.mps_base.specs.Placement.Place word
+        → placement_of x.world (ForMove id) ≡ Place word
         → address_of_word word ≡ to → world_after_moves x.world (moved_to x.world id to ∷ []) ≡ v → address_of v id ≡ Some to
         → IsPostShown (moved_to x.world id to ∷ []) (address_or_null v id)
     shown_moved to word copying placed at_word leads at = record {
@@ -118,7 +120,7 @@ module _ (x : Collecting) (run : Running x) (id : Id) (due : IsExaminedNext x id
     }
 
     shown_staying : is_copying_object x.world id ≡ true
-        → Rattle.mps_model.specs.LegalMove.has_no_room (Rattle.mps_model.specs.Placement.placement_of x.world (Rattle.mps_model.specs.Placement.ForMove id)) ≡ true
+        → has_no_room (placement_of x.world (ForMove id)) ≡ true
         → world_after_moves x.world (stays_at x.world id ∷ []) ≡ v → address_or_null v id ≡ address_or_null x.world id
         → IsPostShown (stays_at x.world id ∷ []) (address_or_null v id)
     shown_staying copying room leads at = record {
@@ -131,8 +133,8 @@ module _ (x : Collecting) (run : Running x) (id : Id) (due : IsExaminedNext x id
     }
 
     shown_moved_into : (grain grains : ℕ) → is_copying_object x.world id ≡ true
-        → (placed : Rattle.mps_model.specs.Placement.placement_of x.world (Rattle.mps_model.specs.Placement.ForMove id) ≡ Rattle.mps_base.specs.Placement.NewSegment grain grains)
-        → (unused : Rattle.mps_colours.specs.Fixing.IsUnused x.world (new_segment x.world id grain grains))
+        → (placed : placement_of x.world (ForMove id) ≡ NewSegment grain grains)
+        → (unused : IsUnused x.world (new_segment x.world id grain grains))
         → world_after_moves x.world (segment_for_move x.world id (address_of_grain grain) grains ∷ moved_to x.world id (address_of_grain grain) ∷ []) ≡ v
         → address_of v id ≡ Some (address_of_grain grain)
         → IsPostShown (segment_for_move x.world id (address_of_grain grain) grains ∷ moved_to x.world id (address_of_grain grain) ∷ []) (address_or_null v id)
@@ -146,7 +148,7 @@ module _ (x : Collecting) (run : Running x) (id : Id) (due : IsExaminedNext x id
               (subst (λ u. IsLegalMove u (Some s) (moved_to x.world id to) (Some (moves.Post (at_address (address_or_null v id)))))
                 (sym (segment_leads x.world id grain grains copying))
                 (moved_is_legal x.world x.running x.colours id run.runs run.different live (run.band.tracing tracing) white run.settled
-                  (taken_for x.world (new_segment x.world id grain grains)) to (Rattle.mps_base.specs.Address.word_of to) run.runs
+                  (taken_for x.world (new_segment x.world id grain grains)) to (word_of to) run.runs
                   (id_at-live x.world id run.different live) copying
                   (place_in_new x.world x.running x.colours id run.runs run.different live (run.band.tracing tracing) white run.settled
                     grain grains copying placed unused) (aligned grain)))
@@ -156,3 +158,40 @@ module _ (x : Collecting) (run : Running x) (id : Id) (due : IsExaminedNext x id
           is_examination = subst (λ a. IsExamination (s ∷ moved_to x.world id to ∷ moves.Post (at_address a) ∷ []))
               (sym (address_moved v to at)) moves_to_segment_and_posts;
         }
+
+  -- a world after one more object was kept
+  module _ (v : World) (c : Collection) (r : IsKept x.world x.running id v c) where
+    kept_graph : v.graph ≡ x.world.graph
+    kept_graph = ap (λ (u : World). u.graph) r.world
+
+    kept_runs : v.collection ≡ Some c
+    kept_runs = ap (λ (u : World). u.collection) r.world
+
+    kept_live : (n : Id) → is_live v n ≡ is_live x.world n
+    kept_live n = ap (λ (u : World). is_live u n) r.world ∙ r.live n
+
+    kept_there : id_at v (address_or_null v id) ≡ Some id
+    kept_there = id_at-live v id (subst (λ (u : World). AreDifferent u.addresses) (sym r.world) r.different) (kept_live id ∙ live)
+
+  pub post_shown : {ms : List Move} {c : Collection} → Keeps x.world x.running id ms c
+      → IsPostShown ms (address_or_null (world_after_moves x.world ms) id)
+  post_shown (marks other) = shown_marked other
+  post_shown {ms} {c} (moves_to_place {word = word} copying placed free) =
+      let v = world_after_moves x.world ms in
+      let to = address_of_word word in
+      let r = keeps_leaves x.world x.running id run.runs run.different live (moves_to_place {word = word} copying placed free) in
+      let leads = moved_leads x.world x.running id run.runs run.different live to in
+      shown_moved v (kept_runs v c r) (kept_graph v c r) (λ n h. sym (kept_live v c r n) ∙ h) (kept_there v c r) to word copying placed refl refl
+      (ap (λ u. address_of u id) leads ∙ there_after to)
+  post_shown {ms} {c} (moves_to_segment {grain = grain} {grains = grains} copying placed unused) =
+      let v = world_after_moves x.world ms in
+      let r = keeps_leaves x.world x.running id run.runs run.different live (moves_to_segment {grain = grain} {grains = grains} copying placed unused) in
+      let leads = moved_into_leads x.world x.running id run.runs run.different live grain grains copying in
+      shown_moved_into v (kept_runs v c r) (kept_graph v c r) (λ n h. sym (kept_live v c r n) ∙ h) (kept_there v c r) grain grains copying placed unused
+      refl (ap (λ u. address_of u id) leads ∙ there_after (address_of_grain grain))
+  post_shown {ms} {c} (stays copying room) =
+      let v = world_after_moves x.world ms in
+      let r = keeps_leaves x.world x.running id run.runs run.different live (stays copying room) in
+      let leads = stay_leads x.world x.running id run.runs run.different live in
+      shown_staying v (kept_runs v c r) (kept_graph v c r) (λ n h. sym (kept_live v c r n) ∙ h) (kept_there v c r) copying room refl
+      (ap (λ u. address_or_null u id) leads)
