@@ -14,3 +14,4 @@ pub mod Gone
 pub mod Registrations
 pub mod Examining
 pub mod PostLegal
+pub mod Posting

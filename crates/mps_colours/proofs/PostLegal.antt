@@ -32,10 +32,10 @@ use Rattle.mps_colours.proofs.KeepsLegal.{moved_is_legal, stay_is_legal, segment
 use Rattle.mps_colours.proofs.Examining.{examined_is_tracing}
 
 module _ (x : Collecting) (run : Running x) (id : Id) (due : IsExaminedNext x id) (white : is_white_in x id ≡ true) where
-  live : is_live x.world id ≡ true
+  pub live : is_live x.world id ≡ true
   live = run.examined.live_registered id (contains_at x.world.graph.registered x.next id due.registered)
 
-  tracing : is_tracing_band x.band ≡ true
+  pub tracing : is_tracing_band x.band ≡ true
   tracing = examined_is_tracing x run due.before_flip
 
   -- its registration is the first that it has
@@ -170,7 +170,7 @@ module _ (x : Collecting) (run : Running x) (id : Id) (due : IsExaminedNext x id
     kept_live : (n : Id) → is_live v n ≡ is_live x.world n
     kept_live n = ap (λ (u : World). is_live u n) r.world ∙ r.live n
 
-    kept_there : id_at v (address_or_null v id) ≡ Some id
+    pub kept_there : id_at v (address_or_null v id) ≡ Some id
     kept_there = id_at-live v id (subst (λ (u : World). AreDifferent u.addresses) (sym r.world) r.different) (kept_live id ∙ live)
 
   pub post_shown : {ms : List Move} {c : Collection} → Keeps x.world x.running id ms c
