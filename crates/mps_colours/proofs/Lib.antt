@@ -15,3 +15,4 @@ pub mod Registrations
 pub mod Examining
 pub mod PostLegal
 pub mod Posting
+pub mod Cells
