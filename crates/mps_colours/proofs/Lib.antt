@@ -16,3 +16,4 @@ pub mod Examining
 pub mod PostLegal
 pub mod Posting
 pub mod Cells
+pub mod Splatting
