@@ -17,3 +17,4 @@ pub mod PostLegal
 pub mod Posting
 pub mod Cells
 pub mod Splatting
+pub mod Covering

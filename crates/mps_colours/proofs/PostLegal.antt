@@ -76,7 +76,7 @@ module _ (x : Collecting) (run : Running x) (id : Id) (due : IsExaminedNext x id
     post_after : (next : Option Move) → IsLegalMove v (Some m) (moves.Post (at_address a)) next
     post_after next =
         post_is_legal (id ∷ x.running.placed) v runs same a there (Some m)
-        (lost_after x run due.drained id white v (placing id x.running) same was_live kept_before_it)
+        (lost_after x.world x.running x.colours run.coloured run.settled due.drained id white v (placing id x.running) same was_live kept_before_it)
         (or_right (not (is_settled (placing id x.running) id)) (is_kept_before a (Some m)) keeps) next
 
   -- where an object is after a move
@@ -96,7 +96,7 @@ module _ (x : Collecting) (run : Running x) (id : Id) (due : IsExaminedNext x id
   shown_marked other = record {
     legal = one_legal x.world (moves.Post (at_address (address_or_null x.world id)))
         (λ before. post_is_legal x.running.placed x.world run.runs refl (address_or_null x.world id) (id_at-live x.world id run.different live) before
-          (white_is_lost x run due.drained id white)
+          (white_is_lost x.world x.running x.colours run.coloured run.settled due.drained id white)
           (or_left (not (is_settled x.running id)) (is_kept_before (address_or_null x.world id) before)
             (white_not_settled x.world x.running x.colours id run.runs run.different live (run.band.tracing tracing) white run.settled)));
     is_examination = posts;

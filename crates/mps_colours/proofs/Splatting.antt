@@ -134,7 +134,7 @@ module _ (x : Collecting) (run : Running x) (later : is_tracing_band x.band ≡ 
           weak = run.band.drained later holder grey;
           scanned = may_be_scanned x holder run (run.grey.grey_live holder grey) (run.grey.grey_kept holder grey);
           target_is_gone = for_some (IsGone x.world x.running) (target_in_cell x.world holder cell) target refers
-              (white_is_gone x run (run.band.drained later) target white);
+              (white_is_gone x.world x.running x.colours run.coloured run.settled (run.band.drained later) target white);
         }))
 
     splat_leads : world_after_moves x.world (moves.Splat (at_address a) cell ∷ []) ≡ after_splat x.world holder cell
