@@ -18,3 +18,4 @@ pub mod Posting
 pub mod Cells
 pub mod Splatting
 pub mod Covering
+pub mod Sweeping
