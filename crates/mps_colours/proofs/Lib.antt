@@ -19,3 +19,5 @@ pub mod Cells
 pub mod Splatting
 pub mod Covering
 pub mod Sweeping
+pub mod GivingBack
+pub mod Reclaimed

@@ -93,7 +93,7 @@ list_all-members p (x ∷ xs) each =
 abbrev one_where : (ℕ → Bool) → ℕ → ℕ
 one_where p n = cond (p n) 1 0
 
-count_by-cons : (p : ℕ → Bool) (x : ℕ) (xs : List ℕ) → count_by p (x ∷ xs) ≡ one_where p x + count_by p xs
+pub count_by-cons : (p : ℕ → Bool) (x : ℕ) (xs : List ℕ) → count_by p (x ∷ xs) ≡ one_where p x + count_by p xs
 count_by-cons p x xs = sum_by-cons (one_where p) x xs
 
 no_more : (p q : ℕ → Bool) (x : ℕ) → (p x ≡ true → q x ≡ true) → one_where p x ≤ one_where q x
