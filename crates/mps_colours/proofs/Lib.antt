@@ -21,3 +21,4 @@ pub mod Covering
 pub mod Sweeping
 pub mod GivingBack
 pub mod Reclaimed
+pub mod Reclaiming
