@@ -22,3 +22,5 @@ pub mod Sweeping
 pub mod GivingBack
 pub mod Reclaimed
 pub mod Reclaiming
+pub mod Rows
+pub mod Barrier

@@ -1,11 +1,27 @@
-//! What a collection in progress keeps, over the worlds of `mps_model` and the colours of objects.
+//! The abstract collector: what a collection in progress keeps, over the worlds of `mps_model` and the colours of objects,
+//! with no word, bit or forwarding in it. Each function does nothing; what it shows is its contract.
 #![tactic(auto)]
 
-ghost use Rattle.std.specs.Prelude.{◌≡◌};
+ghost use Rattle.mps_colours.specs.Laws.{ReachableIsKept, AUnitKeepsRunning, UnitsRunOut, ABarrierKeepsRunning};
 
-/// Nothing.
-pub fn nothing(x: u8) -> u8
-    ensures { result ≡ x }
-{
-    x
-}
+/// Once nothing but weak objects is grey, whatever is reachable from the client, or from what the collection is known to
+/// keep, is live and isn't white. So what is white then is garbage.
+pub fn reachable_is_kept()
+    ensures { ReachableIsKept }
+{}
+
+/// A unit of a collection keeps its invariant, its moves are legal and one unit's, and fewer units are left. In the last one
+/// the collection ends, and then all that is referred to is live.
+pub fn a_unit_keeps_running()
+    ensures { AUnitKeepsRunning }
+{}
+
+/// A row of units is a row of the model's, and a collection takes at most as many as were left.
+pub fn units_run_out()
+    ensures { UnitsRunOut }
+{}
+
+/// A read barrier keeps the invariant, and the client never reads a white object after it.
+pub fn a_barrier_keeps_running()
+    ensures { ABarrierKeepsRunning }
+{}
