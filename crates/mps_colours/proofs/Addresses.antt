@@ -1,17 +1,16 @@
 -- Objects and their addresses: who lies where, which objects are live, and what a new segment leaves as it was.
-use Rattle.std.proofs.Common.{◌≡◌, ◌∙◌, ◌⊎◌, ℕ, zero, suc, ◌+◌, Bool, true, false, refl, sym, ap, List, [], ◌∷◌, Option, Some, None, subst, inl, inr, arith, add-zero}
-use Rattle.std.proofs.lemmas.Bool.{false≢true, or_cases, eqb-true, eq-eqb, cases_Bool}
+use Rattle.std.proofs.Common.{◌≡◌, ◌∙◌, ℕ, zero, suc, ◌+◌, Bool, true, false, refl, sym, ap, List, [], ◌∷◌, Option, Some, None, subst, inl, inr, arith, add-zero}
+use Rattle.std.proofs.lemmas.Bool.{false≢true, or_cases, eqb-true, eq-eqb}
 use Rattle.std.proofs.lemmas.Option.{none-some}
-use Rattle.std.specs.Prelude.{◌==◌, ◌||◌, if◌then◌else◌, is_some, filter, find, nat_lt}
+use Rattle.std.specs.Prelude.{◌==◌, if◌then◌else◌, is_some, find, nat_lt}
 use Rattle.std.specs.Option.{option_map_or}
 use Rattle.mps_base.specs.Address.{Id, Address}
-use Rattle.mps_base.specs.Segment.{Segment, with_segment, is_in_segment}
+use Rattle.mps_base.specs.Segment.{Segment, with_segment}
 use Rattle.mps_model.specs.Graph.{Object, contains, entry_at, is_automatic, object_at}
-use Rattle.mps_model.specs.World.{World, address_of, is_at, is_live, numbers_of, first_id, id_at, live_ids, live_automatic_ids, object_is, is_copying_object, is_copying_pool, pool_of, segment_of}
+use Rattle.mps_model.specs.World.{World, address_of, is_at, is_live, numbers_of, first_id, id_at, live_ids, live_automatic_ids, object_is, is_copying_object, is_copying_pool, pool_of}
 use Rattle.mps_model.specs.Accessing.{address_or_null}
-use Rattle.mps_model.specs.Effect.{segment_base_of}
 use Rattle.mps_colours.specs.Colours.{AreDifferent}
-use Rattle.mps_colours.proofs.Lists.{contains_here, contains_later, contains-filter, contains_filtered, entry_that_is}
+use Rattle.mps_colours.proofs.Lists.{contains_here, contains_later, contains-filter, contains_filtered}
 
 -- ---- the object at an address
 
@@ -68,7 +67,7 @@ numbers_are_there first n [] h = absurd (false≢true h)
 numbers_are_there first n (None ∷ addresses) h = there_later None addresses first n (numbers_are_there (first + 1) n addresses h)
 numbers_are_there first n (Some at ∷ addresses) h =
     elim (or_cases (first == n) (contains (numbers_of is_some (first + 1) addresses) n) h) [
-      inl same ↦ (0, (sym (eqb-true first n same) ∙ sym (add-zero first), refl))
+      | inl same ↦ (0, (sym (eqb-true first n same) ∙ sym (add-zero first), refl))
       | inr rest ↦ there_later (Some at) addresses first n (numbers_are_there (first + 1) n addresses rest)
     ]
 
@@ -139,6 +138,6 @@ pub found_beside : (p : Segment → Bool) (s : Segment) (ss : List Segment) → 
 found_beside p s [] h = ap (λ b. if b then Some s else None) h
 found_beside p s (t ∷ ts) h =
     elim (nat_lt s.base t.base) as (λ b. find p (if b then s ∷ t ∷ ts else t ∷ with_segment s ts) ≡ find p (t ∷ ts)) [
-      true ↦ ap (λ b. if b then Some s else find p (t ∷ ts)) h
+      | true ↦ ap (λ b. if b then Some s else find p (t ∷ ts)) h
       | false ↦ ap (λ o. if p t then Some t else o) (found_beside p s ts h)
     ]

@@ -1,33 +1,30 @@
 -- The read barrier: the objects in the segment that is read are scanned, until none of them is grey.
-use Rattle.std.proofs.Common.{◌≡◌, ◌∙◌, ◌⊎◌, ℕ, ◌<◌, ◌≤◌, Bool, true, false, refl, sym, ap, List, [], ◌∷◌, ◌++◌, Option, Some, None, subst, inl, inr, arith}
+use Rattle.std.proofs.Common.{◌≡◌, ◌∙◌, ℕ, ◌≤◌, Bool, true, false, refl, sym, ap, List, [], ◌∷◌, ◌++◌, Option, Some, None, subst, inl, inr, arith}
 use Rattle.std.proofs.lemmas.Bool.{false≢true, true≢false, and_parts, and_from, cases_Bool}
-use Rattle.std.proofs.lemmas.List.{append-nil}
-use Rattle.std.specs.Prelude.{◌&&◌, IsTrue, is_some}
+use Rattle.std.specs.Prelude.{◌&&◌, is_some}
 use Rattle.std.specs.List.{list_all}
 use Rattle.std.specs.Option.{option_map_or}
 use Rattle.mps_base.specs.Address.{Id, Address}
 use Rattle.mps_base.specs.Segment.{Segment, is_in_segment}
 use Rattle.mps_base.specs.declared.moves.Move.{Move}
-use Rattle.mps_base.specs.declared.moves.Move.TheVariants as moves
-use Rattle.mps_model.specs.Graph.{contains, targets, is_automatic, for_object}
-use Rattle.mps_model.specs.World.{World, address_of, id_at, is_live, is_live_and, object_is}
+use Rattle.mps_model.specs.Graph.{is_automatic, for_object}
+use Rattle.mps_model.specs.World.{World, address_of, is_live, is_live_and, object_is}
 use Rattle.mps_model.specs.Accessing.{address_or_null}
-use Rattle.mps_model.specs.Effect.{world_after_move, world_after_moves}
+use Rattle.mps_model.specs.Effect.{world_after_moves}
 use Rattle.mps_model.specs.Flip.{at_address}
-use Rattle.mps_model.specs.Units.{Scans, scans_no_more, moves_target, moves_target_to_segment, makes_target_stay, IsScannedByBarrier, splats_in, splats_of, IsBarrier}
+use Rattle.mps_model.specs.Units.{Scans, scans_no_more, moves_target, moves_target_to_segment, makes_target_stay, IsScannedByBarrier, splats_in, splats_of}
 use Rattle.mps_model.proofs.Cutting.{world_after_moves-append}
 use Rattle.mps_colours.specs.Colours.{is_grey}
 use Rattle.mps_colours.specs.Collecting.{Collecting, is_tracing_band, is_white_in, units_left, Running}
-use Rattle.mps_colours.specs.Fixing.{Fixes}
-use Rattle.mps_colours.specs.Units.{Splats, splats_by, scanned, is_grey_in, BarrierDone, barrier_done, barrier_scans, barrier_splats}
+use Rattle.mps_colours.specs.Units.{splats_by, scanned, is_grey_in, BarrierDone, barrier_done, barrier_scans, barrier_splats}
 use Rattle.mps_colours.specs.Laws.{IsBarrierDone}
-use Rattle.mps_colours.proofs.Addresses.{id_at-live, address_of-live}
+use Rattle.mps_colours.proofs.Addresses.{id_at-live}
 use Rattle.mps_colours.proofs.Joining.{AreLegalAnywhere, no_moves_legal, legal_append, legal_alone}
 use Rattle.mps_colours.proofs.Further.{IsFurther, no_further}
 use Rattle.mps_colours.proofs.Scanning.{scanned_running, scanned_left}
 use Rattle.mps_colours.proofs.UnitScans.{scanned_rightly, targets_may_be_fixed}
 use Rattle.mps_colours.proofs.Pieces.{may_be_scanned_here, fixes_scans}
-use Rattle.mps_colours.proofs.Splatting.{AreSplatted, are_splatted, grey_before_last}
+use Rattle.mps_colours.proofs.Splatting.{are_splatted, grey_before_last}
 
 -- scans, one after the other
 pub scans_append : {IsScanned : World → Id → Type 0} {w : World} {these : List Move} → Scans IsScanned w these → (those : List Move)
@@ -116,8 +113,8 @@ barrier_shown s (barrier_scans id {x} {y} {z} {these} {those} tracing grey fixes
     let left = done.fewer in
     barrier_goes_on s x (scanned y id) z these those done.fixed.leads done.fixed.legal done.fixed.further.band (omega (arith, left))
     (λ t. fixes_scans (IsScannedByBarrier s) id x
-      (is_scanned_by s x run id parts.0 (run.grey.grey_kept id parts.1) (run.grey.grey_automatic id parts.1)) fixes run tracing
-      (targets_may_be_fixed x id run tracing parts.1) (no_further x) (λ n h. h))
+    (is_scanned_by s x run id parts.0 (run.grey.grey_kept id parts.1) (run.grey.grey_automatic id parts.1)) fixes run tracing
+    (targets_may_be_fixed x id run tracing parts.1) (no_further x) (λ n h. h))
     (λ later. absurd (true≢false (sym tracing ∙ later)))
     (barrier_shown s rest done.running)
 barrier_shown s (barrier_splats id {x} {y} {z} {cells} {those} later grey done rest) run =

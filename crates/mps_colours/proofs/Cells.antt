@@ -1,8 +1,8 @@
 -- Objects, and what they refer to, after the cells of one of them have changed.
-use Rattle.std.proofs.Common.{◌≡◌, ◌∙◌, ◌⊎◌, ℕ, zero, suc, ◌<◌, true, false, refl, sym, ap, List, [], ◌∷◌, map, length, Option, Some, None, subst, inl, inr, arith}
-use Rattle.std.proofs.lemmas.Bool.{or_cases, or_left, cases_eq, eqb-true, eq-eqb}
+use Rattle.std.proofs.Common.{◌≡◌, ◌∙◌, ◌⊎◌, ℕ, zero, suc, true, refl, sym, ap, List, [], ◌∷◌, map, length, Option, Some, None, subst, inl, inr}
+use Rattle.std.proofs.lemmas.Bool.{or_left, cases_eq, eq-eqb}
 use Rattle.std.proofs.lemmas.Option.{none-some}
-use Rattle.std.specs.Prelude.{◌||◌, ◌==◌, slice_get, slice_set}
+use Rattle.std.specs.Prelude.{◌==◌, slice_get, slice_set}
 use Rattle.std.specs.Option.{option_map_or}
 use Rattle.mps_base.specs.Address.{Id}
 use Rattle.mps_model.specs.Graph.{Graph, Object, Body, Automatic, Manual, Cell, HeadCell, NumberCell, ReferenceCell, contains, entries, target_of_cell, targets_of_cells, targets_of_body, targets_of, targets, object_at, for_object, retargeted, with_target_cell, body_with_cells, object_with_cells, graph_with_cells}
@@ -26,11 +26,11 @@ pub targets-set : (cells : List Cell) (k : ℕ) (c : Cell) (t : ℕ) → contain
     → (target_of_cell c ≡ Some t) ⊎ (contains (targets_of_cells cells) t ≡ true)
 targets-set [] k c t h = inr h
 targets-set (d ∷ ds) zero c t h = elim (entry_cases (target_of_cell c) (map target_of_cell ds) t h) [
-  inl e ↦ inl e
+  | inl e ↦ inl e
   | inr e ↦ inr (entry_later (target_of_cell d) (map target_of_cell ds) t e)
 ]
 targets-set (d ∷ ds) (suc k) c t h = elim (entry_cases (target_of_cell d) (map target_of_cell (slice_set ds k c)) t h) [
-  inl e ↦ inr (entry_first (target_of_cell d) (map target_of_cell ds) t e)
+  | inl e ↦ inr (entry_first (target_of_cell d) (map target_of_cell ds) t e)
   | inr e ↦ elim (targets-set ds k c t e) [ inl n ↦ inl n | inr n ↦ inr (entry_later (target_of_cell d) (map target_of_cell ds) t n) ]
 ]
 
@@ -44,7 +44,7 @@ targets_written : (cells : List Cell) (k : ℕ) (target : Option ℕ) (t : ℕ) 
     → (target ≡ Some t) ⊎ (contains (targets_of_cells cells) t ≡ true)
 targets_written cells k target t None h = inr h
 targets_written cells k target t (Some cell) h = elim (targets-set cells k (retargeted cell target) t h) [
-  inl e ↦ inl (target_of_retargeted cell target t e)
+  | inl e ↦ inl (target_of_retargeted cell target t e)
   | inr e ↦ inr e
 ]
 
@@ -65,10 +65,10 @@ of_objects : {A : Type 0} (objects : List Object) (x n : Id) (change : List Cell
     ≡ option_map_or f (slice_get objects n) d
 of_objects objects x n change f d None e same = refl
 of_objects objects x n change f d (Some o) e same = elim (cases_eq x n) [
-  inl is ↦
+  | inl is ↦
       ap (λ p. option_map_or f p d)
-          (subst (λ m. slice_get (slice_set objects x (object_with_cells o change)) m ≡ Some (object_with_cells o change)) is
-          (slice_get-set_same objects x (object_with_cells o change) (index_below objects x o e)))
+      (subst (λ m. slice_get (slice_set objects x (object_with_cells o change)) m ≡ Some (object_with_cells o change)) is
+      (slice_get-set_same objects x (object_with_cells o change) (index_below objects x o e)))
       ∙ same o
       ∙ ap (λ p. option_map_or f p d) (sym (subst (λ m. slice_get objects m ≡ Some o) is e))
   | inr other ↦ ap (λ p. option_map_or f p d) (slice_get-set_other objects x n (object_with_cells o change) other)
@@ -104,13 +104,13 @@ of_object : (objects : List Object) (x id : Id) (change : List Cell → List Cel
     → ((id ≡ x) × (target ≡ Some t)) ⊎ (contains (option_map_or targets_of (slice_get objects id) []) t ≡ true)
 of_object objects x id change target t None e g h = inr h
 of_object objects x id change target t (Some o) e g h = elim (cases_eq x id) [
-  inl same ↦
+  | inl same ↦
       let there : slice_get (slice_set objects x (object_with_cells o change)) id ≡ Some (object_with_cells o change) =
-          subst (λ n. slice_get (slice_set objects x (object_with_cells o change)) n ≡ Some (object_with_cells o change)) same
-          (slice_get-set_same objects x (object_with_cells o change) (index_below objects x o e)) in
+      subst (λ n. slice_get (slice_set objects x (object_with_cells o change)) n ≡ Some (object_with_cells o change)) same
+      (slice_get-set_same objects x (object_with_cells o change) (index_below objects x o e)) in
       let before : slice_get objects id ≡ Some o = subst (λ n. slice_get objects n ≡ Some o) same e in
       elim (of_body change target t o.body g (subst (λ p. contains (option_map_or targets_of p []) t ≡ true) there h)) [
-        inl n ↦ inl (sym same, n)
+        | inl n ↦ inl (sym same, n)
         | inr n ↦ inr (subst (λ p. contains (option_map_or targets_of p []) t ≡ true) (sym before) n)
       ]
   | inr other ↦

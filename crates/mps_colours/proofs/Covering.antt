@@ -1,8 +1,8 @@
 -- Which segments hold something: a live block or a live reservation begins in them.
-use Rattle.std.proofs.Common.{◌≡◌, ◌∙◌, ◌⊎◌, ℕ, zero, suc, ◌<◌, Bool, true, false, refl, sym, ap, List, [], ◌∷◌, ◌++◌, length, Option, Some, None, subst, inl, inr, arith}
-use Rattle.std.proofs.lemmas.Bool.{false≢true, or_cases, or_left, or_right, cases_Bool}
+use Rattle.std.proofs.Common.{◌≡◌, ◌∙◌, zero, suc, ◌<◌, Bool, true, false, refl, sym, ap, List, [], ◌∷◌, ◌++◌, length, Option, Some, None, inl, inr, arith}
+use Rattle.std.proofs.lemmas.Bool.{false≢true, or_cases, or_left, or_right}
 use Rattle.std.proofs.lemmas.Option.{none-some, same_Some}
-use Rattle.std.specs.Prelude.{◌||◌, not, if◌then◌else◌, nat_lt, find, filter}
+use Rattle.std.specs.Prelude.{◌||◌, not, if◌then◌else◌, nat_lt}
 use Rattle.std.specs.List.{list_any}
 use Rattle.std.specs.Option.{option_map_or}
 use Rattle.mps_base.specs.Address.{Id, Address, word_of, address_of_word}
@@ -24,7 +24,7 @@ list_any-with_run : (p : Run → Bool) (r : Run) (rs : List Run) → list_any p 
 list_any-with_run p r [] = refl
 list_any-with_run p r (s ∷ rs) =
     elim (nat_lt r.from s.from) as (λ b. list_any p (if b then r ∷ s ∷ rs else s ∷ with_run r rs) ≡ (p r || (p s || list_any p rs))) [
-      true ↦ refl
+      | true ↦ refl
       | false ↦ ap (λ b. p s || b) (list_any-with_run p r rs) ∙ regroup (p s) (p r) (list_any p rs)
     ]
 
@@ -61,7 +61,7 @@ has_block (o ∷ os) (None ∷ ps) s h =
     let b = has_block os ps s h in
     record { id = suc b.id; at = b.at; address = b.address; begins = b.begins; exists = let e = b.exists in omega (arith, e) }
 has_block (o ∷ os) (Some p ∷ ps) s h = elim (or_cases (begins_at s p) (list_any (begins_in s) (extents_of os ps)) h) [
-  inl e ↦ record { id = zero; at = p; address = refl; begins = e; exists = omega arith }
+  | inl e ↦ record { id = zero; at = p; address = refl; begins = e; exists = omega arith }
   | inr e ↦
       let b = has_block os ps s e in
       record { id = suc b.id; at = b.at; address = b.address; begins = b.begins; exists = let f = b.exists in omega (arith, f) }
@@ -97,8 +97,8 @@ module _ (w : World) (addresses : List (Option Address)) (segments : List Segmen
         list_any-in_order (begins_in t) (after ++ reserved)
         ∙ list_any-append (begins_in t) after reserved
         ∙ elim (or_cases (list_any (begins_in t) before) (list_any (begins_in t) reserved)
-            (sym (list_any-append (begins_in t) before reserved) ∙ (sym (list_any-in_order (begins_in t) (before ++ reserved)) ∙ h))) [
-          inl e ↦
+        (sym (list_any-append (begins_in t) before reserved) ∙ (sym (list_any-in_order (begins_in t) (before ++ reserved)) ∙ h))) [
+          | inl e ↦
               let b = has_block w.graph.objects w.addresses t e in
               or_left (list_any (begins_in t) after) (list_any (begins_in t) reserved)
               (any_block w.graph.objects addresses t b.id b.at (stays b.id b.at b.address b.begins) b.begins b.exists)
@@ -112,7 +112,7 @@ module _ (w : World) (addresses : List (Option Address)) (segments : List Segmen
   -- where none that begins in it has gone, a segment holds something still
   pub still_holds : (base : Address) → segment_at without base ≡ segment_at w base
       → ((t : Segment) → segment_at w base ≡ Some t → (id : Id) (at : Address) → entry_at w.addresses id ≡ Some at → begins_at t at ≡ true
-          → entry_at addresses id ≡ Some at)
+      → entry_at addresses id ≡ Some at)
       → holds_something w base ≡ true → holds_something without base ≡ true
   still_holds base same stays h =
       ap (λ o. option_map_or (λ t. not (is_empty_segment without t)) o false) same ∙ of_segment (segment_at w base) refl h

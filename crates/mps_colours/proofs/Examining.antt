@@ -1,23 +1,12 @@
 -- A unit that examines a registration.
-use Rattle.std.proofs.Common.{◌≡◌, ◌∙◌, ◌⊎◌, ℕ, suc, ◌+◌, ◌-◌, ◌<◌, ◌≤◌, Bool, true, false, refl, sym, ap, List, [], ◌∷◌, ◌++◌, length, Option, Some, None, subst, inl, inr, arith}
-use Rattle.std.proofs.lemmas.Bool.{false≢true, true≢false, or_left, or_right, or_cases, and_from, eq-eqb, eqb-true, cases_Bool, cases_eq, le-leb, lt-ltb}
+use Rattle.std.proofs.Common.{◌≡◌, ◌∙◌, ◌⊎◌, ℕ, suc, ◌<◌, ◌≤◌, true, false, refl, sym, ap, [], Some, subst, inl, inr, arith}
+use Rattle.std.proofs.lemmas.Bool.{false≢true, true≢false, cases_Bool, cases_eq}
 use Rattle.std.proofs.lemmas.Option.{same_Some}
-use Rattle.std.specs.Prelude.{◌==◌, ◌||◌, ◌&&◌, not, IsTrue, slice_get, option_map, nat_le, nat_lt}
-use Rattle.std.specs.Option.{option_map_or}
-use Rattle.mps_base.specs.Address.{Id, Address}
-use Rattle.mps_base.specs.declared.moves.Move.{Move}
-use Rattle.mps_base.specs.declared.moves.Move.TheVariants as moves
-use Rattle.mps_model.specs.Graph.{Graph, contains, targets, is_automatic, is_weak_object, position_of_first, without_first, ids_of_client, ids_in_slots, ids_in_holds, ids_in_reservations}
-use Rattle.mps_model.specs.Reachable.{PathLeads, begins, goes_on}
-use Rattle.mps_model.specs.Collection.{Collection, is_condemned, is_settled, is_kept_in_place, MaySurvive}
-use Rattle.mps_model.specs.World.{World, is_live, live_ids, object_is, segment_at, is_copying_object, is_automatic_kind, pool_is}
-use Rattle.mps_model.specs.Effect.{posting, graph_posted, registration_of, segment_base_of, world_after_moves}
-use Rattle.mps_model.specs.LegalMove.{holds_something}
+use Rattle.std.specs.Prelude.{slice_get}
+use Rattle.mps_base.specs.Address.{Id}
 use Rattle.mps_model.specs.Units.{does_nothing}
-use Rattle.mps_colours.specs.Colours.{Colours, is_white, is_grey, Survives, AreColoured, AreSettled, AreSurvivors}
-use Rattle.mps_colours.specs.Collecting.{Final, is_tracing_band, Collecting, is_white_in, AreExamined, units_left, Running}
-use Rattle.mps_colours.specs.Units.{IsExaminedNext, posted}
-use Rattle.mps_colours.proofs.Lists.{contains_here, contains_later, contains_cases, contains_append, contains_left, contains_right}
+use Rattle.mps_colours.specs.Collecting.{Final, is_tracing_band, Collecting, is_white_in, Running}
+use Rattle.mps_colours.specs.Units.{IsExaminedNext}
 use Rattle.mps_colours.proofs.Joining.{no_moves_legal}
 use Rattle.mps_colours.proofs.KeptRunning.{not_reclaiming}
 use Rattle.mps_colours.proofs.UnitScans.{IsUnitShown}
@@ -25,7 +14,7 @@ use Rattle.mps_colours.proofs.UnitScans.{IsUnitShown}
 -- a registration that was made before the flip and isn't examined yet is there only while the collection traces
 pub examined_is_tracing : (x : Collecting) → Running x → x.next < x.running.registered_before → is_tracing_band x.band ≡ true
 examined_is_tracing x run due = elim (cases_Bool (is_tracing_band x.band)) [
-  inl tracing ↦ tracing
+  | inl tracing ↦ tracing
   | inr later ↦ absurd (let all = run.band.examined later in omega (arith, all, due))
 ]
 
@@ -76,7 +65,7 @@ examines_shown x run id due black =
         → (position < suc x.next) ⊎ (x.running.registered_before ≤ position) → is_white_in x n ≡ false
     not_white position n e (inr since) = run.examined.examined position n e (inr since)
     not_white position n e (inl less) = elim (cases_eq position x.next) [
-      inl same ↦ subst (λ m. is_white_in x m ≡ false)
+      | inl same ↦ subst (λ m. is_white_in x m ≡ false)
           (same_Some id n (sym due.registered ∙ ap (slice_get x.world.graph.registered) (sym same) ∙ e)) black
       | inr other ↦ run.examined.examined position n e (inl (omega (arith, less, other)))
     ]

@@ -1,13 +1,13 @@
 -- How a collection that keeps objects has gone further.
-use Rattle.std.proofs.Common.{◌≡◌, ◌∙◌, ◌⊎◌, ℕ, ◌≤◌, Bool, true, false, refl, sym, ap, List, Option, Some, None, subst, inl, inr, arith}
+use Rattle.std.proofs.Common.{◌≡◌, ◌∙◌, ◌≤◌, true, false, refl, inl, inr, arith}
 use Rattle.std.proofs.lemmas.Bool.{or_left, or_right, or_cases}
 use Rattle.std.specs.Prelude.{◌||◌, not}
-use Rattle.mps_base.specs.Address.{Id, Address}
-use Rattle.mps_model.specs.Graph.{Graph, contains}
+use Rattle.mps_base.specs.Address.{Id}
+use Rattle.mps_model.specs.Graph.{contains}
 use Rattle.mps_model.specs.Collection.{Collection, is_condemned, is_settled, is_surely_kept}
-use Rattle.mps_model.specs.World.{World, Pool, address_of, is_live}
-use Rattle.mps_colours.specs.Colours.{Colours, is_grey, Survives}
-use Rattle.mps_colours.specs.Collecting.{Band, Collecting, is_tracing_band, is_white_in, units_left, Running}
+use Rattle.mps_model.specs.World.{World, address_of, is_live}
+use Rattle.mps_colours.specs.Colours.{is_grey, Survives}
+use Rattle.mps_colours.specs.Collecting.{Collecting, is_tracing_band, is_white_in, units_left, Running}
 use Rattle.mps_colours.proofs.Lists.{contains_later}
 use Rattle.mps_colours.proofs.Keeping.{still_kept, differ_by_colour}
 use Rattle.mps_colours.proofs.Kept.{IsKept}
@@ -68,13 +68,13 @@ module _ (x : Collecting) (run : Running x) (tracing : is_tracing_band x.band �
     (white : is_white_in x id ≡ true) (w' : World) (c' : Collection) (r : IsKept x.world x.running id w' c') where
   surely_kept_still : (n : Id) → is_surely_kept x.running n ≡ true → is_surely_kept (after x run tracing id live white w' c' r) n ≡ true
   surely_kept_still n h = elim (or_cases (not (is_condemned x.running n)) (is_settled x.running n) h) [
-    inl outside ↦ or_left (not (is_condemned x.running n)) (contains x.running.pinned n || (contains r.placed n || contains x.running.had n)) outside
+    | inl outside ↦ or_left (not (is_condemned x.running n)) (contains x.running.pinned n || (contains r.placed n || contains x.running.had n)) outside
     | inr settled ↦ or_right (not (is_condemned x.running n)) (contains x.running.pinned n || (contains r.placed n || contains x.running.had n))
         (elim (or_cases (contains x.running.pinned n) (contains x.running.placed n || contains x.running.had n) settled) [
-          inl pinned ↦ or_left (contains x.running.pinned n) (contains r.placed n || contains x.running.had n) pinned
+          | inl pinned ↦ or_left (contains x.running.pinned n) (contains r.placed n || contains x.running.had n) pinned
           | inr rest ↦ or_right (contains x.running.pinned n) (contains r.placed n || contains x.running.had n)
               (elim (or_cases (contains x.running.placed n) (contains x.running.had n) rest) [
-                inl placed ↦ or_left (contains r.placed n) (contains x.running.had n) (r.placed_still n placed)
+                | inl placed ↦ or_left (contains r.placed n) (contains x.running.had n) (r.placed_still n placed)
                 | inr had ↦ or_right (contains r.placed n) (contains x.running.had n) had
               ])
         ])

@@ -1,21 +1,21 @@
 -- A condemned segment is given back where nothing is left in it.
-use Rattle.std.proofs.Common.{◌≡◌, ◌∙◌, ◌⊎◌, ℕ, suc, ◌<◌, ◌≤◌, Bool, true, false, refl, sym, ap, List, [], ◌∷◌, ◌++◌, Option, Some, None, subst, inl, inr, arith}
-use Rattle.std.proofs.lemmas.Bool.{false≢true, true≢false, and_parts, and_from, or_left, eq-eqb, ne_eqb, eqb-true, cases_eq, cases_Bool, ltb-true, lt-ltb}
-use Rattle.std.proofs.lemmas.Option.{none-some, same_Some}
-use Rattle.std.specs.Prelude.{◌==◌, ◌&&◌, ◌||◌, not, if◌then◌else◌, find, filter, nat_lt, option_map, count_by}
+use Rattle.std.proofs.Common.{◌≡◌, ◌∙◌, ◌⊎◌, ℕ, ◌<◌, ◌≤◌, Bool, true, false, refl, sym, ap, List, [], ◌∷◌, Option, Some, None, inl, inr, arith}
+use Rattle.std.proofs.lemmas.Bool.{false≢true, true≢false, and_parts, and_from, or_left, eq-eqb, ne_eqb, eqb-true, cases_Bool, ltb-true, lt-ltb}
+use Rattle.std.proofs.lemmas.Option.{same_Some}
+use Rattle.std.specs.Prelude.{◌==◌, not, if◌then◌else◌, find, filter, nat_lt, option_map, count_by}
 use Rattle.std.specs.Option.{option_map_or}
-use Rattle.mps_base.specs.Address.{Id, Address}
+use Rattle.mps_base.specs.Address.{Address}
 use Rattle.mps_base.specs.Segment.{Segment, is_in_segment, segment_over, without_segment}
 use Rattle.mps_base.specs.declared.moves.Move.{Move}
 use Rattle.mps_base.specs.declared.moves.Move.TheVariants as moves
 use Rattle.mps_model.specs.Graph.{contains, without_first}
 use Rattle.mps_model.specs.Collection.{Collection, Phase, Reclaiming}
 use Rattle.mps_model.specs.World.{World, segment_at, is_empty_segment}
-use Rattle.mps_model.specs.Effect.{giving_back, reclaiming, with_collection, world_after_moves}
+use Rattle.mps_model.specs.Effect.{giving_back, reclaiming, world_after_moves}
 use Rattle.mps_model.specs.Flip.{at_address}
 use Rattle.mps_model.specs.LegalMove.{ForOne, IsLegalMove, IsLegalUnseg, holds_something}
 use Rattle.mps_model.specs.Units.{is_ascending, give_back_where, nothing_left}
-use Rattle.mps_colours.proofs.Lists.{contains_here, contains_later, contains_cases, count_by-cons}
+use Rattle.mps_colours.proofs.Lists.{contains_later, contains_cases, count_by-cons}
 use Rattle.mps_colours.proofs.Joining.{AreLegalAnywhere, no_moves_legal, one_legal, for_some}
 use Rattle.mps_colours.proofs.Kept.{base_over, held_in}
 use Rattle.mps_colours.proofs.Sweeping.{contains-above}
@@ -29,9 +29,9 @@ contains-without above [] n m asc h = absurd (false≢true h)
 contains-without above (x ∷ xs) n m asc h =
     let parts = and_parts (nat_lt above x) (is_ascending x xs) asc in
     elim (x == n) as (λ t. (x == n) ≡ t → contains (if t then xs else x ∷ without_first xs n) m ≡ true → (contains (x ∷ xs) m ≡ true) × (m ≡ n → ⊥)) [
-      true ↦ (λ t g. (contains_later x xs m g, (λ e. let same = eqb-true x n t in let up = contains-above x xs m parts.1 g in omega (arith, same, up, e))))
+      | true ↦ (λ t g. (contains_later x xs m g, (λ e. let same = eqb-true x n t in let up = contains-above x xs m parts.1 g in omega (arith, same, up, e))))
       | false ↦ (λ t g. elim (contains_cases x (without_first xs n) m g) [
-        inl e ↦ (or_left (x == m) (contains xs m) (eq-eqb x m e), (λ same. true≢false (sym (eq-eqb x n (e ∙ same)) ∙ t)))
+        | inl e ↦ (or_left (x == m) (contains xs m) (eq-eqb x m e), (λ same. true≢false (sym (eq-eqb x n (e ∙ same)) ∙ t)))
         | inr e ↦ let rest = contains-without x xs n m parts.1 e in (contains_later x xs m rest.0, rest.1)
       ])
     ] refl h
@@ -48,7 +48,7 @@ ascending-without above [] n asc = refl
 ascending-without above (x ∷ xs) n asc =
     let parts = and_parts (nat_lt above x) (is_ascending x xs) asc in
     elim (x == n) as (λ t. is_ascending above (if t then xs else x ∷ without_first xs n) ≡ true) [
-      true ↦ ascending-weaker above x xs (ltb-true above x parts.0) parts.1
+      | true ↦ ascending-weaker above x xs (ltb-true above x parts.0) parts.1
       | false ↦ and_from (nat_lt above x) (is_ascending x (without_first xs n)) parts.0 (ascending-without x xs n parts.1)
     ]
 
@@ -57,9 +57,9 @@ pub contains-without_other : (xs : List ℕ) (n m : ℕ) → (m ≡ n → ⊥) �
 contains-without_other [] n m other h = h
 contains-without_other (x ∷ xs) n m other h =
     elim (x == n) as (λ t. (x == n) ≡ t → contains (if t then xs else x ∷ without_first xs n) m ≡ true) [
-      true ↦ (λ t. elim (contains_cases x xs m h) [ inl e ↦ absurd (other (sym e ∙ eqb-true x n t)) | inr e ↦ e ])
+      | true ↦ (λ t. elim (contains_cases x xs m h) [ inl e ↦ absurd (other (sym e ∙ eqb-true x n t)) | inr e ↦ e ])
       | false ↦ (λ t. elim (contains_cases x xs m h) [
-        inl e ↦ or_left (x == m) (contains (without_first xs n) m) (eq-eqb x m e)
+        | inl e ↦ or_left (x == m) (contains (without_first xs n) m) (eq-eqb x m e)
         | inr e ↦ contains_later x (without_first xs n) m (contains-without_other xs n m other e)
       ])
     ] refl
@@ -69,7 +69,7 @@ pub count_by-without : (p : ℕ → Bool) (xs : List ℕ) (n : ℕ) → count_by
 count_by-without p [] n = omega arith
 count_by-without p (x ∷ xs) n =
     elim (x == n) as (λ t. count_by p (if t then xs else x ∷ without_first xs n) ≤ count_by p (x ∷ xs)) [
-      true ↦ let step = count_by-cons p x xs in omega (arith, step)
+      | true ↦ let step = count_by-cons p x xs in omega (arith, step)
       | false ↦
           let step = count_by-cons p x xs in
           let less = count_by-cons p x (without_first xs n) in
@@ -82,12 +82,12 @@ pub find-filter_found : {A : Type 0} (p q : A → Bool) (xs : List A) (x : A) �
 find-filter_found p q [] x e passes = e
 find-filter_found p q (y ∷ ys) x e passes =
     elim (p y) as (λ t. p y ≡ t → (if t then Some y else find p ys) ≡ Some x → find p (filter q (y ∷ ys)) ≡ Some x) [
-      true ↦ (λ t g.
+      | true ↦ (λ t g.
           let same : q y ≡ true = ap q (same_Some y x g) ∙ passes in
           ap (λ b. find p (if b then y ∷ filter q ys else filter q ys)) same ∙ ap (λ b. if b then Some y else find p (filter q ys)) t ∙ g)
       | false ↦ (λ t g.
           elim (q y) as (λ b. find p (if b then y ∷ filter q ys else filter q ys) ≡ Some x) [
-            true ↦ ap (λ b. if b then Some y else find p (filter q ys)) t ∙ find-filter_found p q ys x g passes
+            | true ↦ ap (λ b. if b then Some y else find p (filter q ys)) t ∙ find-filter_found p q ys x g passes
             | false ↦ find-filter_found p q ys x g passes
           ])
     ] refl e
@@ -96,9 +96,9 @@ find-filter_found p q (y ∷ ys) x e passes =
 pub find-filter : {A : Type 0} (p q : A → Bool) (xs : List A) → ((x : A) → p x ≡ true → q x ≡ true) → find p (filter q xs) ≡ find p xs
 find-filter p q [] each = refl
 find-filter p q (x ∷ xs) each = elim (q x) as (λ t. q x ≡ t → find p (if t then x ∷ filter q xs else filter q xs) ≡ find p (x ∷ xs)) [
-  true ↦ (λ t. ap (λ o. if p x then Some x else o) (find-filter p q xs each))
+  | true ↦ (λ t. ap (λ o. if p x then Some x else o) (find-filter p q xs each))
   | false ↦ (λ t. elim (cases_Bool (p x)) [
-    inl is ↦ absurd (false≢true (sym t ∙ each x is))
+    | inl is ↦ absurd (false≢true (sym t ∙ each x is))
     | inr isnt ↦ find-filter p q xs each ∙ sym (ap (λ b. if b then Some x else find p xs) isnt)
   ])
 ] refl
@@ -144,7 +144,7 @@ pub record IsCleared (w : World) (c : Collection) (base : Address) : Type 0 wher
   -- the condemned segments that are held: other ones, or this one, where something is left in it
   pub were : (b : Address) → contains bases b ≡ true
       → (contains c.condemned_segments b ≡ true) × ((held_in segments b ≡ held_in w.segments b)
-          × ((b ≡ base → ⊥) ⊎ (holds_something after base ≡ true)))
+      × ((b ≡ base → ⊥) ⊎ (holds_something after base ≡ true)))
   pub are : (b : Address) → (b ≡ base → ⊥) → contains c.condemned_segments b ≡ true → contains bases b ≡ true
   pub ascending : is_ascending 0 bases ≡ true
   pub count : (p : ℕ → Bool) → count_by p bases ≤ count_by p c.condemned_segments

@@ -1,10 +1,10 @@
 -- Once nothing but weak objects is grey, what is white is lost: no path leads to it from what the client holds nor from what
 -- the collection is known to keep.
-use Rattle.std.proofs.Common.{◌≡◌, ◌∙◌, ◌⊎◌, ℕ, Bool, true, false, refl, sym, ap, List, [], ◌∷◌, ◌++◌, Option, Some, None, subst, inl, inr}
+use Rattle.std.proofs.Common.{◌≡◌, ◌∙◌, Bool, true, false, refl, sym, ap, subst, inl, inr}
 use Rattle.std.proofs.lemmas.Bool.{false≢true, and_parts, or_cases, eq-eqb, cases_Bool}
-use Rattle.std.specs.Prelude.{◌==◌, ◌&&◌, ◌||◌, not, filter}
+use Rattle.std.specs.Prelude.{◌==◌, ◌&&◌, not}
 use Rattle.mps_base.specs.Address.{Id}
-use Rattle.mps_model.specs.Graph.{Graph, contains, is_weak_object, ids_of_client}
+use Rattle.mps_model.specs.Graph.{contains, is_weak_object, ids_of_client}
 use Rattle.mps_model.specs.Reachable.{IsReachableWith}
 use Rattle.mps_model.specs.Collection.{Collection, is_condemned, is_settled, is_surely_kept}
 use Rattle.mps_model.specs.World.{World, is_live, live_automatic_ids, object_is, is_copying_object}
@@ -28,7 +28,7 @@ module _ (w : World) (c : Collection) (k : Colours)
   -- what the collection is known to keep isn't white
   pub surely_kept_not_white : (n : Id) → is_surely_kept c n ≡ true → is_white c.condemned k n ≡ false
   surely_kept_not_white n h = elim (or_cases (not (is_condemned c n)) (is_settled c n) h) [
-    inl out ↦ not_white_outside c.condemned k n (outside (is_condemned c n) out)
+    | inl out ↦ not_white_outside c.condemned k n (outside (is_condemned c n) out)
     | inr is ↦ settled.settled n is
   ]
     where
@@ -49,8 +49,8 @@ module _ (w : World) (c : Collection) (k : Colours)
         → ((n : Id) → (n ≡ id → ⊥) → is_surely_kept d n ≡ true → is_surely_kept c n ≡ true) → IsLost v d id
     lost_after id white v d same live kept path =
         let found = reachable_is_kept w.graph (is_live w) c.condemned k (ids_kept v d id) coloured drained
-            (λ n h. let other = kept_is_other v d id n h in (live n other.0, surely_kept_not_white n (kept n other.1.0 other.1.1)))
-            (subst (λ g. IsReachableWith g (ids_kept v d id) id) same path) in
+        (λ n h. let other = kept_is_other v d id n h in (live n other.0, surely_kept_not_white n (kept n other.1.0 other.1.1)))
+        (subst (λ g. IsReachableWith g (ids_kept v d id) id) same path) in
         false≢true (sym found.1 ∙ white)
 
     pub white_is_lost : (id : Id) → is_white c.condemned k id ≡ true → IsLost w c id
@@ -61,7 +61,7 @@ module _ (w : World) (c : Collection) (k : Colours)
     white_is_gone id white = record {
       condemned = is_condemned_if_white c.condemned k id white;
       not_settled = elim (cases_Bool (is_settled c id)) [
-        inl is ↦ absurd (false≢true (sym (settled.settled id is) ∙ white))
+        | inl is ↦ absurd (false≢true (sym (settled.settled id is) ∙ white))
         | inr isnt ↦ ap not isnt
       ];
       lost = white_is_lost id white;
@@ -73,7 +73,7 @@ module _ (w : World) (c : Collection) (k : Colours)
     sweep_is_legal id white registered = record {
       gone = white_is_gone id white;
       not_registered = elim (cases_Bool (contains w.graph.registered id)) [
-        inl is ↦ absurd (false≢true (sym (registered id is) ∙ white))
+        | inl is ↦ absurd (false≢true (sym (registered id is) ∙ white))
         | inr isnt ↦ ap not isnt
       ];
     }

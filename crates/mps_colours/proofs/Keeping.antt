@@ -1,11 +1,11 @@
 -- Colours after an object is kept, and after it was scanned.
-use Rattle.std.proofs.Common.{◌≡◌, ◌∙◌, ◌⊎◌, ℕ, Bool, true, false, refl, sym, ap, List, [], ◌∷◌, subst, inl, inr}
+use Rattle.std.proofs.Common.{◌≡◌, ◌∙◌, ◌⊎◌, Bool, true, false, refl, sym, ap, List, subst, inl, inr}
 use Rattle.std.proofs.lemmas.Bool.{false≢true, and_parts, or_parts, or_left, or_right, or_cases, eq-eqb, eqb-true, cases_Bool, cases_eq}
-use Rattle.std.specs.Prelude.{◌==◌, ◌&&◌, ◌||◌, not, filter}
+use Rattle.std.specs.Prelude.{◌==◌, ◌&&◌, ◌||◌, not}
 use Rattle.mps_base.specs.Address.{Id}
 use Rattle.mps_model.specs.Graph.{contains}
 use Rattle.mps_colours.specs.Colours.{Colours, is_white, is_grey, is_to_scan, keeping, blackened}
-use Rattle.mps_colours.proofs.Lists.{contains_here, contains_later, contains_cases, contains-filter, contains_without}
+use Rattle.mps_colours.proofs.Lists.{contains_here, contains_cases, contains-filter, contains_without}
 
 -- white where it is condemned and not kept
 pub is_condemned_if_white : (condemned : List Id) (k : Colours) (n : Id) → is_white condemned k n ≡ true → contains condemned n ≡ true
@@ -56,10 +56,13 @@ module _ (condemned : List Id) (k : Colours) (id : Id) where
 
   -- what is white now was white, and is another one
   pub white_before : (n : Id) → is_white condemned (keeping k id) n ≡ true → (is_white condemned k n ≡ true) × (id ≡ n → ⊥)
-  white_before n white = (elim (cases_Bool (is_white condemned k n)) [
-    inl is ↦ is
-    | inr isnt ↦ absurd (false≢true (sym (still_kept n isnt) ∙ white))
-  ], (λ same. false≢true (sym (subst (λ i. is_white condemned (keeping k id) i ≡ false) same it_is_kept) ∙ white)))
+  white_before n white = (
+    elim (cases_Bool (is_white condemned k n)) [
+      | inl is ↦ is
+      | inr isnt ↦ absurd (false≢true (sym (still_kept n isnt) ∙ white))
+    ],
+    (λ same. false≢true (sym (subst (λ i. is_white condemned (keeping k id) i ≡ false) same it_is_kept) ∙ white)),
+  )
 
   -- what isn't white now is the one, or wasn't white
   pub kept_before : (n : Id) → is_white condemned (keeping k id) n ≡ false → (id ≡ n) ⊎ (is_white condemned k n ≡ false)
@@ -80,9 +83,9 @@ module _ (condemned : List Id) (k : Colours) (id : Id) where
   pub to_scan_before : is_white condemned k id ≡ true → (n : Id) → is_to_scan condemned (keeping k id) n ≡ true
       → is_to_scan condemned k n ≡ true
   to_scan_before white n h = elim (or_cases (is_white condemned (keeping k id) n) (is_grey (keeping k id) n) h) [
-    inl is ↦ or_left (is_white condemned k n) (is_grey k n) (white_before n is).0
+    | inl is ↦ or_left (is_white condemned k n) (is_grey k n) (white_before n is).0
     | inr grey ↦ elim (contains_cases id k.grey n grey) [
-      inl same ↦ or_left (is_white condemned k n) (is_grey k n) (subst (λ i. is_white condemned k i ≡ true) same white)
+      | inl same ↦ or_left (is_white condemned k n) (is_grey k n) (subst (λ i. is_white condemned k i ≡ true) same white)
       | inr old ↦ or_right (is_white condemned k n) (is_grey k n) old
     ]
   ]
@@ -99,12 +102,12 @@ module _ (condemned : List Id) (k : Colours) (id : Id) where
   -- it isn't grey any more
   pub it_is_not_grey : is_grey (blackened k id) id ≡ false
   it_is_not_grey = elim (cases_Bool (is_grey (blackened k id) id)) [
-    inl is ↦ absurd (false≢true (sym (ap not (eq-eqb id id refl)) ∙ (contains-filter (λ m. not (m == id)) k.grey id is).1))
+    | inl is ↦ absurd (false≢true (sym (ap not (eq-eqb id id refl)) ∙ (contains-filter (λ m. not (m == id)) k.grey id is).1))
     | inr isnt ↦ isnt
   ]
 
   pub to_scan_still : (n : Id) → is_to_scan condemned (blackened k id) n ≡ true → is_to_scan condemned k n ≡ true
   to_scan_still n h = elim (or_cases (is_white condemned k n) (is_grey (blackened k id) n) h) [
-    inl white ↦ or_left (is_white condemned k n) (is_grey k n) white
+    | inl white ↦ or_left (is_white condemned k n) (is_grey k n) white
     | inr grey ↦ or_right (is_white condemned k n) (is_grey k n) (grey_still n grey)
   ]

@@ -1,25 +1,23 @@
 -- The moves by which a white object is kept are legal, and what they are among the moves of a scan.
-use Rattle.std.proofs.Common.{◌≡◌, ◌∙◌, ◌⊎◌, ℕ, ◌<◌, ◌≤◌, ◌+◌, ◌*◌, ◌/◌, Bool, true, false, refl, sym, ap, List, [], ◌∷◌, ◌++◌, Option, Some, None, subst, inl, inr, arith}
+use Rattle.std.proofs.Common.{◌≡◌, ◌∙◌, ℕ, ◌≤◌, ◌+◌, ◌*◌, Bool, true, false, refl, sym, ap, List, [], ◌∷◌, Option, Some, None, subst, inl, inr, arith}
 use Rattle.std.proofs.lemmas.Bool.{false≢true, true≢false, eq-eqb, leb-true, cases_Bool, le-leb}
-use Rattle.std.specs.Prelude.{◌==◌, ◌&&◌, if◌then◌else◌, find, option_and_then, nat_le, nat_lt, not, IsTrue}
+use Rattle.std.specs.Prelude.{if◌then◌else◌, option_and_then, nat_le, nat_lt, not}
 use Rattle.std.specs.Option.{option_map_or}
-use Rattle.mps_base.specs.Address.{Id, Address, word_of, address_of_word, address_of_grain, grains_needed}
+use Rattle.mps_base.specs.Address.{Id, word_of, address_of_word, address_of_grain, grains_needed}
 use Rattle.mps_base.specs.Run.{Run, gaps, lowest_fitting, longest, total}
 use Rattle.mps_base.specs.Placement.{Placement, Place, NewSegment, OverLimit, NoFreeRun, run_placement}
 use Rattle.mps_base.specs.Segment.{Segment, is_in_segment, words_of_segment}
 use Rattle.mps_base.specs.declared.moves.Move.{Move}
-use Rattle.mps_base.specs.declared.moves.Move.TheVariants as moves
 use Rattle.mps_model.specs.Graph.{contains}
 use Rattle.mps_model.specs.Collection.{Collection, is_condemned, is_settled}
-use Rattle.mps_model.specs.World.{World, address_of, is_live, id_at, segment_of, held_grains, generation_of, is_copying_object, pool_of, words_of, tail_of, with_tail, target_generation_for, target_generation_of}
+use Rattle.mps_model.specs.World.{World, is_live, id_at, segment_of, held_grains, generation_of, is_copying_object, pool_of, words_of, tail_of, with_tail, target_generation_for, target_generation_of}
 use Rattle.mps_model.specs.Accessing.{address_or_null}
 use Rattle.mps_model.specs.Placement.{ForMove, placement_of, placement_at_front, new_segment_for}
-use Rattle.mps_model.specs.Effect.{holding, placing, world_after_move, world_after_moves}
-use Rattle.mps_model.specs.LegalMove.{ForOne, ForObjectAt, IsLegalMove, AreLegalMoves, IsLegalMoved, IsLegalStay, IsSegmentForMove, IsLegalSegment, IsPlaceAt, IsNewSegmentAt, is_tracing, has_no_room}
-use Rattle.mps_model.specs.Flip.{at_address, segment_for_move}
+use Rattle.mps_model.specs.Effect.{holding}
+use Rattle.mps_model.specs.LegalMove.{ForOne, ForObjectAt, IsLegalMove, IsLegalMoved, IsLegalStay, IsSegmentForMove, IsPlaceAt, IsNewSegmentAt, is_tracing, has_no_room}
+use Rattle.mps_model.specs.Flip.{segment_for_move}
 use Rattle.mps_colours.specs.Colours.{Colours, is_white, AreDifferent, AreSettled}
 use Rattle.mps_colours.specs.Fixing.{Keeps, marks, moves_to_place, moves_to_segment, stays, IsUnused, new_segment, moved_to, stays_at}
-use Rattle.mps_colours.proofs.Lists.{find-passes}
 use Rattle.mps_colours.proofs.Addresses.{id_at-live, address_of-live, found_beside}
 use Rattle.mps_colours.proofs.Kept.{taken_for, segment_leads}
 use Rattle.mps_colours.proofs.Joining.{AreLegalAnywhere, no_moves_legal, one_legal, two_legal, for_some}
@@ -34,6 +32,7 @@ need_of_run grains limit held need grain count e =
     of_fitting : (o : Option ℕ) → (elim o as (λ p. Placement) [ None ↦ NoFreeRun need (longest (gaps 1 (grains + 1) held)) | Some g ↦ NewSegment g need ]) ≡ NewSegment grain count → count ≡ need
     of_fitting None h = absurd cc
     of_fitting (Some g) h = cc
+
     of_test : (b : Bool) (o : Option ℕ) → (if b then OverLimit (total held) need limit else (elim o as (λ p. Placement) [ None ↦ NoFreeRun need (longest (gaps 1 (grains + 1) held)) | Some g ↦ NewSegment g need ])) ≡ NewSegment grain count → count ≡ need
     of_test true o h = absurd cc
     of_test false o h = of_fitting o h
@@ -68,7 +67,7 @@ module _ (w : World) (c : Collection) (k : Colours) (id : Id) (runs : w.collecti
 
   pub white_not_settled : not (is_settled c id) ≡ true
   white_not_settled = elim (cases_Bool (is_settled c id)) [
-    inl is ↦ absurd (false≢true (sym (settled.settled id is) ∙ white))
+    | inl is ↦ absurd (false≢true (sym (settled.settled id is) ∙ white))
     | inr isnt ↦ ap not isnt
   ]
 
@@ -116,7 +115,7 @@ module _ (w : World) (c : Collection) (k : Colours) (id : Id) (runs : w.collecti
         ap (λ g. placement_at_front v (tail_of v (pool_of w id) (target_generation_of w (pool_of w id) g)) (words_of w id)) same_generation
         ∙ ap (λ t. placement_at_front v t (words_of w id)) (own_tail (holding w s) s.pool s.generation (words_of_segment s))
         ∙ ap (λ b. if b then Place (word_of (address_of_grain grain)) else new_segment_for v (words_of w id))
-          (le-leb (words_of w id) (512 * grains) (room_in_new w (tail_of w (pool_of w id) (target_generation_for w id)) (words_of w id) grain grains placed))
+        (le-leb (words_of w id) (512 * grains) (room_in_new w (tail_of w (pool_of w id) (target_generation_for w id)) (words_of w id) grain grains placed))
 
     pub segment_is_legal : IsLegalMove w None (segment_for_move w id (address_of_grain grain) grains) (Some (moved_to w id (address_of_grain grain)))
     segment_is_legal =
@@ -132,9 +131,9 @@ module _ (w : World) (c : Collection) (k : Colours) (id : Id) (runs : w.collecti
     moves_into_legal =
         two_legal w (segment_for_move w id (address_of_grain grain) grains) (moved_to w id (address_of_grain grain)) (λ before. segment_is_legal)
         (λ next. subst (λ v. IsLegalMove v (Some (segment_for_move w id (address_of_grain grain) grains)) (moved_to w id (address_of_grain grain)) next)
-          (sym (segment_leads w id grain grains copying))
-          (moved_is_legal (taken_for w (new_segment w id grain grains)) (address_of_grain grain) (word_of (address_of_grain grain)) runs
-            (id_at-live w id different live) copying place_in_new (aligned grain)))
+        (sym (segment_leads w id grain grains copying))
+        (moved_is_legal (taken_for w (new_segment w id grain grains)) (address_of_grain grain) (word_of (address_of_grain grain)) runs
+        (id_at-live w id different live) copying place_in_new (aligned grain)))
 
   -- the moves by which it is kept are legal
   pub keeps_legal : {ms : List Move} {c' : Collection} → Keeps w c id ms c' → AreLegalAnywhere w ms

@@ -1,22 +1,20 @@
 -- What the moves by which an object is kept leave of a world: its objects, and all of the rest but where they are.
-use Rattle.std.proofs.Common.{◌≡◌, ◌∙◌, ◌⊎◌, ℕ, ◌<◌, Bool, true, false, refl, sym, ap, List, [], ◌∷◌, ◌++◌, length, Option, Some, None, subst, inl, inr, arith}
-use Rattle.std.proofs.lemmas.Bool.{false≢true, or_left, eq-eqb, cases_eq, ne_eqb, eqb-true}
-use Rattle.std.proofs.lemmas.Option.{none-some, same_Some}
-use Rattle.std.specs.Prelude.{◌==◌, ◌||◌, if◌then◌else◌, is_some, find, slice_set, option_map, option_and_then}
+use Rattle.std.proofs.Common.{◌≡◌, ◌∙◌, ◌⊎◌, ℕ, true, false, refl, sym, ap, List, [], ◌∷◌, Option, Some, None, subst, inl, inr}
+use Rattle.std.proofs.lemmas.Bool.{false≢true, ne_eqb}
+use Rattle.std.proofs.lemmas.Option.{none-some}
+use Rattle.std.specs.Prelude.{◌==◌, if◌then◌else◌, is_some, find, slice_set, option_map}
 use Rattle.std.specs.Option.{option_map_or}
 use Rattle.mps_base.specs.Address.{Id, Address, address_of_word, address_of_grain}
 use Rattle.mps_base.specs.Segment.{Segment, with_segment, is_in_segment, segment_over, words_of_segment}
 use Rattle.mps_base.specs.declared.moves.Move.{Move}
-use Rattle.mps_base.specs.declared.moves.Move.TheVariants as moves
 use Rattle.mps_model.specs.Graph.{contains, entry_at}
 use Rattle.mps_model.specs.Collection.{Collection}
-use Rattle.mps_model.specs.World.{World, Tail, address_of, is_live, id_at, is_copying_object, is_copying_pool, pool_of, with_tail, target_generation_for, words_of}
-use Rattle.mps_model.specs.Accessing.{address_or_null}
-use Rattle.mps_model.specs.Effect.{placing, holding, after_segment, after_moved, with_collection, where_one, words_after, world_after_moves}
+use Rattle.mps_model.specs.World.{World, Tail, is_live, is_copying_object, with_tail}
+use Rattle.mps_model.specs.Effect.{placing, holding, after_segment, after_moved, with_collection, where_one, world_after_moves}
 use Rattle.mps_model.specs.Flip.{segment_for_move}
 use Rattle.mps_colours.specs.Colours.{AreDifferent, IsUnoccupied}
 use Rattle.mps_colours.specs.Fixing.{Keeps, marks, moves_to_place, moves_to_segment, stays, IsUnused, new_segment, moved_to, stays_at}
-use Rattle.mps_colours.proofs.Lists.{contains_here, contains_later, contains_cases, entry_at-set_cases, entry_at-set_other, there-set, find-passes}
+use Rattle.mps_colours.proofs.Lists.{contains_here, contains_later, contains_cases, entry_at-set_cases, entry_at-set_other, there-set}
 use Rattle.mps_colours.proofs.Addresses.{id_at-live, copying_pool_of, found_beside}
 
 -- the base of the segment of some in which an address lies
@@ -52,12 +50,12 @@ pub different_set : (addresses : List (Option Address)) (id : Id) (to : Address)
     → AreDifferent (slice_set addresses id (Some to))
 different_set addresses id to different free n m at en em =
     elim (entry_at-set_cases addresses id n (Some to) at en) [
-      inl wn ↦ elim (entry_at-set_cases addresses id m (Some to) at em) [
-        inl wm ↦ sym wn.0 ∙ wm.0
+      | inl wn ↦ elim (entry_at-set_cases addresses id m (Some to) at em) [
+        | inl wm ↦ sym wn.0 ∙ wm.0
         | inr sm ↦ absurd (free m (sm.1 ∙ sym wn.1))
       ]
       | inr sn ↦ elim (entry_at-set_cases addresses id m (Some to) at em) [
-        inl wm ↦ absurd (free n (sn.1 ∙ sym wm.1))
+        | inl wm ↦ absurd (free n (sn.1 ∙ sym wm.1))
         | inr sm ↦ different n m at sn.1 sm.1
       ]
     ]
@@ -179,7 +177,7 @@ module _ (w : World) (c : Collection) (id : Id) (runs : w.collection ≡ Some c)
       let to = address_of_grain grain in
       ap (λ v. world_after_moves v (moved_to w id to ∷ [])) (segment_leads w id grain grains copying)
       ∙ ap (λ found. where_one (taken_for w (new_segment w id grain grains)) found
-          (λ n. after_moved (taken_for w (new_segment w id grain grains)) n to)) (id_at-live w id different live)
+      (λ n. after_moved (taken_for w (new_segment w id grain grains)) n to)) (id_at-live w id different live)
 
   pub stay_leads : world_after_moves w (stays_at w id ∷ []) ≡ with_collection w (placing id)
   stay_leads = ap (λ found. where_one w found (λ n. with_collection w (placing n))) (id_at-live w id different live)

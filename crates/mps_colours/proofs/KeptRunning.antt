@@ -1,23 +1,19 @@
 -- One more object is kept while the collection traces: each part of the invariant still holds.
-use Rattle.std.proofs.Common.{◌≡◌, ◌∙◌, ◌⊎◌, ℕ, ◌+◌, ◌-◌, ◌<◌, ◌≤◌, Bool, true, false, refl, sym, ap, List, [], ◌∷◌, length, Option, Some, None, subst, inl, inr, arith}
-use Rattle.std.proofs.lemmas.Bool.{false≢true, true≢false, or_left, or_right, or_cases, eq-eqb, cases_Bool, cases_eq}
-use Rattle.std.proofs.lemmas.Option.{none-some}
-use Rattle.std.specs.Prelude.{◌==◌, ◌&&◌, ◌||◌, not, is_some, IsTrue, slice_get, count_by}
-use Rattle.mps_base.specs.Address.{Id, Address}
-use Rattle.mps_base.specs.Segment.{Segment}
-use Rattle.mps_base.specs.declared.moves.Move.{Move}
-use Rattle.mps_model.specs.Graph.{Graph, contains, entry_at, targets, ids_of_client, is_automatic, is_weak_object}
-use Rattle.mps_model.specs.Collection.{Collection, is_condemned, is_settled, is_kept_in_place}
+use Rattle.std.proofs.Common.{◌≡◌, ◌∙◌, ◌⊎◌, ◌+◌, ◌≤◌, true, false, refl, sym, ap, Option, Some, None, subst, inl, inr, arith}
+use Rattle.std.proofs.lemmas.Bool.{false≢true, true≢false, or_left, or_right, or_cases}
+use Rattle.std.specs.Prelude.{◌||◌, IsTrue, count_by}
+use Rattle.mps_base.specs.Address.{Id}
+use Rattle.mps_model.specs.Graph.{contains, ids_of_client, is_automatic}
+use Rattle.mps_model.specs.Collection.{Collection, is_settled, is_kept_in_place}
 use Rattle.mps_model.specs.World.{World, is_live, live_ids, segment_at, object_is, is_copying_object, is_automatic_kind, pool_is}
-use Rattle.mps_model.specs.Effect.{segment_base_of, world_after_moves}
+use Rattle.mps_model.specs.Effect.{segment_base_of}
 use Rattle.mps_model.specs.LegalMove.{ForOne, holds_something}
-use Rattle.mps_colours.specs.Colours.{Colours, is_white, is_grey, is_to_scan, keeping, AreColoured, AllReferredLive, AreGreyKept, AreSettled, AreSurvivors, Survives}
-use Rattle.mps_colours.specs.Collecting.{Band, Exact, Final, Weak, Reclaim, is_tracing_band, is_reclaiming_band, Collecting, is_white_in, AreCondemned, AreExamined, IsInBand, IsToGo, AreSwept, units_left, objects_left, Running}
-use Rattle.mps_colours.specs.Fixing.{Keeps, kept_by}
-use Rattle.mps_colours.proofs.Lists.{count_by-le, contains_here, contains_cases}
+use Rattle.mps_colours.specs.Colours.{is_to_scan, keeping, AreColoured, AllReferredLive, AreGreyKept, AreSettled, AreSurvivors, Survives}
+use Rattle.mps_colours.specs.Collecting.{Band, Exact, Final, Weak, Reclaim, is_tracing_band, is_reclaiming_band, Collecting, is_white_in, AreCondemned, AreExamined, IsInBand, AreSwept, units_left, objects_left, Running}
+use Rattle.mps_colours.proofs.Lists.{count_by-le, contains_cases}
 use Rattle.mps_colours.proofs.Addresses.{same_live_ids}
 use Rattle.mps_colours.proofs.Keeping.{it_is_kept, still_kept, white_before, kept_before, black_before, to_scan_before, is_condemned_if_white}
-use Rattle.mps_colours.proofs.Kept.{IsKept, held_in, keeps_leaves}
+use Rattle.mps_colours.proofs.Kept.{IsKept}
 
 -- a collection that traces isn't reclaiming
 pub not_reclaiming : (b : Band) → is_tracing_band b ≡ true → is_reclaiming_band b ≡ false
@@ -83,26 +79,26 @@ module _ (x : Collecting) (run : Running x) (tracing : is_tracing_band x.band �
   pub grey : AreGreyKept (object_is is_automatic now) (is_live now) after.condemned (keeping x.colours id)
   grey = record {
     grey_live = λ n h. elim (contains_cases id x.colours.grey n h) [
-      inl same ↦ subst (λ m. is_live now m ≡ true) same (still_live id live)
+      | inl same ↦ subst (λ m. is_live now m ≡ true) same (still_live id live)
       | inr old ↦ still_live n (run.grey.grey_live n old)
     ];
     grey_automatic = λ n h. elim (contains_cases id x.colours.grey n h) [
-      inl same ↦ subst (λ m. object_is is_automatic x.world m ≡ true) same
+      | inl same ↦ subst (λ m. object_is is_automatic x.world m ≡ true) same
           (run.condemned.objects id (is_condemned_if_white x.running.condemned x.colours id white))
       | inr old ↦ run.grey.grey_automatic n old
     ];
     grey_kept = λ n h. elim (contains_cases id x.colours.grey n h) [
-      inl same ↦ subst (λ m. is_white_in kept_state m ≡ false) same (it_is_kept x.running.condemned x.colours id)
+      | inl same ↦ subst (λ m. is_white_in kept_state m ≡ false) same (it_is_kept x.running.condemned x.colours id)
       | inr old ↦ black_still n (run.grey.grey_kept n old)
     ];
   }
 
   pub settled_now : (n : Id) → is_settled after n ≡ true → (n ≡ id) ⊎ (is_settled x.running n ≡ true)
   settled_now n h = elim (or_cases (contains x.running.pinned n) (contains r.placed n || contains x.running.had n) h) [
-    inl pinned ↦ inr (or_left (contains x.running.pinned n) (contains x.running.placed n || contains x.running.had n) pinned)
+    | inl pinned ↦ inr (or_left (contains x.running.pinned n) (contains x.running.placed n || contains x.running.had n) pinned)
     | inr rest ↦ elim (or_cases (contains r.placed n) (contains x.running.had n) rest) [
-      inl placed ↦ elim (r.placed_only n placed) [
-        inl same ↦ inl same
+      | inl placed ↦ elim (r.placed_only n placed) [
+        | inl same ↦ inl same
         | inr old ↦ inr (or_right (contains x.running.pinned n) (contains x.running.placed n || contains x.running.had n)
             (or_left (contains x.running.placed n) (contains x.running.had n) old))
       ]
@@ -113,18 +109,18 @@ module _ (x : Collecting) (run : Running x) (tracing : is_tracing_band x.band �
 
   pub in_place_still : (n : Id) → is_kept_in_place x.running n ≡ true → is_kept_in_place after n ≡ true
   in_place_still n h = elim (or_cases (contains x.running.pinned n) (contains x.running.placed n) h) [
-    inl pinned ↦ or_left (contains x.running.pinned n) (contains r.placed n) pinned
+    | inl pinned ↦ or_left (contains x.running.pinned n) (contains r.placed n) pinned
     | inr placed ↦ or_right (contains x.running.pinned n) (contains r.placed n) (r.placed_still n placed)
   ]
 
   pub settled : AreSettled (is_copying_object now) after (keeping x.colours id)
   settled = record {
     settled = λ n h. elim (settled_now n h) [
-      inl same ↦ subst (λ m. is_white_in kept_state m ≡ false) (sym same) (it_is_kept x.running.condemned x.colours id)
+      | inl same ↦ subst (λ m. is_white_in kept_state m ≡ false) (sym same) (it_is_kept x.running.condemned x.colours id)
       | inr old ↦ black_still n (run.settled.settled n old)
     ];
     in_place = λ n copying is black. elim (kept_before x.running.condemned x.colours id n black) [
-      inl same ↦ subst (λ m. is_kept_in_place after m ≡ true) same
+      | inl same ↦ subst (λ m. is_kept_in_place after m ≡ true) same
           (or_right (contains x.running.pinned id) (contains r.placed id)
           (r.in_place (subst (λ m. is_copying_object x.world m ≡ true) (sym same) copying)))
       | inr old ↦ in_place_still n (run.settled.in_place n copying is old)
@@ -136,7 +132,7 @@ module _ (x : Collecting) (run : Running x) (tracing : is_tracing_band x.band �
   kept_survive survives = record {
     existing = run.survivors.existing;
     kept = λ n h black. elim (kept_before x.running.condemned x.colours id n black) [
-      inl same ↦ subst (λ m. Survives after m) same survives
+      | inl same ↦ subst (λ m. Survives after m) same survives
       | inr old ↦ run.survivors.kept n (was_live n h) old
     ];
     written = λ n t h refers. run.survivors.written n t (was_live n h) refers;
@@ -186,9 +182,9 @@ module _ (x : Collecting) (run : Running x) (tracing : is_tracing_band x.band �
       ≤ objects_left x.running.condemned x.colours (live_ids x.world)
   objects_no_more =
       subst (λ ids. count_by (is_to_scan x.running.condemned (keeping x.colours id)) ids
-          ≤ count_by (is_to_scan x.running.condemned x.colours) (live_ids x.world)) (sym same_live)
+      ≤ count_by (is_to_scan x.running.condemned x.colours) (live_ids x.world)) (sym same_live)
       (count_by-le (is_to_scan x.running.condemned (keeping x.colours id)) (is_to_scan x.running.condemned x.colours) (live_ids x.world)
-        (to_scan_before x.running.condemned x.colours id white))
+      (to_scan_before x.running.condemned x.colours id white))
 
   pub no_more : units_left kept_state ≤ units_left x
   no_more = let fewer = objects_no_more in omega (arith, fewer)
@@ -221,7 +217,7 @@ module _ (x : Collecting) (run : Running x) (tracing : is_tracing_band x.band �
   same_state =
       ap (λ (w : World). record x { world = w; running = c'; colours = keeping x.colours id }) r.world
       ∙ ap (λ (c : Collection). record x {
-          world = record x.world { addresses = r.addresses; segments = r.segments; tails = r.tails; collection = Some c };
-          running = c;
-          colours = keeping x.colours id;
-        }) r.running
+        world = record x.world { addresses = r.addresses; segments = r.segments; tails = r.tails; collection = Some c };
+        running = c;
+        colours = keeping x.colours id;
+      }) r.running

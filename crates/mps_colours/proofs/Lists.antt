@@ -1,10 +1,10 @@
 -- What lists contain, and what stands in them after a write.
-use Rattle.std.proofs.Common.{◌≡◌, ◌∙◌, ◌⊎◌, ℕ, zero, suc, ◌+◌, ◌<◌, ◌≤◌, Bool, true, false, cond, refl, sym, ap, List, [], ◌∷◌, ◌++◌, length, Option, Some, None, subst, inl, inr, arith, add-zero}
-use Rattle.std.proofs.lemmas.Bool.{false≢true, and_parts, and_from, or_cases, or_left, or_right, eqb-true, eq-eqb, cases_Bool, cases_eq}
+use Rattle.std.proofs.Common.{◌≡◌, ◌∙◌, ◌⊎◌, ℕ, zero, suc, ◌+◌, ◌<◌, ◌≤◌, Bool, true, false, cond, refl, sym, ap, List, [], ◌∷◌, ◌++◌, length, Option, Some, None, subst, inl, inr, arith}
+use Rattle.std.proofs.lemmas.Bool.{false≢true, and_from, or_cases, or_left, or_right, eqb-true, eq-eqb, cases_Bool, cases_eq}
 use Rattle.std.proofs.lemmas.List.Sums.{sum_by-cons}
 use Rattle.std.proofs.lemmas.Option.{none-some, same_Some}
-use Rattle.std.specs.Prelude.{◌==◌, ◌&&◌, ◌||◌, not, if◌then◌else◌, filter, find, is_some, count_by, slice_get, slice_set}
-use Rattle.std.specs.List.{AllByRecursion, list_all, list_any}
+use Rattle.std.specs.Prelude.{◌==◌, not, if◌then◌else◌, filter, find, is_some, count_by, slice_get, slice_set}
+use Rattle.std.specs.List.{AllByRecursion, list_all}
 use Rattle.mps_model.specs.Graph.{contains, entry_at}
 
 -- ---- what a list contains
@@ -22,14 +22,14 @@ contains_cases x xs n h = elim (or_cases (x == n) (contains xs n) h) [ inl e ↦
 pub contains_append : (xs ys : List ℕ) (n : ℕ) → contains (xs ++ ys) n ≡ true → (contains xs n ≡ true) ⊎ (contains ys n ≡ true)
 contains_append [] ys n h = inr h
 contains_append (x ∷ xs) ys n h = elim (or_cases (x == n) (contains (xs ++ ys) n) h) [
-  inl e ↦ inl (or_left (x == n) (contains xs n) e)
+  | inl e ↦ inl (or_left (x == n) (contains xs n) e)
   | inr e ↦ elim (contains_append xs ys n e) [ inl f ↦ inl (contains_later x xs n f) | inr f ↦ inr f ]
 ]
 
 pub contains_left : (xs ys : List ℕ) (n : ℕ) → contains xs n ≡ true → contains (xs ++ ys) n ≡ true
 contains_left [] ys n h = absurd (false≢true h)
 contains_left (x ∷ xs) ys n h = elim (or_cases (x == n) (contains xs n) h) [
-  inl e ↦ or_left (x == n) (contains (xs ++ ys) n) e
+  | inl e ↦ or_left (x == n) (contains (xs ++ ys) n) e
   | inr e ↦ contains_later x (xs ++ ys) n (contains_left xs ys n e)
 ]
 
@@ -42,8 +42,8 @@ pub contains-filter : (p : ℕ → Bool) (xs : List ℕ) (n : ℕ) → contains 
 contains-filter p [] n h = absurd (false≢true h)
 contains-filter p (x ∷ xs) n h =
     elim (p x) as (λ t. p x ≡ t → contains (if t then x ∷ filter p xs else filter p xs) n ≡ true → (contains (x ∷ xs) n ≡ true) × (p n ≡ true)) [
-      true ↦ (λ t g. elim (contains_cases x (filter p xs) n g) [
-        inl e ↦ (or_left (x == n) (contains xs n) (eq-eqb x n e), subst (λ m. p m ≡ true) e t)
+      | true ↦ (λ t g. elim (contains_cases x (filter p xs) n g) [
+        | inl e ↦ (or_left (x == n) (contains xs n) (eq-eqb x n e), subst (λ m. p m ≡ true) e t)
         | inr e ↦ let rest = contains-filter p xs n e in (contains_later x xs n rest.0, rest.1)
       ])
       | false ↦ (λ t g. let rest = contains-filter p xs n g in (contains_later x xs n rest.0, rest.1))
@@ -54,12 +54,12 @@ pub contains_filtered : (p : ℕ → Bool) (xs : List ℕ) (n : ℕ) → p n ≡
 contains_filtered p [] n passes h = h
 contains_filtered p (x ∷ xs) n passes h =
     elim (p x) as (λ t. p x ≡ t → contains (if t then x ∷ filter p xs else filter p xs) n ≡ true) [
-      true ↦ (λ t. elim (contains_cases x xs n h) [
-        inl e ↦ or_left (x == n) (contains (filter p xs) n) (eq-eqb x n e)
+      | true ↦ (λ t. elim (contains_cases x xs n h) [
+        | inl e ↦ or_left (x == n) (contains (filter p xs) n) (eq-eqb x n e)
         | inr e ↦ contains_later x (filter p xs) n (contains_filtered p xs n passes e)
       ])
       | false ↦ (λ t. elim (contains_cases x xs n h) [
-        inl e ↦ absurd (false≢true (sym t ∙ subst (λ m. p m ≡ true) (sym e) passes))
+        | inl e ↦ absurd (false≢true (sym t ∙ subst (λ m. p m ≡ true) (sym e) passes))
         | inr e ↦ contains_filtered p xs n passes e
       ])
     ] refl
@@ -67,9 +67,9 @@ contains_filtered p (x ∷ xs) n passes h =
 -- what isn't contained but in a list without it
 pub contains_without : (xs : List ℕ) (id n : ℕ) → contains (filter (λ m. not (m == id)) xs) n ≡ false → (n ≡ id) ⊎ (contains xs n ≡ false)
 contains_without xs id n h = elim (cases_eq n id) [
-  inl same ↦ inl same
+  | inl same ↦ inl same
   | inr other ↦ elim (cases_Bool (contains xs n)) [
-    inl is ↦ absurd (false≢true (sym h ∙ contains_filtered (λ m. not (m == id)) xs n (differs n id other) is))
+    | inl is ↦ absurd (false≢true (sym h ∙ contains_filtered (λ m. not (m == id)) xs n (differs n id other) is))
     | inr isnt ↦ inr isnt
   ]
 ]
@@ -98,7 +98,7 @@ count_by-cons p x xs = sum_by-cons (one_where p) x xs
 
 no_more : (p q : ℕ → Bool) (x : ℕ) → (p x ≡ true → q x ≡ true) → one_where p x ≤ one_where q x
 no_more p q x sub = elim (cases_Bool (p x)) [
-  inl is ↦ rw (is, sub is) (omega arith)
+  | inl is ↦ rw (is, sub is) (omega arith)
   | inr isnt ↦ rw isnt (omega arith)
 ]
 
@@ -116,7 +116,7 @@ pub count_by-lt : (p q : ℕ → Bool) (xs : List ℕ) (n : ℕ) → ((m : ℕ) 
     → q n ≡ true → count_by p xs < count_by q xs
 count_by-lt p q [] n sub h not_p is_q = absurd (false≢true h)
 count_by-lt p q (x ∷ xs) n sub h not_p is_q = elim (contains_cases x xs n h) [
-  inl e ↦ omega (arith, count_by-cons p x xs, count_by-cons q x xs, less p q x (ap p e ∙ not_p) (ap q e ∙ is_q), count_by-le p q xs sub)
+  | inl e ↦ omega (arith, count_by-cons p x xs, count_by-cons q x xs, less p q x (ap p e ∙ not_p) (ap q e ∙ is_q), count_by-le p q xs sub)
   | inr e ↦ omega (arith, count_by-cons p x xs, count_by-cons q x xs, no_more p q x (sub x), count_by-lt p q xs n sub e not_p is_q)
 ]
 
@@ -172,7 +172,7 @@ entry_at-set_cases (z ∷ zs) zero zero x y e = inl (refl, e)
 entry_at-set_cases (z ∷ zs) zero (suc j) x y e = inr ((λ same. omega (arith, same)), e)
 entry_at-set_cases (z ∷ zs) (suc i) zero x y e = inr ((λ same. omega (arith, same)), e)
 entry_at-set_cases (z ∷ zs) (suc i) (suc j) x y e = elim (entry_at-set_cases zs i j x y e) [
-  inl written ↦ inl (ap suc written.0, written.1)
+  | inl written ↦ inl (ap suc written.0, written.1)
   | inr stood ↦ inr ((λ same. stood.0 (omega (arith, same))), stood.1)
 ]
 
@@ -195,6 +195,6 @@ entry_that_is (Some x) h = (x, refl)
 pub find-passes : {A : Type 0} (p : A → Bool) (xs : List A) (x : A) → find p xs ≡ Some x → p x ≡ true
 find-passes p [] x h = absurd (none-some x h)
 find-passes p (y ∷ ys) x h = elim (p y) as (λ t. p y ≡ t → (if t then Some y else find p ys) ≡ Some x → p x ≡ true) [
-  true ↦ (λ t g. subst (λ n. p n ≡ true) (same_Some y x g) t)
+  | true ↦ (λ t g. subst (λ n. p n ≡ true) (same_Some y x g) t)
   | false ↦ (λ t g. find-passes p ys x g)
 ] refl h

@@ -1,34 +1,34 @@
 -- The moves of a scan are those of a unit or of a read barrier.
-use Rattle.std.proofs.Common.{◌≡◌, ◌∙◌, ◌⊎◌, ℕ, ◌<◌, ◌≤◌, Bool, true, false, refl, sym, ap, List, [], ◌∷◌, ◌++◌, Option, Some, None, subst, inl, inr, arith}
-use Rattle.std.proofs.lemmas.Bool.{false≢true, true≢false, and_from, or_left, or_right, or_cases, cases_Bool}
-use Rattle.std.specs.Prelude.{◌||◌, ◌&&◌, not, IsTrue}
+use Rattle.std.proofs.Common.{◌≡◌, ◌∙◌, Bool, true, false, refl, sym, ap, List, ◌++◌, Some, subst, inl, inr}
+use Rattle.std.proofs.lemmas.Bool.{true≢false, and_from, or_left, or_right, or_cases, cases_Bool}
+use Rattle.std.specs.Prelude.{◌||◌, not}
 use Rattle.std.specs.Option.{option_map_or}
-use Rattle.mps_base.specs.Address.{Id, Address}
+use Rattle.mps_base.specs.Address.{Id}
 use Rattle.mps_base.specs.declared.moves.Move.{Move}
 use Rattle.mps_model.specs.Graph.{Graph, contains, targets, is_automatic, is_weak_object}
 use Rattle.mps_model.specs.Reachable.{goes_on}
-use Rattle.mps_model.specs.Collection.{Collection, is_condemned, is_settled, is_kept_in_place, is_surely_kept, MaySurvive}
+use Rattle.mps_model.specs.Collection.{Collection, is_condemned, is_settled, is_kept_in_place}
 use Rattle.mps_model.specs.World.{World, id_at, is_live, object_is, is_copying_object}
 use Rattle.mps_model.specs.Accessing.{address_or_null}
 use Rattle.mps_model.specs.Effect.{world_after_moves}
 use Rattle.mps_model.specs.LegalMove.{ForOne, MayBeScanned}
-use Rattle.mps_model.specs.Units.{refers_to, IsScannedTarget, Scans, scans_no_more, moves_target, moves_target_to_segment, makes_target_stay, IsScannedByUnit, IsUnitPiece, scans}
-use Rattle.mps_colours.specs.Colours.{Colours, is_white, is_grey, AreSurvivors, Survives}
+use Rattle.mps_model.specs.Units.{Scans, scans_no_more, moves_target, moves_target_to_segment, makes_target_stay, IsUnitPiece, scans}
+use Rattle.mps_colours.specs.Colours.{Colours, is_grey, AreSurvivors, Survives}
 use Rattle.mps_colours.specs.Collecting.{Collecting, is_tracing_band, is_white_in, Running}
 use Rattle.mps_colours.specs.Fixing.{Keeps, marks, moves_to_place, moves_to_segment, stays, Fixes, fixes_no_more, passes, keeps, kept_by}
 use Rattle.mps_colours.proofs.Lists.{contains_here, contains_later}
 use Rattle.mps_colours.proofs.Addresses.{id_at-live}
 use Rattle.mps_colours.proofs.Joining.{for_some}
 use Rattle.mps_colours.proofs.Further.{IsFurther, no_further, further_still}
-use Rattle.mps_colours.proofs.Scanning.{MayBeFixed, IsKeptRightly, kept_rightly}
+use Rattle.mps_colours.proofs.Scanning.{MayBeFixed, kept_rightly}
 
 -- ---- what survives is closed under references
 
 pub closed : (g : Graph) (live : Id → Bool) (c : Collection) (k : Colours) (id t : Id) → AreSurvivors g live c k → live id ≡ true
     → Survives c id → contains (targets g id) t ≡ true → Survives c t
 closed g live c k id t survivors is survives refers = elim (survivors.written id t is refers) [
-  inl before ↦ elim survives [
-    inl out ↦ survivors.outside id t is out before
+  | inl before ↦ elim survives [
+    | inl out ↦ survivors.outside id t is out before
     | inr may ↦ inr (goes_on may before)
   ]
   | inr now ↦ now
@@ -38,7 +38,7 @@ closed g live c k id t survivors is survives refers = elim (survivors.written id
 
 settled_in_place : (c : Collection) (id : Id) → is_kept_in_place c id ≡ true → is_settled c id ≡ true
 settled_in_place c id h = elim (or_cases (contains c.pinned id) (contains c.placed id) h) [
-  inl pinned ↦ or_left (contains c.pinned id) (contains c.placed id || contains c.had id) pinned
+  | inl pinned ↦ or_left (contains c.pinned id) (contains c.placed id || contains c.had id) pinned
   | inr placed ↦ or_right (contains c.pinned id) (contains c.placed id || contains c.had id)
       (or_left (contains c.placed id) (contains c.had id) placed)
 ]
@@ -46,11 +46,11 @@ settled_in_place c id h = elim (or_cases (contains c.pinned id) (contains c.plac
 pub may_be_scanned : (x : Collecting) (id : Id) → Running x → is_live x.world id ≡ true → is_white_in x id ≡ false
     → MayBeScanned x.world x.running id
 may_be_scanned x id run live black = elim (cases_Bool (is_condemned x.running id)) [
-  inl condemned ↦ elim (cases_Bool (is_copying_object x.world id)) [
-    inl copying ↦ inl (or_right (not (is_condemned x.running id)) (is_settled x.running id)
+  | inl condemned ↦ elim (cases_Bool (is_copying_object x.world id)) [
+    | inl copying ↦ inl (or_right (not (is_condemned x.running id)) (is_settled x.running id)
         (settled_in_place x.running id (run.settled.in_place id copying condemned black)))
     | inr other ↦ elim (run.survivors.kept id live black) [
-      inl out ↦ absurd (true≢false (sym condemned ∙ out))
+      | inl out ↦ absurd (true≢false (sym condemned ∙ out))
       | inr may ↦ inr (ap not other, may)
     ]
   ]
@@ -90,8 +90,8 @@ module _ (IsScanned : World → Id → Type 0) (holder : Id) where
         keep_scans x.world x.running id those keep (id_at-live x.world id run.different first.0) (each x run further)
         (subst (λ g. contains (targets g holder) id ≡ true) (sym further.graph) (refers id (contains_here id ids)))
         (fixes_scans rest one.running (ap is_tracing_band one.further.band ∙ tracing)
-          (λ n h. let still = may n (contains_later id ids n h) in (one.further.live n ∙ still.0, one.further.survives n still.1))
-          (further_still begin x y further one.further) (λ n h. refers n (contains_later id ids n h)))
+        (λ n h. let still = may n (contains_later id ids n h) in (one.further.live n ∙ still.0, one.further.survives n still.1))
+        (further_still begin x y further one.further) (λ n h. refers n (contains_later id ids n h)))
 
 -- a unit that scans an object
 pub scan_is_unit : (x : Collecting) (id : Id) {ms : List Move} {y : Collecting} → Running x → is_tracing_band x.band ≡ true

@@ -1,23 +1,22 @@
 -- An object that is white where its registration is examined is kept and posted: these moves are legal, and they are an examination.
-use Rattle.std.proofs.Common.{◌≡◌, ◌∙◌, ◌⊎◌, ℕ, suc, ◌+◌, ◌-◌, ◌<◌, ◌≤◌, Bool, true, false, refl, sym, ap, List, [], ◌∷◌, ◌++◌, length, Option, Some, None, subst, inl, inr, arith}
+use Rattle.std.proofs.Common.{◌≡◌, ◌∙◌, ℕ, true, false, refl, sym, ap, List, [], ◌∷◌, ◌++◌, Option, Some, subst, inl}
 use Rattle.std.proofs.lemmas.Bool.{false≢true, or_left, or_right, and_from, eq-eqb, ne_eqb, le-leb, lt-ltb}
-use Rattle.std.proofs.lemmas.Option.{same_Some}
-use Rattle.std.specs.Prelude.{◌==◌, ◌||◌, ◌&&◌, not, IsTrue, nat_le, nat_lt, slice_set}
+use Rattle.std.specs.Prelude.{◌||◌, not, IsTrue, nat_le, nat_lt, slice_set}
 use Rattle.std.specs.Option.{option_map_or}
 use Rattle.mps_base.specs.Address.{Id, Address, word_of, address_of_word, address_of_grain}
 use Rattle.mps_base.specs.Placement.{Place, NewSegment}
 use Rattle.mps_base.specs.declared.moves.Move.{Move}
 use Rattle.mps_base.specs.declared.moves.Move.TheVariants as moves
-use Rattle.mps_model.specs.Graph.{Graph, contains, position_of_first, entry_at}
+use Rattle.mps_model.specs.Graph.{contains, position_of_first, entry_at}
 use Rattle.mps_model.specs.Collection.{Collection, is_condemned, is_settled, is_surely_kept}
 use Rattle.mps_model.specs.World.{World, address_of, id_at, is_live, is_copying_object}
 use Rattle.mps_model.specs.Accessing.{address_or_null}
 use Rattle.mps_model.specs.Placement.{ForMove, placement_of}
-use Rattle.mps_model.specs.Effect.{placing, with_collection, after_moved, world_after_move, world_after_moves}
+use Rattle.mps_model.specs.Effect.{placing, world_after_moves}
 use Rattle.mps_model.specs.Flip.{at_address, segment_for_move}
-use Rattle.mps_model.specs.LegalMove.{ForOne, IsLegalMove, IsLegalPost, IsLost, has_no_room, is_tracing, is_due, is_kept_before, keeps_at}
+use Rattle.mps_model.specs.LegalMove.{ForOne, IsLegalMove, IsLegalPost, IsLost, has_no_room, is_due, is_kept_before, keeps_at}
 use Rattle.mps_model.specs.Units.{IsExamination, posts, stays_and_posts, moves_and_posts, moves_to_segment_and_posts}
-use Rattle.mps_colours.specs.Colours.{is_white, AreDifferent}
+use Rattle.mps_colours.specs.Colours.{AreDifferent}
 use Rattle.mps_colours.specs.Collecting.{Collecting, is_tracing_band, is_white_in, Running}
 use Rattle.mps_colours.specs.Fixing.{Keeps, marks, moves_to_place, moves_to_segment, stays, moved_to, stays_at, IsUnused, new_segment}
 use Rattle.mps_colours.specs.Units.{IsExaminedNext}
@@ -60,14 +59,14 @@ module _ (x : Collecting) (run : Running x) (id : Id) (due : IsExaminedNext x id
           registered = for_some (λ position. IsTrue (is_due x.running position)) (position_of_first v.graph.registered id) x.next
               (ap (λ g. position_of_first g.registered id) same ∙ position_first x.world.graph.registered id x.next stands_first)
               (and_from (nat_le x.running.examined x.next) (nat_lt x.next x.running.registered_before)
-                (le-leb x.running.examined x.next run.examined.from) (lt-ltb x.next x.running.registered_before due.before_flip));
+              (le-leb x.running.examined x.next run.examined.from) (lt-ltb x.next x.running.registered_before due.before_flip));
           just_found = found;
         }))
 
   kept_before_it : (n : Id) → (n ≡ id → ⊥) → is_surely_kept (placing id x.running) n ≡ true → is_surely_kept x.running n ≡ true
   kept_before_it n other h =
       sym (ap (λ b. not (is_condemned x.running n) || (contains x.running.pinned n || ((b || contains x.running.placed n) || contains x.running.had n)))
-          (ne_eqb id n (λ same. other (sym same)))) ∙ h
+      (ne_eqb id n (λ same. other (sym same)))) ∙ h
 
   -- after it moved or was made to stay
   module _ (v : World) (runs : v.collection ≡ Some (placing id x.running)) (same : v.graph ≡ x.world.graph)
@@ -96,9 +95,9 @@ module _ (x : Collecting) (run : Running x) (id : Id) (due : IsExaminedNext x id
   shown_marked other = record {
     legal = one_legal x.world (moves.Post (at_address (address_or_null x.world id)))
         (λ before. post_is_legal x.running.placed x.world run.runs refl (address_or_null x.world id) (id_at-live x.world id run.different live) before
-          (white_is_lost x.world x.running x.colours run.coloured run.settled due.drained id white)
-          (or_left (not (is_settled x.running id)) (is_kept_before (address_or_null x.world id) before)
-            (white_not_settled x.world x.running x.colours id run.runs run.different live (run.band.tracing tracing) white run.settled)));
+        (white_is_lost x.world x.running x.colours run.coloured run.settled due.drained id white)
+        (or_left (not (is_settled x.running id)) (is_kept_before (address_or_null x.world id) before)
+        (white_not_settled x.world x.running x.colours id run.runs run.different live (run.band.tracing tracing) white run.settled)));
     is_examination = posts;
   }
 
@@ -112,10 +111,10 @@ module _ (x : Collecting) (run : Running x) (id : Id) (due : IsExaminedNext x id
     shown_moved to word copying placed at_word leads at = record {
       legal = two_legal x.world (moved_to x.world id to) (moves.Post (at_address (address_or_null v id)))
           (λ before. moved_is_legal x.world x.running x.colours id run.runs run.different live (run.band.tracing tracing) white run.settled
-            x.world to word run.runs (id_at-live x.world id run.different live) copying placed at_word)
+          x.world to word run.runs (id_at-live x.world id run.different live) copying placed at_word)
           (λ next. subst (λ u. IsLegalMove u (Some (moved_to x.world id to)) (moves.Post (at_address (address_or_null v id))) next) (sym leads)
-            (post_after v runs same was_live (address_or_null v id) there (moved_to x.world id to)
-              (eq-eqb to (address_or_null v id) (sym (address_moved v to at))) next));
+          (post_after v runs same was_live (address_or_null v id) there (moved_to x.world id to)
+          (eq-eqb to (address_or_null v id) (sym (address_moved v to at))) next));
       is_examination = subst (λ a. IsExamination (moved_to x.world id to ∷ moves.Post (at_address a) ∷ [])) (sym (address_moved v to at)) moves_and_posts;
     }
 
@@ -127,8 +126,8 @@ module _ (x : Collecting) (run : Running x) (id : Id) (due : IsExaminedNext x id
       legal = two_legal x.world (stays_at x.world id) (moves.Post (at_address (address_or_null v id)))
           (λ before. stay_is_legal x.world x.running x.colours id run.runs run.different live (run.band.tracing tracing) white run.settled copying room)
           (λ next. subst (λ u. IsLegalMove u (Some (stays_at x.world id)) (moves.Post (at_address (address_or_null v id))) next) (sym leads)
-            (post_after v runs same was_live (address_or_null v id) there (stays_at x.world id)
-              (eq-eqb (address_or_null x.world id) (address_or_null v id) (sym at)) next));
+          (post_after v runs same was_live (address_or_null v id) there (stays_at x.world id)
+          (eq-eqb (address_or_null x.world id) (address_or_null v id) (sym at)) next));
       is_examination = subst (λ a. IsExamination (stays_at x.world id ∷ moves.Post (at_address a) ∷ [])) (sym at) stays_and_posts;
     }
 
@@ -144,17 +143,17 @@ module _ (x : Collecting) (run : Running x) (id : Id) (due : IsExaminedNext x id
         record {
           legal = three_legal x.world s (moved_to x.world id to) (moves.Post (at_address (address_or_null v id)))
               (λ before. segment_is_legal x.world x.running x.colours id run.runs run.different live (run.band.tracing tracing) white run.settled
-                grain grains copying placed unused)
+              grain grains copying placed unused)
               (subst (λ u. IsLegalMove u (Some s) (moved_to x.world id to) (Some (moves.Post (at_address (address_or_null v id)))))
-                (sym (segment_leads x.world id grain grains copying))
-                (moved_is_legal x.world x.running x.colours id run.runs run.different live (run.band.tracing tracing) white run.settled
-                  (taken_for x.world (new_segment x.world id grain grains)) to (word_of to) run.runs
-                  (id_at-live x.world id run.different live) copying
-                  (place_in_new x.world x.running x.colours id run.runs run.different live (run.band.tracing tracing) white run.settled
-                    grain grains copying placed unused) (aligned grain)))
+              (sym (segment_leads x.world id grain grains copying))
+              (moved_is_legal x.world x.running x.colours id run.runs run.different live (run.band.tracing tracing) white run.settled
+              (taken_for x.world (new_segment x.world id grain grains)) to (word_of to) run.runs
+              (id_at-live x.world id run.different live) copying
+              (place_in_new x.world x.running x.colours id run.runs run.different live (run.band.tracing tracing) white run.settled
+              grain grains copying placed unused) (aligned grain)))
               (λ next. subst (λ u. IsLegalMove u (Some (moved_to x.world id to)) (moves.Post (at_address (address_or_null v id))) next) (sym leads)
-                (post_after v runs same was_live (address_or_null v id) there (moved_to x.world id to)
-                  (eq-eqb to (address_or_null v id) (sym (address_moved v to at))) next));
+              (post_after v runs same was_live (address_or_null v id) there (moved_to x.world id to)
+              (eq-eqb to (address_or_null v id) (sym (address_moved v to at))) next));
           is_examination = subst (λ a. IsExamination (s ∷ moved_to x.world id to ∷ moves.Post (at_address a) ∷ []))
               (sym (address_moved v to at)) moves_to_segment_and_posts;
         }

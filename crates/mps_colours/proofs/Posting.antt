@@ -1,22 +1,21 @@
 -- An object that was kept is posted, and the invariant holds.
-use Rattle.std.proofs.Common.{◌≡◌, ◌∙◌, ◌⊎◌, ℕ, suc, ◌+◌, ◌-◌, ◌<◌, ◌≤◌, Bool, true, false, refl, sym, ap, List, [], ◌∷◌, ◌++◌, length, Option, Some, None, subst, inl, inr, arith}
-use Rattle.std.proofs.lemmas.Bool.{false≢true, true≢false, or_left, or_right, or_cases, eqb-true, cases_Bool, cases_lt}
-use Rattle.std.specs.Prelude.{◌==◌, ◌||◌, slice_get, option_map}
+use Rattle.std.proofs.Common.{◌≡◌, ◌∙◌, ◌⊎◌, ℕ, suc, ◌-◌, ◌<◌, ◌≤◌, true, false, refl, sym, ap, List, [], ◌∷◌, ◌++◌, Option, Some, subst, inl, inr, arith}
+use Rattle.std.proofs.lemmas.Bool.{false≢true, true≢false, eqb-true, cases_lt}
+use Rattle.std.specs.Prelude.{◌==◌, ◌||◌}
 use Rattle.std.specs.Option.{option_map_or}
-use Rattle.mps_base.specs.Address.{Id, Address}
+use Rattle.mps_base.specs.Address.{Id}
 use Rattle.mps_base.specs.declared.moves.Move.{Move}
 use Rattle.mps_base.specs.declared.moves.Move.TheVariants as moves
-use Rattle.mps_model.specs.Graph.{Graph, contains, targets, is_automatic, is_weak_object, without_first, ids_of_client, ids_in_slots, ids_in_holds, ids_in_reservations}
+use Rattle.mps_model.specs.Graph.{Graph, contains, targets, ids_of_client, ids_in_slots, ids_in_holds, ids_in_reservations}
 use Rattle.mps_model.specs.Reachable.{PathLeads, begins, goes_on}
-use Rattle.mps_model.specs.Collection.{Collection, is_condemned, is_settled, MaySurvive}
-use Rattle.mps_model.specs.World.{World, id_at, is_live, live_ids, object_is, is_copying_object}
+use Rattle.mps_model.specs.Collection.{Collection, is_settled}
+use Rattle.mps_model.specs.World.{World, is_live, is_copying_object}
 use Rattle.mps_model.specs.Accessing.{address_or_null}
-use Rattle.mps_model.specs.Effect.{posting, after_post, graph_posted, registration_of, segment_base_of, where_one, world_after_moves}
+use Rattle.mps_model.specs.Effect.{posting, after_post, graph_posted, where_one, world_after_moves}
 use Rattle.mps_model.specs.Flip.{at_address}
-use Rattle.mps_model.specs.LegalMove.{holds_something}
 use Rattle.mps_model.specs.Units.{examines}
 use Rattle.mps_model.proofs.Cutting.{world_after_moves-append}
-use Rattle.mps_colours.specs.Colours.{Colours, is_white, is_grey, keeping, Survives, AreColoured, AreSettled, AreSurvivors}
+use Rattle.mps_colours.specs.Colours.{keeping, Survives, AreColoured, AreSettled, AreSurvivors}
 use Rattle.mps_colours.specs.Collecting.{Final, Collecting, is_tracing_band, is_white_in, AreExamined, units_left, Running}
 use Rattle.mps_colours.specs.Fixing.{Keeps, kept_by}
 use Rattle.mps_colours.specs.Units.{IsExaminedNext, posted}
@@ -36,11 +35,11 @@ use Rattle.mps_colours.proofs.PostLegal.{post_shown, stands_first}
 posted_held : (a b m r : List ℕ) (id n : Id) → contains (((a ++ b) ++ (m ++ id ∷ [])) ++ r) n ≡ true
     → (id ≡ n) ⊎ (contains (((a ++ b) ++ m) ++ r) n ≡ true)
 posted_held a b m r id n h = elim (contains_append ((a ++ b) ++ (m ++ id ∷ [])) r n h) [
-  inr in_r ↦ inr (contains_right ((a ++ b) ++ m) r n in_r)
+  | inr in_r ↦ inr (contains_right ((a ++ b) ++ m) r n in_r)
   | inl front ↦ elim (contains_append (a ++ b) (m ++ id ∷ []) n front) [
-    inl in_ab ↦ inr (contains_left ((a ++ b) ++ m) r n (contains_left (a ++ b) m n in_ab))
+    | inl in_ab ↦ inr (contains_left ((a ++ b) ++ m) r n (contains_left (a ++ b) m n in_ab))
     | inr back ↦ elim (contains_append m (id ∷ []) n back) [
-      inl in_m ↦ inr (contains_left ((a ++ b) ++ m) r n (contains_right (a ++ b) m n in_m))
+      | inl in_m ↦ inr (contains_left ((a ++ b) ++ m) r n (contains_right (a ++ b) m n in_m))
       | inr it ↦ elim (contains_cases id [] n it) [ inl same ↦ inl same | inr none ↦ absurd (false≢true none) ]
     ]
   ]
@@ -59,7 +58,7 @@ leads_more next these those sub (goes_on path h) = goes_on (leads_more next thes
 
 pub survives_post : (c : Collection) (id position n : Id) → Survives c n → Survives (posting id position c) n
 survives_post c id position n s = elim s [
-  inl out ↦ inl out
+  | inl out ↦ inl out
   | inr may ↦ inr (leads_more (targets c.graph_at_flip) c.origins (id ∷ c.origins) (λ m h. contains_later id c.origins m h) may)
 ]
 
@@ -94,11 +93,11 @@ module _ (x : Collecting) (run : Running x) (id : Id) (due : IsExaminedNext x id
       let old = kept.coloured x run tracing id live white w' c' r in
       record {
         held_live = λ n h. elim (client_posted x.world.graph id n h) [
-          inl same ↦ subst (λ m. is_live posted_state.world m ≡ true) same (kept.still_live x run tracing id live white w' c' r id live)
+          | inl same ↦ subst (λ m. is_live posted_state.world m ≡ true) same (kept.still_live x run tracing id live white w' c' r id live)
           | inr held ↦ old.held_live n held
         ];
         held = λ n h. elim (client_posted x.world.graph id n h) [
-          inl same ↦ subst (λ m. is_white_in posted_state m ≡ false) same (it_is_kept x.running.condemned x.colours id)
+          | inl same ↦ subst (λ m. is_white_in posted_state m ≡ false) same (it_is_kept x.running.condemned x.colours id)
           | inr held ↦ old.held n held
         ];
         referred_live = old.referred_live;
@@ -108,8 +107,8 @@ module _ (x : Collecting) (run : Running x) (id : Id) (due : IsExaminedNext x id
   settled_post : (n : Id) → is_settled posted_one n ≡ true → (id ≡ n) ⊎ (is_settled before_post.running n ≡ true)
   settled_post n h =
       elim (id == n) as (λ b. (id == n) ≡ b → (contains x.running.pinned n || (contains r.placed n || (b || contains x.running.had n))) ≡ true
-          → (id ≡ n) ⊎ (is_settled before_post.running n ≡ true)) [
-        true ↦ (λ e g. inl (eqb-true id n e))
+      → (id ≡ n) ⊎ (is_settled before_post.running n ≡ true)) [
+        | true ↦ (λ e g. inl (eqb-true id n e))
         | false ↦ (λ e g. inr g)
       ] refl h
 
@@ -118,7 +117,7 @@ module _ (x : Collecting) (run : Running x) (id : Id) (due : IsExaminedNext x id
       let old = kept.settled x run tracing id live white w' c' r in
       record {
         settled = λ n h. elim (settled_post n h) [
-          inl same ↦ subst (λ m. is_white_in posted_state m ≡ false) same (it_is_kept x.running.condemned x.colours id)
+          | inl same ↦ subst (λ m. is_white_in posted_state m ≡ false) same (it_is_kept x.running.condemned x.colours id)
           | inr before ↦ old.settled n before
         ];
         in_place = old.in_place;
@@ -128,12 +127,12 @@ module _ (x : Collecting) (run : Running x) (id : Id) (due : IsExaminedNext x id
   survivors = record {
     existing = run.survivors.existing;
     kept = λ n h black. elim (kept_before x.running.condemned x.colours id n black) [
-      inl same ↦ subst (λ m. Survives posted_one m) same (inr (begins (contains_here id x.running.origins)))
+      | inl same ↦ subst (λ m. Survives posted_one m) same (inr (begins (contains_here id x.running.origins)))
       | inr old ↦ survives_post before_post.running id x.next n
           (run.survivors.kept n (kept.was_live x run tracing id live white w' c' r n h) old)
     ];
     written = λ n t h refers. elim (run.survivors.written n t (kept.was_live x run tracing id live white w' c' r n h) refers) [
-      inl at_flip ↦ inl at_flip
+      | inl at_flip ↦ inl at_flip
       | inr since ↦ inr (survives_post before_post.running id x.next t since)
     ];
     outside = λ n t h out refers.
@@ -151,7 +150,7 @@ module _ (x : Collecting) (run : Running x) (id : Id) (due : IsExaminedNext x id
         up_to = let b = due.before_flip in omega (arith, b);
         existing = let l = length-without_first xs id x.next first in let e = run.examined.existing in omega (arith, l, e);
         examined = λ position n e at. elim (cases_lt position x.next) [
-          inl less ↦ old.examined position n (sym (slice_get-without_before xs id x.next position first less) ∙ e) (inl less)
+          | inl less ↦ old.examined position n (sym (slice_get-without_before xs id x.next position first less) ∙ e) (inl less)
           | inr most ↦ old.examined (suc position) n (sym (slice_get-without_after xs id x.next position first most) ∙ e) (inr (since position most at))
         ];
       }
@@ -203,13 +202,13 @@ module _ (x : Collecting) (run : Running x) (id : Id) (due : IsExaminedNext x id
   same_posted =
       ap (λ y. posted y id) (same_state x run tracing id live white w' c' r)
       ∙ ap (λ (o : Option ℕ). record before_post {
-          world = record before_post.world {
-            graph = graph_posted x.world.graph id;
-            collection = Some (posting id (option_map_or (λ position. position) o 0) before_post.running);
-          };
-          running = posted_one;
-          band = Final;
-        }) (position_first x.world.graph.registered id x.next first)
+        world = record before_post.world {
+          graph = graph_posted x.world.graph id;
+          collection = Some (posting id (option_map_or (λ position. position) o 0) before_post.running);
+        };
+        running = posted_one;
+        band = Final;
+      }) (position_first x.world.graph.registered id x.next first)
 
 pub posts_shown : (x : Collecting) (id : Id) (ms : List Move) (c : Collection) → Running x → IsExaminedNext x id → is_white_in x id ≡ true
     → Keeps x.world x.running id ms c

@@ -1,29 +1,26 @@
 -- A condemned segment is reclaimed: what is left of the world, and what the invariant needs of it.
-use Rattle.std.proofs.Common.{◌≡◌, ◌∙◌, ◌⊎◌, ℕ, zero, suc, ◌+◌, ◌-◌, ◌<◌, ◌≤◌, Bool, true, false, refl, sym, ap, List, [], ◌∷◌, ◌++◌, length, Option, Some, None, subst, inl, inr, arith}
-use Rattle.std.proofs.lemmas.Bool.{false≢true, true≢false, and_parts, or_left, or_cases, eq-eqb, cases_eq, cases_lt, cases_Bool, leb-true, le-leb}
-use Rattle.std.proofs.lemmas.Option.{none-some, same_Some}
-use Rattle.std.specs.Prelude.{◌==◌, ◌&&◌, ◌||◌, not, is_some, IsTrue, nat_le, slice_get, count_by}
-use Rattle.std.specs.List.{list_all}
+use Rattle.std.proofs.Common.{◌≡◌, ◌∙◌, ℕ, zero, suc, ◌+◌, ◌<◌, ◌≤◌, Bool, true, false, refl, sym, ap, List, [], ◌∷◌, ◌++◌, Option, Some, None, subst, inl, inr, arith}
+use Rattle.std.proofs.lemmas.Bool.{false≢true, cases_eq, cases_lt, cases_Bool, leb-true, le-leb}
+use Rattle.std.specs.Prelude.{is_some, nat_le, slice_get, count_by}
 use Rattle.mps_base.specs.Address.{Id, Address}
-use Rattle.mps_base.specs.Segment.{Segment, is_in_segment}
+use Rattle.mps_base.specs.Segment.{Segment}
 use Rattle.mps_base.specs.declared.moves.Move.{Move}
-use Rattle.mps_model.specs.Graph.{contains, entry_at, ids_of_client, is_automatic}
-use Rattle.mps_model.specs.Collection.{Collection, Phase, is_condemned}
-use Rattle.mps_model.specs.World.{World, address_of, is_live, live_ids, numbers_of, segment_at, object_is, is_copying_object, is_automatic_kind, pool_is}
+use Rattle.mps_model.specs.Graph.{contains, entry_at}
+use Rattle.mps_model.specs.Collection.{Collection}
+use Rattle.mps_model.specs.World.{World, is_live, live_ids, numbers_of}
 use Rattle.mps_model.specs.Accessing.{address_or_null}
 use Rattle.mps_model.specs.Effect.{segment_base_of, world_after_moves}
-use Rattle.mps_model.specs.LegalMove.{ForOne, holds_something}
-use Rattle.mps_model.specs.Units.{frees_at, give_back_where, nothing_left, is_ascending}
+use Rattle.mps_model.specs.LegalMove.{holds_something}
+use Rattle.mps_model.specs.Units.{frees_at, give_back_where, nothing_left}
 use Rattle.mps_model.proofs.Cutting.{world_after_moves-append}
-use Rattle.mps_colours.specs.Colours.{Colours, is_white, is_grey, is_to_scan, AreColoured, AreAllScanned, Survives, AreSurvivors}
-use Rattle.mps_colours.specs.Collecting.{Reclaim, Collecting, is_white_in, AreAllExamined, IsToGo, objects_left, segments_left, units_left, Running}
-use Rattle.mps_colours.specs.Units.{IsReclaimedNext, IsWhiteAt}
-use Rattle.mps_colours.proofs.Lists.{contains_here, contains_later, contains_cases, count_by-cons, count_by-le, count_by-lt, find-passes}
+use Rattle.mps_colours.specs.Colours.{is_to_scan}
+use Rattle.mps_colours.specs.Collecting.{Reclaim, Collecting, is_white_in, IsToGo, objects_left, segments_left, units_left, Running}
+use Rattle.mps_colours.specs.Units.{IsReclaimedNext}
+use Rattle.mps_colours.proofs.Lists.{contains_cases, count_by-cons, count_by-lt}
 use Rattle.mps_colours.proofs.Addresses.{address_of-live}
 use Rattle.mps_colours.proofs.Joining.{AreLegalAnywhere, legal_append}
-use Rattle.mps_colours.proofs.Kept.{base_over, held_in}
-use Rattle.mps_colours.proofs.Covering.{begins_at, still_holds}
-use Rattle.mps_colours.proofs.Sweeping.{IsSweeping, IsWhiteThere, AreFreed, are_freed, sweeping_on, contains-above}
+use Rattle.mps_colours.proofs.Covering.{still_holds}
+use Rattle.mps_colours.proofs.Sweeping.{IsSweeping, AreFreed, are_freed, sweeping_on, contains-above}
 use Rattle.mps_colours.proofs.GivingBack.{IsCleared, IsGivenBack, is_given_back}
 
 -- ---- lists
@@ -32,7 +29,7 @@ use Rattle.mps_colours.proofs.GivingBack.{IsCleared, IsGivenBack, is_given_back}
 pub stands_somewhere : (xs : List ℕ) (n : ℕ) → contains xs n ≡ true → (i : ℕ) × (slice_get xs i ≡ Some n)
 stands_somewhere [] n h = absurd (false≢true h)
 stands_somewhere (x ∷ xs) n h = elim (contains_cases x xs n h) [
-  inl same ↦ (zero, ap Some same)
+  | inl same ↦ (zero, ap Some same)
   | inr later ↦ let rest = stands_somewhere xs n later in (suc rest.0, rest.1)
 ]
 
@@ -62,7 +59,7 @@ module _ (x : Collecting) (run : Running x) (s : Segment) (freed : List Address)
   registered_black n h =
       let at = stands_somewhere x.world.graph.registered n h in
       elim (cases_lt at.0 x.next) [
-        inl less ↦ run.examined.examined at.0 n at.1 (inl less)
+        | inl less ↦ run.examined.examined at.0 n at.1 (inl less)
         | inr most ↦ run.examined.examined at.0 n at.1 (inr (let all = next.examined in omega (arith, all, most)))
       ]
 
@@ -109,7 +106,7 @@ module _ (x : Collecting) (run : Running x) (s : Segment) (freed : List Address)
   made_legal =
       legal_append x.world (frees_at freed) (give_back_where s.base (nothing_left (world_after_moves x.world (frees_at freed)) s.base)) frees.legal
       (subst (λ v. AreLegalAnywhere v (give_back_where s.base (nothing_left (world_after_moves x.world (frees_at freed)) s.base)))
-        (sym frees.leads) given.legal)
+      (sym frees.leads) given.legal)
 
   -- ---- what is left
 
@@ -130,7 +127,7 @@ module _ (x : Collecting) (run : Running x) (s : Segment) (freed : List Address)
 
   pub not_freed : (n : Id) (at : Address) → is_white_in x n ≡ false → entry_at x.world.addresses n ≡ Some at → contains freed at ≡ false
   not_freed n at black e = elim (cases_Bool (contains freed at)) [
-    inl is ↦
+    | inl is ↦
         let white = next.white at is in
         absurd (false≢true (sym black ∙ subst (λ m. is_white_in x m ≡ true) (run.different white.id n at white.address e) white.white))
     | inr isnt ↦ isnt
@@ -172,11 +169,11 @@ module _ (x : Collecting) (run : Running x) (s : Segment) (freed : List Address)
   others_hold base h other below =
       still_holds x.world frees.addresses cleared.segments (Some final_collection) base (cleared.held base other)
       (λ t held n at e begins. frees.left n at e (elim (cases_Bool (contains freed at)) [
-        inl is ↦ absurd (false≢true (sym (next.apart base t at held other is) ∙ begins))
+        | inl is ↦ absurd (false≢true (sym (next.apart base t at held other is) ∙ begins))
         | inr isnt ↦ isnt
       ]))
       (run.swept.hold base h (elim (cases_lt base x.cursor) [
-        inl less ↦ less
+        | inl less ↦ less
         | inr most ↦ absurd (let up = next.first base h most in other (omega (arith, up, below)))
       ]))
 
@@ -184,8 +181,8 @@ module _ (x : Collecting) (run : Running x) (s : Segment) (freed : List Address)
   hold base h below =
       let was = cleared.were base h in
       elim (cases_eq base s.base) [
-        inl same ↦ elim was.1.1 [
-          inl other ↦ absurd (other same)
+        | inl same ↦ elim was.1.1 [
+          | inl other ↦ absurd (other same)
           | inr holds ↦ subst (λ b. holds_something final_world b ≡ true) (sym same) (sym (ap (λ v. holds_something v s.base) cleared.leads) ∙ holds)
         ]
         | inr other ↦ others_hold base was.0 other below
@@ -198,9 +195,9 @@ module _ (x : Collecting) (run : Running x) (s : Segment) (freed : List Address)
       let less = cleared.count (nat_le (suc s.base)) in
       let from = next.from_cursor in
       let fewer : count_by (nat_le (suc s.base)) x.running.condemned_segments < count_by (nat_le x.cursor) x.running.condemned_segments =
-          count_by-lt (nat_le (suc s.base)) (nat_le x.cursor) x.running.condemned_segments s.base
-          (λ n h. let up = leb-true (suc s.base) n h in le-leb x.cursor n (omega (arith, up, from)))
-          next.condemned (not_le (suc s.base) s.base (omega arith)) (le-leb x.cursor s.base from) in
+      count_by-lt (nat_le (suc s.base)) (nat_le x.cursor) x.running.condemned_segments s.base
+      (λ n h. let up = leb-true (suc s.base) n h in le-leb x.cursor n (omega (arith, up, from)))
+      next.condemned (not_le (suc s.base) s.base (omega arith)) (le-leb x.cursor s.base from) in
       omega (arith, less, fewer)
     where
       not_le : (a b : ℕ) → b < a → nat_le a b ≡ false

@@ -1,33 +1,32 @@
 -- A unit that reclaims a segment, and the one in which the collection ends.
-use Rattle.std.proofs.Common.{◌≡◌, ◌∙◌, ◌⊎◌, ℕ, suc, ◌+◌, ◌<◌, ◌≤◌, Bool, true, false, refl, sym, ap, List, [], ◌∷◌, ◌++◌, length, Option, Some, None, subst, inl, inr, arith}
-use Rattle.std.proofs.lemmas.Bool.{false≢true, true≢false, and_parts, cases_eq, cases_lt, cases_Bool, leb-true, le-leb, lt-ltb}
+use Rattle.std.proofs.Common.{◌≡◌, ◌∙◌, ◌⊎◌, suc, ◌<◌, ◌≤◌, Bool, true, false, refl, sym, ap, List, [], ◌∷◌, ◌++◌, Some, None, subst, inl, inr, arith}
+use Rattle.std.proofs.lemmas.Bool.{false≢true, true≢false, cases_lt, cases_Bool, leb-true, le-leb, lt-ltb}
 use Rattle.std.proofs.lemmas.Option.{same_Some}
 use Rattle.std.proofs.lemmas.List.{append-nil}
-use Rattle.std.specs.Prelude.{◌&&◌, not, is_some, IsTrue, nat_le, filter}
-use Rattle.std.specs.List.{AllByRecursion, list_all}
+use Rattle.std.specs.Prelude.{◌&&◌, IsTrue, nat_le, filter}
+use Rattle.std.specs.List.{list_all}
 use Rattle.mps_base.specs.Address.{Id, Address}
 use Rattle.mps_base.specs.Segment.{Segment, is_in_segment}
 use Rattle.mps_base.specs.declared.moves.Move.{Move}
 use Rattle.mps_base.specs.declared.moves.Move.TheVariants as moves
-use Rattle.mps_model.specs.Graph.{contains, entry_at, targets, ids_of_client, is_automatic}
-use Rattle.mps_model.specs.Collection.{Collection, is_condemned, is_settled, is_kept_in_place, MaySurvive}
-use Rattle.mps_model.specs.World.{World, is_live, segment_at, object_is, is_copying_object, is_automatic_kind, pool_is}
+use Rattle.mps_model.specs.Graph.{contains, ids_of_client}
+use Rattle.mps_model.specs.Collection.{Collection, is_settled, is_kept_in_place, MaySurvive}
+use Rattle.mps_model.specs.World.{World, is_live, segment_at, is_copying_object, is_automatic_kind, pool_is}
 use Rattle.mps_model.specs.Accessing.{address_or_null}
 use Rattle.mps_model.specs.Effect.{segment_base_of, world_after_moves}
 use Rattle.mps_model.specs.Flip.{end_where}
-use Rattle.mps_model.specs.LegalMove.{ForOne, IsLegalMove, IsLegalEnd, live_condemned, holds_something}
+use Rattle.mps_model.specs.LegalMove.{IsLegalEnd, live_condemned, holds_something}
 use Rattle.mps_model.specs.Units.{IsReclaim, reclaims, is_last_condemned, IsUnitPiece}
 use Rattle.mps_model.proofs.Cutting.{world_after_moves-append}
 use Rattle.mps_model.proofs.Reaching.{list_all-contains}
-use Rattle.mps_colours.specs.Colours.{Colours, is_white, AllReferredLive, Survives}
+use Rattle.mps_colours.specs.Colours.{AllReferredLive}
 use Rattle.mps_colours.specs.Collecting.{Reclaim, Collecting, is_white_in, units_left, Running}
 use Rattle.mps_colours.specs.Units.{IsReclaimedNext, reclaim_by, reclaimed}
 use Rattle.mps_colours.proofs.Lists.{contains_here, contains_later, contains-filter, all_members, list_all-members}
 use Rattle.mps_colours.proofs.Addresses.{address_of-live}
 use Rattle.mps_colours.proofs.Joining.{AreLegalAnywhere, one_legal, legal_append, for_some}
 use Rattle.mps_colours.proofs.KeptRunning.{one_that_is}
-use Rattle.mps_colours.proofs.Sweeping.{IsSweeping}
-use Rattle.mps_colours.proofs.Reclaimed.{frees, cleared, final_collection, final_world, final_state, final_lead, moves_made, made_legal, live_before, black_left, above_zero, white_elsewhere, to_go, others_hold, hold, fewer, registered_black}
+use Rattle.mps_colours.proofs.Reclaimed.{frees, cleared, final_collection, final_world, final_state, final_lead, moves_made, made_legal, live_before, black_left, white_elsewhere, to_go, hold, fewer, registered_black}
 use Rattle.mps_colours.proofs.UnitScans.{IsUnitShown}
 
 -- what is shown of the last unit
@@ -67,7 +66,7 @@ module _ (x : Collecting) (run : Running x) (s : Segment) (freed : List Address)
           → (base : Address) × ((contains bases base ≡ true) × (s.base < base))
       of_bases [] h = absurd (false≢true (sym h))
       of_bases (b ∷ bs) h = elim (cases_lt s.base b) [
-        inl less ↦ (b, (contains_here b bs, less))
+        | inl less ↦ (b, (contains_here b bs, less))
         | inr most ↦
             let rest = of_bases bs (sym (ap (λ t. t && list_all (λ other. nat_le other s.base) bs) (le-leb b s.base most)) ∙ h) in
             (rest.0, (contains_later b bs rest.0 rest.1.0, rest.1.1))
@@ -145,9 +144,9 @@ module _ (x : Collecting) (run : Running x) (s : Segment) (freed : List Address)
           let from = next.from_cursor in
           let before : x.running.reclaimed_to < base = run.swept.in_turn base was (omega (arith, from, up)) in
           elim (cleared x run s freed next).reclaimed [
-            inr here ↦ omega (arith, here, up)
+            | inr here ↦ omega (arith, here, up)
             | inl same ↦ elim (frees x run s freed next).reclaimed [
-              inr here ↦ omega (arith, same, here, up)
+              | inr here ↦ omega (arith, same, here, up)
               | inl still ↦ omega (arith, same, still, before)
             ]
           ]
@@ -165,10 +164,10 @@ module _ (x : Collecting) (run : Running x) (s : Segment) (freed : List Address)
   reclaims_shown c not_last runs =
       let leads = goes_on_leads not_last in
       let same : final_collection x run s freed next ≡ c =
-          same_Some (final_collection x run s freed next) c (sym (ap (λ (v : World). v.collection) leads) ∙ runs) in
+      same_Some (final_collection x run s freed next) c (sym (ap (λ (v : World). v.collection) leads) ∙ runs) in
       let state : final_state x run s freed next ≡ reclaimed x s.base freed c =
-          ap (λ (v : World). record x { world = v; running = final_collection x run s freed next; band = Reclaim; cursor = suc s.base }) (sym leads)
-          ∙ ap (λ (d : Collection). reclaimed x s.base freed d) same in
+      ap (λ (v : World). record x { world = v; running = final_collection x run s freed next; band = Reclaim; cursor = suc s.base }) (sym leads)
+      ∙ ap (λ (d : Collection). reclaimed x s.base freed d) same in
       record {
         running = subst (λ y. Running y) state (final_running not_last);
         leads = refl;
@@ -189,7 +188,7 @@ module _ (x : Collecting) (run : Running x) (s : Segment) (freed : List Address)
     -- nothing is white any more
     all_black : (n : Id) → is_live (final_world x run s freed next) n ≡ true → is_white_in x n ≡ false
     all_black n h = elim (cases_Bool (is_white_in x n)) [
-      inr isnt ↦ isnt
+      | inr isnt ↦ isnt
       | inl white ↦
           let at = address_or_null (final_world x run s freed next) n in
           let e = address_of-live (final_world x run s freed next) n h in
@@ -208,7 +207,7 @@ module _ (x : Collecting) (run : Running x) (s : Segment) (freed : List Address)
           survivors = all_members (λ n. IsTrue (is_settled c n) ⊎ MaySurvive c n) (live_condemned w c) (λ n h.
               let member = contains-filter (is_live w) c.condemned n h in
               elim (run.survivors.kept n (live_before x run s freed next n member.1) (all_black n member.1)) [
-                inl out ↦ absurd (true≢false (sym member.0 ∙ out))
+                | inl out ↦ absurd (true≢false (sym member.0 ∙ out))
                 | inr may ↦ inr may
               ]);
           copied = list_all-members (is_kept_in_place c) (filter (is_copying_object w) (live_condemned w c)) (λ n h.
@@ -230,7 +229,7 @@ module _ (x : Collecting) (run : Running x) (s : Segment) (freed : List Address)
     last_legal = subst (λ ms. AreLegalAnywhere x.world ms) (sym (made_all true last))
         (legal_append x.world (moves_made x run s freed next) (moves.End ∷ []) (made_legal x run s freed next)
         (subst (λ v. AreLegalAnywhere v (moves.End ∷ [])) (sym (final_lead x run s freed next))
-          (one_legal (final_world x run s freed next) moves.End (λ before after. end_is_legal))))
+        (one_legal (final_world x run s freed next) moves.End (λ before after. end_is_legal))))
 
     last_referred_live : AllReferredLive x.world.graph (is_live (final_world x run s freed next))
     last_referred_live n t h refers =

@@ -1,8 +1,8 @@
 -- Lists of registrations: where a number first stands, and what is left when it is taken away there.
-use Rattle.std.proofs.Common.{◌≡◌, ◌∙◌, ◌⊎◌, ℕ, zero, suc, ◌+◌, ◌-◌, ◌<◌, ◌≤◌, Bool, true, false, refl, sym, ap, List, [], ◌∷◌, ◌++◌, length, Option, Some, None, subst, inl, inr, arith}
-use Rattle.std.proofs.lemmas.Bool.{false≢true, or_left, or_right, eq-eqb, ne_eqb, eqb-true, cases_Bool, cases_eq}
+use Rattle.std.proofs.Common.{◌≡◌, ◌∙◌, ℕ, zero, suc, ◌+◌, ◌<◌, ◌≤◌, true, false, refl, sym, ap, List, [], ◌∷◌, length, Some, inl, inr, arith}
+use Rattle.std.proofs.lemmas.Bool.{or_left, eq-eqb, ne_eqb}
 use Rattle.std.proofs.lemmas.Option.{none-some, same_Some}
-use Rattle.std.specs.Prelude.{◌==◌, ◌||◌, if◌then◌else◌, slice_get, option_map}
+use Rattle.std.specs.Prelude.{◌==◌, if◌then◌else◌, slice_get, option_map}
 use Rattle.mps_model.specs.Graph.{contains, position_of_first, without_first}
 use Rattle.mps_colours.proofs.Lists.{contains_later, contains_cases}
 
@@ -33,9 +33,9 @@ position_first (x ∷ xs) n (suc position) s =
 pub contains-without_first : (xs : List ℕ) (n m : ℕ) → contains (without_first xs n) m ≡ true → contains xs m ≡ true
 contains-without_first [] n m h = h
 contains-without_first (x ∷ xs) n m h = elim (x == n) as (λ b. contains (if b then xs else x ∷ without_first xs n) m ≡ true → contains (x ∷ xs) m ≡ true) [
-  true ↦ (λ g. contains_later x xs m g)
+  | true ↦ (λ g. contains_later x xs m g)
   | false ↦ (λ g. elim (contains_cases x (without_first xs n) m g) [
-    inl same ↦ or_left (x == m) (contains xs m) (eq-eqb x m same)
+    | inl same ↦ or_left (x == m) (contains xs m) (eq-eqb x m same)
     | inr later ↦ contains_later x xs m (contains-without_first xs n m later)
   ])
 ] h

@@ -1,14 +1,14 @@
 -- Units, one after the other.
-use Rattle.std.proofs.Common.{◌≡◌, ◌∙◌, ◌⊎◌, ℕ, zero, suc, ◌+◌, ◌<◌, ◌≤◌, Bool, true, false, refl, sym, ap, List, [], ◌∷◌, ◌++◌, length, Option, Some, None, subst, inl, inr, arith}
+use Rattle.std.proofs.Common.{◌≡◌, ◌∙◌, ℕ, suc, ◌+◌, ◌<◌, ◌≤◌, true, false, refl, sym, ap, List, ◌++◌, Option, Some, None, subst, inl, inr, arith}
 use Rattle.std.proofs.lemmas.Bool.{false≢true, cases_lt, le-leb}
-use Rattle.std.specs.Prelude.{IsTrue, is_some, not, nat_le, option_map, count_by}
+use Rattle.std.specs.Prelude.{is_some, not, nat_le, option_map, count_by}
 use Rattle.mps_base.specs.Address.{Id}
 use Rattle.mps_base.specs.declared.moves.Move.{Move}
 use Rattle.mps_model.specs.Graph.{contains, ids_of_client}
 use Rattle.mps_model.specs.Collection.{Collection}
 use Rattle.mps_model.specs.World.{World, is_running, is_live}
 use Rattle.mps_model.specs.Effect.{world_after_moves}
-use Rattle.mps_model.specs.Units.{IsUnitPiece, UnitsDone, none_yet, one_more, AreUnits, AreUnitsToEnd}
+use Rattle.mps_model.specs.Units.{IsUnitPiece, UnitsDone, none_yet, one_more, AreUnits}
 use Rattle.mps_model.proofs.Cutting.{world_after_moves-append}
 use Rattle.mps_colours.specs.Colours.{AllReferredLive}
 use Rattle.mps_colours.specs.Collecting.{Collecting, units_left, segments_left, Running}
@@ -102,8 +102,8 @@ module _ (x : Collecting) (run : Running x) (count : ℕ) (enough : x.running.sp
   asked_runs =
       subst (λ y. Running y)
       (ap (λ (o : Option Collection). record asked_state {
-          world = record x.world { collection = option_map {T = Collection} (λ (c : Collection). record c { spent = c.spent + count }) o };
-        }) (sym run.runs))
+        world = record x.world { collection = option_map {T = Collection} (λ (c : Collection). record c { spent = c.spent + count }) o };
+      }) (sym run.runs))
       asked_state_runs
 
 -- ---- rows of units
@@ -150,8 +150,8 @@ pub some_left : (x : Collecting) → Running x → 0 < units_left x
 some_left x run =
     let one = run.swept.one_left in
     let segments : count_by (λ n. false) x.running.condemned_segments < segments_left x.running.condemned_segments x.cursor =
-        count_by-lt (λ n. false) (nat_le x.cursor) x.running.condemned_segments one.0 (λ m h. absurd (false≢true h)) one.1 refl
-        (le-leb x.cursor one.0 one.2) in
+    count_by-lt (λ n. false) (nat_le x.cursor) x.running.condemned_segments one.0 (λ m h. absurd (false≢true h)) one.1 refl
+    (le-leb x.cursor one.0 one.2) in
     omega (arith, segments)
 
 pub units_done : (x y : Collecting) (count : ℕ) (ms : List Move) → Running x → GoesOn x count ms y → AreUnitsDone x count ms y
@@ -175,10 +175,10 @@ last_units_of {x} {y} {count} {done} {piece} run row last =
     let s = units_shown run row in
     let l = last_unit_shown s.running last in
     let leads : world_after_moves x.world (done ++ piece) ≡ world_after_moves y.world piece =
-        world_after_moves-append x.world done piece ∙ ap (λ v. world_after_moves v piece) s.leads in
+    world_after_moves-append x.world done piece ∙ ap (λ v. world_after_moves v piece) s.leads in
     let all : UnitsDone x.world (suc count) (done ++ piece) =
-        one_more s.units_done (ap is_running s.leads ∙ still_runs y.world y.running s.running.runs)
-        (subst (λ v. IsUnitPiece v piece) (sym s.leads) l.is_piece) in
+    one_more s.units_done (ap is_running s.leads ∙ still_runs y.world y.running s.running.runs)
+    (subst (λ v. IsUnitPiece v piece) (sym s.leads) l.is_piece) in
     let ended : (world_after_moves x.world (done ++ piece)).collection ≡ None = ap (λ (v : World). v.collection) leads ∙ l.ended in
     let ends : not (is_running (world_after_moves x.world (done ++ piece))) ≡ true = ap (λ o. not (is_some o)) ended in
     record {
@@ -195,7 +195,7 @@ last_units_of {x} {y} {count} {done} {piece} run row last =
     of_count : (asked : ℕ) → suc count ≤ asked → UnitsDone x.world (suc count) (done ++ piece)
         → not (is_running (world_after_moves x.world (done ++ piece))) ≡ true → AreUnits x.world asked (done ++ piece)
     of_count asked most all ends = elim (cases_lt (suc count) asked) [
-      inl fewer ↦ inr (suc count, fewer, all, ends)
+      | inl fewer ↦ inr (suc count, fewer, all, ends)
       | inr least ↦ inl (subst (λ n. UnitsDone x.world n (done ++ piece)) (let same : suc count ≡ asked = omega (arith, most, least) in same) all)
     ]
 

@@ -1,25 +1,24 @@
 -- Objects are fixed, one after the other, and an object whose references were fixed is black.
-use Rattle.std.proofs.Common.{◌≡◌, ◌∙◌, ◌⊎◌, ℕ, ◌+◌, ◌-◌, ◌<◌, ◌≤◌, Bool, true, false, refl, sym, ap, List, [], ◌∷◌, ◌++◌, length, Option, Some, None, subst, inl, inr, arith}
-use Rattle.std.proofs.lemmas.Bool.{false≢true, true≢false, or_left, or_right, cases_Bool}
-use Rattle.std.specs.Prelude.{◌||◌, not, IsTrue, count_by}
-use Rattle.mps_base.specs.Address.{Id, Address}
+use Rattle.std.proofs.Common.{◌≡◌, ◌∙◌, ◌<◌, ◌≤◌, true, false, refl, sym, ap, List, subst, inl, inr, arith}
+use Rattle.std.proofs.lemmas.Bool.{false≢true, or_right, cases_Bool}
+use Rattle.mps_base.specs.Address.{Id}
 use Rattle.mps_base.specs.declared.moves.Move.{Move}
-use Rattle.mps_model.specs.Graph.{Graph, contains, targets}
-use Rattle.mps_model.specs.Collection.{Collection, is_condemned}
-use Rattle.mps_model.specs.World.{World, is_live, live_ids}
+use Rattle.mps_model.specs.Graph.{contains, targets}
+use Rattle.mps_model.specs.Collection.{Collection}
+use Rattle.mps_model.specs.World.{is_live, live_ids}
 use Rattle.mps_model.specs.Effect.{world_after_moves}
 use Rattle.mps_model.proofs.Cutting.{world_after_moves-append}
-use Rattle.mps_colours.specs.Colours.{Colours, is_white, is_grey, is_to_scan, blackened, Survives}
-use Rattle.mps_colours.specs.Collecting.{Collecting, is_tracing_band, is_white_in, units_left, objects_left, Running}
+use Rattle.mps_colours.specs.Colours.{is_grey, is_to_scan, blackened, Survives}
+use Rattle.mps_colours.specs.Collecting.{Collecting, is_tracing_band, is_white_in, units_left, Running}
 use Rattle.mps_colours.specs.Fixing.{Keeps, Fixes, fixes_no_more, passes, keeps, kept_by}
 use Rattle.mps_colours.specs.Units.{scanned, AreTargetsKept}
 use Rattle.mps_colours.proofs.Lists.{count_by-le, count_by-lt, contains_here, contains_later, contains_cases}
 use Rattle.mps_colours.proofs.Addresses.{live_is_listed}
 use Rattle.mps_colours.proofs.Joining.{AreLegalAnywhere, no_moves_legal, legal_append}
-use Rattle.mps_colours.proofs.Kept.{IsKept, keeps_leaves}
+use Rattle.mps_colours.proofs.Kept.{keeps_leaves}
 use Rattle.mps_colours.proofs.KeepsLegal.{keeps_legal}
 use Rattle.mps_colours.proofs.Keeping.{it_is_kept, grey_still, not_grey_or_it, it_is_not_grey, to_scan_still}
-use Rattle.mps_colours.proofs.KeptRunning.{kept_state, same_state, kept_running}
+use Rattle.mps_colours.proofs.KeptRunning.{same_state, kept_running}
 use Rattle.mps_colours.proofs.Further.{IsFurther, no_further, further_still, kept_further}
 
 -- these are live, and survive
@@ -69,7 +68,7 @@ are_fixed {x} (passes {id = id} {ids = ids} black rest) run tracing may =
       leads = after.leads;
       legal = after.legal;
       kept = λ n h. elim (contains_cases id ids n h) [
-        inl same ↦ after.further.not_white n (subst (λ m. is_white_in x m ≡ false) same black)
+        | inl same ↦ after.further.not_white n (subst (λ m. is_white_in x m ≡ false) same black)
         | inr later ↦ after.kept n later
       ];
     }
@@ -78,7 +77,7 @@ are_fixed {x} (keeps {y = z} {id} {ids} {these} {those} {c} white keep rest) run
     let y = kept_by x id these c in
     let one = kept_rightly x run tracing id first.0 first.1 white keep in
     let after = are_fixed rest one.running (ap is_tracing_band one.further.band ∙ tracing) (λ n h.
-        let still = may n (contains_later id ids n h) in (one.further.live n ∙ still.0, one.further.survives n still.1)) in
+    let still = may n (contains_later id ids n h) in (one.further.live n ∙ still.0, one.further.survives n still.1)) in
     record {
       running = after.running;
       further = further_still x y z one.further after.further;
@@ -86,7 +85,7 @@ are_fixed {x} (keeps {y = z} {id} {ids} {these} {those} {c} white keep rest) run
       legal = legal_append x.world these those
           (keeps_legal x.world x.running x.colours id run.runs run.different first.0 (run.band.tracing tracing) white run.settled keep) after.legal;
       kept = λ n h. elim (contains_cases id ids n h) [
-        inl same ↦ after.further.not_white n (subst (λ m. is_white_in y m ≡ false) same one.kept)
+        | inl same ↦ after.further.not_white n (subst (λ m. is_white_in y m ≡ false) same one.kept)
         | inr later ↦ after.kept n later
       ];
     }
@@ -97,7 +96,7 @@ module _ (x : Collecting) (run : Running x) (id : Id) (fixed : AreTargetsKept x 
   pub scanned_left : units_left (scanned x id) ≤ units_left x
   scanned_left =
       let fewer = count_by-le (is_to_scan x.running.condemned (blackened x.colours id)) (is_to_scan x.running.condemned x.colours) (live_ids x.world)
-          (to_scan_still x.running.condemned x.colours id) in
+      (to_scan_still x.running.condemned x.colours id) in
       omega (arith, fewer)
 
   pub scanned_running : Running (scanned x id)
@@ -110,7 +109,7 @@ module _ (x : Collecting) (run : Running x) (id : Id) (fixed : AreTargetsKept x 
       held = run.coloured.held;
       referred_live = run.coloured.referred_live;
       referred = λ n t live black grey refers. elim (not_grey_or_it x.running.condemned x.colours id n grey) [
-        inl same ↦ fixed t (subst (λ m. contains (targets x.world.graph m) t ≡ true) same refers)
+        | inl same ↦ fixed t (subst (λ m. contains (targets x.world.graph m) t ≡ true) same refers)
         | inr before ↦ run.coloured.referred n t live black before refers
       ];
     };
@@ -153,7 +152,7 @@ module _ (x : Collecting) (run : Running x) (id : Id) (fixed : AreTargetsKept x 
     where
       none_more : (n : Id) → is_grey x.colours n ≡ false → is_grey (blackened x.colours id) n ≡ false
       none_more n h = elim (cases_Bool (is_grey (blackened x.colours id) n)) [
-        inl is ↦ absurd (false≢true (sym h ∙ grey_still x.running.condemned x.colours id n is))
+        | inl is ↦ absurd (false≢true (sym h ∙ grey_still x.running.condemned x.colours id n is))
         | inr isnt ↦ isnt
       ]
 
@@ -161,8 +160,8 @@ module _ (x : Collecting) (run : Running x) (id : Id) (fixed : AreTargetsKept x 
   pub scanned_fewer : is_grey x.colours id ≡ true → units_left (scanned x id) < units_left x
   scanned_fewer grey =
       let fewer = count_by-lt (is_to_scan x.running.condemned (blackened x.colours id)) (is_to_scan x.running.condemned x.colours) (live_ids x.world) id
-          (to_scan_still x.running.condemned x.colours id) (live_is_listed x.world id (run.grey.grey_live id grey)) not_now
-          (or_right (is_white_in x id) (is_grey x.colours id) grey) in
+      (to_scan_still x.running.condemned x.colours id) (live_is_listed x.world id (run.grey.grey_live id grey)) not_now
+      (or_right (is_white_in x id) (is_grey x.colours id) grey) in
       omega (arith, fewer)
     where
       not_now : is_to_scan x.running.condemned (blackened x.colours id) id ≡ false

@@ -1,23 +1,22 @@
 -- A weak object is scanned: its references to white objects are splatted.
-use Rattle.std.proofs.Common.{◌≡◌, ◌∙◌, ◌⊎◌, ℕ, ◌+◌, ◌-◌, ◌<◌, ◌≤◌, Bool, true, false, refl, sym, ap, List, [], ◌∷◌, ◌++◌, length, Option, Some, None, subst, inl, inr, arith}
+use Rattle.std.proofs.Common.{◌≡◌, ◌∙◌, ℕ, ◌<◌, ◌≤◌, true, false, refl, sym, ap, List, [], ◌∷◌, length, Option, Some, None, subst, inl, inr, arith}
 use Rattle.std.proofs.lemmas.Bool.{false≢true, true≢false, cases_Bool}
 use Rattle.std.proofs.lemmas.Option.{none-some}
-use Rattle.std.specs.Prelude.{IsTrue, option_map}
+use Rattle.std.specs.Prelude.{option_map}
 use Rattle.mps_base.specs.Address.{Id, Address}
 use Rattle.mps_base.specs.declared.moves.Move.{Move}
 use Rattle.mps_base.specs.declared.moves.Move.TheVariants as moves
 use Rattle.mps_model.specs.Graph.{Graph, Object, Body, Automatic, Manual, Cell, contains, targets, is_automatic, is_automatic_body, is_weak_object, is_weak_body, body_with_cells, with_target_cell, graph_with_cells}
 use Rattle.mps_model.specs.Collection.{Collection}
-use Rattle.mps_model.specs.World.{World, id_at, is_live, object_is, is_copying_object, is_copying_pool}
+use Rattle.mps_model.specs.World.{id_at, object_is, is_copying_object, is_copying_pool}
 use Rattle.mps_model.specs.Accessing.{address_or_null}
 use Rattle.mps_model.specs.Effect.{splatting, after_splat, where_one, world_after_moves}
 use Rattle.mps_model.specs.Flip.{at_address}
 use Rattle.mps_model.specs.LegalMove.{ForOne, IsLegalMove, IsLegalSplat, IsGone, target_in_cell}
 use Rattle.mps_model.specs.Units.{splats_of, splats}
-use Rattle.mps_colours.specs.Colours.{Colours, is_grey}
+use Rattle.mps_colours.specs.Colours.{is_grey}
 use Rattle.mps_colours.specs.Collecting.{Weak, Collecting, is_tracing_band, is_reclaiming_band, IsDrainedIn, AreAllExamined, is_white_in, units_left, Running}
 use Rattle.mps_colours.specs.Units.{Splats, splats_no_more, splats_cell, splatted, AreTargetsKept, splats_by, scanned}
-use Rattle.mps_colours.proofs.Lists.{contains_here}
 use Rattle.mps_colours.proofs.Addresses.{id_at-live}
 use Rattle.mps_colours.proofs.Joining.{AreLegalAnywhere, no_moves_legal, one_legal, legal_append, for_some}
 use Rattle.mps_colours.proofs.Cells.{gives_target, for_object-with_cells, length-with_cells, targets-with_cells}
@@ -64,7 +63,7 @@ module _ (x : Collecting) (run : Running x) (later : is_tracing_band x.band ≡ 
 
   referred_before : (n t : Id) → contains (targets graph_now n) t ≡ true → contains (targets x.world.graph n) t ≡ true
   referred_before n t h = elim (targets-with_cells x.world.graph holder n (splat cell) None t (gives_target cell None) h) [
-    inl none ↦ absurd (none-some t none.1)
+    | inl none ↦ absurd (none-some t none.1)
     | inr before ↦ before
   ]
 
@@ -186,7 +185,7 @@ are_splatted {x = x} (splats_no_more kept) run later before_last grey a there = 
 }
 are_splatted {holder = holder} {x = x} {y = z} (splats_cell {cell = cell} {target} {cells} refers white rest) run later before_last grey a there =
     let running : Running (splatted x holder cell) =
-        subst (λ y. Running y) (sym (same_state x run later before_last holder grey cell)) (splat_running x run later before_last holder grey cell) in
+    subst (λ y. Running y) (sym (same_state x run later before_last holder grey cell)) (splat_running x run later before_last holder grey cell) in
     splatted_first x holder a cell cells (splatted x holder cell) z
     (splat_leads x run later before_last holder grey cell a there target refers white)
     (one_legal x.world (moves.Splat (at_address a) cell) (splat_is_legal x run later before_last holder grey cell a there target refers white))
@@ -223,7 +222,7 @@ in_weak_band x run drained examined before_last = record {
 -- where an object is grey, no segment is reclaimed yet
 pub grey_before_last : (x : Collecting) (id : Id) → Running x → is_grey x.colours id ≡ true → is_reclaiming_band x.band ≡ false
 grey_before_last x id run grey = elim (cases_Bool (is_reclaiming_band x.band)) [
-  inl last ↦ absurd (true≢false (sym grey ∙ run.band.scanned last id))
+  | inl last ↦ absurd (true≢false (sym grey ∙ run.band.scanned last id))
   | inr before ↦ before
 ]
 
@@ -234,7 +233,7 @@ splats_shown x y id cells run drained examined grey done =
     let begun = in_weak_band x run drained examined (grey_before_last x id run grey) in
     let s = are_splatted done begun refl refl grey a (id_at-live x.world id run.different (run.grey.grey_live id grey)) in
     let fewer : units_left (scanned y id) < units_left y =
-        scanned_fewer y s.running id s.kept (ap (λ k. is_grey k id) s.colours ∙ grey) in
+    scanned_fewer y s.running id s.kept (ap (λ k. is_grey k id) s.colours ∙ grey) in
     record {
       running = scanned_running y s.running id s.kept;
       leads = s.leads;

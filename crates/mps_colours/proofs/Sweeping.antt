@@ -1,13 +1,13 @@
 -- White objects are freed, one after the other.
-use Rattle.std.proofs.Common.{◌≡◌, ◌∙◌, ◌⊎◌, ℕ, ◌<◌, Bool, true, false, refl, sym, ap, List, [], ◌∷◌, ◌++◌, Option, Some, None, subst, inl, inr, arith}
-use Rattle.std.proofs.lemmas.Bool.{false≢true, true≢false, and_parts, or_left, or_parts, eq-eqb, cases_eq, ltb-true, cases_Bool}
+use Rattle.std.proofs.Common.{◌≡◌, ◌∙◌, ◌⊎◌, ℕ, ◌<◌, Bool, true, false, refl, sym, ap, List, [], ◌∷◌, Option, Some, None, subst, inl, inr, arith}
+use Rattle.std.proofs.lemmas.Bool.{false≢true, true≢false, and_parts, or_parts, eq-eqb, ltb-true}
 use Rattle.std.proofs.lemmas.Option.{none-some, same_Some}
 use Rattle.std.specs.Prelude.{◌==◌, ◌||◌, ◌&&◌, if◌then◌else◌, is_some, slice_set, nat_lt}
 use Rattle.mps_base.specs.Address.{Id, Address}
 use Rattle.mps_base.specs.declared.moves.Move.{Move}
 use Rattle.mps_base.specs.declared.moves.Move.TheVariants as moves
 use Rattle.mps_model.specs.Graph.{contains, entry_at, ids_of_client, is_automatic, is_weak_object}
-use Rattle.mps_model.specs.Collection.{Collection, Phase, Reclaiming, is_condemned}
+use Rattle.mps_model.specs.Collection.{Collection, Phase, is_condemned}
 use Rattle.mps_model.specs.World.{World, id_at, is_live, object_is, is_copying_object}
 use Rattle.mps_model.specs.Effect.{after_free, with_collection, with_address, where_one, reclaiming, segment_base_of, world_after_moves}
 use Rattle.mps_model.specs.Flip.{at_address}
@@ -28,7 +28,7 @@ contains-above above (x ∷ xs) n asc h =
     let parts = and_parts (nat_lt above x) (is_ascending x xs) asc in
     let first = ltb-true above x parts.0 in
     elim (contains_cases x xs n h) [
-      inl same ↦ omega (arith, first, same)
+      | inl same ↦ omega (arith, first, same)
       | inr later ↦ let rest = contains-above x xs n parts.1 later in omega (arith, first, rest)
     ]
 
@@ -64,7 +64,7 @@ module _ (w : World) (c : Collection) (k : Colours) (base : Address) (s : IsSwee
   free_leads =
       ap (λ o. where_one w o (λ n. after_free w n at)) (id_at-address w id at s.different address)
       ∙ ap (λ b. if b then with_collection (with_address w id None) (reclaiming (segment_base_of w at)) else with_address w id None)
-        (s.automatic id (is_condemned_if_white c.condemned k id white))
+      (s.automatic id (is_condemned_if_white c.condemned k id white))
       ∙ ap (λ b. with_collection (with_address w id None) (reclaiming b)) in_base
       ∙ ap (λ o. record freed_world { collection = Rattle.std.specs.Prelude.option_map (reclaiming base) o }) s.runs
 
@@ -72,13 +72,13 @@ module _ (w : World) (c : Collection) (k : Colours) (base : Address) (s : IsSwee
   free_is_legal before next =
       for_some (λ d. ForOne (id_at w at) (IsLegalSweep w d)) w.collection c s.runs
       (for_some (IsLegalSweep w c) (id_at w at) id (id_at-address w id at s.different address)
-        (sweep_is_legal w c k s.coloured s.settled (none_grey k (object_is is_weak_object w) s.scanned) id white s.registered))
+      (sweep_is_legal w c k s.coloured s.settled (none_grey k (object_is is_weak_object w) s.scanned) id white s.registered))
 
   live_before : (n : Id) → is_live freed_world n ≡ true → is_live w n ≡ true
   live_before n h =
       let e = entry_that_is (entry_at (slice_set w.addresses id None) n) h in
       elim (entry_at-set_cases w.addresses id n None e.0 e.1) [
-        inl written ↦ absurd (none-some e.0 written.1)
+        | inl written ↦ absurd (none-some e.0 written.1)
         | inr stood ↦ ap is_some stood.1
       ]
 
@@ -89,9 +89,9 @@ module _ (w : World) (c : Collection) (k : Colours) (base : Address) (s : IsSwee
   freed_sweeping = record {
     runs = refl;
     different = λ n m a en em. elim (entry_at-set_cases w.addresses id n None a en) [
-      inl written ↦ absurd (none-some a written.1)
+      | inl written ↦ absurd (none-some a written.1)
       | inr sn ↦ elim (entry_at-set_cases w.addresses id m None a em) [
-        inl written ↦ absurd (none-some a written.1)
+        | inl written ↦ absurd (none-some a written.1)
         | inr sm ↦ s.different n m a sn.1 sm.1
       ]
     ];
@@ -153,7 +153,7 @@ are_freed k base above (at ∷ ats) w c s asc each =
     let v = freed_world w c k base s x.id at x.address x.white x.in_base in
     let lead = free_leads w c k base s x.id at x.address x.white x.in_base in
     let rest = are_freed k base at ats v (reclaiming base c) (freed_sweeping w c k base s x.id at x.address x.white x.in_base) parts.1
-        (λ b h. still_white x b (each b (contains_later at ats b h)) (λ same. let up = contains-above at ats b parts.1 h in omega (arith, up, same))) in
+    (λ b h. still_white x b (each b (contains_later at ats b h)) (λ same. let up = contains-above at ats b parts.1 h in omega (arith, up, same))) in
     record {
       addresses = rest.addresses;
       phase = rest.phase;
@@ -161,15 +161,15 @@ are_freed k base above (at ∷ ats) w c s asc each =
       leads = ap (λ u. world_after_moves u (frees_at ats)) lead ∙ rest.leads;
       sweeping = rest.sweeping;
       fewer = λ n b e. elim (entry_at-set_cases w.addresses x.id n None b (rest.fewer n b e)) [
-        inl written ↦ absurd (none-some b written.1)
+        | inl written ↦ absurd (none-some b written.1)
         | inr stood ↦ stood.1
       ];
       left = λ n b e not_in.
           let apart = or_parts (at == b) (contains ats b) not_in in
           rest.left n b (entry_at-set_other w.addresses x.id n None (other x n b e apart.0) ∙ e) apart.1;
       gone = λ b h n e. elim (contains_cases at ats b h) [
-        inl same ↦ elim (entry_at-set_cases w.addresses x.id n None b (rest.fewer n b e)) [
-          inl written ↦ none-some b written.1
+        | inl same ↦ elim (entry_at-set_cases w.addresses x.id n None b (rest.fewer n b e)) [
+          | inl written ↦ none-some b written.1
           | inr stood ↦ stood.0 (s.different x.id n at x.address (stood.1 ∙ ap Some (sym same)))
         ]
         | inr later ↦ rest.gone b later n e
@@ -189,6 +189,7 @@ are_freed k base above (at ∷ ats) w c s asc each =
       white = y.white;
       in_base = y.in_base;
     }
+
     other : (x : IsWhiteThere w c.condemned k base at) (n : Id) (b : Address) → entry_at w.addresses n ≡ Some b → (at == b) ≡ false
         → x.id ≡ n → ⊥
     other x n b e differ same =

@@ -1,11 +1,10 @@
 -- A unit that scans an object.
-use Rattle.std.proofs.Common.{◌≡◌, ◌∙◌, ◌⊎◌, ℕ, ◌<◌, ◌≤◌, Bool, true, false, refl, sym, ap, List, Option, Some, None, subst, inl, inr, arith}
-use Rattle.std.proofs.lemmas.Bool.{false≢true, true≢false, cases_Bool}
-use Rattle.std.specs.Prelude.{IsTrue}
+use Rattle.std.proofs.Common.{◌≡◌, ◌∙◌, ◌<◌, true, false, sym, List, subst, inl, inr, arith}
+use Rattle.std.proofs.lemmas.Bool.{false≢true, cases_Bool}
 use Rattle.mps_base.specs.Address.{Id}
 use Rattle.mps_base.specs.declared.moves.Move.{Move}
 use Rattle.mps_model.specs.Graph.{contains, targets, is_weak_object}
-use Rattle.mps_model.specs.World.{World, is_live, object_is}
+use Rattle.mps_model.specs.World.{is_live, object_is}
 use Rattle.mps_model.specs.Effect.{world_after_moves}
 use Rattle.mps_model.specs.Units.{IsUnitPiece}
 use Rattle.mps_colours.specs.Colours.{is_grey}
@@ -14,7 +13,7 @@ use Rattle.mps_colours.specs.Fixing.{Fixes}
 use Rattle.mps_colours.specs.Units.{scanned}
 use Rattle.mps_colours.proofs.Joining.{AreLegalAnywhere}
 use Rattle.mps_colours.proofs.KeptRunning.{not_reclaiming}
-use Rattle.mps_colours.proofs.Scanning.{MayBeFixed, AreFixed, are_fixed, scanned_running, scanned_fewer, scanned_left}
+use Rattle.mps_colours.proofs.Scanning.{MayBeFixed, AreFixed, are_fixed, scanned_running, scanned_fewer}
 use Rattle.mps_colours.proofs.Pieces.{closed, scan_is_unit}
 
 -- what is shown of each unit
@@ -31,7 +30,7 @@ pub record IsUnitShown (x : Collecting) (ms : List Move) (y : Collecting) : Type
 pub strong_is_tracing : (x : Collecting) (id : Id) → Running x → is_grey x.colours id ≡ true → object_is is_weak_object x.world id ≡ false
     → is_tracing_band x.band ≡ true
 strong_is_tracing x id run grey strong = elim (cases_Bool (is_tracing_band x.band)) [
-  inl tracing ↦ tracing
+  | inl tracing ↦ tracing
   | inr later ↦ absurd (false≢true (sym strong ∙ run.band.drained later id grey))
 ]
 
@@ -39,10 +38,11 @@ strong_is_tracing x id run grey strong = elim (cases_Bool (is_tracing_band x.ban
 pub targets_may_be_fixed : (x : Collecting) (id : Id) → Running x → is_tracing_band x.band ≡ true → is_grey x.colours id ≡ true
     → MayBeFixed x (targets x.world.graph id)
 targets_may_be_fixed x id run tracing grey t refers =
-    let live = run.grey.grey_live id grey in
-    (run.band.referred_live (not_reclaiming x.band tracing) id t live refers,
-    closed x.world.graph (is_live x.world) x.running x.colours id t run.survivors live
-      (run.survivors.kept id live (run.grey.grey_kept id grey)) refers)
+    let live = run.grey.grey_live id grey in (
+      run.band.referred_live (not_reclaiming x.band tracing) id t live refers,
+      closed x.world.graph (is_live x.world) x.running x.colours id t run.survivors live
+          (run.survivors.kept id live (run.grey.grey_kept id grey)) refers,
+    )
 
 -- a grey object is scanned
 pub record IsScannedRightly (x : Collecting) (id : Id) (ms : List Move) (y : Collecting) : Type 0 where
@@ -55,7 +55,7 @@ pub scanned_rightly : (x y : Collecting) (id : Id) (ms : List Move) → Running 
 scanned_rightly x y id ms run tracing grey fixes =
     let f = are_fixed fixes run tracing (targets_may_be_fixed x id run tracing grey) in
     let kept : (t : Id) → contains (targets y.world.graph id) t ≡ true → is_white_in y t ≡ false =
-        λ t h. f.kept t (subst (λ g. contains (targets g id) t ≡ true) f.further.graph h) in
+    λ t h. f.kept t (subst (λ g. contains (targets g id) t ≡ true) f.further.graph h) in
     let fewer = scanned_fewer y f.running id kept (f.further.grey id grey) in
     let no_more = f.further.left in
     record {
