@@ -33,7 +33,8 @@ found_at : (at first : ℕ) (addresses : List (Option ℕ)) (i : ℕ) → entry_
     → ((j : ℕ) → entry_at addresses j ≡ Some at → j ≡ i) → first_id (numbers_of (is_at at) first addresses) ≡ Some (first + i)
 found_at at first [] i e one = absurd (none-some at e)
 found_at at first (p ∷ ps) zero e one =
-    ap (λ t. first_id (if t then first ∷ numbers_of (is_at at) (first + 1) ps else numbers_of (is_at at) (first + 1) ps)) (is_at-same at p e)
+    ap (λ t. first_id (if t then first ∷ numbers_of (is_at at) (first + 1) ps else numbers_of (is_at at) (first + 1) ps))
+    (is_at-same at p e)
     ∙ ap Some (sym (add-zero first))
 found_at at first (p ∷ ps) (suc i) e one =
     found_step at first p ps i (is_at at p) refl one (λ none. found_at at (first + 1) ps i e none)

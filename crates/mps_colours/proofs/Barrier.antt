@@ -40,7 +40,8 @@ list_all-append p (x ∷ xs) ys all more =
     let parts = and_parts (p x) (list_all p xs) all in
     and_from (p x) (list_all p (xs ++ ys)) parts.0 (list_all-append p xs ys parts.1 more)
 
-all_in : (s : Segment) (a : Address) (cells : List ℕ) → is_in_segment s a ≡ true → list_all (splats_in s) (splats_of (at_address a) cells) ≡ true
+all_in : (s : Segment) (a : Address) (cells : List ℕ) → is_in_segment s a ≡ true
+    → list_all (splats_in s) (splats_of (at_address a) cells) ≡ true
 all_in s a [] h = refl
 all_in s a (cell ∷ cells) h = and_from (is_in_segment s a) (list_all (splats_in s) (splats_of (at_address a) cells)) h (all_in s a cells h)
 
@@ -66,7 +67,8 @@ module _ (s : Segment) (x : Collecting) (run : Running x) (id : Id) (inside : is
     in_segment = and_from (is_live_and (is_in_segment s) z.world id) (object_is is_automatic z.world id)
         (ap (λ o. option_map_or (is_in_segment s) o false) (further.in_place id black) ∙ inside)
         (ap (λ g. for_object g id is_automatic false) further.graph ∙ automatic);
-    may_be_scanned = may_be_scanned_here z id running (further.live id ∙ live_in (is_in_segment s) x.world id inside) (further.not_white id black);
+    may_be_scanned = may_be_scanned_here z id running (further.live id ∙ live_in (is_in_segment s) x.world id inside)
+        (further.not_white id black);
   }
 
 -- ---- what is shown of a barrier
@@ -124,7 +126,8 @@ barrier_shown s (barrier_splats id {x} {y} {z} {cells} {those} later grey done r
     let splatted = are_splatted done run later (grey_before_last x id run parts.1) parts.1 a (id_at-live x.world id run.different live) in
     let left = scanned_left y splatted.running id splatted.kept in
     let same = splatted.left in
-    barrier_goes_on s x (scanned y id) z (splats_by x id cells) those splatted.leads splatted.legal splatted.band (omega (arith, left, same))
+    barrier_goes_on s x (scanned y id) z (splats_by x id cells) those splatted.leads splatted.legal splatted.band
+    (omega (arith, left, same))
     (λ tracing. absurd (true≢false (sym tracing ∙ later)))
     (λ h. all_in s a cells (in_segment_at (is_in_segment s) x.world id parts.0))
     (barrier_shown s rest (scanned_running y splatted.running id splatted.kept))
@@ -139,8 +142,10 @@ barrier_is_done s x y ms run done =
       is_barrier = elim (cases_Bool (is_tracing_band x.band)) [ inl tracing ↦ inl (b.scans tracing) | inr later ↦ inr (b.splats later) ];
       no_more = b.no_more;
       readable = λ id target inside black refers.
-          b.running.coloured.referred id target (live_in (is_in_segment s) y.world id inside) black (not_grey y id inside (b.none_grey id)) refers;
+          b.running.coloured.referred id target (live_in (is_in_segment s) y.world id inside) black
+          (not_grey y id inside (b.none_grey id)) refers;
     }
   where
-    not_grey : (y : Collecting) (id : Id) → is_live_and (is_in_segment s) y.world id ≡ true → is_grey_in s y id ≡ false → is_grey y.colours id ≡ false
+    not_grey : (y : Collecting) (id : Id) → is_live_and (is_in_segment s) y.world id ≡ true → is_grey_in s y id ≡ false
+        → is_grey y.colours id ≡ false
     not_grey y id inside none = sym (ap (λ b. b && is_grey y.colours id) inside) ∙ none

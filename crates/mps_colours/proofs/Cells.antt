@@ -10,7 +10,8 @@ use Rattle.mps_colours.proofs.Lists.{contains_later, contains_cases, index_below
 
 -- ---- what cells refer to after one was written
 
-entry_cases : (o : Option ℕ) (ids : List (Option ℕ)) (t : ℕ) → contains (entries (o ∷ ids)) t ≡ true → (o ≡ Some t) ⊎ (contains (entries ids) t ≡ true)
+entry_cases : (o : Option ℕ) (ids : List (Option ℕ)) (t : ℕ) → contains (entries (o ∷ ids)) t ≡ true
+    → (o ≡ Some t) ⊎ (contains (entries ids) t ≡ true)
 entry_cases None ids t h = inr h
 entry_cases (Some n) ids t h = elim (contains_cases n (entries ids) t h) [ inl e ↦ inl (ap Some e) | inr e ↦ inr e ]
 
@@ -90,7 +91,8 @@ length_changed objects x change (Some o) = length-written objects x (object_with
     length-written (z ∷ zs) (suc i) y = ap suc (length-written zs i y)
 
 -- there are as many objects
-pub length-with_cells : (g : Graph) (x : Id) (change : List Cell → List Cell) → length (graph_with_cells g x change).objects ≡ length g.objects
+pub length-with_cells : (g : Graph) (x : Id) (change : List Cell → List Cell)
+    → length (graph_with_cells g x change).objects ≡ length g.objects
 length-with_cells g x change = length_changed g.objects x change (object_at g x)
 
 of_body : (change : List Cell → List Cell) (target : Option ℕ) (t : ℕ) (b : Body) → Gives change target
@@ -100,7 +102,8 @@ of_body change target t (Manual words) g h = inr h
 
 of_object : (objects : List Object) (x id : Id) (change : List Cell → List Cell) (target : Option ℕ) (t : ℕ) (o : Option Object)
     → slice_get objects x ≡ o → Gives change target
-    → contains (option_map_or targets_of (slice_get (option_map_or (λ p. slice_set objects x (object_with_cells p change)) o objects) id) []) t ≡ true
+    → contains (option_map_or targets_of
+    (slice_get (option_map_or (λ p. slice_set objects x (object_with_cells p change)) o objects) id) []) t ≡ true
     → ((id ≡ x) × (target ≡ Some t)) ⊎ (contains (option_map_or targets_of (slice_get objects id) []) t ≡ true)
 of_object objects x id change target t None e g h = inr h
 of_object objects x id change target t (Some o) e g h = elim (cases_eq x id) [
@@ -114,7 +117,8 @@ of_object objects x id change target t (Some o) e g h = elim (cases_eq x id) [
         | inr n ↦ inr (subst (λ p. contains (option_map_or targets_of p []) t ≡ true) (sym before) n)
       ]
   | inr other ↦
-      inr (subst (λ p. contains (option_map_or targets_of p []) t ≡ true) (slice_get-set_other objects x id (object_with_cells o change) other) h)
+      inr (subst (λ p. contains (option_map_or targets_of p []) t ≡ true)
+      (slice_get-set_other objects x id (object_with_cells o change) other) h)
 ]
 
 -- each object refers to what it referred to, and the changed one to one thing more

@@ -53,7 +53,8 @@ pub record HasBlock (os : List Object) (addresses : List (Option Address)) (s : 
   pub begins : begins_at s at ≡ true
   pub exists : id < length os
 
-pub has_block : (os : List Object) (addresses : List (Option Address)) (s : Segment) → list_any (begins_in s) (extents_of os addresses) ≡ true
+pub has_block : (os : List Object) (addresses : List (Option Address)) (s : Segment)
+    → list_any (begins_in s) (extents_of os addresses) ≡ true
     → HasBlock os addresses s
 has_block [] addresses s h = absurd (false≢true h)
 has_block (o ∷ os) [] s h = absurd (false≢true h)
@@ -88,7 +89,8 @@ module _ (w : World) (addresses : List (Option Address)) (segments : List Segmen
   abbrev without : World
   without = record w { addresses = addresses; segments = segments; collection = running }
 
-  module _ (t : Segment) (stays : (id : Id) (at : Address) → entry_at w.addresses id ≡ Some at → begins_at t at ≡ true → entry_at addresses id ≡ Some at) where
+  module _ (t : Segment)
+      (stays : (id : Id) (at : Address) → entry_at w.addresses id ≡ Some at → begins_at t at ≡ true → entry_at addresses id ≡ Some at) where
     still_covered : list_any (begins_in t) (covered w) ≡ true → list_any (begins_in t) (covered without) ≡ true
     still_covered h =
         let reserved = reserved_extents w.graph.points w.point_memories in

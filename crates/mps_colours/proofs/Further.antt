@@ -68,8 +68,10 @@ module _ (x : Collecting) (run : Running x) (tracing : is_tracing_band x.band �
     (white : is_white_in x id ≡ true) (w' : World) (c' : Collection) (r : IsKept x.world x.running id w' c') where
   surely_kept_still : (n : Id) → is_surely_kept x.running n ≡ true → is_surely_kept (after x run tracing id live white w' c' r) n ≡ true
   surely_kept_still n h = elim (or_cases (not (is_condemned x.running n)) (is_settled x.running n) h) [
-    | inl outside ↦ or_left (not (is_condemned x.running n)) (contains x.running.pinned n || (contains r.placed n || contains x.running.had n)) outside
-    | inr settled ↦ or_right (not (is_condemned x.running n)) (contains x.running.pinned n || (contains r.placed n || contains x.running.had n))
+    | inl outside ↦ or_left (not (is_condemned x.running n))
+        (contains x.running.pinned n || (contains r.placed n || contains x.running.had n)) outside
+    | inr settled ↦ or_right (not (is_condemned x.running n))
+        (contains x.running.pinned n || (contains r.placed n || contains x.running.had n))
         (elim (or_cases (contains x.running.pinned n) (contains x.running.placed n || contains x.running.had n) settled) [
           | inl pinned ↦ or_left (contains x.running.pinned n) (contains r.placed n || contains x.running.had n) pinned
           | inr rest ↦ or_right (contains x.running.pinned n) (contains r.placed n || contains x.running.had n)

@@ -28,8 +28,12 @@ pub contains-without : (above : ℕ) (xs : List ℕ) (n m : ℕ) → is_ascendin
 contains-without above [] n m asc h = absurd (false≢true h)
 contains-without above (x ∷ xs) n m asc h =
     let parts = and_parts (nat_lt above x) (is_ascending x xs) asc in
-    elim (x == n) as (λ t. (x == n) ≡ t → contains (if t then xs else x ∷ without_first xs n) m ≡ true → (contains (x ∷ xs) m ≡ true) × (m ≡ n → ⊥)) [
-      | true ↦ (λ t g. (contains_later x xs m g, (λ e. let same = eqb-true x n t in let up = contains-above x xs m parts.1 g in omega (arith, same, up, e))))
+    elim (x == n) as (λ t. (x == n) ≡ t → contains (if t then xs else x ∷ without_first xs n) m ≡ true
+    → (contains (x ∷ xs) m ≡ true) × (m ≡ n → ⊥)) [
+      | true ↦ (λ t g. (
+        contains_later x xs m g,
+        (λ e. let same = eqb-true x n t in let up = contains-above x xs m parts.1 g in omega (arith, same, up, e)),
+      ))
       | false ↦ (λ t g. elim (contains_cases x (without_first xs n) m g) [
         | inl e ↦ (or_left (x == m) (contains xs m) (eq-eqb x m e), (λ same. true≢false (sym (eq-eqb x n (e ∙ same)) ∙ t)))
         | inr e ↦ let rest = contains-without x xs n m parts.1 e in (contains_later x xs m rest.0, rest.1)
@@ -78,7 +82,8 @@ count_by-without p (x ∷ xs) n =
     ]
 
 -- what is found stays found in a filtered list, where it passes
-pub find-filter_found : {A : Type 0} (p q : A → Bool) (xs : List A) (x : A) → find p xs ≡ Some x → q x ≡ true → find p (filter q xs) ≡ Some x
+pub find-filter_found : {A : Type 0} (p q : A → Bool) (xs : List A) (x : A) → find p xs ≡ Some x → q x ≡ true
+    → find p (filter q xs) ≡ Some x
 find-filter_found p q [] x e passes = e
 find-filter_found p q (y ∷ ys) x e passes =
     elim (p y) as (λ t. p y ≡ t → (if t then Some y else find p ys) ≡ Some x → find p (filter q (y ∷ ys)) ≡ Some x) [
@@ -179,7 +184,8 @@ module _ (w : World) (c : Collection) (s : Segment) (runs : w.collection ≡ Som
     leads = refl;
     held = λ b n. held_without w.segments s.base b n;
     in_other = λ at n some. base_over-without w.segments s.base at n some;
-    were = λ b h. let x = contains-without 0 c.condemned_segments s.base b bases h in (x.0, (held_without w.segments s.base b x.1, inl x.1));
+    were = λ b h. let x =
+        contains-without 0 c.condemned_segments s.base b bases h in (x.0, (held_without w.segments s.base b x.1, inl x.1));
     are = λ b n h. contains-without_other c.condemned_segments s.base b n h;
     ascending = ascending-without 0 c.condemned_segments s.base bases;
     count = λ p. count_by-without p c.condemned_segments s.base;

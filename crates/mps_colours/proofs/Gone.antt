@@ -24,7 +24,8 @@ kept_is_other w c except n h =
     (automatic_is_live w n f.0, ((λ same. false≢true (sym (ap not (eq-eqb n except same)) ∙ parts.0)), parts.1))
 
 module _ (w : World) (c : Collection) (k : Colours)
-    (coloured : AreColoured (ids_of_client w.graph) w.graph (is_live w) c.condemned k) (settled : AreSettled (is_copying_object w) c k) where
+    (coloured : AreColoured (ids_of_client w.graph) w.graph (is_live w) c.condemned k)
+    (settled : AreSettled (is_copying_object w) c k) where
   -- what the collection is known to keep isn't white
   pub surely_kept_not_white : (n : Id) → is_surely_kept c n ≡ true → is_white c.condemned k n ≡ false
   surely_kept_not_white n h = elim (or_cases (not (is_condemned c n)) (is_settled c n) h) [

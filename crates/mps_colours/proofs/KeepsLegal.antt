@@ -29,11 +29,16 @@ need_of_run : (grains limit : ℕ) (held : List Run) (need grain count : ℕ) �
 need_of_run grains limit held need grain count e =
     of_test (nat_lt limit (total held + need)) (lowest_fitting need (gaps 1 (grains + 1) held)) e
   where
-    of_fitting : (o : Option ℕ) → (elim o as (λ p. Placement) [ None ↦ NoFreeRun need (longest (gaps 1 (grains + 1) held)) | Some g ↦ NewSegment g need ]) ≡ NewSegment grain count → count ≡ need
+    of_fitting : (o : Option ℕ)
+        → (elim o as (λ p. Placement) [ None ↦ NoFreeRun need (longest (gaps 1 (grains + 1) held)) | Some g ↦ NewSegment g need ]) ≡
+        NewSegment grain count → count ≡ need
     of_fitting None h = absurd cc
     of_fitting (Some g) h = cc
 
-    of_test : (b : Bool) (o : Option ℕ) → (if b then OverLimit (total held) need limit else (elim o as (λ p. Placement) [ None ↦ NoFreeRun need (longest (gaps 1 (grains + 1) held)) | Some g ↦ NewSegment g need ])) ≡ NewSegment grain count → count ≡ need
+    of_test : (b : Bool) (o : Option ℕ)
+        → (if b then OverLimit (total held) need limit else
+        (elim o as (λ p. Placement) [ None ↦ NoFreeRun need (longest (gaps 1 (grains + 1) held)) | Some g ↦ NewSegment g need ])) ≡
+        NewSegment grain count → count ≡ need
     of_test true o h = absurd cc
     of_test false o h = of_fitting o h
 
@@ -105,7 +110,8 @@ module _ (w : World) (c : Collection) (k : Colours) (id : Id) (runs : w.collecti
         let at = address_or_null w id in
         let place = address_of-live w id live in
         ap (λ p. option_map_or (λ (t : Segment). t.generation) (option_and_then (segment_of (taken_for w s)) p) 0) place
-        ∙ ap (λ o. option_map_or (λ (t : Segment). t.generation) o 0) (found_beside (λ t. is_in_segment t at) s w.segments (unused.no_object id at place))
+        ∙ ap (λ o. option_map_or (λ (t : Segment). t.generation) o 0)
+        (found_beside (λ t. is_in_segment t at) s w.segments (unused.no_object id at place))
         ∙ sym (ap (λ p. option_map_or (λ (t : Segment). t.generation) (option_and_then (segment_of w) p) 0) place)
 
     pub place_in_new : placement_of (taken_for w (new_segment w id grain grains)) (ForMove id) ≡ Place (word_of (address_of_grain grain))
@@ -115,9 +121,11 @@ module _ (w : World) (c : Collection) (k : Colours) (id : Id) (runs : w.collecti
         ap (λ g. placement_at_front v (tail_of v (pool_of w id) (target_generation_of w (pool_of w id) g)) (words_of w id)) same_generation
         ∙ ap (λ t. placement_at_front v t (words_of w id)) (own_tail (holding w s) s.pool s.generation (words_of_segment s))
         ∙ ap (λ b. if b then Place (word_of (address_of_grain grain)) else new_segment_for v (words_of w id))
-        (le-leb (words_of w id) (512 * grains) (room_in_new w (tail_of w (pool_of w id) (target_generation_for w id)) (words_of w id) grain grains placed))
+        (le-leb (words_of w id) (512 * grains)
+        (room_in_new w (tail_of w (pool_of w id) (target_generation_for w id)) (words_of w id) grain grains placed))
 
-    pub segment_is_legal : IsLegalMove w None (segment_for_move w id (address_of_grain grain) grains) (Some (moved_to w id (address_of_grain grain)))
+    pub segment_is_legal : IsLegalMove w None (segment_for_move w id (address_of_grain grain) grains)
+        (Some (moved_to w id (address_of_grain grain)))
     segment_is_legal =
         for_some (IsSegmentForMove w (address_of_grain grain) grains (pool_of w id) (target_generation_for w id) (address_of_grain grain))
         (id_at w (address_or_null w id)) id (id_at-live w id different live) (record {
@@ -127,10 +135,13 @@ module _ (w : World) (c : Collection) (k : Colours) (id : Id) (runs : w.collecti
           of_generation = refl;
         })
 
-    pub moves_into_legal : AreLegalAnywhere w (segment_for_move w id (address_of_grain grain) grains ∷ moved_to w id (address_of_grain grain) ∷ [])
+    pub moves_into_legal : AreLegalAnywhere w
+        (segment_for_move w id (address_of_grain grain) grains ∷ moved_to w id (address_of_grain grain) ∷ [])
     moves_into_legal =
-        two_legal w (segment_for_move w id (address_of_grain grain) grains) (moved_to w id (address_of_grain grain)) (λ before. segment_is_legal)
-        (λ next. subst (λ v. IsLegalMove v (Some (segment_for_move w id (address_of_grain grain) grains)) (moved_to w id (address_of_grain grain)) next)
+        two_legal w (segment_for_move w id (address_of_grain grain) grains) (moved_to w id (address_of_grain grain))
+        (λ before. segment_is_legal)
+        (λ next. subst (λ v. IsLegalMove v (Some (segment_for_move w id (address_of_grain grain) grains))
+        (moved_to w id (address_of_grain grain)) next)
         (sym (segment_leads w id grain grains copying))
         (moved_is_legal (taken_for w (new_segment w id grain grains)) (address_of_grain grain) (word_of (address_of_grain grain)) runs
         (id_at-live w id different live) copying place_in_new (aligned grain)))
@@ -141,5 +152,6 @@ module _ (w : World) (c : Collection) (k : Colours) (id : Id) (runs : w.collecti
   keeps_legal (moves_to_place {word = word} copying placed free) =
       one_legal w (moved_to w id (address_of_word word))
       (λ before next. moved_is_legal w (address_of_word word) word runs (id_at-live w id different live) copying placed refl)
-  keeps_legal (moves_to_segment {grain = grain} {grains = grains} copying placed unused) = moves_into_legal grain grains copying placed unused
+  keeps_legal (moves_to_segment {grain = grain} {grains = grains} copying placed unused) = moves_into_legal grain grains copying placed
+      unused
   keeps_legal (stays copying room) = one_legal w (stays_at w id) (λ before next. stay_is_legal copying room)

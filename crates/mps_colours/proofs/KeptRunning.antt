@@ -62,7 +62,8 @@ module _ (x : Collecting) (run : Running x) (tracing : is_tracing_band x.band �
     objects = run.condemned.objects;
     bases = run.condemned.bases;
     segments = λ base h.
-        let s = one_that_is (λ t. IsTrue (pool_is is_automatic_kind x.world t.pool)) (segment_at x.world base) (run.condemned.segments base h) in
+        let s = one_that_is (λ t. IsTrue (pool_is is_automatic_kind x.world t.pool)) (segment_at x.world base)
+        (run.condemned.segments base h) in
         subst (λ o. ForOne o (λ t. IsTrue (pool_is is_automatic_kind x.world t.pool))) (sym (r.held base s.0 s.1.0)) s.1.1;
   }
 
@@ -161,7 +162,8 @@ module _ (x : Collecting) (run : Running x) (tracing : is_tracing_band x.band �
 
   pub swept : AreSwept now.addresses (segment_base_of now) (holds_something now) after (keeping x.colours id) x.cursor
   swept = record {
-    hold = λ base h below. absurd (let first : x.cursor ≡ 0 = run.band.unswept (not_reclaiming x.band tracing) in omega (arith, first, below));
+    hold = λ base h below. absurd
+        (let first : x.cursor ≡ 0 = run.band.unswept (not_reclaiming x.band tracing) in omega (arith, first, below));
     to_go = λ n at e is.
         let before = white_before x.running.condemned x.colours id n is in
         let there = sym (r.others n before.1) ∙ e in
@@ -211,7 +213,8 @@ module _ (x : Collecting) (run : Running x) (tracing : is_tracing_band x.band �
   pub same_world : w' ≡ now
   same_world =
       r.world
-      ∙ ap (λ (c : Collection). record x.world { addresses = r.addresses; segments = r.segments; tails = r.tails; collection = Some c }) r.running
+      ∙ ap (λ (c : Collection). record x.world { addresses = r.addresses; segments = r.segments; tails = r.tails; collection = Some c })
+      r.running
 
   pub same_state : record x { world = w'; running = c'; colours = keeping x.colours id } ≡ kept_state
   same_state =

@@ -41,7 +41,8 @@ contains_right (x ∷ xs) ys n h = contains_later x (xs ++ ys) n (contains_right
 pub contains-filter : (p : ℕ → Bool) (xs : List ℕ) (n : ℕ) → contains (filter p xs) n ≡ true → (contains xs n ≡ true) × (p n ≡ true)
 contains-filter p [] n h = absurd (false≢true h)
 contains-filter p (x ∷ xs) n h =
-    elim (p x) as (λ t. p x ≡ t → contains (if t then x ∷ filter p xs else filter p xs) n ≡ true → (contains (x ∷ xs) n ≡ true) × (p n ≡ true)) [
+    elim (p x) as (λ t. p x ≡ t → contains (if t then x ∷ filter p xs else filter p xs) n ≡ true
+    → (contains (x ∷ xs) n ≡ true) × (p n ≡ true)) [
       | true ↦ (λ t g. elim (contains_cases x (filter p xs) n g) [
         | inl e ↦ (or_left (x == n) (contains xs n) (eq-eqb x n e), subst (λ m. p m ≡ true) e t)
         | inr e ↦ let rest = contains-filter p xs n e in (contains_later x xs n rest.0, rest.1)

@@ -70,11 +70,27 @@ module _ (IsScanned : World → Id → Type 0) (holder : Id) where
       → Scans IsScanned (world_after_moves w ms) those → Scans IsScanned w (ms ++ those)
   keep_scans w c id those (marks other) there is refers rest = rest
   keep_scans w c id those (moves_to_place copying placed free) there is refers rest =
-      moves_target (record { holder = holder; scanned = is; refers = ap (λ o. option_map_or (contains (targets w.graph holder)) o false) there ∙ refers }) rest
+      moves_target (record {
+        holder = holder;
+        scanned = is;
+        refers =
+            ap (λ o. option_map_or (contains (targets w.graph holder)) o false) there ∙ refers;
+      }) rest
   keep_scans w c id those (moves_to_segment copying placed unused) there is refers rest =
-      moves_target_to_segment (record { holder = holder; scanned = is; refers = ap (λ o. option_map_or (contains (targets w.graph holder)) o false) there ∙ refers }) rest
+      moves_target_to_segment
+      (record {
+        holder = holder;
+        scanned = is;
+        refers =
+            ap (λ o. option_map_or (contains (targets w.graph holder)) o false) there ∙ refers;
+      }) rest
   keep_scans w c id those (stays copying room) there is refers rest =
-      makes_target_stay (record { holder = holder; scanned = is; refers = ap (λ o. option_map_or (contains (targets w.graph holder)) o false) there ∙ refers }) rest
+      makes_target_stay (record {
+        holder = holder;
+        scanned = is;
+        refers =
+            ap (λ o. option_map_or (contains (targets w.graph holder)) o false) there ∙ refers;
+      }) rest
 
   module _ (begin : Collecting) (each : (z : Collecting) → Running z → IsFurther begin z → IsScanned z.world holder) where
     pub fixes_scans : {x y : Collecting} {ids : List Id} {ms : List Move} → Fixes x ids ms y → Running x → is_tracing_band x.band ≡ true

@@ -44,7 +44,8 @@ module _ (x : Collecting) (run : Running x) (id : Id) (due : IsExaminedNext x id
     not_before = λ before less e. false≢true (sym (run.examined.examined before id e (inl less)) ∙ white);
   }
 
-  module _ (placed : List Id) (v : World) (runs : v.collection ≡ Some (record x.running { placed = placed })) (same : v.graph ≡ x.world.graph)
+  module _ (placed : List Id) (v : World) (runs : v.collection ≡ Some (record x.running { placed = placed }))
+      (same : v.graph ≡ x.world.graph)
       (a : Address) (there : id_at v a ≡ Some id) where
     -- the post is legal
     post_is_legal : (before : Option Move) → IsLost v (record x.running { placed = placed }) id
@@ -65,7 +66,8 @@ module _ (x : Collecting) (run : Running x) (id : Id) (due : IsExaminedNext x id
 
   kept_before_it : (n : Id) → (n ≡ id → ⊥) → is_surely_kept (placing id x.running) n ≡ true → is_surely_kept x.running n ≡ true
   kept_before_it n other h =
-      sym (ap (λ b. not (is_condemned x.running n) || (contains x.running.pinned n || ((b || contains x.running.placed n) || contains x.running.had n)))
+      sym (ap (λ b. not (is_condemned x.running n) ||
+      (contains x.running.pinned n || ((b || contains x.running.placed n) || contains x.running.had n)))
       (ne_eqb id n (λ same. other (sym same)))) ∙ h
 
   -- after it moved or was made to stay
@@ -75,7 +77,8 @@ module _ (x : Collecting) (run : Running x) (id : Id) (due : IsExaminedNext x id
     post_after : (next : Option Move) → IsLegalMove v (Some m) (moves.Post (at_address a)) next
     post_after next =
         post_is_legal (id ∷ x.running.placed) v runs same a there (Some m)
-        (lost_after x.world x.running x.colours run.coloured run.settled due.drained id white v (placing id x.running) same was_live kept_before_it)
+        (lost_after x.world x.running x.colours run.coloured run.settled due.drained id white v
+        (placing id x.running) same was_live kept_before_it)
         (or_right (not (is_settled (placing id x.running) id)) (is_kept_before a (Some m)) keeps) next
 
   -- where an object is after a move
@@ -94,7 +97,8 @@ module _ (x : Collecting) (run : Running x) (id : Id) (due : IsExaminedNext x id
   shown_marked : is_copying_object x.world id ≡ false → IsPostShown [] (address_or_null x.world id)
   shown_marked other = record {
     legal = one_legal x.world (moves.Post (at_address (address_or_null x.world id)))
-        (λ before. post_is_legal x.running.placed x.world run.runs refl (address_or_null x.world id) (id_at-live x.world id run.different live) before
+        (λ before. post_is_legal x.running.placed x.world run.runs refl (address_or_null x.world id)
+        (id_at-live x.world id run.different live) before
         (white_is_lost x.world x.running x.colours run.coloured run.settled due.drained id white)
         (or_left (not (is_settled x.running id)) (is_kept_before (address_or_null x.world id) before)
         (white_not_settled x.world x.running x.colours id run.runs run.different live (run.band.tracing tracing) white run.settled)));
@@ -112,10 +116,12 @@ module _ (x : Collecting) (run : Running x) (id : Id) (due : IsExaminedNext x id
       legal = two_legal x.world (moved_to x.world id to) (moves.Post (at_address (address_or_null v id)))
           (λ before. moved_is_legal x.world x.running x.colours id run.runs run.different live (run.band.tracing tracing) white run.settled
           x.world to word run.runs (id_at-live x.world id run.different live) copying placed at_word)
-          (λ next. subst (λ u. IsLegalMove u (Some (moved_to x.world id to)) (moves.Post (at_address (address_or_null v id))) next) (sym leads)
+          (λ next. subst (λ u. IsLegalMove u (Some (moved_to x.world id to)) (moves.Post (at_address (address_or_null v id))) next)
+          (sym leads)
           (post_after v runs same was_live (address_or_null v id) there (moved_to x.world id to)
           (eq-eqb to (address_or_null v id) (sym (address_moved v to at))) next));
-      is_examination = subst (λ a. IsExamination (moved_to x.world id to ∷ moves.Post (at_address a) ∷ [])) (sym (address_moved v to at)) moves_and_posts;
+      is_examination = subst (λ a. IsExamination (moved_to x.world id to ∷ moves.Post (at_address a) ∷ []))
+          (sym (address_moved v to at)) moves_and_posts;
     }
 
     shown_staying : is_copying_object x.world id ≡ true
@@ -124,7 +130,8 @@ module _ (x : Collecting) (run : Running x) (id : Id) (due : IsExaminedNext x id
         → IsPostShown (stays_at x.world id ∷ []) (address_or_null v id)
     shown_staying copying room leads at = record {
       legal = two_legal x.world (stays_at x.world id) (moves.Post (at_address (address_or_null v id)))
-          (λ before. stay_is_legal x.world x.running x.colours id run.runs run.different live (run.band.tracing tracing) white run.settled copying room)
+          (λ before. stay_is_legal x.world x.running x.colours id run.runs run.different live
+          (run.band.tracing tracing) white run.settled copying room)
           (λ next. subst (λ u. IsLegalMove u (Some (stays_at x.world id)) (moves.Post (at_address (address_or_null v id))) next) (sym leads)
           (post_after v runs same was_live (address_or_null v id) there (stays_at x.world id)
           (eq-eqb (address_or_null x.world id) (address_or_null v id) (sym at)) next));
@@ -134,15 +141,18 @@ module _ (x : Collecting) (run : Running x) (id : Id) (due : IsExaminedNext x id
     shown_moved_into : (grain grains : ℕ) → is_copying_object x.world id ≡ true
         → (placed : placement_of x.world (ForMove id) ≡ NewSegment grain grains)
         → (unused : IsUnused x.world (new_segment x.world id grain grains))
-        → world_after_moves x.world (segment_for_move x.world id (address_of_grain grain) grains ∷ moved_to x.world id (address_of_grain grain) ∷ []) ≡ v
+        → world_after_moves x.world
+        (segment_for_move x.world id (address_of_grain grain) grains ∷ moved_to x.world id (address_of_grain grain) ∷ []) ≡ v
         → address_of v id ≡ Some (address_of_grain grain)
-        → IsPostShown (segment_for_move x.world id (address_of_grain grain) grains ∷ moved_to x.world id (address_of_grain grain) ∷ []) (address_or_null v id)
+        → IsPostShown (segment_for_move x.world id (address_of_grain grain) grains ∷ moved_to x.world id (address_of_grain grain) ∷ [])
+        (address_or_null v id)
     shown_moved_into grain grains copying placed unused leads at =
         let to = address_of_grain grain in
         let s = segment_for_move x.world id to grains in
         record {
           legal = three_legal x.world s (moved_to x.world id to) (moves.Post (at_address (address_or_null v id)))
-              (λ before. segment_is_legal x.world x.running x.colours id run.runs run.different live (run.band.tracing tracing) white run.settled
+              (λ before. segment_is_legal x.world x.running x.colours id run.runs run.different live
+              (run.band.tracing tracing) white run.settled
               grain grains copying placed unused)
               (subst (λ u. IsLegalMove u (Some s) (moved_to x.world id to) (Some (moves.Post (at_address (address_or_null v id)))))
               (sym (segment_leads x.world id grain grains copying))
@@ -151,7 +161,8 @@ module _ (x : Collecting) (run : Running x) (id : Id) (due : IsExaminedNext x id
               (id_at-live x.world id run.different live) copying
               (place_in_new x.world x.running x.colours id run.runs run.different live (run.band.tracing tracing) white run.settled
               grain grains copying placed unused) (aligned grain)))
-              (λ next. subst (λ u. IsLegalMove u (Some (moved_to x.world id to)) (moves.Post (at_address (address_or_null v id))) next) (sym leads)
+              (λ next. subst (λ u. IsLegalMove u (Some (moved_to x.world id to)) (moves.Post (at_address (address_or_null v id))) next)
+              (sym leads)
               (post_after v runs same was_live (address_or_null v id) there (moved_to x.world id to)
               (eq-eqb to (address_or_null v id) (sym (address_moved v to at))) next));
           is_examination = subst (λ a. IsExamination (s ∷ moved_to x.world id to ∷ moves.Post (at_address a) ∷ []))
@@ -180,13 +191,16 @@ module _ (x : Collecting) (run : Running x) (id : Id) (due : IsExaminedNext x id
       let to = address_of_word word in
       let r = keeps_leaves x.world x.running id run.runs run.different live (moves_to_place {word = word} copying placed free) in
       let leads = moved_leads x.world x.running id run.runs run.different live to in
-      shown_moved v (kept_runs v c r) (kept_graph v c r) (λ n h. sym (kept_live v c r n) ∙ h) (kept_there v c r) to word copying placed refl refl
+      shown_moved v (kept_runs v c r) (kept_graph v c r) (λ n h. sym (kept_live v c r n) ∙ h)
+      (kept_there v c r) to word copying placed refl refl
       (ap (λ u. address_of u id) leads ∙ there_after to)
   post_shown {ms} {c} (moves_to_segment {grain = grain} {grains = grains} copying placed unused) =
       let v = world_after_moves x.world ms in
-      let r = keeps_leaves x.world x.running id run.runs run.different live (moves_to_segment {grain = grain} {grains = grains} copying placed unused) in
+      let r = keeps_leaves x.world x.running id run.runs run.different live
+      (moves_to_segment {grain = grain} {grains = grains} copying placed unused) in
       let leads = moved_into_leads x.world x.running id run.runs run.different live grain grains copying in
-      shown_moved_into v (kept_runs v c r) (kept_graph v c r) (λ n h. sym (kept_live v c r n) ∙ h) (kept_there v c r) grain grains copying placed unused
+      shown_moved_into v (kept_runs v c r) (kept_graph v c r) (λ n h. sym (kept_live v c r n) ∙ h)
+      (kept_there v c r) grain grains copying placed unused
       refl (ap (λ u. address_of u id) leads ∙ there_after (address_of_grain grain))
   post_shown {ms} {c} (stays copying room) =
       let v = world_after_moves x.world ms in

@@ -106,7 +106,8 @@ module _ (x : Collecting) (run : Running x) (id : Id) (due : IsExaminedNext x id
 
   settled_post : (n : Id) → is_settled posted_one n ≡ true → (id ≡ n) ⊎ (is_settled before_post.running n ≡ true)
   settled_post n h =
-      elim (id == n) as (λ b. (id == n) ≡ b → (contains x.running.pinned n || (contains r.placed n || (b || contains x.running.had n))) ≡ true
+      elim (id == n) as (λ b. (id == n) ≡ b
+      → (contains x.running.pinned n || (contains r.placed n || (b || contains x.running.had n))) ≡ true
       → (id ≡ n) ⊎ (is_settled before_post.running n ≡ true)) [
         | true ↦ (λ e g. inl (eqb-true id n e))
         | false ↦ (λ e g. inr g)
@@ -151,7 +152,8 @@ module _ (x : Collecting) (run : Running x) (id : Id) (due : IsExaminedNext x id
         existing = let l = length-without_first xs id x.next first in let e = run.examined.existing in omega (arith, l, e);
         examined = λ position n e at. elim (cases_lt position x.next) [
           | inl less ↦ old.examined position n (sym (slice_get-without_before xs id x.next position first less) ∙ e) (inl less)
-          | inr most ↦ old.examined (suc position) n (sym (slice_get-without_after xs id x.next position first most) ∙ e) (inr (since position most at))
+          | inr most ↦ old.examined (suc position) n (sym (slice_get-without_after xs id x.next position first most) ∙ e)
+              (inr (since position most at))
         ];
       }
     where
@@ -190,7 +192,8 @@ module _ (x : Collecting) (run : Running x) (id : Id) (due : IsExaminedNext x id
       unswept = λ h. run.band.unswept (not_reclaiming x.band tracing);
     };
     swept = record {
-      hold = λ base h below. absurd (let none : x.cursor ≡ 0 = run.band.unswept (not_reclaiming x.band tracing) in omega (arith, none, below));
+      hold = λ base h below. absurd
+          (let none : x.cursor ≡ 0 = run.band.unswept (not_reclaiming x.band tracing) in omega (arith, none, below));
       to_go = (kept.swept x run tracing id live white w' c' r).to_go;
       in_turn = run.swept.in_turn;
       one_left = run.swept.one_left;

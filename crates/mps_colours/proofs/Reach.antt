@@ -13,7 +13,8 @@ strong_of : (o : Option Object) (t : Id) → contains (option_map_or strong_targ
     → (contains (option_map_or targets_of o []) t ≡ true) × (option_map_or is_weak_object o false ≡ false)
 strong_of None t h = absurd (false≢true h)
 strong_of (Some o) t h =
-    elim (is_weak_object o) as (λ b. contains (if b then [] else targets_of o) t ≡ true → (contains (targets_of o) t ≡ true) × (b ≡ false)) [
+    elim (is_weak_object o) as (λ b. contains (if b then [] else targets_of o) t ≡ true
+    → (contains (targets_of o) t ≡ true) × (b ≡ false)) [
       | true ↦ (λ e. absurd (false≢true e))
       | false ↦ (λ e. (e, refl))
     ] h
@@ -42,5 +43,6 @@ module _ (g : Graph) (live : Id → Bool) (condemned : List Id) (k : Colours) (m
       let before = reachable_is_kept path in
       let strong = strong_is_target g from to h in (
         coloured.referred_live from to before.0 before.1 strong.0,
-        coloured.referred from to before.0 before.1 (not_grey (λ id. for_object g id is_weak_object false) k from drained strong.1) strong.0,
+        coloured.referred from to before.0 before.1
+            (not_grey (λ id. for_object g id is_weak_object false) k from drained strong.1) strong.0,
       )

@@ -98,13 +98,16 @@ module _ (x : Collecting) (run : Running x) (s : Segment) (freed : List Address)
 
   pub made_lead : world_after_moves x.world moves_made ≡ given.cleared.after
   made_lead =
-      world_after_moves-append x.world (frees_at freed) (give_back_where s.base (nothing_left (world_after_moves x.world (frees_at freed)) s.base))
-      ∙ ap (λ v. world_after_moves v (give_back_where s.base (nothing_left (world_after_moves x.world (frees_at freed)) s.base))) frees.leads
+      world_after_moves-append x.world (frees_at freed)
+      (give_back_where s.base (nothing_left (world_after_moves x.world (frees_at freed)) s.base))
+      ∙ ap (λ v. world_after_moves v (give_back_where s.base (nothing_left (world_after_moves x.world (frees_at freed)) s.base)))
+      frees.leads
       ∙ given.leads
 
   pub made_legal : AreLegalAnywhere x.world moves_made
   made_legal =
-      legal_append x.world (frees_at freed) (give_back_where s.base (nothing_left (world_after_moves x.world (frees_at freed)) s.base)) frees.legal
+      legal_append x.world (frees_at freed)
+      (give_back_where s.base (nothing_left (world_after_moves x.world (frees_at freed)) s.base)) frees.legal
       (subst (λ v. AreLegalAnywhere v (give_back_where s.base (nothing_left (world_after_moves x.world (frees_at freed)) s.base)))
       (sym frees.leads) given.legal)
 
@@ -141,7 +144,8 @@ module _ (x : Collecting) (run : Running x) (s : Segment) (freed : List Address)
       ap is_some (frees.left n at e (not_freed n at black e))
 
   pub above_zero : (base : Address) → contains x.running.condemned_segments base ≡ true → 0 ≡ base → ⊥
-  above_zero base h zero_base = let up = contains-above 0 x.running.condemned_segments base run.condemned.bases h in omega (arith, up, zero_base)
+  above_zero base h zero_base = let up = contains-above 0 x.running.condemned_segments base run.condemned.bases h in
+      omega (arith, up, zero_base)
 
   -- what is still white lies in another segment, from the next one on
   pub white_elsewhere : (n : Id) (at : Address) → entry_at frees.addresses n ≡ Some at → is_white_in x n ≡ true
@@ -183,7 +187,8 @@ module _ (x : Collecting) (run : Running x) (s : Segment) (freed : List Address)
       elim (cases_eq base s.base) [
         | inl same ↦ elim was.1.1 [
           | inl other ↦ absurd (other same)
-          | inr holds ↦ subst (λ b. holds_something final_world b ≡ true) (sym same) (sym (ap (λ v. holds_something v s.base) cleared.leads) ∙ holds)
+          | inr holds ↦ subst (λ b. holds_something final_world b ≡ true) (sym same)
+              (sym (ap (λ v. holds_something v s.base) cleared.leads) ∙ holds)
         ]
         | inr other ↦ others_hold base was.0 other below
       ]
@@ -203,7 +208,8 @@ module _ (x : Collecting) (run : Running x) (s : Segment) (freed : List Address)
       not_le : (a b : ℕ) → b < a → nat_le a b ≡ false
       not_le a b h = elim (cases_Bool (nat_le a b)) [ inl is ↦ absurd (let up = leb-true a b is in omega (arith, h, up)) | inr isnt ↦ isnt ]
 
-  pub objects_no_more : objects_left x.running.condemned x.colours (live_ids final_world) ≤ objects_left x.running.condemned x.colours (live_ids x.world)
+  pub objects_no_more : objects_left x.running.condemned x.colours (live_ids final_world) ≤ objects_left x.running.condemned x.colours
+      (live_ids x.world)
   objects_no_more = count_by-fewer (is_to_scan x.running.condemned x.colours) 0 frees.addresses x.world.addresses live_before
 
   abbrev pub final_state : Collecting

@@ -85,7 +85,8 @@ module _ (x : Collecting) (run : Running x) (s : Segment) (freed : List Address)
           bases = c.ascending;
           segments = λ base h.
               let was = c.were base h in
-              let t = one_that_is (λ u. IsTrue (pool_is is_automatic_kind x.world u.pool)) (segment_at x.world base) (run.condemned.segments base was.0) in
+              let t = one_that_is (λ u. IsTrue (pool_is is_automatic_kind x.world u.pool)) (segment_at x.world base)
+              (run.condemned.segments base was.0) in
               for_some (λ u. IsTrue (pool_is is_automatic_kind x.world u.pool)) (segment_at (final_world x run s freed next) base) t.0
               (was.1.0 ∙ t.1.0) t.1.1;
         };
@@ -94,7 +95,8 @@ module _ (x : Collecting) (run : Running x) (s : Segment) (freed : List Address)
           held = run.coloured.held;
           referred_live = λ n t h not_white refers.
               let before = live_before x run s freed next n h in
-              black t (run.coloured.referred n t before not_white (next.scanned n) refers) (run.coloured.referred_live n t before not_white refers);
+              black t (run.coloured.referred n t before not_white (next.scanned n) refers)
+              (run.coloured.referred_live n t before not_white refers);
           referred = λ n t h not_white grey refers. run.coloured.referred n t (live_before x run s freed next n h) not_white grey refers;
         };
         grey = record {
@@ -154,7 +156,8 @@ module _ (x : Collecting) (run : Running x) (s : Segment) (freed : List Address)
   made_all : (b : Bool) → is_last_condemned x.running s.base ≡ b → reclaim_by x s.base freed ≡ moves_made x run s freed next ++ end_where b
   made_all b e = ap (λ t. moves_made x run s freed next ++ end_where t) e
 
-  goes_on_leads : is_last_condemned x.running s.base ≡ false → world_after_moves x.world (reclaim_by x s.base freed) ≡ final_world x run s freed next
+  goes_on_leads : is_last_condemned x.running s.base ≡ false
+      → world_after_moves x.world (reclaim_by x s.base freed) ≡ final_world x run s freed next
   goes_on_leads not_last =
       ap (world_after_moves x.world) (made_all false not_last ∙ append-nil (moves_made x run s freed next)) ∙ final_lead x run s freed next
 
@@ -166,7 +169,8 @@ module _ (x : Collecting) (run : Running x) (s : Segment) (freed : List Address)
       let same : final_collection x run s freed next ≡ c =
       same_Some (final_collection x run s freed next) c (sym (ap (λ (v : World). v.collection) leads) ∙ runs) in
       let state : final_state x run s freed next ≡ reclaimed x s.base freed c =
-      ap (λ (v : World). record x { world = v; running = final_collection x run s freed next; band = Reclaim; cursor = suc s.base }) (sym leads)
+      ap (λ (v : World). record x { world = v; running = final_collection x run s freed next; band = Reclaim; cursor = suc s.base })
+      (sym leads)
       ∙ ap (λ (d : Collection). reclaimed x s.base freed d) same in
       record {
         running = subst (λ y. Running y) state (final_running not_last);
@@ -246,6 +250,7 @@ module _ (x : Collecting) (run : Running x) (s : Segment) (freed : List Address)
       legal = last_legal;
       is_piece = reclaim_is_unit;
       ended = ap (λ (v : World). v.collection) last_leads;
-      held_live = subst (λ (v : World). (n : Id) → contains (ids_of_client v.graph) n ≡ true → is_live v n ≡ true) (sym last_leads) last_held_live;
+      held_live = subst (λ (v : World). (n : Id) → contains (ids_of_client v.graph) n ≡ true → is_live v n ≡ true)
+          (sym last_leads) last_held_live;
       referred_live = subst (λ (v : World). AllReferredLive v.graph (is_live v)) (sym last_leads) last_referred_live;
     }

@@ -32,17 +32,19 @@ position_first (x ∷ xs) n (suc position) s =
 -- what is left
 pub contains-without_first : (xs : List ℕ) (n m : ℕ) → contains (without_first xs n) m ≡ true → contains xs m ≡ true
 contains-without_first [] n m h = h
-contains-without_first (x ∷ xs) n m h = elim (x == n) as (λ b. contains (if b then xs else x ∷ without_first xs n) m ≡ true → contains (x ∷ xs) m ≡ true) [
-  | true ↦ (λ g. contains_later x xs m g)
-  | false ↦ (λ g. elim (contains_cases x (without_first xs n) m g) [
-    | inl same ↦ or_left (x == m) (contains xs m) (eq-eqb x m same)
-    | inr later ↦ contains_later x xs m (contains-without_first xs n m later)
-  ])
-] h
+contains-without_first (x ∷ xs) n m h =
+    elim (x == n) as (λ b. contains (if b then xs else x ∷ without_first xs n) m ≡ true → contains (x ∷ xs) m ≡ true) [
+      | true ↦ (λ g. contains_later x xs m g)
+      | false ↦ (λ g. elim (contains_cases x (without_first xs n) m g) [
+        | inl same ↦ or_left (x == m) (contains xs m) (eq-eqb x m same)
+        | inr later ↦ contains_later x xs m (contains-without_first xs n m later)
+      ])
+    ] h
 
 pub length-without_first : (xs : List ℕ) (n position : ℕ) → StandsFirst xs n position → length xs ≡ suc (length (without_first xs n))
 length-without_first [] n position s = absurd (none-some n s.here)
-length-without_first (x ∷ xs) n zero s = ap (λ b. suc (length (if b then xs else x ∷ without_first xs n))) (sym (eq-eqb x n (same_Some x n s.here)))
+length-without_first (x ∷ xs) n zero s =
+    ap (λ b. suc (length (if b then xs else x ∷ without_first xs n))) (sym (eq-eqb x n (same_Some x n s.here)))
 length-without_first (x ∷ xs) n (suc position) s =
     ap suc (length-without_first xs n position (later_first x xs n position s))
     ∙ ap (λ b. suc (length (if b then xs else x ∷ without_first xs n))) (sym (not_the_first x xs n position s))

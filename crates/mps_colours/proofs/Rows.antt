@@ -165,7 +165,8 @@ units_done x y count ms run row =
       fewer = s.fewer;
       some_left = some_left y s.running;
       asked_running = asked_runs y s.running count
-          (let spent = s.spent in let allowed = s.allowed in let fewer = s.fewer in let before = run.units in omega (arith, spent, allowed, fewer, before));
+          (let spent = s.spent in let allowed = s.allowed in let fewer =
+          s.fewer in let before = run.units in omega (arith, spent, allowed, fewer, before));
     }
 
 -- n units, in the last of which the collection ends
@@ -196,7 +197,8 @@ last_units_of {x} {y} {count} {done} {piece} run row last =
         → not (is_running (world_after_moves x.world (done ++ piece))) ≡ true → AreUnits x.world asked (done ++ piece)
     of_count asked most all ends = elim (cases_lt (suc count) asked) [
       | inl fewer ↦ inr (suc count, fewer, all, ends)
-      | inr least ↦ inl (subst (λ n. UnitsDone x.world n (done ++ piece)) (let same : suc count ≡ asked = omega (arith, most, least) in same) all)
+      | inr least ↦ inl (subst (λ n. UnitsDone x.world n (done ++ piece))
+          (let same : suc count ≡ asked = omega (arith, most, least) in same) all)
     ]
 
 pub last_units_done : (x : Collecting) (count : ℕ) (ms : List Move) → Running x → Ends x count ms → AreLastUnitsDone x count ms

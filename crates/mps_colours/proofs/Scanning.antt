@@ -83,7 +83,8 @@ are_fixed {x} (keeps {y = z} {id} {ids} {these} {those} {c} white keep rest) run
       further = further_still x y z one.further after.further;
       leads = world_after_moves-append x.world these those ∙ after.leads;
       legal = legal_append x.world these those
-          (keeps_legal x.world x.running x.colours id run.runs run.different first.0 (run.band.tracing tracing) white run.settled keep) after.legal;
+          (keeps_legal x.world x.running x.colours id run.runs run.different first.0 (run.band.tracing tracing) white run.settled keep)
+          after.legal;
       kept = λ n h. elim (contains_cases id ids n h) [
         | inl same ↦ after.further.not_white n (subst (λ m. is_white_in y m ≡ false) same one.kept)
         | inr later ↦ after.kept n later
@@ -95,7 +96,8 @@ are_fixed {x} (keeps {y = z} {id} {ids} {these} {those} {c} white keep rest) run
 module _ (x : Collecting) (run : Running x) (id : Id) (fixed : AreTargetsKept x id) where
   pub scanned_left : units_left (scanned x id) ≤ units_left x
   scanned_left =
-      let fewer = count_by-le (is_to_scan x.running.condemned (blackened x.colours id)) (is_to_scan x.running.condemned x.colours) (live_ids x.world)
+      let fewer = count_by-le (is_to_scan x.running.condemned (blackened x.colours id)) (is_to_scan x.running.condemned x.colours)
+      (live_ids x.world)
       (to_scan_still x.running.condemned x.colours id) in
       omega (arith, fewer)
 
@@ -159,7 +161,8 @@ module _ (x : Collecting) (run : Running x) (id : Id) (fixed : AreTargetsKept x 
   -- where it was grey, a unit less is left
   pub scanned_fewer : is_grey x.colours id ≡ true → units_left (scanned x id) < units_left x
   scanned_fewer grey =
-      let fewer = count_by-lt (is_to_scan x.running.condemned (blackened x.colours id)) (is_to_scan x.running.condemned x.colours) (live_ids x.world) id
+      let fewer = count_by-lt (is_to_scan x.running.condemned (blackened x.colours id)) (is_to_scan x.running.condemned x.colours)
+      (live_ids x.world) id
       (to_scan_still x.running.condemned x.colours id) (live_is_listed x.world id (run.grey.grey_live id grey)) not_now
       (or_right (is_white_in x id) (is_grey x.colours id) grey) in
       omega (arith, fewer)

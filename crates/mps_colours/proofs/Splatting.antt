@@ -50,7 +50,8 @@ module _ (x : Collecting) (run : Running x) (later : is_tracing_band x.band ≡ 
   }
 
   same_state : splatted x holder cell ≡ splat_state
-  same_state = ap (λ (o : Option Collection). record splat_state { world = record splat_state.world { collection = option_map splatting o } }) run.runs
+  same_state = ap (λ (o : Option Collection). record splat_state
+      { world = record splat_state.world { collection = option_map splatting o } }) run.runs
 
   automatic_same : (n : Id) → object_is is_automatic splat_state.world n ≡ object_is is_automatic x.world n
   automatic_same n = for_object-with_cells x.world.graph holder n (splat cell) is_automatic false (λ p. automatic_still (splat cell) p.body)
@@ -59,7 +60,8 @@ module _ (x : Collecting) (run : Running x) (later : is_tracing_band x.band ≡ 
   weak_same n = for_object-with_cells x.world.graph holder n (splat cell) is_weak_object false (λ p. weak_still (splat cell) p.body)
 
   copying_same : (n : Id) → is_copying_object splat_state.world n ≡ is_copying_object x.world n
-  copying_same n = for_object-with_cells x.world.graph holder n (splat cell) (λ (o : Object). is_copying_pool x.world o.pool) false (λ p. refl)
+  copying_same n = for_object-with_cells x.world.graph holder n (splat cell) (λ (o : Object). is_copying_pool x.world o.pool) false
+      (λ p. refl)
 
   referred_before : (n t : Id) → contains (targets graph_now n) t ≡ true → contains (targets x.world.graph n) t ≡ true
   referred_before n t h = elim (targets-with_cells x.world.graph holder n (splat cell) None t (gives_target cell None) h) [
@@ -92,7 +94,8 @@ module _ (x : Collecting) (run : Running x) (later : is_tracing_band x.band ≡ 
       in_place = λ n copying. run.settled.in_place n (sym (copying_same n) ∙ copying);
     };
     survivors = record {
-      existing = subst (λ m. length x.running.graph_at_flip.objects ≤ m) (sym (length-with_cells x.world.graph holder (splat cell))) run.survivors.existing;
+      existing = subst (λ m. length x.running.graph_at_flip.objects ≤ m)
+          (sym (length-with_cells x.world.graph holder (splat cell))) run.survivors.existing;
       kept = run.survivors.kept;
       written = λ n t live refers. run.survivors.written n t live (referred_before n t refers);
       outside = run.survivors.outside;
@@ -153,7 +156,8 @@ pub record AreSplatted (x : Collecting) (holder : Id) (a : Address) (cells : Lis
 
 -- one cell more, at the front
 splatted_first : (x : Collecting) (holder : Id) (a : Address) (cell : ℕ) (cells : List ℕ) (y z : Collecting)
-    → world_after_moves x.world (moves.Splat (at_address a) cell ∷ []) ≡ y.world → AreLegalAnywhere x.world (moves.Splat (at_address a) cell ∷ [])
+    → world_after_moves x.world (moves.Splat (at_address a) cell ∷ []) ≡ y.world
+    → AreLegalAnywhere x.world (moves.Splat (at_address a) cell ∷ [])
     → y.colours ≡ x.colours → y.band ≡ x.band → units_left y ≡ units_left x → y.running.spent ≡ x.running.spent
     → y.running.units ≡ x.running.units → AreSplatted y holder a cells z → AreSplatted x holder a (cell ∷ cells) z
 splatted_first x holder a cell cells y z leads legal colours band left spent allowed rest = record {
@@ -183,12 +187,15 @@ are_splatted {x = x} (splats_no_more kept) run later before_last grey a there = 
   spent = refl;
   allowed = refl;
 }
-are_splatted {holder = holder} {x = x} {y = z} (splats_cell {cell = cell} {target} {cells} refers white rest) run later before_last grey a there =
+are_splatted {holder = holder} {x = x} {y = z}
+    (splats_cell {cell = cell} {target} {cells} refers white rest) run later before_last grey a there =
     let running : Running (splatted x holder cell) =
-    subst (λ y. Running y) (sym (same_state x run later before_last holder grey cell)) (splat_running x run later before_last holder grey cell) in
+    subst (λ y. Running y) (sym (same_state x run later before_last holder grey cell))
+    (splat_running x run later before_last holder grey cell) in
     splatted_first x holder a cell cells (splatted x holder cell) z
     (splat_leads x run later before_last holder grey cell a there target refers white)
-    (one_legal x.world (moves.Splat (at_address a) cell) (splat_is_legal x run later before_last holder grey cell a there target refers white))
+    (one_legal x.world (moves.Splat (at_address a) cell)
+    (splat_is_legal x run later before_last holder grey cell a there target refers white))
     refl refl refl refl refl
     (are_splatted rest running later before_last grey a there)
 
@@ -226,7 +233,8 @@ grey_before_last x id run grey = elim (cases_Bool (is_reclaiming_band x.band)) [
   | inr before ↦ before
 ]
 
-pub splats_shown : (x y : Collecting) (id : Id) (cells : List ℕ) → Running x → IsDrainedIn x → AreAllExamined x → is_grey x.colours id ≡ true
+pub splats_shown : (x y : Collecting) (id : Id) (cells : List ℕ) → Running x → IsDrainedIn x → AreAllExamined x
+    → is_grey x.colours id ≡ true
     → Splats id (record x { band = Weak }) cells y → IsUnitShown x (splats_by x id cells) (scanned y id)
 splats_shown x y id cells run drained examined grey done =
     let a = address_or_null x.world id in

@@ -153,7 +153,8 @@ are_freed k base above (at ∷ ats) w c s asc each =
     let v = freed_world w c k base s x.id at x.address x.white x.in_base in
     let lead = free_leads w c k base s x.id at x.address x.white x.in_base in
     let rest = are_freed k base at ats v (reclaiming base c) (freed_sweeping w c k base s x.id at x.address x.white x.in_base) parts.1
-    (λ b h. still_white x b (each b (contains_later at ats b h)) (λ same. let up = contains-above at ats b parts.1 h in omega (arith, up, same))) in
+    (λ b h. still_white x b (each b (contains_later at ats b h))
+    (λ same. let up = contains-above at ats b parts.1 h in omega (arith, up, same))) in
     record {
       addresses = rest.addresses;
       phase = rest.phase;

@@ -50,7 +50,8 @@ pub record IsScannedRightly (x : Collecting) (id : Id) (ms : List Move) (y : Col
   pub running : Running (scanned y id)
   pub fewer : units_left (scanned y id) < units_left x
 
-pub scanned_rightly : (x y : Collecting) (id : Id) (ms : List Move) → Running x → is_tracing_band x.band ≡ true → is_grey x.colours id ≡ true
+pub scanned_rightly : (x y : Collecting) (id : Id) (ms : List Move) → Running x → is_tracing_band x.band ≡ true
+    → is_grey x.colours id ≡ true
     → Fixes x (targets x.world.graph id) ms y → IsScannedRightly x id ms y
 scanned_rightly x y id ms run tracing grey fixes =
     let f = are_fixed fixes run tracing (targets_may_be_fixed x id run tracing grey) in

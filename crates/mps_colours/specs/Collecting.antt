@@ -63,7 +63,8 @@ AreAllExamined x = x.next ≡ x.running.registered_before
 -- ---- what holds of the parts
 
 -- what is condemned is automatic, and condemned segments are held
-pub record AreCondemned (automatic : Id → Bool) (held : Address → Option Segment) (automatic_pool : ℕ → Bool) (c : Collection) : Type 0 where
+pub record AreCondemned (automatic : Id → Bool) (held : Address → Option Segment) (automatic_pool : ℕ → Bool)
+    (c : Collection) : Type 0 where
   pub objects : (id : Id) → IsTrue (is_condemned c id) → IsTrue (automatic id)
   -- their bases ascend, and none is 0
   pub bases : IsTrue (is_ascending 0 c.condemned_segments)
