@@ -3,3 +3,4 @@ pub mod Collecting
 pub mod Fixing
 pub mod Units
 pub mod Laws
+pub mod Examples
