@@ -1,16 +1,17 @@
 -- The calls of lines have their numbers in the ranges of the script.
-use Rattle.std.proofs.Common.{◌≡◌, ℕ, ◌≤◌, Bool, true, false, Option, Some, None, List, [], ◌∷◌, length, refl, ap, subst, arith, option_and_then, option_map, if◌then◌else◌, nat_lt, nat_le}
+use Rattle.std.proofs.Common.{◌≡◌, ℕ, ◌≤◌, Bool, true, false, Option, Some, None, List, [], ◌∷◌, ◌++◌, length, refl, ap, subst, arith, option_and_then, option_map, if◌then◌else◌, nat_lt, nat_le}
 use Rattle.std.specs.Prelude.{Ok, Err, ◌&&◌, codes, bytes_eq, IsTrue}
 use Rattle.std.proofs.lemmas.Bool.Decides.{nat_tests}
 use Rattle.mps_model.specs.declared.call.Call.{Call}
 use Rattle.mps_model.specs.declared.call.Call.TheVariants as call
-use Rattle.mps_script.specs.Word.{words}
-use Rattle.mps_script.specs.Reading.{first_of_two, both, named_in, single, onto, pair, none, one, two, three, four, or}
+use Rattle.mps_words.specs.Word.{words}
+use Rattle.mps_words.specs.Reading.{first_of_two, both, named_in, single, onto, pair}
+use Rattle.mps_script.specs.Calls.{none, one, two, three, four, or}
 use Rattle.mps_numerals.specs.Decimal.{decimal_number}
-use Rattle.mps_script.specs.Number.{number_of, number_within, prefixed_hexadecimal}
-use Rattle.mps_script.specs.Name.{name_of, slot_of}
-use Rattle.mps_script.specs.Head.{head_of}
-use Rattle.mps_script.specs.Form.{Form, kinds, kinds_on_chains, formats, ranks, keyword, grains_from, length_of_root, capacities, padded, chain, automatic_pool, pool_on_chain, pool_mfs, pool_mvff, pool, init, start, cell_forms, allocation_forms, slot_forms, area_forms, collection_forms, dependency_forms, root_forms, making_forms, call_in, command_call}
+use Rattle.mps_words.specs.Number.{number_of, number_within, prefixed_hexadecimal}
+use Rattle.mps_words.specs.Name.{name_of, slot_of}
+use Rattle.mps_words.specs.Head.{head_of}
+use Rattle.mps_script.specs.Form.{Form, kinds, kinds_on_chains, formats, ranks, keyword, grains_from, length_of_root, capacities, padded, chain, automatic_pool, pool_on_chain, pool_mfs, pool_mvff, pool, init, start, a_to_b_forms, c_forms, d_to_f_forms, g_to_k_forms, l_forms, m_to_o_forms, p_to_r_forms, s_to_z_forms, forms, call_in, command_call}
 use Rattle.mps_script.specs.Line.{begins_comment, or_bad, call_of_words, call_of_line, max_line_bytes}
 use Rattle.mps_script.specs.declared.line.BadLine.{BadLine}
 use Rattle.mps_first_heap.specs.Built.{IsInRange}
@@ -153,32 +154,42 @@ forms_in_range [] h word ws = nothing_in_range
 forms_in_range (form ∷ forms) h word ws =
     either_in_range (bytes_eq word form.0) (form.1 ws) (call_in forms word ws) (h.0 ws) (forms_in_range forms h.1 word ws)
 
-cell_in_range : AllInRange cell_forms
-cell_in_range = (
-  three_in_range slot_of slot_of decimal_number call.Get (λ x y z. tt),
+both_in_range : (these those : List Form) → AllInRange these → AllInRange those → AllInRange (these ++ those)
+both_in_range [] those h k = k
+both_in_range (form ∷ these) those h k = (h.0, both_in_range these those h.1 k)
+
+a_to_b_in_range : AllInRange a_to_b_forms
+a_to_b_in_range = (
+  one_in_range slot_of call.Address (λ x. tt),
   (
-    three_in_range slot_of decimal_number slot_of call.Put (λ x y z. tt),
+    three_in_range name_of decimal_number slot_of call.Alloc (λ x y z. tt),
     (
-      two_in_range slot_of decimal_number call.Number (λ x y. tt),
-      (three_in_range slot_of decimal_number number_of call.SetNumber (λ x y z. tt), tt),
+      three_in_range name_of name_of (named_in ranks) call.Point (λ x y z. tt),
+      (
+        two_in_range name_of length_of_root call.Area (λ x y. tt),
+        (
+          arena_in_range,
+          (two_in_range name_of length_of_root call.Blocks (λ x y. tt), tt),
+        ),
+      ),
     ),
   ),
 )
 
-allocation_in_range : AllInRange allocation_forms
-allocation_in_range = (
-  two_in_range name_of head_of call.Reserve (λ x y. tt),
+c_in_range : AllInRange c_forms
+c_in_range = (
+  chain_in_range,
   (
-    init_in_range,
+    none_in_range call.Clamp tt,
     (
-      two_in_range name_of slot_of call.Commit (λ x y. tt),
+      one_in_range slot_of call.Clear (λ x. tt),
       (
-        three_in_range name_of decimal_number slot_of call.Alloc (λ x y z. tt),
+        none_in_range call.Collect tt,
         (
-          one_in_range slot_of call.Free (λ x. tt),
+          two_in_range name_of slot_of call.Commit (λ x y. tt),
           (
-            two_in_range slot_of decimal_number call.Load (λ x y. tt),
-            (three_in_range slot_of decimal_number number_of call.Store (λ x y z. tt), tt),
+            none_in_range call.Committed tt,
+            (two_in_range slot_of slot_of call.Copy (λ x y. tt), tt),
           ),
         ),
       ),
@@ -186,55 +197,49 @@ allocation_in_range = (
   ),
 )
 
-slot_in_range : AllInRange slot_forms
-slot_in_range = (
-  two_in_range slot_of slot_of call.Copy (λ x y. tt),
+d_to_f_in_range : AllInRange d_to_f_forms
+d_to_f_in_range = (
+  one_in_range slot_of call.Definalize (λ x. tt),
   (
-    one_in_range slot_of call.Clear (λ x. tt),
+    one_in_range name_of call.DropPoint (λ x. tt),
     (
-      two_in_range slot_of slot_of call.Same (λ x y. tt),
+      one_in_range name_of call.DropRoot (λ x. tt),
       (
-        one_in_range slot_of call.Null (λ x. tt),
+        one_in_range prefixed_hexadecimal call.Dump (λ x. tt),
         (
-          one_in_range slot_of call.Head (λ x. tt),
-          (one_in_range slot_of call.Address (λ x. tt), tt),
+          one_in_range slot_of call.Finalize (λ x. tt),
+          (one_in_range slot_of call.Free (λ x. tt), tt),
         ),
       ),
     ),
   ),
 )
 
-area_in_range : AllInRange area_forms
-area_in_range = (
-  two_in_range slot_of number_of call.Poke (λ x y. tt),
+g_to_k_in_range : AllInRange g_to_k_forms
+g_to_k_in_range = (
+  three_in_range slot_of slot_of decimal_number call.Get (λ x y z. tt),
   (
-    one_in_range slot_of call.Peek (λ x. tt),
-    (
-      two_in_range slot_of slot_of call.Pin (λ x y. tt),
-      (two_in_range slot_of slot_of call.Take (λ x y. tt), tt),
-    ),
+    one_in_range slot_of call.Head (λ x. tt),
+    (init_in_range, tt),
   ),
 )
 
-collection_in_range : AllInRange collection_forms
-collection_in_range = (
-  start_in_range,
+l_in_range : AllInRange l_forms
+l_in_range = (
+  one_in_range name_of call.Dependency (λ x. tt),
   (
-    one_in_range decimal_number call.Step (λ x. tt),
+    two_in_range name_of slot_of call.DependencyAdd (λ x y. tt),
     (
-      none_in_range call.Collect tt,
+      two_in_range name_of name_of call.DependencyMerge (λ x y. tt),
       (
-        none_in_range call.Clamp tt,
+        one_in_range name_of call.DependencyReset (λ x. tt),
         (
-          none_in_range call.Park tt,
+          one_in_range name_of call.DependencyStale (λ x. tt),
           (
-            none_in_range call.Release tt,
+            one_in_range (grains_from 0) call.Limit (λ x. tt),
             (
-              one_in_range slot_of call.Finalize (λ x. tt),
-              (
-                one_in_range slot_of call.Definalize (λ x. tt),
-                (one_in_range slot_of call.Message (λ x. tt), tt),
-              ),
+              none_in_range call.Live tt,
+              (two_in_range slot_of decimal_number call.Load (λ x y. tt), tt),
             ),
           ),
         ),
@@ -243,38 +248,32 @@ collection_in_range = (
   ),
 )
 
-dependency_in_range : AllInRange dependency_forms
-dependency_in_range = (
-  one_in_range name_of call.DependencyReset (λ x. tt),
+m_to_o_in_range : AllInRange m_to_o_forms
+m_to_o_in_range = (
+  one_in_range slot_of call.Message (λ x. tt),
   (
-    two_in_range name_of slot_of call.DependencyAdd (λ x y. tt),
-    (
-      two_in_range name_of name_of call.DependencyMerge (λ x y. tt),
-      (
-        one_in_range name_of call.DependencyStale (λ x. tt),
-        (
-          none_in_range call.Live tt,
-          (one_in_range prefixed_hexadecimal call.Dump (λ x. tt), tt),
-        ),
-      ),
-    ),
+    one_in_range slot_of call.Null (λ x. tt),
+    (two_in_range slot_of decimal_number call.Number (λ x y. tt), tt),
   ),
 )
 
-root_in_range : AllInRange root_forms
-root_in_range = (
-  table_in_range,
+p_to_r_in_range : AllInRange p_to_r_forms
+p_to_r_in_range = (
+  none_in_range call.Park tt,
   (
-    two_in_range name_of length_of_root call.Area (λ x y. tt),
+    one_in_range slot_of call.Peek (λ x. tt),
     (
-      two_in_range name_of length_of_root call.Blocks (λ x y. tt),
+      two_in_range slot_of slot_of call.Pin (λ x y. tt),
       (
-        one_in_range name_of call.DropRoot (λ x. tt),
+        two_in_range slot_of number_of call.Poke (λ x y. tt),
         (
-          three_in_range name_of name_of (named_in ranks) call.Point (λ x y z. tt),
+          pool_in_range,
           (
-            one_in_range name_of call.DropPoint (λ x. tt),
-            (one_in_range name_of call.Dependency (λ x. tt), tt),
+            three_in_range slot_of decimal_number slot_of call.Put (λ x y z. tt),
+            (
+              none_in_range call.Release tt,
+              (two_in_range name_of head_of call.Reserve (λ x y. tt), tt),
+            ),
           ),
         ),
       ),
@@ -282,31 +281,41 @@ root_in_range = (
   ),
 )
 
-making_in_range : AllInRange making_forms
-making_in_range = (
-  arena_in_range,
+s_to_z_in_range : AllInRange s_to_z_forms
+s_to_z_in_range = (
+  two_in_range slot_of slot_of call.Same (λ x y. tt),
   (
-    one_in_range (grains_from 0) call.Limit (λ x. tt),
+    three_in_range slot_of decimal_number number_of call.SetNumber (λ x y z. tt),
     (
-      none_in_range call.Committed tt,
+      start_in_range,
       (
-        chain_in_range,
-        (pool_in_range, tt),
+        one_in_range decimal_number call.Step (λ x. tt),
+        (
+          three_in_range slot_of decimal_number number_of call.Store (λ x y z. tt),
+          (
+            table_in_range,
+            (two_in_range slot_of slot_of call.Take (λ x y. tt), tt),
+          ),
+        ),
       ),
     ),
   ),
 )
 
+all_in_range : AllInRange forms
+all_in_range =
+    both_in_range a_to_b_forms (c_forms ++ (d_to_f_forms ++ (g_to_k_forms ++ (l_forms ++ (m_to_o_forms ++
+    (p_to_r_forms ++ s_to_z_forms)))))) a_to_b_in_range
+    (both_in_range c_forms (d_to_f_forms ++ (g_to_k_forms ++ (l_forms ++ (m_to_o_forms ++ (p_to_r_forms ++ s_to_z_forms))))) c_in_range
+    (both_in_range d_to_f_forms (g_to_k_forms ++ (l_forms ++ (m_to_o_forms ++ (p_to_r_forms ++ s_to_z_forms)))) d_to_f_in_range
+    (both_in_range g_to_k_forms (l_forms ++ (m_to_o_forms ++ (p_to_r_forms ++ s_to_z_forms))) g_to_k_in_range
+    (both_in_range l_forms (m_to_o_forms ++ (p_to_r_forms ++ s_to_z_forms)) l_in_range
+    (both_in_range m_to_o_forms (p_to_r_forms ++ s_to_z_forms) m_to_o_in_range
+    (both_in_range p_to_r_forms s_to_z_forms p_to_r_in_range
+    s_to_z_in_range))))))
+
 command_in_range : (word : List ℕ) (ws : List (List ℕ)) → AreInRange (command_call word ws)
-command_in_range word ws =
-    first_in_range (call_in cell_forms word ws) _ (forms_in_range cell_forms cell_in_range word ws)
-    (first_in_range (call_in allocation_forms word ws) _ (forms_in_range allocation_forms allocation_in_range word ws)
-    (first_in_range (call_in slot_forms word ws) _ (forms_in_range slot_forms slot_in_range word ws)
-    (first_in_range (call_in area_forms word ws) _ (forms_in_range area_forms area_in_range word ws)
-    (first_in_range (call_in collection_forms word ws) _ (forms_in_range collection_forms collection_in_range word ws)
-    (first_in_range (call_in dependency_forms word ws) _ (forms_in_range dependency_forms dependency_in_range word ws)
-    (first_in_range (call_in root_forms word ws) _ (forms_in_range root_forms root_in_range word ws)
-    (forms_in_range making_forms making_in_range word ws)))))))
+command_in_range word ws = forms_in_range forms all_in_range word ws
 
 -- ---- lines
 

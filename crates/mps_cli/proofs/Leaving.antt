@@ -1,8 +1,7 @@
 -- What a run leaves, however it ends: from the command that ends it to the whole run.
-use Rattle.std.proofs.Common.{◌≡◌, ◌≢◌, ℕ, ◌+◌, ◌⊎◌, true, false, Option, Some, None, Result, Ok, Err, List, [], ◌∷◌, ◌++◌, take, drop, refl, sym, ◌∙◌, ap, append-nil, subst, inl, inr}
+use Rattle.std.proofs.Common.{◌≡◌, ◌≢◌, ℕ, ◌+◌, ◌⊎◌, Bool, true, false, Option, Some, None, Ok, Err, List, [], ◌∷◌, ◌++◌, take, drop, refl, sym, ◌∙◌, ap, append-nil, subst, inl, inr}
 use Rattle.mps_desk.specs.Desk.{Outside, OnlyReports}
 use Rattle.mps_base.specs.Record.{records_bytes}
-use Rattle.mps_model.specs.declared.call.Call.{Call}
 use Rattle.mps_model.specs.Step.{Step}
 use Rattle.mps_model.specs.Text.{line_of_answer}
 use Rattle.mps_model.specs.Log.{log_of, records_of_step}
@@ -13,38 +12,30 @@ use Rattle.mps_first_heap.specs.HeapState.{HeapState}
 use Rattle.mps_report.specs.declared.stop.Stop.{Stop}
 use Rattle.mps_report.specs.declared.stop.Stop.TheVariants as stop
 use Rattle.mps_report.proofs.Outside.{reports_only-then}
-use Rattle.mps_script.specs.declared.line.BadLine.{BadLine}
 use Rattle.mps_script.specs.Line.{lines_of, call_of_line}
 use Rattle.mps_cli.specs.Buffer.{length_of_line}
 use Rattle.mps_cli.specs.Ending.{Ending, IsFault, is_fault, is_verdict}
 use Rattle.mps_cli.specs.Leaving.{IsUnbegun, NeedsMemory, RunsOutOfMemory, Begins, LeavesPartOfRecords, LeavesPartOfAnswer, Leaves, LeavesRun, IsBegun, StopsLogging, StopsPrinting, Stops, records_after}
-use Rattle.mps_cli.specs.Script.{ScriptCommand, LeavesWhole, RanTo, answers_of, command_of_step, commands_of_call, commands_from, is_grammatical, log_header}
+use Rattle.mps_cli.specs.Script.{LeavesWhole, RanTo, answers_of, commands_of_call, commands_from, log_header}
 use Rattle.mps_report.specs.Streams.{appended}
 use Rattle.mps_cli.specs.declared.bad_script_line.BadScriptLine.{BadScriptLine}
 use Rattle.mps_cli.specs.declared.next.Next.TheVariants.{Line}
 use Rattle.mps_report.proofs.Appended.{appended_empty, appended_twice}
 use Rattle.mps_cli.proofs.LineByLine.{first_line}
-use Rattle.mps_cli.proofs.SoFar.{NextRead, has_run, leaves_whole, read_more, unsupported-append}
+use Rattle.mps_cli.proofs.SoFar.{NextRead, has_run, leaves_whole, commands_more, unsupported-append}
 
 -- ---- one line
 
--- a line with a command is in the grammar
-good_line : (line : ℕ) (command : ScriptCommand) (r : Result (Option Call) BadLine) → command ∷ [] ≡ commands_of_call line r
-    → is_grammatical r ≡ true
-good_line line command (Ok call) e = refl
-good_line line command (Err bad) e = absurd (let none : command ∷ [] ≡ [] = e in cc)
-
 -- the next line was read, of which the call stops the run
-module _ (heap : HeapState) (n : ℕ) (old o1 o2 o3 : Outside) (script rest line : List ℕ) (left2 : Option (List ℕ))
-    (r : NextRead heap n old o1 o2 script (Some rest) Line line left2) where
+module _ (has_arena : Bool) (heap : HeapState) (n : ℕ) (old o1 o2 o3 : Outside) (script rest line : List ℕ) (left2 : Option (List ℕ))
+    (r : NextRead has_arena heap n old o1 o2 script (Some rest) Line line left2) where
   -- after the lines that were run a command was begun
   begins : (step : Step) → IsBegun (commands_of_call (n + 1) (call_of_line line)) heap step → Begins script n r.so_far.history step
   begins step b =
       let f = r.so_far in
       record {
         run = has_run f;
-        commands = (read_more n f.history (step ∷ []) script rest line (drop (length_of_line rest + 1) rest) f.read r.comes.0 r.comes.1 refl
-            (good_line (n + 1) (command_of_step step) (call_of_line line) b.answers) b.answers).commands;
+        commands = commands_more n f.history (step ∷ []) script rest line f.read r.comes.0 r.comes.1 b.answers;
         legal = IsLegalFrom-append empty_world f.history (step ∷ []) f.legal (b.legal (world_after_history f.history) f.stands);
         unsupported = unsupported-append empty_world f.history (step ∷ []) f.unsupported
             (b.unsupported (world_after_history f.history) f.stands);
@@ -106,19 +97,20 @@ module _ (heap : HeapState) (n : ℕ) (old o1 o2 o3 : Outside) (script rest line
   leaves_known stop.TooLong s = absurd s
   leaves_known stop.ReadFailed s = absurd s
 
-leaves_at : (why : Stop BadScriptLine) (heap : HeapState) (n : ℕ) (old o1 o2 o3 : Outside) (script line : List ℕ)
+leaves_at : (why : Stop BadScriptLine) (has_arena : Bool) (heap : HeapState) (n : ℕ) (old o1 o2 o3 : Outside) (script line : List ℕ)
     (left left2 : Option (List ℕ))
-    → NextRead heap n old o1 o2 script left Line line left2
+    → NextRead has_arena heap n old o1 o2 script left Line line left2
     → Stops why (commands_of_call (n + 1) (call_of_line line)) heap o2 o3 → Leaves (Err why) [] script old o3
-leaves_at why heap n old o1 o2 o3 script line None left2 r s = absurd r.so_far.read
-leaves_at why heap n old o1 o2 o3 script line (Some rest) left2 r s = leaves_known heap n old o1 o2 o3 script rest line left2 r why s
+leaves_at why has_arena heap n old o1 o2 o3 script line None left2 r s = absurd r.so_far.read
+leaves_at why has_arena heap n old o1 o2 o3 script line
+    (Some rest) left2 r s = leaves_known has_arena heap n old o1 o2 o3 script rest line left2 r why s
 
 -- a line that stops the run
-pub leaves_line : {heap : HeapState} {n : ℕ} {old o1 o2 : Outside} {script line : List ℕ} {left left2 : Option (List ℕ)}
-    (why : Stop BadScriptLine) (o3 : Outside) → NextRead heap n old o1 o2 script left Line line left2
+pub leaves_line : {has_arena : Bool} {heap : HeapState} {n : ℕ} {old o1 o2 : Outside} {script line : List ℕ} {left left2 : Option (List ℕ)}
+    (why : Stop BadScriptLine) (o3 : Outside) → NextRead has_arena heap n old o1 o2 script left Line line left2
     → Stops why (commands_of_call (n + 1) (call_of_line line)) heap o2 o3 → Leaves (Err why) [] script old o3
-leaves_line {heap} {n} {old} {o1} {o2} {script} {line} {left} {left2} why o3 r s =
-    leaves_at why heap n old o1 o2 o3 script line left left2 r s
+leaves_line {has_arena} {heap} {n} {old} {o1} {o2} {script} {line} {left} {left2} why o3 r s =
+    leaves_at why has_arena heap n old o1 o2 o3 script line left left2 r s
 
 -- ---- the whole run, after the header of the log
 

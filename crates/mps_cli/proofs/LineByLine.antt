@@ -1,12 +1,18 @@
 -- A script line by line.
 use Rattle.std.proofs.Common.{◌≡◌, ℕ, zero, suc, ◌+◌, ◌<◌, ◌≤◌, Bool, true, false, List, [], ◌∷◌, ◌++◌, length, take, drop, refl, sym, ◌∙◌, ap, arith, append_assoc, add-one}
-use Rattle.std.specs.List.{slice_split, list_all}
+use Rattle.std.specs.Prelude.{Option, Some, None, Result, Ok, Err, map}
+use Rattle.std.specs.List.{slice_split}
 use Rattle.std.proofs.lemmas.List.Splits.{slice_split-cons_yes, slice_split-cons_no}
-use Rattle.std.proofs.lemmas.List.{drop-drop}
+use Rattle.std.proofs.lemmas.List.{drop-drop, map-append}
 use Rattle.std.proofs.lemmas.Grind.{common_steps}
+use Rattle.mps_model.specs.declared.call.Call.{Call}
+use Rattle.mps_model.specs.Step.{Step, History}
+use Rattle.mps_script.specs.declared.line.BadLine.{BadLine}
+use Rattle.mps_script.specs.Script.{calls_of, call_or_none, has_arena_after, is_good_after, is_grammatical, is_some_call}
+use Rattle.mps_script.proofs.Scripts.{script_grows, arena_after}
 use Rattle.mps_script.specs.Line.{is_line_feed, lines_of, without_empty_last, call_of_line}
 use Rattle.mps_cli.specs.Buffer.{length_of_line}
-use Rattle.mps_cli.specs.Script.{commands_from, commands_of_call, is_good}
+use Rattle.mps_cli.specs.Script.{ScriptCommand, commands_from, commands_of, commands_of_call}
 
 abbrev rest_parts : List ℕ → List (List ℕ)
 rest_parts [] = []
@@ -93,13 +99,56 @@ take_one_more n ls l later e =
     let m = one_more n ls l later e in
     (ap (λ k. take k ls) (add-one n) ∙ m.0, ap (λ k. drop k ls) (add-one n) ∙ m.1, m.2)
 
-pub good_append : (xs ys : List (List ℕ)) → list_all is_good xs ≡ true → list_all is_good ys ≡ true → list_all is_good (xs ++ ys) ≡ true
-good_append [] ys h k = k
-good_append (x ∷ xs) ys h k = grind (arith, common_steps)
-
 pub commands_append : (n : ℕ) (xs ys : List (List ℕ)) → commands_from n (xs ++ ys) ≡ commands_from n xs ++ commands_from (n + length xs) ys
 commands_append n [] ys = ap (λ m. commands_from m ys) (omega arith)
 commands_append n (x ∷ xs) ys =
     ap (λ r. commands_of_call n (call_of_line x) ++ r) (commands_append (n + 1) xs ys
     ∙ ap (λ m. commands_from (n + 1) xs ++ commands_from m ys) (omega arith))
     ∙ sym (append_assoc (commands_of_call n (call_of_line x)) (commands_from (n + 1) xs) (commands_from (n + length (x ∷ xs)) ys))
+
+-- ---- the calls of lines, of their commands, and of a history that answers these
+
+abbrev call_of_command : ScriptCommand → Call
+call_of_command command = command.call
+
+-- the calls that a history answers
+abbrev pub calls_of_history : History → List Call
+calls_of_history history = map (λ (s : Step). s.call) history
+
+call_of_one : (line : ℕ) (r : Result (Option Call) BadLine) → map call_of_command (commands_of_call line r) ≡ call_or_none r
+call_of_one line (Ok (Some c)) = refl
+call_of_one line (Ok None) = refl
+call_of_one line (Err bad) = refl
+
+calls_of_commands : (line : ℕ) (ls : List (List ℕ)) → map call_of_command (commands_from line ls) ≡ calls_of ls
+calls_of_commands line [] = refl
+calls_of_commands line (l ∷ ls) =
+    map-append call_of_command (commands_of_call line (call_of_line l)) (commands_from (line + 1) ls)
+    ∙ (ap (λ (cs : List Call). cs ++ map call_of_command (commands_from (line + 1) ls)) (call_of_one line (call_of_line l))
+    ∙ ap (λ (cs : List Call). call_or_none (call_of_line l) ++ cs) (calls_of_commands (line + 1) ls))
+
+calls_of_answered : (h : History) → map call_of_command (commands_of h) ≡ calls_of_history h
+calls_of_answered [] = refl
+calls_of_answered (s ∷ h) = ap (λ (cs : List Call). s.call ∷ cs) (calls_of_answered h)
+
+calls_known : (h : History) (ls : List (List ℕ)) → commands_of h ≡ commands_from 1 ls → calls_of_history h ≡ calls_of ls
+calls_known h ls e = sym (calls_of_answered h) ∙ (ap (map call_of_command) e ∙ calls_of_commands 1 ls)
+
+-- with one line more they are a script exactly where that line has its turn
+pub grammar_more : (n : ℕ) (h : History) (ls : List (List ℕ)) (line : List ℕ) (later : List (List ℕ)) → drop n ls ≡ line ∷ later
+    → is_grammatical (take n ls) ≡ true → commands_of h ≡ commands_from 1 (take n ls)
+    → is_grammatical (take (n + 1) ls) ≡ is_good_after (is_some_call (calls_of_history h)) line
+grammar_more n h ls line later first good commands =
+    ap is_grammatical (take_one_more n ls line later first).0
+    ∙ (script_grows (take n ls) line good
+    ∙ ap (λ (cs : List Call). is_good_after (is_some_call cs) line) (sym (calls_known h (take n ls) commands)))
+
+-- a line more, and whether there is a call then
+pub arena_more : (h steps : History) (line : ℕ) (r : Result (Option Call) BadLine) → commands_of steps ≡ commands_of_call line r
+    → is_some_call (calls_of_history (h ++ steps)) ≡ has_arena_after (is_some_call (calls_of_history h)) r
+arena_more h steps line r answers =
+    let new : calls_of_history steps ≡ call_or_none r
+    = sym (calls_of_answered steps) ∙ (ap (map call_of_command) answers ∙ call_of_one line r) in
+    ap is_some_call (map-append (λ (s : Step). s.call) h steps
+    ∙ ap (λ (cs : List Call). calls_of_history h ++ cs) new)
+    ∙ arena_after (calls_of_history h) r

@@ -1,6 +1,5 @@
 -- What a run has done so far, and what is left to do.
-use Rattle.std.proofs.Common.{◌≡◌, ℕ, ◌+◌, ◌<◌, ◌≤◌, true, false, Option, Some, None, Ok, Err, List, [], ◌∷◌, ◌++◌, length, take, drop, refl, sym, ◌∙◌, ap, arith, append-nil, option_and_then, subst, zero-add, nat_lt}
-use Rattle.std.specs.List.{list_all}
+use Rattle.std.proofs.Common.{◌≡◌, ℕ, ◌+◌, ◌<◌, ◌≤◌, Bool, true, false, Option, Some, None, Ok, Err, List, [], ◌∷◌, ◌++◌, length, take, drop, refl, sym, ◌∙◌, ap, arith, append-nil, option_and_then, subst, zero-add, nat_lt}
 use Rattle.std.proofs.lemmas.List.{map-append, length-take-le}
 use Rattle.std.proofs.lemmas.Grind.{flat_map-append, common_steps}
 use Rattle.mps_desk.specs.Desk.{Outside, OnlyReads}
@@ -16,19 +15,20 @@ use Rattle.mps_first_heap.specs.HeapState.{HeapState}
 use Rattle.mps_first_heap.specs.StandsFor.{StandsFor}
 use Rattle.mps_report.specs.declared.stop.Stop.TheVariants as stop
 use Rattle.mps_script.specs.Line.{lines_of, call_of_line, max_line_bytes}
+use Rattle.mps_script.specs.Script.{has_arena_after, is_good_after, is_grammatical, is_some_call}
 use Rattle.mps_report.specs.Streams.{appended}
 use Rattle.mps_cli.specs.Ending.{Ending, RunsOn}
 use Rattle.mps_cli.specs.Buffer.{ComesNextOf, length_of_line}
-use Rattle.mps_cli.specs.Script.{ScriptCommand, StepsRan, HasRun, LeavesWhole, AreUnsupportedWhereDue, RanTo, Answered, IsBadHere, RunEndsAt, answers_of, commands_of, command_of_step, commands_of_call, commands_from, is_good, max_lines}
+use Rattle.mps_cli.specs.Script.{ScriptCommand, StepsRan, HasRun, LeavesWhole, AreUnsupportedWhereDue, RanTo, Answered, IsBadHere, RunEndsAt, answers_of, commands_of, command_of_step, commands_of_call, commands_from, max_lines}
 use Rattle.mps_cli.specs.declared.next.Next.{Next}
 use Rattle.mps_cli.specs.declared.next.Next.TheVariants.{Line, TooLong, End}
 use Rattle.mps_report.proofs.Appended.{appended_empty, appended_twice}
 use Rattle.mps_cli.proofs.NextLine.{line_bound}
-use Rattle.mps_cli.proofs.LineByLine.{first_line, take_one_more, good_append, commands_append}
+use Rattle.mps_cli.proofs.LineByLine.{first_line, take_one_more, commands_append, calls_of_history, grammar_more, arena_more}
 
 -- n lines of a script were run, and these bytes are left of it
 pub record ReadUpTo (lines : ℕ) (history : History) (script rest : List ℕ) : Type 0 where
-  pub grammatical : list_all is_good (take lines (lines_of script)) ≡ true
+  pub grammatical : is_grammatical (take lines (lines_of script)) ≡ true
   pub commands : commands_of history ≡ commands_from 1 (take lines (lines_of script))
   pub later : drop lines (lines_of script) ≡ lines_of rest
 
@@ -39,7 +39,7 @@ ReadSoFar lines history (Some script) None = ⊥
 ReadSoFar lines history (Some script) (Some rest) = ReadUpTo lines history script rest
 
 -- what was printed and logged since the first line is that of a history
-pub record SoFar (heap : HeapState) (lines : ℕ) (old now : Outside) (script left : Option (List ℕ)) : Type 0 where
+pub record SoFar (has_arena : Bool) (heap : HeapState) (lines : ℕ) (old now : Outside) (script left : Option (List ℕ)) : Type 0 where
   pub history : History
   pub printed : now.printed ≡ appended old.printed (answers_of history)
   pub logged : now.logged ≡ appended old.logged (records_bytes (log_of history))
@@ -49,19 +49,24 @@ pub record SoFar (heap : HeapState) (lines : ℕ) (old now : Outside) (script le
   pub stands : StandsFor heap (world_after_history history)
   pub pools : length (world_after_history history).pools ≡ pools_made history
   pub replayed : replay (log_of history) ≡ Some (live_blocks (world_after_history history))
+  -- whether it has its arena, which its first call made
+  pub arena : has_arena ≡ is_some_call (calls_of_history history)
 
 -- then the next line was looked for, in a script that is known
-pub record NextRead (heap : HeapState) (lines : ℕ) (old before now : Outside) (script : List ℕ) (left : Option (List ℕ)) (next : Next)
+pub record NextRead (has_arena : Bool) (heap : HeapState) (lines : ℕ) (old before now : Outside) (script : List ℕ) (left : Option
+    (List ℕ)) (next : Next)
     (line : List ℕ) (left_after : Option (List ℕ)) : Type 0 where
-  pub so_far : SoFar heap lines old before (Some script) left
+  pub so_far : SoFar has_arena heap lines old before (Some script) left
   pub reads : OnlyReads before now
   pub comes : ComesNextOf next left line left_after
 
-pub next_read : {heap : HeapState} {n : ℕ} {old before now : Outside} {known left : Option (List ℕ)} {script : List ℕ} {next is : Next}
-    (line : List ℕ) (left_after : Option (List ℕ)) → SoFar heap n old before known left → known ≡ Some script → OnlyReads before now
-    → ComesNextOf next left line left_after → next ≡ is → NextRead heap n old before now script left is line left_after
-next_read {heap} {n} {old} {before} {now} {known} {left} {script} {next} {is} line left_after f e reads comes same = record {
-  so_far = subst (λ s. SoFar heap n old before s left) e f;
+pub next_read : {has_arena : Bool} {heap : HeapState} {n : ℕ} {old before now : Outside} {known left : Option
+    (List ℕ)} {script : List ℕ} {next is : Next}
+    (line : List ℕ) (left_after : Option (List ℕ)) → SoFar has_arena heap n old before known left → known ≡ Some script
+    → OnlyReads before now
+    → ComesNextOf next left line left_after → next ≡ is → NextRead has_arena heap n old before now script left is line left_after
+next_read {has_arena} {heap} {n} {old} {before} {now} {known} {left} {script} {next} {is} line left_after f e reads comes same = record {
+  so_far = subst (λ s. SoFar has_arena heap n old before s left) e f;
   reads = reads;
   comes = subst (λ n. ComesNextOf n left line left_after) same comes;
 }
@@ -71,7 +76,7 @@ read_nothing None = refl
 read_nothing (Some script) = record { grammatical = refl; commands = refl; later = refl }
 
 -- before the first line
-pub at_start : (heap : HeapState) (o : Outside) (left : Option (List ℕ)) → StandsFor heap empty_world → SoFar heap 0 o o left left
+pub at_start : (heap : HeapState) (o : Outside) (left : Option (List ℕ)) → StandsFor heap empty_world → SoFar false heap 0 o o left left
 at_start heap o left stands = record {
   history = [];
   printed = appended_empty o.printed;
@@ -82,33 +87,42 @@ at_start heap o left stands = record {
   stands = stands;
   pools = refl;
   replayed = refl;
+  arena = refl;
 }
 
--- one line more of a script
+-- one line more of a script: its command
+pub commands_more : (n : ℕ) (h steps : History) (script rest line : List ℕ) → ReadUpTo n h script rest
+    → 0 < length rest → line ≡ take (length_of_line rest) rest → commands_of steps ≡ commands_of_call (n + 1) (call_of_line line)
+    → commands_of (h ++ steps) ≡ commands_from 1 (take (n + 1) (lines_of script))
+commands_more n h steps script rest line r pos at answers =
+    let first : lines_of rest ≡ line ∷ lines_of (drop (length_of_line rest + 1) rest) = rw at (first_line rest pos) in
+    let more = take_one_more n (lines_of script) line (lines_of (drop (length_of_line rest + 1) rest)) (r.later ∙ first) in
+    let long : length (take n (lines_of script)) ≡ n = length-take-le n (lines_of script) (omega (arith, more.2)) in
+    let last : commands_from (1 + length (take n (lines_of script))) (line ∷ []) ≡ commands_of_call (n + 1) (call_of_line line) =
+    append-nil (commands_of_call (1 + length (take n (lines_of script))) (call_of_line line))
+    ∙ ap (λ m. commands_of_call m (call_of_line line)) (omega arith) in
+    rw more.0 (map-append command_of_step h steps
+    ∙ (ap (λ cs. cs ++ commands_of steps) r.commands
+    ∙ (ap (λ cs. commands_from 1 (take n (lines_of script)) ++ cs) (answers ∙ sym last)
+    ∙ sym (commands_append 1 (take n (lines_of script)) (line ∷ [])))))
+
+-- and that it has its turn
 pub read_more : (n : ℕ) (h steps : History) (script rest line rest2 : List ℕ) → ReadUpTo n h script rest
     → 0 < length rest → line ≡ take (length_of_line rest) rest → rest2 ≡ drop (length_of_line rest + 1) rest
-    → is_good line ≡ true → commands_of steps ≡ commands_of_call (n + 1) (call_of_line line)
+    → is_good_after (is_some_call (calls_of_history h)) line ≡ true → commands_of steps ≡ commands_of_call (n + 1) (call_of_line line)
     → ReadUpTo (n + 1) (h ++ steps) script rest2
 read_more n h steps script rest line rest2 r pos at later good answers =
     let first : lines_of rest ≡ line ∷ lines_of rest2 = rw (at, later) (first_line rest pos) in
     let more = take_one_more n (lines_of script) line (lines_of rest2) (r.later ∙ first) in
-    let long : length (take n (lines_of script)) ≡ n = length-take-le n (lines_of script) (omega (arith, more.2)) in
-    let one : list_all is_good (line ∷ []) ≡ true = grind (arith, common_steps) in
-    let last : commands_from (1 + length (take n (lines_of script))) (line ∷ []) ≡ commands_of_call (n + 1) (call_of_line line) =
-    append-nil (commands_of_call (1 + length (take n (lines_of script))) (call_of_line line))
-    ∙ ap (λ m. commands_of_call m (call_of_line line)) (omega arith) in
     record {
-      grammatical = rw more.0 (good_append (take n (lines_of script)) (line ∷ []) r.grammatical one);
-      commands = rw more.0 (map-append command_of_step h steps
-          ∙ (ap (λ cs. cs ++ commands_of steps) r.commands
-          ∙ (ap (λ cs. commands_from 1 (take n (lines_of script)) ++ cs) (answers ∙ sym last)
-          ∙ sym (commands_append 1 (take n (lines_of script)) (line ∷ [])))));
+      grammatical = grammar_more n h (lines_of script) line (lines_of rest2) (r.later ∙ first) r.grammatical r.commands ∙ good;
+      commands = commands_more n h steps script rest line r pos at answers;
       later = more.1;
     }
 
 read_next : (n : ℕ) (h steps : History) (script left : Option (List ℕ)) (line : List ℕ) (left2 : Option (List ℕ))
     → ReadSoFar n h script left → ComesNextOf Line left line left2
-    → is_good line ≡ true → commands_of steps ≡ commands_of_call (n + 1) (call_of_line line)
+    → is_good_after (is_some_call (calls_of_history h)) line ≡ true → commands_of steps ≡ commands_of_call (n + 1) (call_of_line line)
     → ReadSoFar (n + 1) (h ++ steps) script left2
 read_next n h steps None None line left2 r next good answers = next
 read_next n h steps None (Some rest) line left2 r next good answers = absurd (let e : Some rest ≡ None = r in cc)
@@ -130,44 +144,51 @@ pools_made-append [] steps = omega arith
 pools_made-append (t ∷ h) steps = omega (arith, pools_made-append h steps)
 
 -- one line more
-pub one_line_more : {heap heap2 : HeapState} {n : ℕ} {old o1 o2 o3 : Outside} {script left : Option (List ℕ)} (left2 : Option (List ℕ))
+pub one_line_more : {has_arena has_arena2 : Bool} {heap heap2 : HeapState} {n : ℕ} {old o1 o2 o3 : Outside} {script left : Option
+    (List ℕ)} (left2 : Option (List ℕ))
     (line : List ℕ)
-    → SoFar heap n old o1 script left → OnlyReads o1 o2 → ComesNextOf Line left line left2
-    → is_good line ≡ true → StepsRan (commands_of_call (n + 1) (call_of_line line)) heap heap2 o2 o3
-    → SoFar heap2 (n + 1) old o3 script left2
-one_line_more {heap} {heap2} {n} {old} {o1} {o2} {o3} {script} {left} left2 line f reads next good s = record {
-  history = f.history ++ s.steps;
-  printed = s.printed
-      ∙ (ap (λ known. appended known (answers_of s.steps)) (reads.printed ∙ f.printed)
-      ∙ (appended_twice old.printed (answers_of f.history) (answers_of s.steps)
-      ∙ ap (appended old.printed) (sym (flat_map-append (λ (t : Step). line_of_answer t.answer) f.history s.steps))));
-  logged = subst (λ p. o3.logged ≡ appended o2.logged (records_bytes (log_from p s.steps))) f.pools
-      (s.logged (world_after_history f.history) f.stands)
-      ∙ (ap (λ known. appended known (records_bytes (log_from (pools_made f.history) s.steps))) (reads.logged ∙ f.logged)
-      ∙ (appended_twice old.logged (records_bytes (log_of f.history)) (records_bytes (log_from (pools_made f.history) s.steps))
-      ∙ ap (appended old.logged)
-      (sym (flat_map-append record_bytes (log_of f.history) (log_from (pools_made f.history) s.steps))
-      ∙ ap records_bytes (sym (log_from-append 0 f.history s.steps
-      ∙ ap (λ p. log_of f.history ++ log_from p s.steps) (zero-add (pools_made f.history)))))));
-  read = read_next n f.history s.steps script left line left2 f.read next good s.answers;
-  legal = IsLegalFrom-append empty_world f.history s.steps f.legal (s.legal (world_after_history f.history) f.stands);
-  unsupported = unsupported-append empty_world f.history s.steps f.unsupported (s.unsupported (world_after_history f.history) f.stands);
-  stands = subst (StandsFor heap2) (sym (world_after_steps-append empty_world f.history s.steps))
-      (s.stands (world_after_history f.history) f.stands);
-  pools = ap (λ (w : World). length w.pools) (world_after_steps-append empty_world f.history s.steps)
-      ∙ (s.pools (world_after_history f.history) f.stands
-      ∙ (ap (λ p. p + pools_made s.steps) f.pools ∙ sym (pools_made-append f.history s.steps)));
-  replayed = ap replay (log_from-append 0 f.history s.steps)
-      ∙ (replay_from-append [] (log_of f.history) (log_from (0 + pools_made f.history) s.steps)
-      ∙ (ap (option_and_then (λ store. replay_from store (log_from (0 + pools_made f.history) s.steps))) f.replayed
-      ∙ (s.replayed (world_after_history f.history) (0 + pools_made f.history) f.stands
-      ∙ ap (λ w. Some (live_blocks w)) (sym (world_after_steps-append empty_world f.history s.steps)))));
-}
+    → SoFar has_arena heap n old o1 script left → OnlyReads o1 o2 → ComesNextOf Line left line left2
+    → is_good_after has_arena line ≡ true → has_arena2 ≡ has_arena_after has_arena (call_of_line line)
+    → StepsRan (commands_of_call (n + 1) (call_of_line line)) heap heap2 o2 o3
+    → SoFar has_arena2 heap2 (n + 1) old o3 script left2
+one_line_more {has_arena} {has_arena2} {heap} {heap2} {n} {old} {o1} {o2} {o3} {script}
+    {left} left2 line f reads next good arena s = record {
+      history = f.history ++ s.steps;
+      printed = s.printed
+          ∙ (ap (λ known. appended known (answers_of s.steps)) (reads.printed ∙ f.printed)
+          ∙ (appended_twice old.printed (answers_of f.history) (answers_of s.steps)
+          ∙ ap (appended old.printed) (sym (flat_map-append (λ (t : Step). line_of_answer t.answer) f.history s.steps))));
+      logged = subst (λ p. o3.logged ≡ appended o2.logged (records_bytes (log_from p s.steps))) f.pools
+          (s.logged (world_after_history f.history) f.stands)
+          ∙ (ap (λ known. appended known (records_bytes (log_from (pools_made f.history) s.steps))) (reads.logged ∙ f.logged)
+          ∙ (appended_twice old.logged (records_bytes (log_of f.history)) (records_bytes (log_from (pools_made f.history) s.steps))
+          ∙ ap (appended old.logged)
+          (sym (flat_map-append record_bytes (log_of f.history) (log_from (pools_made f.history) s.steps))
+          ∙ ap records_bytes (sym (log_from-append 0 f.history s.steps
+          ∙ ap (λ p. log_of f.history ++ log_from p s.steps) (zero-add (pools_made f.history)))))));
+      read = read_next n f.history s.steps script left line left2 f.read next
+          (subst (λ (b : Bool). is_good_after b line ≡ true) f.arena good) s.answers;
+      legal = IsLegalFrom-append empty_world f.history s.steps f.legal (s.legal (world_after_history f.history) f.stands);
+      unsupported = unsupported-append empty_world f.history s.steps f.unsupported (s.unsupported (world_after_history f.history) f.stands);
+      stands = subst (StandsFor heap2) (sym (world_after_steps-append empty_world f.history s.steps))
+          (s.stands (world_after_history f.history) f.stands);
+      pools = ap (λ (w : World). length w.pools) (world_after_steps-append empty_world f.history s.steps)
+          ∙ (s.pools (world_after_history f.history) f.stands
+          ∙ (ap (λ p. p + pools_made s.steps) f.pools ∙ sym (pools_made-append f.history s.steps)));
+      replayed = ap replay (log_from-append 0 f.history s.steps)
+          ∙ (replay_from-append [] (log_of f.history) (log_from (0 + pools_made f.history) s.steps)
+          ∙ (ap (option_and_then (λ store. replay_from store (log_from (0 + pools_made f.history) s.steps))) f.replayed
+          ∙ (s.replayed (world_after_history f.history) (0 + pools_made f.history) f.stands
+          ∙ ap (λ w. Some (live_blocks w)) (sym (world_after_steps-append empty_world f.history s.steps)))));
+      arena = arena ∙ (ap (λ (b : Bool). has_arena_after b (call_of_line line)) f.arena
+          ∙ sym (arena_more f.history s.steps (n + 1) (call_of_line line) s.answers));
+    }
 
 -- ---- where a run ends
 
 -- the lines so far have run
-pub has_run : {heap : HeapState} {n : ℕ} {old now : Outside} {script rest : List ℕ} (f : SoFar heap n old now (Some script) (Some rest))
+pub has_run : {has_arena : Bool} {heap : HeapState} {n : ℕ} {old now : Outside} {script rest : List ℕ}
+    (f : SoFar has_arena heap n old now (Some script) (Some rest))
     → HasRun script n f.history
 has_run f = record {
   grammatical = f.read.grammatical;
@@ -178,9 +199,10 @@ has_run f = record {
 }
 
 -- after them nothing was printed or logged
-abbrev pub leaves_whole : {heap : HeapState} {n : ℕ} {old now : Outside} {script rest : List ℕ} (new : Outside)
-    → SoFar heap n old now (Some script) (Some rest) → new.printed ≡ now.printed → new.logged ≡ now.logged → LeavesWhole [] script old new
-leaves_whole {heap} {n} new f printed logged = record {
+abbrev pub leaves_whole : {has_arena : Bool} {heap : HeapState} {n : ℕ} {old now : Outside} {script rest : List ℕ} (new : Outside)
+    → SoFar has_arena heap n old now (Some script) (Some rest) → new.printed ≡ now.printed → new.logged ≡ now.logged
+    → LeavesWhole [] script old new
+leaves_whole {has_arena} {heap} {n} new f printed logged = record {
   history = f.history;
   lines = n;
   run = has_run f;
@@ -188,93 +210,103 @@ leaves_whole {heap} {n} new f printed logged = record {
   logged = logged ∙ f.logged;
 }
 
-ends_with : {heap : HeapState} {n : ℕ} {old o1 o2 : Outside} {script rest : List ℕ} (ends : Ending)
-    → SoFar heap n old o1 (Some script) (Some rest) → OnlyReads o1 o2
-    → RunEndsAt ends n (lines_of rest) → RanTo ends [] script old o2
-ends_with {heap} {n} {old} {o1} {o2} ends f reads at = record {
+ends_with : {has_arena : Bool} {heap : HeapState} {n : ℕ} {old o1 o2 : Outside} {script rest : List ℕ} (ends : Ending)
+    → SoFar has_arena heap n old o1 (Some script) (Some rest) → OnlyReads o1 o2
+    → RunEndsAt ends n (lines_of script) → RanTo ends [] script old o2
+ends_with {has_arena} {heap} {n} {old} {o1} {o2} ends f reads at = record {
   whole = leaves_whole o2 f reads.printed reads.logged;
-  ends_at = subst (RunEndsAt ends n) (sym f.read.later) at;
+  ends_at = at;
 }
 
-module _ (heap : HeapState) (n : ℕ) (old o1 o2 : Outside) (script : List ℕ) where
+module _ (has_arena : Bool) (heap : HeapState) (n : ℕ) (old o1 o2 : Outside) (script : List ℕ) where
   -- at the end of the input
-  done_at : (left left2 : Option (List ℕ)) (line : List ℕ) → NextRead heap n old o1 o2 script left End line left2
+  done_at : (left left2 : Option (List ℕ)) (line : List ℕ) → NextRead has_arena heap n old o1 o2 script left End line left2
       → RanTo (Ok tt) [] script old o2
   done_at None left2 line r = absurd r.so_far.read
-  done_at (Some rest) left2 line r = ends_with (Ok tt) r.so_far r.reads (ap lines_of r.comes)
+  done_at (Some rest) left2 line r = ends_with (Ok tt) r.so_far r.reads (r.so_far.read.later ∙ ap lines_of r.comes)
 
-  some_line : (rest : List ℕ) → 0 < length rest → 0 < length (lines_of rest)
-  some_line rest pos = let e = first_line rest pos in omega (arith, ap length e)
+  some_line : (rest : List ℕ) → 0 < length rest → drop n (lines_of script) ≡ lines_of rest → 0 < length (drop n (lines_of script))
+  some_line rest pos later = let e = first_line rest pos in omega (arith, ap length (later ∙ e))
 
   -- where there are more lines than can be counted
-  too_many_at : (left left2 : Option (List ℕ)) (line : List ℕ) (next : Next) → NextRead heap n old o1 o2 script left next line left2
+  too_many_at : (left left2 : Option (List ℕ)) (line : List ℕ) (next : Next)
+      → NextRead has_arena heap n old o1 o2 script left next line left2
       → (next ≡ End → ⊥) → n ≡ max_lines → RanTo (Err stop.TooLong) [] script old o2
   too_many_at None left2 line next r not_end count = absurd r.so_far.read
   too_many_at (Some rest) left2 line End r not_end count = absurd (not_end refl)
   too_many_at (Some rest) left2 line Line r not_end count =
-      ends_with (Err stop.TooLong) r.so_far r.reads (count, some_line rest r.comes.0)
+      ends_with (Err stop.TooLong) r.so_far r.reads (count, some_line rest r.comes.0 r.so_far.read.later)
   too_many_at (Some rest) left2 line TooLong r not_end count =
-      ends_with (Err stop.TooLong) r.so_far r.reads (count, some_line rest (omega (arith, r.comes, line_bound rest)))
+      ends_with (Err stop.TooLong) r.so_far r.reads (count, some_line rest (omega (arith, r.comes, line_bound rest)) r.so_far.read.later)
 
-  long_line_is_bad : (line : List ℕ) → max_line_bytes < length line → is_good line ≡ false
+  long_line_is_bad : (line : List ℕ) → max_line_bytes < length line → is_good_after has_arena line ≡ false
   long_line_is_bad line h = let t : nat_lt max_line_bytes (length line) ≡ true = grind (arith, common_steps) in rw t
 
-  first_is_bad : (rest line : List ℕ) → 0 < length rest → line ≡ take (length_of_line rest) rest → is_good line ≡ false
-      → list_all is_good (take 1 (lines_of rest)) ≡ false
-  first_is_bad rest line pos at bad =
-      let e : lines_of rest ≡ line ∷ lines_of (drop (length_of_line rest + 1) rest) = rw at (first_line rest pos) in
-      rw (e, bad)
+  -- with the next line they are no script
+  next_is_bad : (rest line : List ℕ) → SoFar has_arena heap n old o1 (Some script) (Some rest) → 0 < length rest
+      → line ≡ take (length_of_line rest) rest → is_good_after has_arena line ≡ false
+      → is_grammatical (take (n + 1) (lines_of script)) ≡ false
+  next_is_bad rest line f pos at bad =
+      let first : lines_of rest ≡ line ∷ lines_of (drop (length_of_line rest + 1) rest) = rw at (first_line rest pos) in
+      grammar_more n f.history (lines_of script) line (lines_of (drop (length_of_line rest + 1) rest)) (f.read.later ∙ first)
+      f.read.grammatical f.read.commands
+      ∙ (ap (λ (b : Bool). is_good_after b line) (sym f.arena) ∙ bad)
 
   -- at a line that is too long
-  long_line_at : (left left2 : Option (List ℕ)) (line : List ℕ) → NextRead heap n old o1 o2 script left TooLong line left2
+  long_line_at : (left left2 : Option (List ℕ)) (line : List ℕ) → NextRead has_arena heap n old o1 o2 script left TooLong line left2
       → RanTo (Err (stop.Bad (record { line = n + 1 }))) [] script old o2
   long_line_at None left2 line r = absurd r.so_far.read
   long_line_at (Some rest) left2 line r =
       let long : length (take (length_of_line rest) rest) ≡ length_of_line rest = length-take-le (length_of_line rest) rest
       (line_bound rest) in
-      let bad : is_good (take (length_of_line rest) rest) ≡ false = long_line_is_bad (take (length_of_line rest) rest)
+      let bad : is_good_after has_arena (take (length_of_line rest) rest) ≡ false = long_line_is_bad (take (length_of_line rest) rest)
       (omega (arith, r.comes)) in
       let pos : 0 < length rest = omega (arith, r.comes, line_bound rest) in
       ends_with (Err (stop.Bad (record { line = n + 1 }))) r.so_far r.reads
-      (refl, first_is_bad rest (take (length_of_line rest) rest) pos refl bad)
+      (refl, next_is_bad rest (take (length_of_line rest) rest) r.so_far pos refl bad)
 
   -- at a line that is bad
   bad_line_at : (left left2 : Option (List ℕ)) (line : List ℕ) (o3 : Outside) (ends : Ending)
-      → NextRead heap n old o1 o2 script left Line line left2
-      → IsBadHere line (n + 1) ends o2 o3 → RanTo ends [] script old o3
+      → NextRead has_arena heap n old o1 o2 script left Line line left2
+      → IsBadHere has_arena line (n + 1) ends o2 o3 → RanTo ends [] script old o3
   bad_line_at None left2 line o3 ends r bad = absurd r.so_far.read
   bad_line_at (Some rest) left2 line o3 ends r bad = record {
     whole = leaves_whole o3 r.so_far (bad.printed ∙ r.reads.printed) (bad.logged ∙ r.reads.logged);
-    ends_at = subst (λ e. RunEndsAt e n (drop n (lines_of script))) (sym bad.is_end)
-        (subst (RunEndsAt (Err (stop.Bad (record { line = n + 1 }))) n) (sym r.so_far.read.later)
-        (refl, first_is_bad rest line r.comes.0 r.comes.1 bad.bad));
+    ends_at = subst (λ e. RunEndsAt e n (lines_of script)) (sym bad.is_end)
+        (refl, next_is_bad rest line r.so_far r.comes.0 r.comes.1 bad.bad);
   }
 
-pub ends_done : {heap : HeapState} {n : ℕ} {old o1 o2 : Outside} {script line : List ℕ} {left left2 : Option (List ℕ)}
-    → NextRead heap n old o1 o2 script left End line left2 → RanTo (Ok tt) [] script old o2
-ends_done {heap} {n} {old} {o1} {o2} {script} {line} {left} {left2} r = done_at heap n old o1 o2 script left left2 line r
+pub ends_done : {has_arena : Bool} {heap : HeapState} {n : ℕ} {old o1 o2 : Outside} {script line : List ℕ} {left left2 : Option (List ℕ)}
+    → NextRead has_arena heap n old o1 o2 script left End line left2 → RanTo (Ok tt) [] script old o2
+ends_done {has_arena} {heap} {n} {old} {o1} {o2} {script} {line} {left}
+    {left2} r = done_at has_arena heap n old o1 o2 script left left2 line r
 
-pub ends_too_long : {heap : HeapState} {n : ℕ} {old o1 o2 : Outside} {script line : List ℕ} {left left2 : Option (List ℕ)} {next : Next}
-    → NextRead heap n old o1 o2 script left next line left2 → (next ≡ End → ⊥) → n ≡ max_lines → RanTo (Err stop.TooLong) [] script old o2
-ends_too_long {heap} {n} {old} {o1} {o2} {script} {line} {left} {left2} {next} r not_end count =
-    too_many_at heap n old o1 o2 script left left2 line next r not_end count
+pub ends_too_long : {has_arena : Bool} {heap : HeapState} {n : ℕ} {old o1 o2 : Outside} {script line : List ℕ} {left left2 : Option
+    (List ℕ)} {next : Next}
+    → NextRead has_arena heap n old o1 o2 script left next line left2 → (next ≡ End → ⊥) → n ≡ max_lines
+    → RanTo (Err stop.TooLong) [] script old o2
+ends_too_long {has_arena} {heap} {n} {old} {o1} {o2} {script} {line} {left} {left2} {next} r not_end count =
+    too_many_at has_arena heap n old o1 o2 script left left2 line next r not_end count
 
-pub ends_long_line : {heap : HeapState} {n : ℕ} {old o1 o2 : Outside} {script line : List ℕ} {left left2 : Option (List ℕ)}
-    → NextRead heap n old o1 o2 script left TooLong line left2 → RanTo (Err (stop.Bad (record { line = n + 1 }))) [] script old o2
-ends_long_line {heap} {n} {old} {o1} {o2} {script} {line} {left} {left2} r = long_line_at heap n old o1 o2 script left left2 line r
+pub ends_long_line : {has_arena : Bool} {heap : HeapState} {n : ℕ} {old o1 o2 : Outside} {script line : List ℕ} {left left2 : Option
+    (List ℕ)}
+    → NextRead has_arena heap n old o1 o2 script left TooLong line left2 → RanTo (Err (stop.Bad (record { line = n + 1 }))) [] script old o2
+ends_long_line {has_arena} {heap} {n} {old} {o1} {o2} {script} {line} {left}
+    {left2} r = long_line_at has_arena heap n old o1 o2 script left left2 line r
 
-pub ends_bad_line : {heap : HeapState} {n : ℕ} {old o1 o2 o3 : Outside} {script line : List ℕ} {left left2 : Option
+pub ends_bad_line : {has_arena : Bool} {heap : HeapState} {n : ℕ} {old o1 o2 o3 : Outside} {script line : List ℕ} {left left2 : Option
     (List ℕ)} {ends : Ending}
-    → NextRead heap n old o1 o2 script left Line line left2 → IsBadHere line (n + 1) ends o2 o3 → RanTo ends [] script old o3
-ends_bad_line {heap} {n} {old} {o1} {o2} {o3} {script} {line} {left} {left2} {ends} r bad =
-    bad_line_at heap n old o1 o2 script left left2 line o3 ends r bad
+    → NextRead has_arena heap n old o1 o2 script left Line line left2 → IsBadHere has_arena line (n + 1) ends o2 o3
+    → RanTo ends [] script old o3
+ends_bad_line {has_arena} {heap} {n} {old} {o1} {o2} {o3} {script} {line} {left} {left2} {ends} r bad =
+    bad_line_at has_arena heap n old o1 o2 script left left2 line o3 ends r bad
 
 -- ---- what was printed in any case
 
-answered_at : (heap : HeapState) (n : ℕ) (old now new : Outside) (script : List ℕ) (left : Option (List ℕ))
-    → SoFar heap n old now (Some script) left → new.printed ≡ now.printed → Answered script old new
-answered_at heap n old now new script None f same = absurd f.read
-answered_at heap n old now new script (Some rest) f same = record {
+answered_at : (has_arena : Bool) (heap : HeapState) (n : ℕ) (old now new : Outside) (script : List ℕ) (left : Option (List ℕ))
+    → SoFar has_arena heap n old now (Some script) left → new.printed ≡ now.printed → Answered script old new
+answered_at has_arena heap n old now new script None f same = absurd f.read
+answered_at has_arena heap n old now new script (Some rest) f same = record {
   history = f.history;
   lines = n;
   run = has_run f;
@@ -282,22 +314,25 @@ answered_at heap n old now new script (Some rest) f same = record {
 }
 
 -- where nothing more was printed
-pub answered_so_far : {heap : HeapState} {n : ℕ} {old now : Outside} {known left : Option (List ℕ)} (script : List ℕ) (new : Outside)
-    → SoFar heap n old now known left → known ≡ Some script → new.printed ≡ now.printed → Answered script old new
-answered_so_far {heap} {n} {old} {now} {known} {left} script new f e same =
-    answered_at heap n old now new script left (subst (λ s. SoFar heap n old now s left) e f) same
+pub answered_so_far : {has_arena : Bool} {heap : HeapState} {n : ℕ} {old now : Outside} {known left : Option (List ℕ)}
+    (script : List ℕ) (new : Outside)
+    → SoFar has_arena heap n old now known left → known ≡ Some script → new.printed ≡ now.printed → Answered script old new
+answered_so_far {has_arena} {heap} {n} {old} {now} {known} {left} script new f e same =
+    answered_at has_arena heap n old now new script left (subst (λ s. SoFar has_arena heap n old now s left) e f) same
 
-whole_at : (heap : HeapState) (n : ℕ) (old now new : Outside) (script : List ℕ) (left : Option (List ℕ))
-    → SoFar heap n old now (Some script) left → new.printed ≡ now.printed → new.logged ≡ now.logged → LeavesWhole [] script old new
-whole_at heap n old now new script None f printed logged = absurd f.read
-whole_at heap n old now new script (Some rest) f printed logged = leaves_whole new f printed logged
+whole_at : (has_arena : Bool) (heap : HeapState) (n : ℕ) (old now new : Outside) (script : List ℕ) (left : Option (List ℕ))
+    → SoFar has_arena heap n old now (Some script) left → new.printed ≡ now.printed → new.logged ≡ now.logged
+    → LeavesWhole [] script old new
+whole_at has_arena heap n old now new script None f printed logged = absurd f.read
+whole_at has_arena heap n old now new script (Some rest) f printed logged = leaves_whole new f printed logged
 
 -- where nothing more was printed or logged
-pub whole_so_far : {heap : HeapState} {n : ℕ} {old now : Outside} {known left : Option (List ℕ)} (script : List ℕ) (new : Outside)
-    → SoFar heap n old now known left → known ≡ Some script → new.printed ≡ now.printed → new.logged ≡ now.logged
+pub whole_so_far : {has_arena : Bool} {heap : HeapState} {n : ℕ} {old now : Outside} {known left : Option (List ℕ)} (script : List ℕ)
+    (new : Outside)
+    → SoFar has_arena heap n old now known left → known ≡ Some script → new.printed ≡ now.printed → new.logged ≡ now.logged
     → LeavesWhole [] script old new
-whole_so_far {heap} {n} {old} {now} {known} {left} script new f e printed logged =
-    whole_at heap n old now new script left (subst (λ s. SoFar heap n old now s left) e f) printed logged
+whole_so_far {has_arena} {heap} {n} {old} {now} {known} {left} script new f e printed logged =
+    whole_at has_arena heap n old now new script left (subst (λ s. SoFar has_arena heap n old now s left) e f) printed logged
 
 -- before the first line
 pub answered_nothing : (script : List ℕ) (old new : Outside) → new.printed ≡ old.printed → Answered script old new

@@ -18,7 +18,7 @@ use Rattle.mps_first_heap.specs.StandsFor.{StandsFor, moves_of, step_of}
 use Rattle.mps_first_heap.specs.RightStep.{IsLegalCall, StandsAfter, IsReplayedCall, IsUnsupportedExactly, IsNewPoolNumber, ArePoolsCounted}
 use Rattle.mps_first_heap.specs.Built.{is_unsupported_call}
 use Rattle.mps_report.specs.declared.stop.Stop.TheVariants as stop
-use Rattle.mps_script.specs.Text.{text_of}
+use Rattle.mps_answers.specs.Text.{text_of}
 use Rattle.mps_cli.specs.Ending.{Ending, is_verdict}
 use Rattle.mps_cli.specs.Leaving.{IsBegun, Stops}
 use Rattle.mps_cli.specs.Records.{records_of_done}

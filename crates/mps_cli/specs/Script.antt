@@ -1,6 +1,6 @@
 -- The run of a script: its commands, each with its line, and what was printed and logged for them.
 use Rattle.std.specs.Prelude.{ℕ, ◌≡◌, ◌↔◌, ◌+◌, ◌<◌, IsTrue, Bool, true, false, Option, Some, None, Result, Ok, Err, List, [], ◌∷◌, ◌++◌, map, length, take, drop, codes, refl}
-use Rattle.std.specs.List.{flat_map, list_all}
+use Rattle.std.specs.List.{flat_map}
 use Rattle.mps_desk.specs.Desk.{Outside, HasRisen}
 use Rattle.mps_base.specs.Record.{records_bytes, header_bytes}
 use Rattle.mps_base.specs.Address.{last_u32}
@@ -19,6 +19,7 @@ use Rattle.mps_first_heap.specs.Built.{is_unsupported_call}
 use Rattle.mps_model.specs.Text.{line_of_answer}
 use Rattle.mps_script.specs.declared.line.BadLine.{BadLine}
 use Rattle.mps_script.specs.Line.{call_of_line, lines_of}
+use Rattle.mps_script.specs.Script.{is_good_after, is_grammatical}
 use Rattle.mps_report.specs.Streams.{appended}
 use Rattle.mps_report.specs.declared.stop.Stop.TheVariants as stop
 use Rattle.mps_report.specs.Reports.{status_of_ending, HasReportedEnding}
@@ -39,14 +40,6 @@ commands_of_call line (Err bad) = []
 abbrev pub commands_from : (line : ℕ) → List (List ℕ) → List ScriptCommand
 commands_from line [] = []
 commands_from line (l ∷ ls) = commands_of_call line (call_of_line l) ++ commands_from (line + 1) ls
-
--- the line is in the grammar
-abbrev pub is_grammatical : Result (Option Call) BadLine → Bool
-is_grammatical (Ok c) = true
-is_grammatical (Err bad) = false
-
-abbrev pub is_good : List ℕ → Bool
-is_good line = is_grammatical (call_of_line line)
 
 -- the commands that a history answers
 abbrev pub command_of_step : Step → ScriptCommand
@@ -72,17 +65,18 @@ AreUnsupportedWhereDue w (s ∷ ss) = IsStepUnsupportedWhereDue w s × AreUnsupp
 abbrev pub max_lines : ℕ
 max_lines = last_u32
 
--- where the run ends, after n lines and with these after them
-abbrev pub RunEndsAt : Ending → (lines : ℕ) → (later : List (List ℕ)) → Type 0
-RunEndsAt (Ok done) lines later = later ≡ []
-RunEndsAt (Err (stop.Bad bad)) lines later = (bad.line ≡ lines + 1) × (list_all is_good (take 1 later) ≡ false)
-RunEndsAt (Err stop.TooLong) lines later = (lines ≡ max_lines) × (0 < length later)
-RunEndsAt ending lines later = ⊥
+-- where the run of these lines ends, after n of them: at their end, at the first with which they are no script, or where they
+-- are too many
+abbrev pub RunEndsAt : Ending → (lines : ℕ) → (all : List (List ℕ)) → Type 0
+RunEndsAt (Ok done) lines all = drop lines all ≡ []
+RunEndsAt (Err (stop.Bad bad)) lines all = (bad.line ≡ lines + 1) × (is_grammatical (take (lines + 1) all) ≡ false)
+RunEndsAt (Err stop.TooLong) lines all = (lines ≡ max_lines) × (0 < length (drop lines all))
+RunEndsAt ending lines all = ⊥
 
 -- the lines up to some line were read and answered
 pub record HasRun (script : List ℕ) (lines : ℕ) (history : History) : Type 0 where
-  -- each of them is in the grammar
-  pub grammatical : list_all is_good (take lines (lines_of script)) ≡ true
+  -- they are a script
+  pub grammatical : is_grammatical (take lines (lines_of script)) ≡ true
   -- the history answers their commands, in order and each with its line
   pub commands : commands_of history ≡ commands_from 1 (take lines (lines_of script))
   -- it is a legal history of the model
@@ -110,9 +104,9 @@ pub record StepsRan (commands : List ScriptCommand) (before after : HeapState) (
   pub printed : new.printed ≡ appended old.printed (answers_of steps)
   pub input : new.input ≡ old.input
 
--- nothing was printed or logged, and the line is bad
-pub record IsBadHere (bytes : List ℕ) (line : ℕ) (ends : Ending) (old new : Outside) : Type 0 where
-  pub bad : is_good bytes ≡ false
+-- nothing was printed or logged, and the line is bad after lines with a call or without
+pub record IsBadHere (has_arena : Bool) (bytes : List ℕ) (line : ℕ) (ends : Ending) (old new : Outside) : Type 0 where
+  pub bad : is_good_after has_arena bytes ≡ false
   pub is_end : ends ≡ Err (stop.Bad (record { line = line }))
   pub printed : new.printed ≡ old.printed
   pub logged : new.logged ≡ old.logged
@@ -141,7 +135,7 @@ pub record LeavesWhole (header script : List ℕ) (old new : Outside) : Type 0 w
 -- the lines of a script were run to their end, or to the line at which the run ended
 pub record RanTo (ends : Ending) (header script : List ℕ) (old new : Outside) : Type 0 where
   pub whole : LeavesWhole header script old new
-  pub ends_at : RunEndsAt ends whole.lines (drop whole.lines (lines_of script))
+  pub ends_at : RunEndsAt ends whole.lines (lines_of script)
 
 -- what was to be logged was logged, and the answer was printed
 pub record LogsAndPrints (records answer : List ℕ) (old new : Outside) : Type 0 where

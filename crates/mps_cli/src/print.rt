@@ -1,12 +1,12 @@
 // The answer of a command.
 ghost use Rattle.std.specs.Prelude.{◌≤◌, OnOk, OnErr};
 ghost use Rattle.mps_report.specs.Streams.{Prints, PrintsPart};
-ghost use Rattle.mps_script.specs.Text.{text_of};
+ghost use Rattle.mps_answers.specs.Text.{text_of};
 
+use mps_answers::{MAX_ANSWER_BYTES, put_text};
 use mps_desk::{Desk, Failed};
 use mps_model::Reply;
 use mps_report::print_all;
-use mps_script::{MAX_ANSWER_BYTES, put_text};
 
 /// Prints the answer line of a reply, as one piece.
 pub fn print<D: Desk>(desk: &mut D, reply: &Reply) -> Result<(), Failed>

@@ -9,14 +9,15 @@ ghost use Rattle.mps_log_reader.specs.Opening.{OpensNothing};
 ghost use Rattle.mps_report.specs.Causes.{CauseOf};
 ghost use Rattle.mps_report.specs.declared.stop.Stop.TheVariants as stop;
 ghost use Rattle.mps_script.specs.Line.{call_of_line};
-ghost use Rattle.mps_script.specs.Text.{text_of};
+ghost use Rattle.mps_script.specs.Script.{is_good_after, has_arena_after};
+ghost use Rattle.mps_answers.specs.Text.{text_of};
 ghost use Rattle.mps_cli.specs.Buffer.{ComesNextOf, rest_of_script};
 ghost use Rattle.mps_cli.specs.Ending.{HasCause, CountsGrow, IsFault, RunsOn, is_fault as has_failed_side, is_verdict};
 ghost use Rattle.mps_cli.specs.Leaving.{IsUnbegun, Leaves, LeavesRun, Stops};
 ghost use Rattle.mps_cli.specs.LogFile.{LogsInto, IsInFile};
 ghost use Rattle.mps_cli.specs.Records.{records_of_done};
 ghost use Rattle.mps_cli.specs.Run.{RunsScript};
-ghost use Rattle.mps_cli.specs.Script.{StepsRan, RanTo, Answered, IsBadHere, LogsThenPrints, NoFaultRose, is_good, commands_of_call, log_header as header_of_log};
+ghost use Rattle.mps_cli.specs.Script.{StepsRan, RanTo, Answered, IsBadHere, LogsThenPrints, NoFaultRose, commands_of_call, log_header as header_of_log};
 ghost use Rattle.mps_report.specs.Streams.{LogTakes};
 
 use crate::bad_script_line::BadScriptLine;
@@ -28,7 +29,7 @@ use mps_desk::Desk;
 use mps_first_heap::{Done, FirstHeap};
 use mps_model::Call;
 use mps_report::{Stop, report_ending};
-use mps_script::call_of;
+use mps_script::next_call;
 use std::alloc::Global;
 
 /// Runs the script of a name, writes the log of a name, and reports how the run ended. Returns the status of the process.
@@ -199,6 +200,7 @@ fn run_lines<D: Desk>(
         → Answered script (D.outside desk.old) (D.outside desk.new) }
 {
     let mut heap = FirstHeap::new(alloc);
+    let mut has_arena = false;
     let mut line: u32 = 0;
     loop {
         let next = match next_line(desk, lines) {
@@ -217,25 +219,28 @@ fn run_lines<D: Desk>(
             return Err(Stop::TooLong);
         }
         line += 1;
-        match run_line(alloc, desk, &mut heap, lines.line(), line) {
+        match run_line(alloc, desk, &mut heap, &mut has_arena, lines.line(), line) {
             Ok(()) => {}
             Err(stop) => return Err(stop),
         }
     }
 }
 
-/// Runs one line.
+/// Runs one line. `has_arena` says whether the script has its arena, which is made by its first command.
 fn run_line<D: Desk>(
     alloc: Global,
     desk: &mut D,
     heap: &mut FirstHeap,
+    has_arena: &mut bool,
     bytes: &[u8],
     line: u32,
 ) -> Result<(), Stop<BadScriptLine>>
     ensures steps { OnOk result (StepsRan (commands_of_call line (call_of_line bytes.now)) heap.old heap.new
         (D.outside desk.old) (D.outside desk.new)) }
-    ensures good { OnOk result (is_good bytes.now ≡ true) }
-    ensures bad { is_verdict result ≡ true → OnErr result (IsBadHere bytes.now line result (D.outside desk.old) (D.outside desk.new)) }
+    ensures good { OnOk result (is_good_after has_arena.old bytes.now ≡ true) }
+    ensures arena { OnOk result (has_arena.new ≡ has_arena_after has_arena.old (call_of_line bytes.now)) }
+    ensures bad { is_verdict result ≡ true → OnErr result (IsBadHere has_arena.old bytes.now line result
+        (D.outside desk.old) (D.outside desk.new)) }
     ensures stops { IfErr result (λ why. Stops why (commands_of_call line (call_of_line bytes.now)) heap.old
         (D.outside desk.old) (D.outside desk.new)) }
     ensures records_first { OnErr result (result ≢ Err stop.WriteFailed → (D.outside desk.new).printed ≡ (D.outside desk.old).printed) }
@@ -243,9 +248,12 @@ fn run_line<D: Desk>(
     ensures takes { LogTakes (D.outside desk.old) (D.outside desk.new) }
     ensures runs { RunsOn (D.outside desk.old) (D.outside desk.new) }
 {
-    match call_of(bytes) {
+    match next_call(*has_arena, bytes) {
         Ok(None) => Ok(()),
-        Ok(Some(call)) => run_call(alloc, desk, heap, &call, line),
+        Ok(Some(call)) => {
+            *has_arena = true;
+            run_call(alloc, desk, heap, &call, line)
+        }
         Err(_) => Err(Stop::Bad(BadScriptLine { line })),
     }
 }

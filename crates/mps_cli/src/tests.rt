@@ -44,10 +44,15 @@ const FULL_ARENA: &[u8] =
 const FULL_ARENA_ANSWERS: &[u8] =
     b"ok\nok\nok\nok\nrefused 4\nok\nok\nrefused 10 1 1 1\nunsupported\n";
 
-/// Commands that come too early, again, and before they are built.
-const OUT_OF_TURN: &[u8] = b"table t 4\n arena  8   9 \narena 8 8\nlive\n";
+/// A command that isn't built.
+const NOT_BUILT: &[u8] = b"# x\n arena  8   9 \nlive\n";
 
-const OUT_OF_TURN_ANSWERS: &[u8] = b"unsupported\nok\nunsupported\nunsupported\n";
+const NOT_BUILT_ANSWERS: &[u8] = b"ok\nunsupported\n";
+
+/// A command before the arena, and the arena again.
+const NO_ARENA_FIRST: &[u8] = b"\ntable t 4\narena 8 9\n";
+
+const ARENA_AGAIN: &[u8] = b"arena 8 9\n\narena 8 9\nlive\n";
 
 /// The header of a log.
 const HEADER: &[u8] = b"MPSLOG\x01\x00";

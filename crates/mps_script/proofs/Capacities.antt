@@ -4,7 +4,7 @@ use Rattle.std.specs.Prelude.{option_map}
 use Rattle.std.proofs.lemmas.Grind.{common_steps}
 use Rattle.std.proofs.lemmas.Bool.Decides.{nat_tests}
 use Rattle.std.proofs.lemmas.List.{take_more_set, drop-set-lt, drop-drop, drop-replicate, append-nil, append_assoc, take-append-drop}
-use Rattle.mps_script.specs.Reading.{both, each}
+use Rattle.mps_words.specs.Reading.{both, each}
 use Rattle.mps_script.specs.Form.{grains_from, capacities, padded}
 
 -- what the readings of a word and of the words after it give
@@ -35,7 +35,8 @@ none_read all = record {
   room = refl;
 }
 
-moved_on : (front : List ℕ) (n : ℕ) (ns : Option (List ℕ)) → after_numbers front (with_first (Some n) ns) ≡ after_numbers (front ++ n ∷ []) ns
+moved_on : (front : List ℕ) (n : ℕ) (ns : Option (List ℕ))
+    → after_numbers front (with_first (Some n) ns) ≡ after_numbers (front ++ n ∷ []) ns
 moved_on front n None = refl
 moved_on front n (Some ns) = ap Some (sym (append_assoc front (n ∷ []) ns))
 
@@ -55,7 +56,8 @@ pub one_more_read : (all after : List (List ℕ)) (word : List ℕ) (numbers : L
 one_more_read all after word numbers count n before value less =
     let fits : count < length numbers = omega (arith, before.room) in
     record {
-      read = before.read ∙ ap (λ (first : Option ℕ). after_numbers (take count numbers) (with_first first (each (grains_from 0) after))) value
+      read = before.read ∙ ap (λ (first : Option ℕ). after_numbers (take count numbers) (with_first first (each
+          (grains_from 0) after))) value
           ∙ moved_on (take count numbers) n (each (grains_from 0) after)
           ∙ ap (λ (front : List ℕ). after_numbers front (each (grains_from 0) after)) (sym (take_more_set numbers count n fits));
       words = omega (arith, before.words);

@@ -1,3 +1,3 @@
-pub mod FirstWord
-pub mod Heads
 pub mod Capacities
+pub mod FirstLetters
+pub mod Scripts

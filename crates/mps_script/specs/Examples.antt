@@ -8,7 +8,7 @@ use Rattle.mps_base.specs.declared.names.Slot.{Slot}
 use Rattle.mps_base.specs.declared.names.Rank.TheVariants.{Exact, Weak}
 use Rattle.mps_model.specs.declared.call.Call.{Call}
 use Rattle.mps_model.specs.declared.call.Call.TheVariants as call
-use Rattle.mps_script.specs.Word.{words}
+use Rattle.mps_words.specs.Word.{words}
 use Rattle.mps_script.specs.Form.{command_call}
 
 -- the call of a line's words, where they are in the form of a command
@@ -66,14 +66,16 @@ no_chains :
 no_chains = refl
 
 pools :
-    calls (codes "pool a amc front" ∷ codes "pool a amcz mapped" ∷ codes "pool a ams leaf" ∷ codes "pool a awl front" ∷ codes "pool a lo leaf"
+    calls (codes "pool a amc front" ∷ codes "pool a amcz mapped" ∷ codes "pool a ams leaf" ∷ codes "pool a awl front"
+    ∷ codes "pool a lo leaf"
     ∷ codes "pool a amc leaf c" ∷ codes "pool a amcz front c" ∷ codes "pool a mfs 0" ∷ codes "pool a mvff" ∷ [])
     ≡ Some (call.Pool a Amc 1) ∷ Some (call.Pool a Amcz 2) ∷ Some (call.Pool a Ams 3) ∷ Some (call.Pool a Awl 1) ∷ Some (call.Pool a Lo 3)
     ∷ Some (call.PoolOnChain a Amc 3 c) ∷ Some (call.PoolOnChain a Amcz 1 c) ∷ Some (call.PoolMfs a 0) ∷ Some (call.PoolMvff a) ∷ []
 pools = refl
 
 no_pools :
-    are_wrong (codes "pool" ∷ codes "pool a" ∷ codes "pool a amc" ∷ codes "pool A amc front" ∷ codes "pool a mvt front" ∷ codes "pool a amc back"
+    are_wrong (codes "pool" ∷ codes "pool a" ∷ codes "pool a amc" ∷ codes "pool A amc front" ∷ codes "pool a mvt front"
+    ∷ codes "pool a amc back"
     ∷ codes "pool a amc front 1" ∷ codes "pool a ams front c" ∷ codes "pool a amc front c d" ∷ codes "pool a mfs" ∷ codes "pool a mfs x"
     ∷ codes "pool a mfs 1 2" ∷ codes "pool a mvff 1" ∷ codes "pool 1 mvff" ∷ [])
     ≡ true
@@ -103,26 +105,30 @@ no_points_and_no_dependencies :
 no_points_and_no_dependencies = refl
 
 allocation :
-    calls (codes "reserve a f:3:1" ∷ codes "reserve a l:1" ∷ codes "init a 1 7" ∷ codes "init a 1 0xff" ∷ codes "init a 0 t.9" ∷ codes "commit a t.0" ∷ [])
+    calls (codes "reserve a f:3:1" ∷ codes "reserve a l:1" ∷ codes "init a 1 7" ∷ codes "init a 1 0xff" ∷ codes "init a 0 t.9"
+    ∷ codes "commit a t.0" ∷ [])
     ≡ Some (call.Reserve a 0x100000301) ∷ Some (call.Reserve a 0) ∷ Some (call.InitNumber a 1 7) ∷ Some (call.InitNumber a 1 255)
     ∷ Some (call.InitReference a 0 (t 9)) ∷ Some (call.Commit a (t 0)) ∷ []
 allocation = refl
 
 no_allocation :
-    are_wrong (codes "reserve" ∷ codes "reserve a" ∷ codes "reserve 1 l:2" ∷ codes "reserve a 2" ∷ codes "reserve a l:2 3" ∷ codes "init a 1"
+    are_wrong (codes "reserve" ∷ codes "reserve a" ∷ codes "reserve 1 l:2" ∷ codes "reserve a 2" ∷ codes "reserve a l:2 3"
+    ∷ codes "init a 1"
     ∷ codes "init 1 1 7" ∷ codes "init a 0x1 7" ∷ codes "init a 01 7" ∷ codes "init a 1 x" ∷ codes "init a 1 7 8" ∷ codes "commit a"
     ∷ codes "commit 1 t.0" ∷ codes "commit a t" ∷ codes "commit a t.0 1" ∷ [])
     ≡ true
 no_allocation = refl
 
 manual_blocks :
-    calls (codes "alloc a 18446744073709551615 t.0" ∷ codes "free t.0" ∷ codes "load t.0 1" ∷ codes "store t.0 1 2" ∷ codes "store t.0 1 0x2" ∷ [])
+    calls (codes "alloc a 18446744073709551615 t.0" ∷ codes "free t.0" ∷ codes "load t.0 1" ∷ codes "store t.0 1 2"
+    ∷ codes "store t.0 1 0x2" ∷ [])
     ≡ Some (call.Alloc a 18446744073709551615 (t 0)) ∷ Some (call.Free (t 0)) ∷ Some (call.Load (t 0) 1) ∷ Some (call.Store (t 0) 1 2)
     ∷ Some (call.Store (t 0) 1 2) ∷ []
 manual_blocks = refl
 
 no_manual_blocks :
-    are_wrong (codes "alloc a 1" ∷ codes "alloc 1 1 t.0" ∷ codes "alloc a 18446744073709551616 t.0" ∷ codes "alloc a 1 t" ∷ codes "alloc a 1 t.0 1"
+    are_wrong (codes "alloc a 1" ∷ codes "alloc 1 1 t.0" ∷ codes "alloc a 18446744073709551616 t.0" ∷ codes "alloc a 1 t"
+    ∷ codes "alloc a 1 t.0 1"
     ∷ codes "free" ∷ codes "free t" ∷ codes "free t.0 1" ∷ codes "load t.0" ∷ codes "load t 1" ∷ codes "load t.0 x" ∷ codes "load t.0 1 2"
     ∷ codes "store t.0 1" ∷ codes "store t 1 2" ∷ codes "store t.0 x 2" ∷ codes "store t.0 1 t.0" ∷ codes "store t.0 1 2 3" ∷ [])
     ≡ true
@@ -135,7 +141,8 @@ cells :
 cells = refl
 
 no_cells :
-    are_wrong (codes "get t.0 t.1" ∷ codes "get t t.1 2" ∷ codes "get t.0 t 2" ∷ codes "get t.0 t.1 x" ∷ codes "get t.0 t.1 2 3" ∷ codes "put t.0 2"
+    are_wrong (codes "get t.0 t.1" ∷ codes "get t t.1 2" ∷ codes "get t.0 t 2" ∷ codes "get t.0 t.1 x" ∷ codes "get t.0 t.1 2 3"
+    ∷ codes "put t.0 2"
     ∷ codes "put t 2 t.1" ∷ codes "put t.0 x t.1" ∷ codes "put t.0 2 t" ∷ codes "put t.0 2 t.1 3" ∷ codes "num t.0" ∷ codes "num t 2"
     ∷ codes "num t.0 02" ∷ codes "num t.0 2 3" ∷ codes "setnum t.0 2" ∷ codes "setnum t 2 3" ∷ codes "setnum t.0 x 3"
     ∷ codes "setnum t.0 2 t.1" ∷ codes "setnum t.0 2 3 4" ∷ [])
@@ -144,25 +151,30 @@ no_cells = refl
 
 slots :
     calls (codes "copy t.0 t.1" ∷ codes "clear t.0" ∷ codes "same t.0 t.1" ∷ codes "null t.0" ∷ codes "head t.0" ∷ codes "addr t.0" ∷ [])
-    ≡ Some (call.Copy (t 0) (t 1)) ∷ Some (call.Clear (t 0)) ∷ Some (call.Same (t 0) (t 1)) ∷ Some (call.Null (t 0)) ∷ Some (call.Head (t 0))
+    ≡ Some (call.Copy (t 0) (t 1)) ∷ Some (call.Clear (t 0)) ∷ Some (call.Same (t 0) (t 1)) ∷ Some (call.Null (t 0))
+    ∷ Some (call.Head (t 0))
     ∷ Some (call.Address (t 0)) ∷ []
 slots = refl
 
 no_slots :
     are_wrong (codes "copy t.0" ∷ codes "copy t t.1" ∷ codes "copy t.0 t" ∷ codes "copy t.0 t.1 1" ∷ codes "clear" ∷ codes "clear t"
-    ∷ codes "clear t.0 1" ∷ codes "same t.0" ∷ codes "same t t.1" ∷ codes "same t.0 t" ∷ codes "same t.0 t.1 1" ∷ codes "null" ∷ codes "null t"
+    ∷ codes "clear t.0 1" ∷ codes "same t.0" ∷ codes "same t t.1" ∷ codes "same t.0 t" ∷ codes "same t.0 t.1 1" ∷ codes "null"
+    ∷ codes "null t"
     ∷ codes "null t.0 1" ∷ codes "head" ∷ codes "head t" ∷ codes "head t.0 1" ∷ codes "addr" ∷ codes "addr t" ∷ codes "addr t.0 1" ∷ [])
     ≡ true
 no_slots = refl
 
 areas :
     calls (codes "poke t.0 1" ∷ codes "poke t.0 0x1" ∷ codes "peek t.0" ∷ codes "pin t.0 t.1" ∷ codes "take t.0 t.1" ∷ [])
-    ≡ Some (call.Poke (t 0) 1) ∷ Some (call.Poke (t 0) 1) ∷ Some (call.Peek (t 0)) ∷ Some (call.Pin (t 0) (t 1)) ∷ Some (call.Take (t 0) (t 1)) ∷ []
+    ≡ Some (call.Poke (t 0) 1) ∷ Some (call.Poke (t 0) 1) ∷ Some (call.Peek (t 0)) ∷ Some (call.Pin (t 0) (t 1))
+    ∷ Some (call.Take (t 0) (t 1)) ∷ []
 areas = refl
 
 no_areas :
-    are_wrong (codes "poke t.0" ∷ codes "poke t 1" ∷ codes "poke t.0 t.1" ∷ codes "poke t.0 1 2" ∷ codes "peek" ∷ codes "peek t" ∷ codes "peek t.0 1"
-    ∷ codes "pin t.0" ∷ codes "pin t t.1" ∷ codes "pin t.0 t" ∷ codes "pin t.0 t.1 1" ∷ codes "take t.0" ∷ codes "take t t.1" ∷ codes "take t.0 t"
+    are_wrong (codes "poke t.0" ∷ codes "poke t 1" ∷ codes "poke t.0 t.1" ∷ codes "poke t.0 1 2" ∷ codes "peek" ∷ codes "peek t"
+    ∷ codes "peek t.0 1"
+    ∷ codes "pin t.0" ∷ codes "pin t t.1" ∷ codes "pin t.0 t" ∷ codes "pin t.0 t.1 1" ∷ codes "take t.0" ∷ codes "take t t.1"
+    ∷ codes "take t.0 t"
     ∷ codes "take t.0 t.1 1" ∷ [])
     ≡ true
 no_areas = refl
@@ -170,7 +182,8 @@ no_areas = refl
 collections :
     calls (codes "start" ∷ codes "start c 18446744073709551615" ∷ codes "step 18446744073709551615" ∷ codes "collect" ∷ codes "clamp"
     ∷ codes "park" ∷ codes "release" ∷ [])
-    ≡ Some call.Start ∷ Some (call.StartChain c 18446744073709551615) ∷ Some (call.Step 18446744073709551615) ∷ Some call.Collect ∷ Some call.Clamp
+    ≡ Some call.Start ∷ Some (call.StartChain c 18446744073709551615) ∷ Some (call.Step 18446744073709551615) ∷ Some call.Collect
+    ∷ Some call.Clamp
     ∷ Some call.Park ∷ Some call.Release ∷ []
 collections = refl
 
@@ -186,7 +199,8 @@ finalization :
 finalization = refl
 
 no_finalization :
-    are_wrong (codes "finalize" ∷ codes "finalize t" ∷ codes "finalize t.0 1" ∷ codes "definalize" ∷ codes "definalize t" ∷ codes "definalize t.0 1"
+    are_wrong (codes "finalize" ∷ codes "finalize t" ∷ codes "finalize t.0 1" ∷ codes "definalize" ∷ codes "definalize t"
+    ∷ codes "definalize t.0 1"
     ∷ codes "message" ∷ codes "message t" ∷ codes "message t.0 1" ∷ [])
     ≡ true
 no_finalization = refl

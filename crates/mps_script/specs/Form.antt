@@ -3,6 +3,7 @@
 -- form are read by `name_of`, `slot_of`, `head_of`, `decimal_number` and `number_of`.
 use Rattle.std.specs.Prelude.{ℕ, ◌-◌, nat_le, ◌&&◌, if◌then◌else◌, codes, Option, Some, None, option_map, List, [], ◌∷◌, ◌++◌, length, replicate}
 use Rattle.std.specs.Str.{bytes_eq}
+use Rattle.mps_base.specs.Address.{max_grains}
 use Rattle.mps_base.specs.declared.names.Kind.{Kind}
 use Rattle.mps_base.specs.declared.names.Kind.TheVariants as kind
 use Rattle.mps_base.specs.declared.names.Rank.{Rank}
@@ -10,11 +11,11 @@ use Rattle.mps_base.specs.declared.names.Rank.TheVariants as rank
 use Rattle.mps_model.specs.declared.call.Call.{Call}
 use Rattle.mps_model.specs.declared.call.Call.TheVariants as call
 use Rattle.mps_numerals.specs.Decimal.{decimal_number}
-use Rattle.mps_script.specs.Reading.{first_of_two, named_in, onto, each, none, one, two, three, four, or}
-use Rattle.mps_script.specs.Number.{number_of, number_within, prefixed_hexadecimal}
-use Rattle.mps_script.specs.Name.{name_of, slot_of}
-use Rattle.mps_script.specs.Head.{head_of}
-use Rattle.mps_base.specs.Address.{max_grains}
+use Rattle.mps_words.specs.Reading.{named_in, onto, each}
+use Rattle.mps_words.specs.Number.{number_of, number_within, prefixed_hexadecimal}
+use Rattle.mps_words.specs.Name.{name_of, slot_of}
+use Rattle.mps_words.specs.Head.{head_of}
+use Rattle.mps_script.specs.Calls.{none, one, two, three, four, or}
 
 -- ---- words of few values
 
@@ -91,91 +92,96 @@ init = or (three name_of decimal_number number_of call.InitNumber) (three name_o
 abbrev pub start : List (List ℕ) → Option Call
 start = or (none call.Start) (two name_of decimal_number call.StartChain)
 
--- ---- the forms
+-- ---- the forms, in the order of the alphabet
 
 -- a command word, and the call of the words after it
 abbrev pub Form : Type 0
 Form = List ℕ × (List (List ℕ) → Option Call)
 
-abbrev pub making_forms : List Form
-making_forms =
-    (codes "arena", two (grains_from 1) (grains_from 0) call.Arena)
-    ∷ (codes "limit", one (grains_from 0) call.Limit)
-    ∷ (codes "committed", none call.Committed)
-    ∷ (codes "chain", chain)
-    ∷ (codes "pool", pool)
-    ∷ []
-
-abbrev pub root_forms : List Form
-root_forms =
-    (codes "table", two name_of length_of_root call.Table)
-    ∷ (codes "area", two name_of length_of_root call.Area)
-    ∷ (codes "blocks", two name_of length_of_root call.Blocks)
-    ∷ (codes "droproot", one name_of call.DropRoot)
-    ∷ (codes "ap", three name_of name_of (named_in ranks) call.Point)
-    ∷ (codes "dropap", one name_of call.DropPoint)
-    ∷ (codes "ld", one name_of call.Dependency)
-    ∷ []
-
-abbrev pub allocation_forms : List Form
-allocation_forms =
-    (codes "reserve", two name_of head_of call.Reserve)
-    ∷ (codes "init", init)
-    ∷ (codes "commit", two name_of slot_of call.Commit)
+abbrev pub a_to_b_forms : List Form
+a_to_b_forms =
+    (codes "addr", one slot_of call.Address)
     ∷ (codes "alloc", three name_of decimal_number slot_of call.Alloc)
-    ∷ (codes "free", one slot_of call.Free)
-    ∷ (codes "load", two slot_of decimal_number call.Load)
-    ∷ (codes "store", three slot_of decimal_number number_of call.Store)
+    ∷ (codes "ap", three name_of name_of (named_in ranks) call.Point)
+    ∷ (codes "area", two name_of length_of_root call.Area)
+    ∷ (codes "arena", two (grains_from 1) (grains_from 0) call.Arena)
+    ∷ (codes "blocks", two name_of length_of_root call.Blocks)
     ∷ []
 
-abbrev pub cell_forms : List Form
-cell_forms =
-    (codes "get", three slot_of slot_of decimal_number call.Get)
-    ∷ (codes "put", three slot_of decimal_number slot_of call.Put)
-    ∷ (codes "num", two slot_of decimal_number call.Number)
-    ∷ (codes "setnum", three slot_of decimal_number number_of call.SetNumber)
-    ∷ []
-
-abbrev pub slot_forms : List Form
-slot_forms =
-    (codes "copy", two slot_of slot_of call.Copy)
+abbrev pub c_forms : List Form
+c_forms =
+    (codes "chain", chain)
+    ∷ (codes "clamp", none call.Clamp)
     ∷ (codes "clear", one slot_of call.Clear)
-    ∷ (codes "same", two slot_of slot_of call.Same)
-    ∷ (codes "null", one slot_of call.Null)
-    ∷ (codes "head", one slot_of call.Head)
-    ∷ (codes "addr", one slot_of call.Address)
+    ∷ (codes "collect", none call.Collect)
+    ∷ (codes "commit", two name_of slot_of call.Commit)
+    ∷ (codes "committed", none call.Committed)
+    ∷ (codes "copy", two slot_of slot_of call.Copy)
     ∷ []
 
-abbrev pub area_forms : List Form
-area_forms =
-    (codes "poke", two slot_of number_of call.Poke)
+abbrev pub d_to_f_forms : List Form
+d_to_f_forms =
+    (codes "definalize", one slot_of call.Definalize)
+    ∷ (codes "dropap", one name_of call.DropPoint)
+    ∷ (codes "droproot", one name_of call.DropRoot)
+    ∷ (codes "dump", one prefixed_hexadecimal call.Dump)
+    ∷ (codes "finalize", one slot_of call.Finalize)
+    ∷ (codes "free", one slot_of call.Free)
+    ∷ []
+
+abbrev pub g_to_k_forms : List Form
+g_to_k_forms =
+    (codes "get", three slot_of slot_of decimal_number call.Get)
+    ∷ (codes "head", one slot_of call.Head)
+    ∷ (codes "init", init)
+    ∷ []
+
+abbrev pub l_forms : List Form
+l_forms =
+    (codes "ld", one name_of call.Dependency)
+    ∷ (codes "ldadd", two name_of slot_of call.DependencyAdd)
+    ∷ (codes "ldmerge", two name_of name_of call.DependencyMerge)
+    ∷ (codes "ldreset", one name_of call.DependencyReset)
+    ∷ (codes "ldstale", one name_of call.DependencyStale)
+    ∷ (codes "limit", one (grains_from 0) call.Limit)
+    ∷ (codes "live", none call.Live)
+    ∷ (codes "load", two slot_of decimal_number call.Load)
+    ∷ []
+
+abbrev pub m_to_o_forms : List Form
+m_to_o_forms =
+    (codes "message", one slot_of call.Message)
+    ∷ (codes "null", one slot_of call.Null)
+    ∷ (codes "num", two slot_of decimal_number call.Number)
+    ∷ []
+
+abbrev pub p_to_r_forms : List Form
+p_to_r_forms =
+    (codes "park", none call.Park)
     ∷ (codes "peek", one slot_of call.Peek)
     ∷ (codes "pin", two slot_of slot_of call.Pin)
+    ∷ (codes "poke", two slot_of number_of call.Poke)
+    ∷ (codes "pool", pool)
+    ∷ (codes "put", three slot_of decimal_number slot_of call.Put)
+    ∷ (codes "release", none call.Release)
+    ∷ (codes "reserve", two name_of head_of call.Reserve)
+    ∷ []
+
+abbrev pub s_to_z_forms : List Form
+s_to_z_forms =
+    (codes "same", two slot_of slot_of call.Same)
+    ∷ (codes "setnum", three slot_of decimal_number number_of call.SetNumber)
+    ∷ (codes "start", start)
+    ∷ (codes "step", one decimal_number call.Step)
+    ∷ (codes "store", three slot_of decimal_number number_of call.Store)
+    ∷ (codes "table", two name_of length_of_root call.Table)
     ∷ (codes "take", two slot_of slot_of call.Take)
     ∷ []
 
-abbrev pub collection_forms : List Form
-collection_forms =
-    (codes "start", start)
-    ∷ (codes "step", one decimal_number call.Step)
-    ∷ (codes "collect", none call.Collect)
-    ∷ (codes "clamp", none call.Clamp)
-    ∷ (codes "park", none call.Park)
-    ∷ (codes "release", none call.Release)
-    ∷ (codes "finalize", one slot_of call.Finalize)
-    ∷ (codes "definalize", one slot_of call.Definalize)
-    ∷ (codes "message", one slot_of call.Message)
-    ∷ []
-
-abbrev pub dependency_forms : List Form
-dependency_forms =
-    (codes "ldreset", one name_of call.DependencyReset)
-    ∷ (codes "ldadd", two name_of slot_of call.DependencyAdd)
-    ∷ (codes "ldmerge", two name_of name_of call.DependencyMerge)
-    ∷ (codes "ldstale", one name_of call.DependencyStale)
-    ∷ (codes "live", none call.Live)
-    ∷ (codes "dump", one prefixed_hexadecimal call.Dump)
-    ∷ []
+-- all of them
+abbrev pub forms : List Form
+forms =
+    a_to_b_forms ++ (c_forms ++ (d_to_f_forms ++ (g_to_k_forms ++ (l_forms ++ (m_to_o_forms ++ (p_to_r_forms ++ s_to_z_forms))))))
 
 -- ---- the call of a line
 
@@ -186,12 +192,4 @@ call_in (form ∷ forms) word ws = if bytes_eq word form.0 then form.1 ws else c
 
 -- the call of a command word and the words after it, by all forms
 abbrev pub command_call : List ℕ → List (List ℕ) → Option Call
-command_call word ws =
-    first_of_two (call_in cell_forms word ws)
-    (first_of_two (call_in allocation_forms word ws)
-    (first_of_two (call_in slot_forms word ws)
-    (first_of_two (call_in area_forms word ws)
-    (first_of_two (call_in collection_forms word ws)
-    (first_of_two (call_in dependency_forms word ws)
-    (first_of_two (call_in root_forms word ws)
-    (call_in making_forms word ws)))))))
+command_call word ws = call_in forms word ws

@@ -1,9 +1,5 @@
-pub mod Word
-pub mod Reading
-pub mod Number
-pub mod Name
-pub mod Head
+pub mod Calls
 pub mod Form
 pub mod Examples
 pub mod Line
-pub mod Text
+pub mod Script

@@ -3,7 +3,7 @@ use Rattle.std.specs.Prelude.{ℕ, ◌≡◌, ◌==◌, nat_lt, Bool, false, if�
 use Rattle.std.specs.List.{slice_split}
 use Rattle.mps_model.specs.declared.call.Call.{Call}
 use Rattle.mps_script.specs.declared.line.BadLine.{BadLine}
-use Rattle.mps_script.specs.Word.{words}
+use Rattle.mps_words.specs.Word.{words}
 use Rattle.mps_script.specs.Form.{command_call}
 
 -- the byte ends a line

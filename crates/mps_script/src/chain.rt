@@ -1,13 +1,11 @@
 // The form of the command that makes a chain.
 ghost use Rattle.std.specs.Prelude.{◌≡◌, length, option_map};
-ghost use Rattle.mps_script.specs.Word.{words};
+ghost use Rattle.mps_words.specs.Word.{words};
 ghost use Rattle.mps_script.specs.Form.{chain, capacities, padded};
 
-use crate::making::MAX_GRAINS;
-use crate::names::name_of;
-use crate::number::number_within;
-use crate::words::next_word;
+use crate::grains::MAX_GRAINS;
 use mps_model::Call;
+use mps_words::{name_of, next_word, number_within};
 
 /// The most generations of a chain.
 const MAX_GENERATIONS: usize = 8;

@@ -1,22 +1,18 @@
-//! The script language: the call of a line, and the answer line of a reply.
+//! The script language: the call of a line, and which lines are a script.
 #![tactic(auto)]
 
-mod allocation;
-mod arguments;
+mod a_to_k;
 mod chain;
-mod collecting;
-mod forms;
-mod head;
+mod commands;
+mod grains;
+mod l_to_z;
 mod laws;
 mod line;
-mod making;
-mod names;
-mod number;
-mod objects;
+mod pools;
 mod roots;
-mod text;
-mod words;
+mod script;
+mod several;
 
-pub use laws::answers_are_read_back;
+pub use laws::a_script_grows_line_by_line;
 pub use line::{BadLine, MAX_LINE_BYTES, call_of};
-pub use text::{MAX_ANSWER_BYTES, put_text};
+pub use script::next_call;

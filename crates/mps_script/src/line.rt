@@ -2,9 +2,9 @@
 ghost use Rattle.std.specs.Prelude.{◌≡◌};
 ghost use Rattle.mps_script.specs.Line.{begins_comment, call_of_line};
 
-use crate::forms::command_call;
-use crate::words::next_word;
+use crate::commands::command_call;
 use mps_model::Call;
+use mps_words::next_word;
 
 /// The line is in the form of no command, or has more than 4096 bytes.
 #[derive(Clone, Copy, Debug, PartialEq, Eq)]

@@ -1,7 +1,7 @@
 // Scripts on standard input.
 use super::{
-    COMMENTS, Ends, FIRST, FIRST_ANSWERS, FIRST_LOG, FULL_ARENA, FULL_ARENA_ANSWERS, HEADER,
-    OUT_OF_TURN, OUT_OF_TURN_ANSWERS, compare, run,
+    ARENA_AGAIN, COMMENTS, Ends, FIRST, FIRST_ANSWERS, FIRST_LOG, FULL_ARENA, FULL_ARENA_ANSWERS,
+    HEADER, NO_ARENA_FIRST, NOT_BUILT, NOT_BUILT_ANSWERS, compare, run,
 };
 use mps_desk::{DeskCall, MemDesk};
 use std::alloc::{AllocError, Global};
@@ -65,7 +65,7 @@ fn compare_log(rt: &impl Abort, desk: &MemDesk, case: &ScriptCase) {
 
 /// Whole and in pieces of 1 and of 7 bytes, the first script has its answers, and its log byte for byte. Then scripts that
 /// have no command, an arena that is full, and commands out of turn.
-const SCRIPTS: [ScriptCase; 7] = [
+const SCRIPTS: [ScriptCase; 9] = [
     ScriptCase {
         script: FIRST,
         most: 0,
@@ -139,13 +139,37 @@ const SCRIPTS: [ScriptCase; 7] = [
         log_bytes: 136,
     },
     ScriptCase {
-        script: OUT_OF_TURN,
+        script: NOT_BUILT,
         most: 0,
         failing: None,
         ends: Ends {
             status: 0,
-            printed: OUT_OF_TURN_ANSWERS,
+            printed: NOT_BUILT_ANSWERS,
             reported: b"",
+        },
+        log: HEADER,
+        log_bytes: 32,
+    },
+    ScriptCase {
+        script: NO_ARENA_FIRST,
+        most: 0,
+        failing: None,
+        ends: Ends {
+            status: 6,
+            printed: b"",
+            reported: b"mps: script line 2: bad line\n",
+        },
+        log: HEADER,
+        log_bytes: 8,
+    },
+    ScriptCase {
+        script: ARENA_AGAIN,
+        most: 0,
+        failing: None,
+        ends: Ends {
+            status: 6,
+            printed: b"ok\n",
+            reported: b"mps: script line 3: bad line\n",
         },
         log: HEADER,
         log_bytes: 32,

@@ -1,6 +1,6 @@
 use Rattle.std.proofs.Common.{refl}
 use Rattle.mps_base.specs.Record.{records_bytes}
-use Rattle.mps_script.specs.Text.{text_of}
+use Rattle.mps_answers.specs.Text.{text_of}
 use Rattle.mps_cli.specs.Records.{records_of_done}
 use Rattle.mps_report.proofs.Logging.{takes_self}
 use Rattle.mps_cli.proofs.Steps.{IsDone, steps_of, stops_of, no_verdict_of, records_first_of}

@@ -2,7 +2,8 @@ use Rattle.std.proofs.Common.{◌≡◌, ◌+◌, true, Err, [], ◌∙◌, subs
 use Rattle.mps_script.specs.Line.{call_of_line}
 use Rattle.mps_cli.specs.Buffer.{ComesNextOf, rest_of_script}
 use Rattle.mps_cli.specs.Leaving.{Stops}
-use Rattle.mps_cli.specs.Script.{IsBadHere, StepsRan, commands_of_call, is_good}
+use Rattle.mps_script.specs.Script.{has_arena_after, is_good_after}
+use Rattle.mps_cli.specs.Script.{IsBadHere, StepsRan, commands_of_call}
 use Rattle.mps_cli.proofs.SoFar.{SoFar, next_read, at_start, answered_so_far, whole_so_far, one_line_more, ends_done, ends_long_line, ends_too_long, ends_bad_line, runs_on_self, runs_on_then, runs_on_line}
 use Rattle.mps_report.proofs.Logging.{takes_self, takes_then, takes_nothing, takes_after_reading}
 use Rattle.mps_cli.proofs.Leaving.{leaves_line, leaves_faulted, no_verdict_of_fault}
@@ -44,7 +45,8 @@ returns-in-Err-run_line-clause-ran g c whole script e =
     (next_read c.next_line.new.lines.line (rest_of_script c.next_line.new.lines (g.D.Desk.outside c.next_line.new.desk).input)
     c.loop-next.invariant.so_far e
     c.in-Ok.ensures.others c.in-Ok.ensures.next c.in-Line.is)
-    (subst (λ bytes. IsBadHere bytes (c.loop-next.line + 1) (Err c.in-Err-run_line.stop) (g.D.Desk.outside c.next_line.new.desk)
+    (subst (λ bytes. IsBadHere c.loop-next.has_arena bytes (c.loop-next.line + 1) (Err c.in-Err-run_line.stop)
+    (g.D.Desk.outside c.next_line.new.desk)
     (g.D.Desk.outside c.run_line.new.desk)) c.line.ensures (c.in-Err-run_line.ensures.bad whole))
 
 pub loop-next-preserved : goal.loop-next-preserved
@@ -57,12 +59,15 @@ loop-next-preserved g c =
     record {
       runs = runs_on_line old before read ran i.runs c.in-Ok.ensures.counted c.in-Ok.ensures.others c.run_line.ensures.runs;
       takes = takes_after_reading old before read ran i.takes c.in-Ok.ensures.others c.run_line.ensures.takes;
-      so_far = subst (λ left. SoFar c.run_line.new.heap (c.loop-next.line + 1) old ran (rest_of_script c.args.lines.now old.input) left)
+      so_far = subst (λ left. SoFar c.run_line.new.has_arena c.run_line.new.heap (c.loop-next.line + 1) old ran
+          (rest_of_script c.args.lines.now old.input) left)
           (sym (ap (rest_of_script c.next_line.new.lines) c.in-Ok-run_line.ensures.steps.input))
           (one_line_more (rest_of_script c.next_line.new.lines read.input) c.next_line.new.lines.line i.so_far c.in-Ok.ensures.others
           (subst (λ n. ComesNextOf n (rest_of_script c.loop-next.lines before.input) c.next_line.new.lines.line
           (rest_of_script c.next_line.new.lines read.input)) c.in-Line.is c.in-Ok.ensures.next)
-          (subst (λ bytes. is_good bytes ≡ true) c.line.ensures c.in-Ok-run_line.ensures.good)
+          (subst (λ bytes. is_good_after c.loop-next.has_arena bytes ≡ true) c.line.ensures c.in-Ok-run_line.ensures.good)
+          (subst (λ bytes. c.run_line.new.has_arena ≡ has_arena_after c.loop-next.has_arena (call_of_line bytes)) c.line.ensures
+          c.in-Ok-run_line.ensures.arena)
           (subst (λ bytes. StepsRan (commands_of_call (c.loop-next.line + 1)
           (call_of_line bytes)) c.loop-next.heap c.run_line.new.heap read ran)
           c.line.ensures c.in-Ok-run_line.ensures.steps));

@@ -9,7 +9,7 @@ abbrev pub invariant-loop-next : goal.invariant-loop-next
 invariant-loop-next g l = record {
   runs : RunsOn (g.D.Desk.outside l.initial.desk) (g.D.Desk.outside l.desk);
   takes : LogTakes (g.D.Desk.outside l.initial.desk) (g.D.Desk.outside l.desk);
-  so_far : SoFar l.heap l.line (g.D.Desk.outside l.initial.desk) (g.D.Desk.outside l.desk)
+  so_far : SoFar l.has_arena l.heap l.line (g.D.Desk.outside l.initial.desk) (g.D.Desk.outside l.desk)
       (rest_of_script l.initial.lines (g.D.Desk.outside l.initial.desk).input) (rest_of_script l.lines (g.D.Desk.outside l.desk).input);
 }
 

@@ -1,0 +1,73 @@
+// Words of one command alone, and the commands that have several forms.
+ghost use Rattle.std.specs.Prelude.{◌≡◌};
+ghost use Rattle.mps_words.specs.Word.{words};
+ghost use Rattle.mps_words.specs.Name.{name_of as name_in};
+ghost use Rattle.mps_words.specs.Number.{prefixed_hexadecimal as hexadecimal_of};
+ghost use Rattle.mps_words.specs.Head.{head_of as head_in};
+ghost use Rattle.mps_words.specs.Reading.{single, pair};
+ghost use Rattle.mps_script.specs.Calls.{none};
+ghost use Rattle.mps_script.specs.Form.{init, start};
+
+use mps_base::Name;
+use mps_model::Call;
+use mps_numerals::decimal_number;
+use mps_words::{
+    head_of, name_decimal, name_of, next_word, only_word, prefixed_hexadecimal, slot, value,
+};
+
+/// The call where no word is left.
+pub fn alone(arguments: &[u8], call: Call) -> Option<Call>
+    ensures { result ≡ none call (words arguments.now) }
+{
+    match next_word(arguments) {
+        None => Some(call),
+        Some(_) => None,
+    }
+}
+
+/// A number in hexadecimal.
+pub fn hexadecimal(arguments: &[u8]) -> Option<u64>
+    ensures { result ≡ single hexadecimal_of (words arguments.now) }
+{
+    prefixed_hexadecimal(only_word(arguments)?)
+}
+
+/// A name and a head.
+pub fn name_head(arguments: &[u8]) -> Option<(Name, u64)>
+    ensures { result ≡ pair name_in head_in (words arguments.now) }
+{
+    let (word, rest) = next_word(arguments)?;
+    Some((name_of(word)?, head_of(only_word(rest)?)?))
+}
+
+/// `init X K VALUE` or `init X K SLOT`.
+pub fn init(arguments: &[u8]) -> Option<Call>
+    ensures { result ≡ init (words arguments.now) }
+{
+    let (first, rest) = next_word(arguments)?;
+    let point = name_of(first)?;
+    let (second, rest) = next_word(rest)?;
+    let cell = decimal_number(second)?;
+    match value(rest) {
+        Some(value) => Some(Call::InitNumber { point, cell, value }),
+        None => {
+            let source = slot(rest)?;
+            Some(Call::InitReference {
+                point,
+                cell,
+                source,
+            })
+        }
+    }
+}
+
+/// `start` or `start C I`.
+pub fn start(arguments: &[u8]) -> Option<Call>
+    ensures { result ≡ start (words arguments.now) }
+{
+    if let Some(call) = alone(arguments, Call::Start) {
+        return Some(call);
+    }
+    let (chain, generation) = name_decimal(arguments)?;
+    Some(Call::StartChain { chain, generation })
+}

@@ -1,0 +1,5 @@
+pub mod Word
+pub mod Reading
+pub mod Number
+pub mod Name
+pub mod Head

@@ -1,0 +1,35 @@
+-- Names and slots as words.
+use Rattle.std.specs.Prelude.{ℕ, ◌≡◌, if◌then◌else◌, codes, Option, Some, None, option_and_then, List, ◌++◌, length, drop, replicate, refl}
+use Rattle.mps_base.specs.Name.{is_name, max_name_bytes}
+use Rattle.mps_base.specs.declared.names.Name.{Name}
+use Rattle.mps_base.specs.declared.names.Slot.{Slot}
+use Rattle.mps_words.specs.Word.{cut_at}
+use Rattle.mps_numerals.specs.Decimal.{decimal_number}
+
+-- the name that a word writes
+abbrev pub name_of : List ℕ → Option Name
+name_of word =
+    if is_name word then Some (record { len = length word; bytes = word ++ drop (length word) (replicate max_name_bytes 0) }) else None
+
+-- the slot that a word writes: a name, a dot and a decimal number
+abbrev pub slot_of : List ℕ → Option Slot
+slot_of word =
+    option_and_then (λ p.
+    option_and_then (λ n. option_and_then (λ i. Some (record { name = n; index = i })) (decimal_number p.1))
+    (name_of p.0))
+    (cut_at 46 word)
+
+pub a_name : name_of (codes "t_1") ≡ Some (record { len = 3; bytes = codes "t_1" ++ replicate 13 0 })
+a_name = refl
+
+pub a_digit_is_not_first : name_of (codes "1t") ≡ None
+a_digit_is_not_first = refl
+
+pub a_slot_needs_its_number : slot_of (codes "t.") ≡ None
+a_slot_needs_its_number = refl
+
+pub a_slot_has_one_dot : slot_of (codes "t.1.2") ≡ None
+a_slot_has_one_dot = refl
+
+pub a_slot_needs_its_dot : slot_of (codes "t") ≡ None
+a_slot_needs_its_dot = refl

@@ -1,0 +1,137 @@
+// Words that follow one another, each in its form.
+ghost use Rattle.std.specs.Prelude.{◌≡◌};
+ghost use Rattle.mps_numerals.specs.Decimal.{decimal_number as decimal_of};
+ghost use Rattle.mps_words.specs.Word.{words};
+ghost use Rattle.mps_words.specs.Reading.{single, pair, onto};
+ghost use Rattle.mps_words.specs.Number.{number_of};
+ghost use Rattle.mps_words.specs.Name.{name_of, slot_of};
+
+use crate::names::{name_of, slot_of};
+use crate::number::number_of;
+use crate::words::{next_word, only_word};
+use mps_base::{Name, Slot};
+use mps_numerals::decimal_number;
+
+/// A name.
+pub fn name(arguments: &[u8]) -> Option<Name>
+    ensures { result ≡ single name_of (words arguments.now) }
+{
+    name_of(only_word(arguments)?)
+}
+
+/// A slot.
+pub fn slot(arguments: &[u8]) -> Option<Slot>
+    ensures { result ≡ single slot_of (words arguments.now) }
+{
+    slot_of(only_word(arguments)?)
+}
+
+/// A decimal number.
+pub fn decimal(arguments: &[u8]) -> Option<u64>
+    ensures { result ≡ single decimal_of (words arguments.now) }
+{
+    decimal_number(only_word(arguments)?)
+}
+
+/// A number in either form.
+pub fn value(arguments: &[u8]) -> Option<u64>
+    ensures { result ≡ single number_of (words arguments.now) }
+{
+    number_of(only_word(arguments)?)
+}
+
+/// Two names.
+pub fn name_name(arguments: &[u8]) -> Option<(Name, Name)>
+    ensures { result ≡ pair name_of name_of (words arguments.now) }
+{
+    let (word, rest) = next_word(arguments)?;
+    Some((name_of(word)?, name(rest)?))
+}
+
+/// A name and a slot.
+pub fn name_slot(arguments: &[u8]) -> Option<(Name, Slot)>
+    ensures { result ≡ pair name_of slot_of (words arguments.now) }
+{
+    let (word, rest) = next_word(arguments)?;
+    Some((name_of(word)?, slot(rest)?))
+}
+
+/// A name and a decimal number.
+pub fn name_decimal(arguments: &[u8]) -> Option<(Name, u64)>
+    ensures { result ≡ pair name_of decimal_of (words arguments.now) }
+{
+    let (word, rest) = next_word(arguments)?;
+    Some((name_of(word)?, decimal(rest)?))
+}
+
+/// Two slots.
+pub fn slot_slot(arguments: &[u8]) -> Option<(Slot, Slot)>
+    ensures { result ≡ pair slot_of slot_of (words arguments.now) }
+{
+    let (word, rest) = next_word(arguments)?;
+    Some((slot_of(word)?, slot(rest)?))
+}
+
+/// A slot and a decimal number.
+pub fn slot_decimal(arguments: &[u8]) -> Option<(Slot, u64)>
+    ensures { result ≡ pair slot_of decimal_of (words arguments.now) }
+{
+    let (word, rest) = next_word(arguments)?;
+    Some((slot_of(word)?, decimal(rest)?))
+}
+
+/// A slot and a number in either form.
+pub fn slot_value(arguments: &[u8]) -> Option<(Slot, u64)>
+    ensures { result ≡ pair slot_of number_of (words arguments.now) }
+{
+    let (word, rest) = next_word(arguments)?;
+    Some((slot_of(word)?, value(rest)?))
+}
+
+/// A decimal number and a slot.
+pub fn decimal_slot(arguments: &[u8]) -> Option<(u64, Slot)>
+    ensures { result ≡ pair decimal_of slot_of (words arguments.now) }
+{
+    let (word, rest) = next_word(arguments)?;
+    Some((decimal_number(word)?, slot(rest)?))
+}
+
+/// A decimal number, and a number in either form.
+pub fn decimal_value(arguments: &[u8]) -> Option<(u64, u64)>
+    ensures { result ≡ pair decimal_of number_of (words arguments.now) }
+{
+    let (word, rest) = next_word(arguments)?;
+    Some((decimal_number(word)?, value(rest)?))
+}
+
+/// A name, a decimal number and a slot.
+pub fn name_decimal_slot(arguments: &[u8]) -> Option<(Name, (u64, Slot))>
+    ensures { result ≡ onto name_of (pair decimal_of slot_of) (words arguments.now) }
+{
+    let (word, rest) = next_word(arguments)?;
+    Some((name_of(word)?, decimal_slot(rest)?))
+}
+
+/// A slot, a decimal number, and a number in either form.
+pub fn slot_decimal_value(arguments: &[u8]) -> Option<(Slot, (u64, u64))>
+    ensures { result ≡ onto slot_of (pair decimal_of number_of) (words arguments.now) }
+{
+    let (word, rest) = next_word(arguments)?;
+    Some((slot_of(word)?, decimal_value(rest)?))
+}
+
+/// A slot, a decimal number and a slot.
+pub fn slot_decimal_slot(arguments: &[u8]) -> Option<(Slot, (u64, Slot))>
+    ensures { result ≡ onto slot_of (pair decimal_of slot_of) (words arguments.now) }
+{
+    let (word, rest) = next_word(arguments)?;
+    Some((slot_of(word)?, decimal_slot(rest)?))
+}
+
+/// Two slots and a decimal number.
+pub fn slot_slot_decimal(arguments: &[u8]) -> Option<(Slot, (Slot, u64))>
+    ensures { result ≡ onto slot_of (pair slot_of decimal_of) (words arguments.now) }
+{
+    let (word, rest) = next_word(arguments)?;
+    Some((slot_of(word)?, slot_decimal(rest)?))
+}

@@ -1,0 +1,18 @@
+//! The words of a line of a script, and what they write: names, slots, numbers and heads.
+#![tactic(auto)]
+
+mod arguments;
+mod head;
+mod names;
+mod number;
+mod words;
+
+pub use arguments::{
+    decimal, decimal_slot, decimal_value, name, name_decimal, name_decimal_slot, name_name,
+    name_slot, slot, slot_decimal, slot_decimal_slot, slot_decimal_value, slot_slot,
+    slot_slot_decimal, slot_value, value,
+};
+pub use head::head_of;
+pub use names::{name_of, slot_of};
+pub use number::{number_of, number_within, prefixed_hexadecimal};
+pub use words::{next_word, only_word};

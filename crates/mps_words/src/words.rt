@@ -1,0 +1,57 @@
+// The words of a line, one after another.
+ghost use Rattle.std.specs.Prelude.{◌≡◌, ◌==◌, ◌∷◌, ◌<◌, ◌≤◌, [], length, not, position, IfSome, Some, None, MatchOption};
+ghost use Rattle.std.specs.List.{position_or_len};
+ghost use Rattle.mps_words.specs.Word.{words, is_space, cut_at, only_word};
+
+use mps_base::length_before;
+
+/// The index of the first byte of a word, where there is one.
+fn start_of_word(bytes: &[u8]) -> Option<usize>
+    ensures index { result ≡ position (λ byte. not (is_space byte)) bytes.now }
+    ensures in_bounds { IfSome result (λ index. index < length bytes.now) }
+{
+    bytes.iter().position(|byte| *byte != b' ')
+}
+
+/// How many spaces stand before the first word.
+fn length_of_spaces(bytes: &[u8]) -> usize
+    ensures length { result ≡ position_or_len (λ byte. not (is_space byte)) bytes.now }
+    ensures at_most { result ≤ length bytes.now }
+{
+    start_of_word(bytes).unwrap_or(bytes.len())
+}
+
+/// What stands before and after the first such byte, where there is one.
+pub fn cut(byte: u8, word: &[u8]) -> Option<(&[u8], &[u8])>
+    ensures { MatchOption result (cut_at byte word.now ≡ None) (λ p. cut_at byte word.now ≡ Some (p.0.now, p.1.now)) }
+{
+    let at = length_before(byte, word);
+    if at == word.len() {
+        return None;
+    }
+    Some((&word[..at], &word[at + 1..]))
+}
+
+/// The first word, and what stands after it; none where there are spaces alone.
+pub fn next_word(bytes: &[u8]) -> Option<(&[u8], &[u8])>
+    ensures { MatchOption result (words bytes.now ≡ []) (λ p. words bytes.now ≡ p.0.now ∷ words p.1.now) }
+{
+    let start = length_of_spaces(bytes);
+    if start == bytes.len() {
+        return None;
+    }
+    let line = &bytes[start..];
+    let end = length_before(b' ', line);
+    Some((&line[..end], &line[end..]))
+}
+
+/// The one word, where there is one and no other.
+pub fn only_word(bytes: &[u8]) -> Option<&[u8]>
+    ensures { MatchOption result (only_word (words bytes.now) ≡ None) (λ word. only_word (words bytes.now) ≡ Some word.now) }
+{
+    let (word, rest) = next_word(bytes)?;
+    match next_word(rest) {
+        None => Some(word),
+        Some(_) => None,
+    }
+}
