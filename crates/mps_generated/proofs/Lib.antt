@@ -1,0 +1,3 @@
+pub mod Separated
+pub mod Lines
+pub mod Generated
