@@ -3,7 +3,7 @@
 
 ghost use Rattle.std.specs.Prelude.{◌≡◌, ◌+◌, ◌*◌, ◌/◌, ◌%◌, ◌<◌, ◌≤◌, length, IfOk, IfErr, OnOk, Contains, slice_index, slice_set, slice_range, MatchResult};
 ghost use Rattle.mps_base.specs.Run.{total, with_run, without_run};
-ghost use Rattle.mps_base.specs.Address.{bytes_of_word, bytes_of_grain, grain_of, word_of, max_grains};
+ghost use Rattle.mps_base.specs.Address.{bytes_of_word, bytes_of_grain, grain_of, word_of, words_of_grain, max_grains};
 ghost use Rattle.mps_arena.specs.Arena.{ArenaMemory, new_arena, placement_in, answer_of_placement, held_after, cleared_words, copied_words};
 ghost use Rattle.std.specs.Borrow.{sem};
 ghost use Rattle.mps_arena.specs.Lending.{LendsArenaWords};
@@ -105,6 +105,15 @@ impl Arena {
         ensures { result ≡ total self.now.held }
     {
         self.committed
+    }
+
+    /// How many grains the arena has: its grains are those from 1 up to this one, and its words those of these grains and of grain 0.
+    pub fn grains(&self) -> u32
+        ensures value { result ≡ self.now.grains }
+        ensures at_most { self.now.grains ≤ max_grains }
+        ensures size { length self.now.words ≡ words_of_grain * (self.now.grains + 1) }
+    {
+        self.runs.len() as u32 - 1
     }
 
     /// All words, by their address divided by 8.

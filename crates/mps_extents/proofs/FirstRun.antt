@@ -1,10 +1,10 @@
 -- The first run that begins from a number on.
-use Rattle.std.proofs.Common.{ℕ, zero, suc, ◌+◌, ◌<◌, ◌≡◌, Bool, true, false, List, [], ◌∷◌, get_or, set, refl, sym, ap, ◌∙◌, inl, inr, arith, ◌≤◌, ◌⊎◌, leb, ltb, ◌&&◌, Some, None, ◌-◌}
+use Rattle.std.proofs.Common.{rules, Option, IfSome, IfNone, ℕ, zero, suc, ◌+◌, ◌<◌, ◌≡◌, Bool, true, false, List, [], ◌∷◌, get_or, set, refl, sym, ap, ◌∙◌, inl, inr, arith, ◌≤◌, ◌⊎◌, leb, ltb, ◌&&◌, Some, None, ◌-◌}
 use Rattle.std.proofs.lemmas.Bool.{true≢false, false≢true, cases_lt, cases_Bool, cond-true, cond-false, le-leb, lt-ltb, lt-leb, le-ltb, ltb-true, and_parts, and_from, and_left, and_right}
-use Rattle.mps_base.specs.Run.{Run}
+use Rattle.mps_base.specs.Run.{Run, end_of, IsAscending, runs_within}
 use Rattle.mps_bits.proofs.Searches.{found, missing, lowest_cases}
 use Rattle.mps_bits.specs.Table.{bit, next_set_below}
-use Rattle.mps_extents.specs.Extents.{first_run}
+use Rattle.mps_extents.specs.Extents.{first_run, IsFirstWithin}
 use Rattle.mps_extents.specs.Inside.{runs_with, length_at, extents}
 use Rattle.mps_extents.proofs.WrittenBits.{bit_is}
 
@@ -91,3 +91,105 @@ first_block_is ends blocks low high =
           is_none ∙ sym (no_first_bit (length_at ends) 0 blocks low high
           (λ j from under. sym (bit_is blocks j) ∙ none j (omega arith) (omega arith)))
     ]
+
+-- the runs but the first of those that begin within bounds begin after it
+module _ (low high : ℕ) (r : Run) (rs : List Run) where
+  runs_within_here : low ≤ r.from → r.from < high → runs_within low high (r ∷ rs) ≡ r ∷ runs_within low high rs
+  runs_within_here above below =
+      cond-true (leb low r.from && ltb r.from high) (r ∷ runs_within low high rs) (runs_within low high rs)
+      (and_from (leb low r.from) (ltb r.from high) (le-leb low r.from above) (lt-ltb r.from high below))
+
+  runs_within_later : (r.from < low) ⊎ (high ≤ r.from) → runs_within low high (r ∷ rs) ≡ runs_within low high rs
+  runs_within_later (inl below) =
+      cond-false (leb low r.from && ltb r.from high) (r ∷ runs_within low high rs) (runs_within low high rs)
+      (and_left (leb low r.from) (ltb r.from high) (lt-leb low r.from below))
+  runs_within_later (inr above) =
+      cond-false (leb low r.from && ltb r.from high) (r ∷ runs_within low high rs) (runs_within low high rs)
+      (and_right (leb low r.from) (ltb r.from high) (le-ltb r.from high above))
+
+-- where all runs begin from a number on, it is no bound that a lower one isn't
+runs_within_from : (low low' high a b : ℕ) (rs : List Run) → IsAscending a b rs → low ≤ a → low' ≤ a
+    → runs_within low high rs ≡ runs_within low' high rs
+runs_within_from low low' high a b [] ascending above above' = refl
+runs_within_from low low' high a b (r ∷ rs) ascending above above' =
+    let rest =
+    runs_within_from low low' high (end_of r) b rs ascending.2 (omega (arith, ascending.0)) (omega (arith, ascending.0))
+    in
+    elim (cases_lt r.from high) [
+      | inl below ↦
+          runs_within_here low high r rs (omega (arith, ascending.0)) below ∙ ap (λ (xs : List Run). r ∷ xs) rest
+          ∙ sym (runs_within_here low' high r rs (omega (arith, ascending.0)) below)
+      | inr past ↦ runs_within_later low high r rs (inr past) ∙ rest ∙ sym (runs_within_later low' high r rs (inr past))
+    ]
+
+abbrev pub IfFirst : (low high : ℕ) → List Run → Option ℕ → Type 0
+IfFirst low high rs o = IfSome o (λ at. IsFirstWithin low high rs at)
+
+abbrev pub IfNoneWithin : (low high : ℕ) → List Run → Option ℕ → Type 0
+IfNoneWithin low high rs o = IfNone o (runs_within low high rs ≡ [])
+
+first_within_at : (a b low high : ℕ) (rs : List Run) (at : ℕ) → IsAscending a b rs → first_run low high rs ≡ Some at
+    → IsFirstWithin low high rs at
+first_within_at a b low high [] at ascending is = let never : None ≡ Some at = is in cc
+first_within_at a b low high (r ∷ rs) at ascending is =
+    let later = λ (out : (r.from < low) ⊎ (high ≤ r.from)).
+    let f : IsFirstWithin low high rs at =
+    first_within_at (end_of r) b low high rs at ascending.2 (sym (first_run_later low high r rs out) ∙ is)
+    in
+    let past : (r.from < at + 1) ⊎ (high ≤ r.from) = side out f.above in
+    let here : IsFirstWithin low high (r ∷ rs) at = record {
+      above = f.above;
+      below = f.below;
+      run = f.run;
+      begins = f.begins;
+      rest =
+          runs_within_later low high r rs out ∙ f.rest
+          ∙ ap (λ (xs : List Run). f.run ∷ xs) (sym (runs_within_later (at + 1) high r rs past));
+    } in here
+    in
+    elim (cases_lt r.from low) [
+      | inl before ↦ later (inl before)
+      | inr from ↦ elim (cases_lt r.from high) [
+        | inr past ↦ later (inr past)
+        | inl under ↦
+            let both : Some r.from ≡ Some at = sym (first_run_here low high r rs from under) ∙ is in
+            let same : r.from ≡ at = cc in
+            record {
+              above = omega arith;
+              below = omega arith;
+              run = r;
+              begins = same;
+              rest =
+                  runs_within_here low high r rs from under
+                  ∙ ap (λ (xs : List Run). r ∷ xs)
+                  (runs_within_from low (at + 1) high (end_of r) b rs ascending.2 (omega arith) (omega (arith, same, ascending.1))
+                  ∙ sym (runs_within_later (at + 1) high r rs (inl (omega (arith, same)))));
+            }
+      ]
+    ]
+  where
+    side : {low high from at : ℕ} → (from < low) ⊎ (high ≤ from) → low ≤ at → (from < at + 1) ⊎ (high ≤ from)
+    side (inl below) above = inl (omega arith)
+    side (inr past) above = inr past
+
+pub first_within : (a b low high : ℕ) (rs : List Run) (o : Option ℕ) → IsAscending a b rs → o ≡ first_run low high rs
+    → IfFirst low high rs o
+first_within a b low high rs None ascending is = search rules
+first_within a b low high rs (Some at) ascending is = first_within_at a b low high rs at ascending (sym is)
+
+none_at : (low high : ℕ) (rs : List Run) → first_run low high rs ≡ None → runs_within low high rs ≡ []
+none_at low high [] is = refl
+none_at low high (r ∷ rs) is =
+    elim (cases_Bool (leb low r.from && ltb r.from high)) [
+      | inl here ↦
+          let both : Some r.from ≡ None =
+          sym (cond-true (leb low r.from && ltb r.from high) (Some r.from) (first_run low high rs) here) ∙ is
+          in cc
+      | inr out ↦
+          cond-false (leb low r.from && ltb r.from high) (r ∷ runs_within low high rs) (runs_within low high rs) out
+          ∙ none_at low high rs (sym (cond-false (leb low r.from && ltb r.from high) (Some r.from) (first_run low high rs) out) ∙ is)
+    ]
+
+pub none_within : (low high : ℕ) (rs : List Run) (o : Option ℕ) → o ≡ first_run low high rs → IfNoneWithin low high rs o
+none_within low high rs None is = none_at low high rs (sym is)
+none_within low high rs (Some at) is = search rules

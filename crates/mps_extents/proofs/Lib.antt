@@ -9,4 +9,5 @@ pub mod NewTables
 pub mod PutExtent
 pub mod RunOver
 pub mod TakenExtent
+pub mod Tally
 pub mod WrittenBits

@@ -27,10 +27,10 @@ module _
     (covered begins ends blocks : List Bool) (r : Run) (sound : AreSoundTables covered begins ends blocks)
     (reserved : IsReservation begins ends blocks r)
   where
-    abbrev committed' : List Bool
+    abbrev pub committed' : List Bool
     committed' = set blocks r.from true
 
-    commit_lists :
+    pub commit_lists :
         lists_of begins ends committed'
         ≡ record (lists_of begins ends blocks) {
           blocks = with_run r (extents blocks ends);
@@ -57,7 +57,7 @@ module _
         ap (λ (rs : List Run). lists (length begins) (extents begins ends) rs (extents (minus begins committed') ends)) put
         ∙ ap (λ (rs : List Run). lists (length begins) (extents begins ends) (with_run r (extents blocks ends)) rs) gone
 
-    commit_is_sound : AreSoundTables covered begins ends committed'
+    pub commit_is_sound : AreSoundTables covered begins ends committed'
     commit_is_sound =
         let b = begin_of begins ends r reserved.there in
         record {

@@ -1,6 +1,6 @@
 -- The words that blocks and reservations cover, as runs of words in ascending order.
-use Rattle.std.specs.Prelude.{ℕ, ◌≤◌, ◌<◌, ◌≡◌, ◌&&◌, Bool, true, false, nat_le, nat_lt, if◌then◌else◌, Option, Some, None, List, [], ◌∷◌, refl}
-use Rattle.mps_base.specs.Run.{Run, end_of}
+use Rattle.std.specs.Prelude.{ℕ, ◌+◌, ◌≤◌, ◌<◌, ◌≡◌, ◌&&◌, Bool, true, false, nat_le, nat_lt, if◌then◌else◌, Option, Some, None, List, [], ◌∷◌, refl}
+use Rattle.mps_base.specs.Run.{Run, end_of, runs_within}
 
 -- which of n words are covered, by blocks and by reservations
 pub record ExtentLists : Type 0 where
@@ -31,6 +31,14 @@ run_over (r ∷ rs) word = if has_word r word then Some r.from else run_over rs 
 abbrev pub first_run : ℕ → ℕ → List Run → Option ℕ
 first_run low high [] = None
 first_run low high (r ∷ rs) = if nat_le low r.from && nat_lt r.from high then Some r.from else first_run low high rs
+
+-- one of the runs begins at a number, and the others that begin from `low` on and below `high` begin after it
+pub record IsFirstWithin (low high : ℕ) (runs : List Run) (at : ℕ) : Type 0 where
+  pub above : low ≤ at
+  pub below : at < high
+  pub run : Run
+  pub begins : run.from ≡ at
+  pub rest : runs_within low high runs ≡ run ∷ runs_within (at + 1) high runs
 
 -- no run has words on both sides of one of the two bounds
 abbrev pub AreWhole : ℕ → ℕ → List Run → Type 0

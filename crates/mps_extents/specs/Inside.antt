@@ -1,7 +1,7 @@
 -- How tables of bits represent extents.
 use Rattle.std.specs.Prelude.{ℕ, suc, ◌+◌, ◌-◌, ◌<◌, ◌^◌, ◌≡◌, Bool, true, false, not, ◌&&◌, Option, Some, None, List, [], ◌∷◌, length, map}
 use Rattle.std.specs.List.{range_with_len}
-use Rattle.mps_base.specs.Run.{Run, IsAscending}
+use Rattle.mps_base.specs.Run.{Run, IsAscending, total}
 use Rattle.mps_bits.specs.Table.{bit, next_set}
 use Rattle.mps_extents.specs.Extents.{ExtentLists, is_covered}
 
@@ -45,3 +45,8 @@ pub record AreSoundTables (covered begins ends blocks : List Bool) : Type 0 wher
   pub covered_is : (word : ℕ) → bit covered word ≡ is_covered (extents begins ends) word
   pub ends_inside : (word : ℕ) → bit ends word ≡ true → bit covered word ≡ true
   pub blocks_begin : (word : ℕ) → bit blocks word ≡ true → bit begins word ≡ true
+
+-- how many blocks there are, and how many words they have together
+pub record IsTally (blocks : List Run) (count words : ℕ) : Type 0 where
+  pub counted : count ≡ length blocks
+  pub summed : words ≡ total blocks

@@ -1,9 +1,9 @@
 // Which words are covered, as tables of bits.
 #![tactic(auto)]
 
-ghost use Rattle.std.specs.Prelude.{◌≡◌, ℕ, ◌+◌, ◌^◌, ◌<◌, ◌≤◌, IfOk, IfSome, Contains};
-ghost use Rattle.mps_base.specs.Run.{IsAscending, with_run, without_run, gaps, lowest_fitting, runs_within};
-ghost use Rattle.mps_extents.specs.Extents.{ExtentLists, nothing_covered, run_over, first_run, AreWhole};
+ghost use Rattle.std.specs.Prelude.{◌≡◌, ℕ, ◌+◌, ◌^◌, ◌<◌, ◌≤◌, [], length, IfOk, IfSome, IfNone, Contains};
+ghost use Rattle.mps_base.specs.Run.{IsAscending, with_run, without_run, gaps, lowest_fitting, runs_within, total};
+ghost use Rattle.mps_extents.specs.Extents.{ExtentLists, nothing_covered, run_over, first_run, IsFirstWithin, AreWhole};
 
 use mps_bits::Bits;
 use std::alloc::{AllocError, Global};
@@ -16,17 +16,20 @@ pub struct Extents {
     begins: Bits,
     ends: Bits,
     blocks: Bits,
+    live_blocks: usize,
+    live_words: usize,
 }
 
 impl Model for Extents {
     ghost use Rattle.mps_extents.specs.Extents.{ExtentLists};
-    ghost use Rattle.mps_extents.specs.Inside.{lists_of, AreSoundTables};
+    ghost use Rattle.mps_extents.specs.Inside.{extents, lists_of, AreSoundTables, IsTally};
 
     ghost Value = { ExtentLists };
 
     ghost view = { λ e. lists_of e.begins e.ends e.blocks };
 
-    ghost invariant = { λ e. AreSoundTables e.covered e.begins e.ends e.blocks };
+    ghost invariant = { λ e. AreSoundTables e.covered e.begins e.ends e.blocks
+        × IsTally (extents e.blocks e.ends) e.live_blocks e.live_words };
 }
 
 impl Extents {
@@ -40,6 +43,8 @@ impl Extents {
             begins: Bits::new(alloc, size)?,
             ends: Bits::new(alloc, size)?,
             blocks: Bits::new(alloc, size)?,
+            live_blocks: 0,
+            live_words: 0,
         })
     }
 
@@ -84,6 +89,22 @@ impl Extents {
         self.begins.set(at);
         self.ends.set(at + words - 1);
         self.blocks.set(at);
+        self.live_blocks += 1;
+        self.live_words += words;
+    }
+
+    /// The reservation of `words` words that begins at `at` becomes a block.
+    pub fn commit(&mut self, at: usize, words: usize)
+        requires { Contains self.old.reservations (record { from = at; count = words }) }
+        ensures state { self.new ≡ record self.old {
+          blocks = with_run (record { from = at; count = words }) self.old.blocks;
+          reservations = without_run at self.old.reservations;
+        } }
+        ensures covered { Contains self.old.covered (record { from = at; count = words }) }
+    {
+        self.blocks.set(at);
+        self.live_blocks += 1;
+        self.live_words += words;
     }
 
     /// Removes the block of `words` words that begins at `at`.
@@ -99,6 +120,22 @@ impl Extents {
         self.begins.clear(at);
         self.ends.clear(at + words - 1);
         self.blocks.clear(at);
+        self.live_blocks -= 1;
+        self.live_words -= words;
+    }
+
+    /// How many blocks there are.
+    pub fn live_blocks(&self) -> usize
+        ensures { result ≡ length self.now.blocks }
+    {
+        self.live_blocks
+    }
+
+    /// How many words the blocks have together.
+    pub fn live_words(&self) -> usize
+        ensures { result ≡ total self.now.blocks }
+    {
+        self.live_words
     }
 
     /// How many words the block has that begins at `at`.
@@ -128,7 +165,9 @@ impl Extents {
     /// Where the lowest block begins among those that begin from `low` on and below `high`.
     pub fn first_block(&self, low: usize, high: usize) -> Option<usize>
         requires { high ≤ self.now.size }
-        ensures { result ≡ first_run low high self.now.blocks }
+        ensures value { result ≡ first_run low high self.now.blocks }
+        ensures first { IfSome result (λ at. IsFirstWithin low high self.now.blocks at) }
+        ensures none { IfNone result (runs_within low high self.now.blocks ≡ []) }
     {
         self.blocks.next_set_below(low, high)
     }

@@ -22,6 +22,7 @@ grains_read is is' = cc
 -- the segment t at an address has no block and no reservation
 pub record Giving (s : Inside) (base : ℕ) (t : Segment) : Type 0 where
   pub in_table : grain_of base < length s.table.items
+  pub in_free : grain_of base < length s.free
   pub is : get_or s.table.items (grain_of base) Free ≡ First t.grains t.pool t.generation t.rank
   pub aligned : base ≡ address_of_grain (grain_of base)
   pub listed : Contains s.arena.held (record { from = grain_of base; count = t.grains })
@@ -29,7 +30,7 @@ pub record Giving (s : Inside) (base : ℕ) (t : Segment) : Type 0 where
   pub held : IsHeld (record s.arena { held = without_run (grain_of base) s.arena.held }) (set s.table.items (grain_of base) Free)
       s.extents
   pub counted : (firsts : List ℕ) → Noted s.firsts.items firsts (record { from = grain_of base; count = t.grains }) 0
-      → IsCounted (without_run (grain_of base) s.arena.held) (s.arena.grains + 1) firsts s.counts.items s.extents.covered
+      → IsCounted (without_run (grain_of base) s.arena.held) (s.arena.grains + 1) firsts (set s.free (grain_of base) 0) s.extents.covered
   pub segments : segments_in (set s.table.items (grain_of base) Free) ≡ without_segment (segments_in s.table.items) base
 
 pub giving : (s : Inside) (seen : SegsState) (base : ℕ) (t : Segment) → IsSoundInside s
@@ -50,6 +51,7 @@ giving s seen base t sound is listed empty =
     let run = subst T (sym sound.0.held) (entry_is_held s.table.items grain t.grains t.pool t.generation t.rank at.is) in
     record {
       in_table = at.within;
+      in_free = omega (arith, at.within, sound.0.size, sound.1.free_size);
       is = at.is;
       aligned = at.aligned;
       listed = run;
@@ -58,7 +60,7 @@ giving s seen base t sound is listed empty =
           held_after_give s.arena s.table.items s.extents sound.0 grain t.grains t.pool t.generation t.rank at.is
           (subst S high (subst R low none.empty));
       counted = λ firsts noted.
-          counted_after_give s.arena.held (s.arena.grains + 1) s.firsts.items firsts s.counts.items s.extents.covered mine sound.1
+          counted_after_give s.arena.held (s.arena.grains + 1) s.firsts.items firsts s.free s.extents.covered mine sound.1
           sound.0.ascending run noted;
       segments =
           segments_after_give s.table.items grain t.grains t.pool t.generation t.rank at.is

@@ -54,6 +54,19 @@ module _ (arena : ArenaMemory) (table : List Entry) (ex : ExtentLists) (held : I
     inside = λ t there. held.inside t (contains_without from t ex.covered there);
   }
 
+  pub held_after_commit : (blocks reservations : List Run)
+      → IsHeld arena table (record ex { blocks = blocks; reservations = reservations })
+  held_after_commit blocks reservations = record {
+    held = held.held;
+    ascending = held.ascending;
+    at_most = held.at_most;
+    size = held.size;
+    covered_size = held.covered_size;
+    covered_ascending = held.covered_ascending;
+    nonempty = held.nonempty;
+    inside = held.inside;
+  }
+
   -- words that were covered can be covered again
   pub free_again : (r : Run) (blocks reservations : List Run) → Contains ex.covered r
       → IsOpenRun arena.grains (map grains_of_segment (segments_in table)) (without_run r.from ex.covered) r

@@ -3,12 +3,14 @@ pub mod CoveredWords
 pub mod Covering
 pub mod Entries
 pub mod FirstGrain
+pub mod FullSegments
 pub mod GapSegment
 pub mod Giving
 pub mod HeldSegments
 pub mod Marked
 pub mod NextSegment
 pub mod OpenGaps
+pub mod PartCovered
 pub mod Placements
 pub mod Seen
 pub mod SegmentOver

@@ -11,5 +11,5 @@ seen_by s = segs_state s.arena s.table.items s.extents s.marks s.condemned s.sum
 abbrev pub IsSoundInside : Inside → Type 0
 IsSoundInside s =
     IsHeld s.arena s.table.items s.extents
-    × IsCounted s.arena.held (s.arena.grains + 1) s.firsts.items s.counts.items s.extents.covered
+    × IsCounted s.arena.held (s.arena.grains + 1) s.firsts.items s.free s.extents.covered
     × IsMarked s.arena.grains s.marks s.condemned s.summaries.items

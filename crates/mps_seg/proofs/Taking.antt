@@ -33,14 +33,14 @@ arena_with arena base words = record arena { held = with_run (new_run base words
 -- the arena took the grains at an address for a new segment
 pub record Taking (s : Inside) (base words pool generation : ℕ) (rank : Rank) : Type 0 where
   pub in_table : grain_of base < length s.table.items
-  pub in_counts : grain_of base < length s.counts.items
+  pub in_free : grain_of base < length s.free
   pub at_most : grain_of base < 2 ^ 32
   pub in_firsts : grain_of base + grains_needed words ≤ length s.firsts.items
   pub held_is : held_after (placement_in s.arena (grains_needed words)) s.arena.held ≡ with_run (new_run base words) s.arena.held
   pub held : IsHeld (arena_with s.arena base words) (set s.table.items (grain_of base) (new_entry words pool generation rank)) s.extents
   pub counted : (firsts : List ℕ) → Noted s.firsts.items firsts (new_run base words) (grain_of base)
       → IsCounted (with_run (new_run base words) s.arena.held) (s.arena.grains + 1) firsts
-      (set s.counts.items (grain_of base) 0) s.extents.covered
+      (set s.free (grain_of base) (words_of_grain * grains_needed words)) s.extents.covered
   pub segments :
       segments_in (set s.table.items (grain_of base) (new_entry words pool generation rank))
       ≡ segments_after (placement_for (seen_by s) words) pool generation rank (segments_in s.table.items)
@@ -77,13 +77,13 @@ taking s base words pool generation rank sound nonzero answer =
     in
     record {
       in_table = omega (arith, gap.below, some, sound.0.size);
-      in_counts = omega (arith, gap.below, some, sound.1.counts_size);
+      in_free = omega (arith, gap.below, some, sound.1.free_size);
       at_most = omega (arith, gap.below, some, sound.0.at_most);
       in_firsts = omega (arith, gap.below, sound.1.firsts_size);
       held_is = ap (λ (p : Placement). held_after p arena.held) placement_is;
       held = held_after_take arena s.table.items s.extents sound.0 need grain pool generation rank some lowest;
       counted = λ firsts noted.
-          counted_after_take arena s.table.items s.extents s.firsts.items firsts s.counts.items need grain sound.0 sound.1 some lowest
+          counted_after_take arena s.table.items s.extents s.firsts.items firsts s.free need grain sound.0 sound.1 some lowest
           noted;
       segments =
           segments_after_take arena s.table.items s.extents sound.0 need grain pool generation rank some lowest

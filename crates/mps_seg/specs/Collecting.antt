@@ -2,12 +2,13 @@
 use Rattle.std.specs.Prelude.{◌≡◌, ℕ, Bool, true, false, not, ◌&&◌, ◌||◌, Option, Some, None, option_map, List, [], ◌∷◌, length, replicate, slice_index, slice_set, bit_or, refl}
 use Rattle.mps_base.specs.Address.{Address, Grain, grain_of, word_of}
 use Rattle.mps_base.specs.Segment.{Segment, segment_over, end_of_segment}
+use Rattle.mps_base.specs.Run.{Run, runs_within}
 use Rattle.mps_base.specs.Zones.{zone_bit_of}
 use Rattle.mps_base.specs.declared.address.Addr.{Addr}
 use Rattle.mps_base.specs.declared.names.Rank.{Rank}
 use Rattle.mps_base.specs.declared.names.Rank.TheVariants.{Exact, Weak}
 use Rattle.mps_bits.specs.Table.{bit, next_set_below, lowest_from}
-use Rattle.mps_marks.specs.Marks.{no_marks, grey_of, with_grey, blackened}
+use Rattle.mps_marks.specs.Marks.{MarkTables, no_marks, grey_of, with_grey, blackened}
 use Rattle.mps_seg.specs.Segs.{SegsState, new_segments, at_word}
 use Rattle.mps_seg.specs.declared.segment_info.SegmentInfo.{SegmentInfo}
 
@@ -79,6 +80,17 @@ keeping s at = record s { marks = record s.marks { kept = slice_set s.marks.kept
 abbrev pub greying : SegsState → Address → SegsState
 greying s at = record s { marks = with_grey (rank_at s at) (word_of at) s.marks }
 
+-- the blocks at these runs are grey too, as blocks of a rank
+abbrev pub all_grey : Rank → List Run → MarkTables → MarkTables
+all_grey rank [] marks = marks
+all_grey rank (r ∷ rs) marks = all_grey rank rs (with_grey rank r.from marks)
+
+-- all blocks of a segment are grey
+abbrev pub greying_all : SegsState → Segment → SegsState
+greying_all s t = record s {
+  marks = all_grey t.rank (runs_within (word_of t.base) (word_of (end_of_segment t)) s.blocks) s.marks;
+}
+
 -- a block that is grey no longer
 abbrev pub blackening : SegsState → Address → SegsState
 blackening s at = record s { marks = blackened (word_of at) s.marks }
@@ -143,6 +155,13 @@ the_other_segment_has_none = refl
 pub none_is_grey_any_longer : lowest_grey_in (blackening example 0x2000) weak_segment ≡ None
 unfolding next_set_below lowest_from bit
 none_is_grey_any_longer = refl
+
+pub all_blocks_of_a_segment_are_grey :
+    lowest_grey_in (greying_all (record held { blocks = record { from = 512; count = 2 } ∷ record { from = 1024; count = 2 } ∷ [] })
+    exact_segment) exact_segment
+    ≡ Some (record { 0 = 0x1000 })
+unfolding next_set_below lowest_from bit
+all_blocks_of_a_segment_are_grey = refl
 
 pub a_collection_that_is_over : collected example ≡ held
 a_collection_that_is_over = refl

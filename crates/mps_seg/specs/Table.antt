@@ -1,8 +1,8 @@
 -- How the tables by grain represent the segments.
-use Rattle.std.specs.Prelude.{ℕ, suc, ◌==◌, ◌&&◌, if◌then◌else◌, ◌+◌, ◌*◌, ◌≤◌, ◌<◌, ◌≡◌, Bool, Option, Some, None, List, [], ◌∷◌, length, get_or, map, Contains}
+use Rattle.std.specs.Prelude.{ℕ, suc, ◌==◌, ◌&&◌, if◌then◌else◌, ◌+◌, ◌-◌, ◌*◌, ◌≤◌, ◌<◌, ◌≡◌, Bool, Option, Some, None, List, [], ◌∷◌, length, get_or, slice_set, map, Contains}
 use Rattle.mps_base.specs.declared.names.Rank.{Rank}
 use Rattle.mps_base.specs.Run.{Run, end_of, gaps, total, IsAscending, runs_within}
-use Rattle.mps_base.specs.Address.{words_of_grain, address_of_grain, max_grains}
+use Rattle.mps_base.specs.Address.{Address, Grain, words_of_grain, grain_of, address_of_grain, max_grains}
 use Rattle.mps_base.specs.Segment.{Segment, grains_of_segment, same_rank}
 use Rattle.mps_arena.specs.Arena.{ArenaMemory}
 use Rattle.mps_marks.specs.Marks.{MarkTables}
@@ -74,12 +74,12 @@ first_over held grain = or_zero (run_over held grain)
 abbrev pub covered_words_in : Run → List Run → ℕ
 covered_words_in grains covered = total (runs_within (words_of_grain * grains.from) (words_of_grain * end_of grains) covered)
 
--- the tables by grain have, for each grain, the first grain of the run in which it lies, and for each run how many of its words are covered
-pub record IsCounted (held : List Run) (size : ℕ) (firsts counts : List ℕ) (covered : List Run) : Type 0 where
+-- the tables by grain have, for each grain, the first grain of the run in which it lies, and for each run how many of its words are free
+pub record IsCounted (held : List Run) (size : ℕ) (firsts free : List ℕ) (covered : List Run) : Type 0 where
   pub firsts_size : length firsts ≡ size
-  pub counts_size : length counts ≡ size
+  pub free_size : length free ≡ size
   pub firsts_are : (grain : ℕ) → grain < size → get_or firsts grain 0 ≡ first_over held grain
-  pub counts_are : (r : Run) → Contains held r → get_or counts r.from 0 ≡ covered_words_in r covered
+  pub free_is : (r : Run) → Contains held r → get_or free r.from 0 + covered_words_in r covered ≡ words_of_grain * r.count
 
 -- the runs that begin in the words of n grains from a grain on, and the gaps between them
 abbrev pub runs_in_grains : (grain grains : ℕ) → List Run → List Run
@@ -102,7 +102,22 @@ IsWholeAt grain (First grains pool generation rank) extents =
     AreWhole (words_of_grain * grain) (words_of_grain * grain + words_of_grain * grains) extents.covered
     × (words_of_grain * grain + words_of_grain * grains ≤ extents.size)
 
--- how many words of the segment are covered that begins at a grain
-abbrev pub IsCountAt : (grain : ℕ) → Entry → (covered : ℕ) → ExtentLists → Type 0
-IsCountAt grain Free covered extents = Unit {0}
-IsCountAt grain (First grains pool generation rank) covered extents = covered ≡ total (runs_in_grains grain grains extents.covered)
+-- how many words of the segment are free that begins at a grain
+abbrev pub IsFreeAt : (grain : ℕ) → Entry → (free : ℕ) → ExtentLists → Type 0
+IsFreeAt grain Free free extents = Unit {0}
+IsFreeAt grain (First grains pool generation rank) free extents =
+    free + total (runs_in_grains grain grains extents.covered) ≡ words_of_grain * grains
+
+-- the first grain of the segment in which an address lies, and how many of its words are free
+abbrev pub first_at : (firsts : List ℕ) → Address → Grain
+first_at firsts at = get_or firsts (grain_of at) 0
+
+abbrev pub free_in : (firsts free : List ℕ) → Address → ℕ
+free_in firsts free at = get_or free (first_at firsts at) 0
+
+-- n words of that segment are covered, or free again
+abbrev pub with_fewer_free : (firsts free : List ℕ) → Address → (words : ℕ) → List ℕ
+with_fewer_free firsts free at words = slice_set free (first_at firsts at) (free_in firsts free at - words)
+
+abbrev pub with_more_free : (firsts free : List ℕ) → Address → (words : ℕ) → List ℕ
+with_more_free firsts free at words = slice_set free (first_at firsts at) (free_in firsts free at + words)

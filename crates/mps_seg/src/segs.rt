@@ -1,27 +1,28 @@
 // The segments: an arena, a table by grain, and the extents of their words.
 #![tactic(auto)]
 
-ghost use Rattle.std.specs.Prelude.{◌≡◌, ℕ, true, false, ◌+◌, ◌*◌, ◌/◌, ◌%◌, ◌^◌, ◌<◌, ◌≤◌, IfOk, IfErr, IfSome, OnOk, MatchResult, Contains, option_map, length, slice_index, slice_set, slice_range};
-ghost use Rattle.mps_base.specs.Run.{IsAscending, with_run, without_run, gaps, lowest_fitting, runs_within, total};
-ghost use Rattle.mps_base.specs.Address.{bytes_of_word, word_of, max_grains, max_block_words};
-ghost use Rattle.mps_base.specs.Segment.{Segment, end_of_segment, same_rank, segment_over, without_segment, gaps_of};
+ghost use Rattle.std.specs.Prelude.{◌≡◌, ℕ, true, false, ◌+◌, ◌*◌, ◌<◌, ◌≤◌, IfOk, IfErr, OnOk, MatchResult, Contains, option_map, length};
+ghost use Rattle.mps_base.specs.Run.{with_run, without_run, total};
+ghost use Rattle.mps_base.specs.Address.{words_of_grain, word_of, max_grains, max_block_words};
+ghost use Rattle.mps_base.specs.Segment.{Segment, end_of_segment, segment_over, without_segment};
 ghost use Rattle.mps_base.specs.Trail.{with_move};
-ghost use Rattle.mps_arena.specs.Arena.{answer_of_placement, cleared_words, copied_words};
-ghost use Rattle.mps_extents.specs.Extents.{run_over, first_run, AreWhole};
+ghost use Rattle.mps_arena.specs.Arena.{answer_of_placement};
+ghost use Rattle.mps_extents.specs.Extents.{run_over, first_run};
 ghost use Rattle.mps_marks.specs.Marks.{without_marks};
-ghost use Rattle.mps_seg.specs.Table.{IsWholeAt, IsCountAt, gaps_at};
-ghost use Rattle.mps_seg.specs.Segs.{SegsState, new_segments, placement_for, segments_after, noted_for, moves_after, held_runs, at_word, base_address, IsEmptyAt, IsUsed, CanCover, LiesInOpen};
-ghost use Rattle.std.specs.Borrow.{sem};
-ghost use Rattle.mps_seg.specs.Lending.{LendsSegmentWords};
+ghost use Rattle.mps_seg.specs.Segs.{new_segments, placement_for, segments_after, noted_for, moves_after, held_runs, at_word, base_address, IsEmptyAt, IsUsed, CanCover};
 
 mod collecting;
+mod gaps;
+mod words;
 
 use crate::entry::Entry;
-use crate::first_grains::note_first;
+use crate::SegmentInfo;
+use crate::first_grains::{note_first, return_free, use_free};
 use mps_arena::Arena;
 use mps_base::{Addr, BYTES_OF_GRAIN, BYTES_OF_WORD, Move, Rank, Refusal, Trail, WORDS_OF_GRAIN};
 use mps_bits::Bits;
 use mps_extents::Extents;
+use mps_free::FreeWords;
 use mps_marks::Marks;
 use std::alloc::{AllocError, Global};
 use std::marker::Model;
@@ -32,7 +33,7 @@ pub struct Segs {
     arena: Arena,
     table: Vec<Entry>,
     firsts: Vec<u32>,
-    counts: Vec<u32>,
+    free: FreeWords,
     extents: Extents,
     marks: Marks,
     condemned: Bits,
@@ -49,7 +50,7 @@ impl Model for Segs {
     ghost view = { λ s. segs_state s.arena s.table.items s.extents s.marks s.condemned s.summaries.items };
 
     ghost invariant = { λ s. IsHeld s.arena s.table.items s.extents
-        × IsCounted s.arena.held (s.arena.grains + 1) s.firsts.items s.counts.items s.extents.covered
+        × IsCounted s.arena.held (s.arena.grains + 1) s.firsts.items s.free s.extents.covered
         × IsMarked s.arena.grains s.marks s.condemned s.summaries.items };
 }
 
@@ -64,7 +65,7 @@ impl Segs {
             arena: Arena::new(alloc, grains, limit)?,
             table: vec![in alloc; Entry::Free; grains as usize + 1]?,
             firsts: vec![in alloc; 0u32; grains as usize + 1]?,
-            counts: vec![in alloc; 0u32; grains as usize + 1]?,
+            free: FreeWords::new(alloc, grains as usize + 1)?,
             extents: Extents::new(alloc, WORDS_OF_GRAIN * (grains as usize + 1))?,
             marks: Marks::new(alloc, grains as usize + 1)?,
             condemned: Bits::new(alloc, grains as usize + 1)?,
@@ -102,7 +103,7 @@ impl Segs {
             generation,
             rank,
         };
-        self.counts[first] = 0;
+        self.free.set(first, WORDS_OF_GRAIN as u32 * grains);
         self.condemned.clear(first);
         self.summaries[first] = 0;
         note_first(&mut self.firsts, first, grains as usize, first as u32);
@@ -128,6 +129,7 @@ impl Segs {
         };
         self.arena.give_run(base, grains);
         self.table[grain] = Entry::Free;
+        self.free.set(grain, 0);
         note_first(&mut self.firsts, grain, grains as usize, 0);
         trail.push(Move::Unseg { base });
     }
@@ -138,7 +140,8 @@ impl Segs {
         ensures sound { (s : Segment) → Contains self.now.segments s → s.base ≡ base.0 → result ≡ true → IsEmptyAt self.now base.0 s }
         ensures complete { (s : Segment) → Contains self.now.segments s → s.base ≡ base.0 → result ≡ false → IsUsed self.now s }
     {
-        self.counts[(base.0 / BYTES_OF_GRAIN) as usize] == 0
+        let SegmentInfo { grains, .. } = self.segment(base);
+        self.free.at(base.grain()) as usize == WORDS_OF_GRAIN * grains as usize
     }
 
     /// Covers `words` words from `at` on, which no block and no reservation covers, by a reservation.
@@ -152,32 +155,7 @@ impl Segs {
     {
         self.extents
             .cover((at.0 / BYTES_OF_WORD) as usize, words as usize);
-        let first = self.firsts[(at.0 / BYTES_OF_GRAIN) as usize] as usize;
-        self.counts[first] += words;
-    }
-
-    /// The lowest gap of at least `words` words in the segments of a pool and a rank.
-    pub fn lowest_gap(&self, pool: u32, rank: Rank, words: u32) -> Option<Addr>
-        requires { 0 < words }
-        ensures value { result ≡ option_map at_word (lowest_fitting words (gaps_of self.now.covered self.now.segments pool rank)) }
-        ensures free { IfSome result (λ at. CanCover self.now (record { from = word_of at.0; count = words })) }
-        ensures in_segment { IfSome result (λ at. LiesInOpen self.now.segments pool rank at.0) }
-    {
-        for (grain, entry) in self.table.iter().enumerate() {
-            let covered = self.counts[grain];
-            if let Some(word) = gap_after(
-                &self.extents,
-                grain,
-                *entry,
-                covered,
-                pool,
-                rank,
-                words,
-            ) {
-                return Some(Addr(BYTES_OF_WORD * word as u64));
-            }
-        }
-        None
+        use_free(&self.firsts, &mut self.free, at, words);
     }
 
     /// The lowest block of the segment at `base` that begins at or above `from`, an address in that segment.
@@ -232,8 +210,7 @@ impl Segs {
     {
         self.extents
             .uncover((at.0 / BYTES_OF_WORD) as usize, words as usize);
-        let first = self.firsts[(at.0 / BYTES_OF_GRAIN) as usize] as usize;
-        self.counts[first] -= words;
+        return_free(&self.firsts, &mut self.free, at, words);
     }
 
     /// Covers `words` words from `at` on, which no block and no reservation covers, by a block.
@@ -247,8 +224,19 @@ impl Segs {
     {
         self.extents
             .commit_block((at.0 / BYTES_OF_WORD) as usize, words as usize);
-        let first = self.firsts[(at.0 / BYTES_OF_GRAIN) as usize] as usize;
-        self.counts[first] += words;
+        use_free(&self.firsts, &mut self.free, at, words);
+    }
+
+    /// The reservation of `words` words that begins at `at` becomes a block. The words stay covered.
+    pub fn commit(&mut self, at: Addr, words: u32)
+        requires { Contains self.old.reservations (record { from = word_of at.0; count = words }) }
+        ensures { self.new ≡ record self.old {
+          blocks = with_run (record { from = word_of at.0; count = words }) self.old.blocks;
+          reservations = without_run (word_of at.0) self.old.reservations;
+        } }
+    {
+        self.extents
+            .commit((at.0 / BYTES_OF_WORD) as usize, words as usize);
     }
 
     /// Removes the block of `words` words that begins at `at`, with its marks. Its words stay as they are, and may be covered again.
@@ -264,8 +252,7 @@ impl Segs {
         self.extents
             .drop_block((at.0 / BYTES_OF_WORD) as usize, words as usize);
         self.marks.clear((at.0 / BYTES_OF_WORD) as usize);
-        let first = self.firsts[(at.0 / BYTES_OF_GRAIN) as usize] as usize;
-        self.counts[first] -= words;
+        return_free(&self.firsts, &mut self.free, at, words);
     }
 
     /// How many words the block has that begins at `at`.
@@ -274,6 +261,29 @@ impl Segs {
         ensures { Contains self.now.blocks (record { from = word_of at.0; count = result }) }
     {
         self.extents.block_words((at.0 / BYTES_OF_WORD) as usize) as u32
+    }
+
+    /// How many blocks there are.
+    pub fn live_blocks(&self) -> usize
+        ensures { result ≡ length self.now.blocks }
+    {
+        self.extents.live_blocks()
+    }
+
+    /// How many words the blocks have together.
+    pub fn live_words(&self) -> usize
+        ensures { result ≡ total self.now.blocks }
+    {
+        self.extents.live_words()
+    }
+
+    /// How many grains the arena has. Its words are those of these grains and of grain 0, so an address in them is below 2^32.
+    pub fn grains(&self) -> u32
+        ensures value { result ≡ self.now.grains }
+        ensures at_most { self.now.grains ≤ max_grains }
+        ensures size { length self.now.words ≡ words_of_grain * (self.now.grains + 1) }
+    {
+        self.arena.grains()
     }
 
     /// Sets the commit limit, in grains. Refuses `BelowCommitted` where more grains than that are held.
@@ -290,143 +300,5 @@ impl Segs {
         ensures { result ≡ total (held_runs self.now) }
     {
         self.arena.committed()
-    }
-
-    /// All words of the arena, by their address divided by 8.
-    pub fn words(&self) -> &[u64]
-        ensures { result.now ≡ self.now.words }
-    {
-        self.arena.words()
-    }
-
-    /// The word at an address.
-    pub fn word(&self, at: Addr) -> u64
-        requires { word_of at.0 < length self.now.words }
-        ensures { result ≡ slice_index self.now.words (word_of at.0) }
-    {
-        self.arena.word(at)
-    }
-
-    /// Writes the word at an address.
-    pub fn set_word(&mut self, at: Addr, word: u64)
-        requires { word_of at.0 < length self.old.words }
-        ensures { self.new ≡ record self.old { words = slice_set self.old.words (word_of at.0) word } }
-    {
-        self.arena.set_word(at, word);
-    }
-
-    /// Writes 0 in the `words` words from `at` on.
-    pub fn clear(&mut self, at: Addr, words: u32)
-        requires { word_of at.0 + words ≤ length self.old.words }
-        ensures { self.new ≡ record self.old { words = cleared_words self.old.words (word_of at.0) words } }
-    {
-        self.arena.clear(at, words);
-    }
-
-    /// Copies the `words` words from `from` on to `to` and the words after it. The two may overlap.
-    pub fn copy(&mut self, from: Addr, to: Addr, words: u32)
-        requires from_in_arena { word_of from.0 + words ≤ length self.old.words }
-        requires to_in_arena { word_of to.0 + words ≤ length self.old.words }
-        ensures { self.new ≡ record self.old { words = copied_words self.old.words (word_of from.0) (word_of to.0) words } }
-    {
-        self.arena.copy(from, to, words);
-    }
-
-    /// The `words` words from `at` on.
-    pub fn lend(&self, at: Addr, words: u32) -> &[u64]
-        requires aligned { at.0 % bytes_of_word ≡ 0 }
-        requires in_arena { word_of at.0 + words ≤ length self.now.words }
-        ensures { result.now ≡ slice_range self.now.words (word_of at.0) (word_of at.0 + words) }
-    {
-        self.arena.lend(at, words)
-    }
-
-    /// The `words` words from `at` on, to be written.
-    pub fn lend_mut(&mut self, at: Addr, words: u32) -> &mut [u64]
-        requires aligned { at.0 % bytes_of_word ≡ 0 }
-        requires in_arena { word_of at.0 + words ≤ length self.old.words }
-        ensures* writes_back { sem 𝓛 (LendsSegmentWords self.entry at.0 result) }
-        ensures value { result.now ≡ slice_range self.old.words (word_of at.0) (word_of at.0 + words) }
-    {
-        self.arena.lend_mut(at, words)
-    }
-}
-
-/// Whether two ranks are the same.
-fn is_same_rank(a: Rank, b: Rank) -> bool
-    ensures { result ≡ same_rank a b }
-{
-    match (a, b) {
-        (Rank::Exact, Rank::Exact) | (Rank::Weak, Rank::Weak) => true,
-        _ => false,
-    }
-}
-
-/// Where the lowest gap of at least `words` words begins between two bounds, where `covered` words between them are covered. Where
-/// fewer words than that are free there is none, which the numbers show without a search.
-fn gap_between(
-    extents: &Extents,
-    low: usize,
-    high: usize,
-    covered: u32,
-    words: u32,
-) -> Option<usize>
-    requires nonzero { 0 < words }
-    requires ordered { low ≤ high }
-    requires in_table { high ≤ extents.now.size }
-    requires at_most { extents.now.size < 2 ^ 32 }
-    requires ascending { IsAscending 0 extents.now.size extents.now.covered }
-    requires whole { AreWhole low high extents.now.covered }
-    requires counted { covered ≡ total (runs_within low high extents.now.covered) }
-    ensures value { result ≡ lowest_fitting words (gaps low high (runs_within low high extents.now.covered)) }
-    ensures at_most { IfSome result (λ word. word < 2 ^ 32) }
-{
-    if high - low < covered as usize + words as usize {
-        return None;
-    }
-    extents.lowest_gap(low, high, words as usize)
-}
-
-/// Where the lowest gap of at least `words` words begins in the segment that begins at a grain. There is none where no segment begins
-/// there, and where the segment is of another pool or rank.
-fn gap_after(
-    extents: &Extents,
-    grain: usize,
-    entry: Entry,
-    covered: u32,
-    pool: u32,
-    rank: Rank,
-    words: u32,
-) -> Option<usize>
-    requires nonzero { 0 < words }
-    requires in_arena { grain ≤ max_grains }
-    requires at_most { extents.now.size < 2 ^ 32 }
-    requires ascending { IsAscending 0 extents.now.size extents.now.covered }
-    requires whole { IsWholeAt grain entry extents.now }
-    requires counted { IsCountAt grain entry covered extents.now }
-    ensures value { result ≡ lowest_fitting words (gaps_at grain entry pool rank extents.now) }
-    ensures at_most { IfSome result (λ word. word < 2 ^ 32) }
-{
-    match entry {
-        Entry::First {
-            grains,
-            pool: of,
-            rank: at,
-            ..
-        } => {
-            if of == pool && is_same_rank(at, rank) {
-                let low = WORDS_OF_GRAIN * grain;
-                gap_between(
-                    extents,
-                    low,
-                    low + WORDS_OF_GRAIN * grains as usize,
-                    covered,
-                    words,
-                )
-            } else {
-                None
-            }
-        }
-        Entry::Free => None,
     }
 }

@@ -1,10 +1,11 @@
 // Placements at the edges, words, marks and summaries, and many pseudo-random steps that are compared with plain tables.
-ghost use Rattle.std.specs.Prelude.{◌<◌, ◌≤◌, ◌≡◌};
+ghost use Rattle.std.specs.Prelude.{◌<◌, ◌≤◌, ◌≡◌, length};
 ghost use Rattle.mps_base.specs.Address.{max_block_words};
 
 use crate::Segs;
 use mps_base::{Addr, Rank, Refusal, Trail, ZoneSet};
 use std::alloc::{AllocError, Global};
+use std::process::Abort;
 
 /// Makes a block in the lowest gap of a pool, or else at the base of a new segment.
 fn fill_with(segs: &mut Segs, trail: &mut Trail, pool: u32, words: u32) -> Result<Addr, Refusal>
@@ -80,7 +81,8 @@ fn reserve_with(segs: &mut Segs, trail: &mut Trail, words: u32) -> Result<Addr, 
     let at = segs.take(trail, 3, words, 0, Rank::Weak)?;
     segs.cover(at, words);
     segs.uncover(at, words);
-    segs.commit_block(at, words);
+    segs.cover(at, words);
+    segs.commit(at, words);
     Ok(at)
 }
 
@@ -90,27 +92,39 @@ fn reserve_and_commit(alloc: Global, segs: &mut Segs) -> Result<Addr, Refusal> {
     reserve_with(segs, &mut trail, 600)
 }
 
+/// A reservation becomes a block, the block is freed, and its segment given back.
+fn compare_reservation(rt: &impl Abort, alloc: Global, segs: &mut Segs) {
+    assert!(rt; reserve_and_commit(alloc, segs) == Ok(Addr(0x1000)));
+    assert!(rt; walk_over(segs, Addr(0x1000)) == Some(Addr(0x1000)));
+    assert!(rt; walk_over(segs, Addr(0x1008)) == None);
+    assert!(rt; segs.segment_of(Addr(0x2fff)) == Some(Addr(0x1000)));
+    assert!(rt; segs.segment_of(Addr(0x3000)) == None);
+    assert!(rt; !give_over(alloc, segs, Addr(0x2000)));
+    assert!(rt; free_over(segs, 0x1ff8) == Some(Addr(0x1000)));
+    assert!(rt; give_over(alloc, segs, Addr(0x2000)));
+    assert_eq!(rt; segs.committed(), 0);
+}
+
 #[test]
 fn a_reservation_becomes_a_block(rt: HostRuntime) -> Result<(), AllocError> {
     let mut segs = Segs::new(rt.alloc(), 4, 4)?;
-    assert!(rt; reserve_and_commit(rt.alloc(), &mut segs) == Ok(Addr(0x1000)));
-    assert!(rt; walk_over(&segs, Addr(0x1000)) == Some(Addr(0x1000)));
-    assert!(rt; walk_over(&segs, Addr(0x1008)) == None);
-    assert!(rt; segs.segment_of(Addr(0x2fff)) == Some(Addr(0x1000)));
-    assert!(rt; segs.segment_of(Addr(0x3000)) == None);
-    assert!(rt; !give_over(rt.alloc(), &mut segs, Addr(0x2000)));
-    assert!(rt; free_over(&mut segs, 0x1ff8) == Some(Addr(0x1000)));
-    assert!(rt; give_over(rt.alloc(), &mut segs, Addr(0x2000)));
-    assert_eq!(rt; segs.committed(), 0);
+    compare_reservation(&rt, rt.alloc(), &mut segs);
     Ok(())
+}
+
+/// Words are lent to be written, and lent again.
+fn compare_loans(rt: &impl Abort, segs: &mut Segs)
+    requires { length segs.old.words ≡ 1536 }
+{
+    segs.lend_mut(Addr(0x1008), 2).fill(7);
+    let words = segs.lend(Addr(0x1000), 4);
+    assert_eq!(rt; words, [0, 7, 7, 0].as_slice());
 }
 
 #[test]
 fn lends_the_asked_words(rt: HostRuntime) -> Result<(), AllocError> {
     let mut segs = Segs::new(rt.alloc(), 2, 2)?;
-    segs.lend_mut(Addr(0x1008), 2).fill(7);
-    let words = segs.lend(Addr(0x1000), 4);
-    assert_eq!(rt; words, [0, 7, 7, 0].as_slice());
+    compare_loans(&rt, &mut segs);
     Ok(())
 }
 
@@ -122,6 +136,17 @@ fn condemn_over(segs: &mut Segs, at: Addr) -> bool
         return false;
     };
     segs.condemn(base);
+    true
+}
+
+/// Makes all blocks of the segment over an address grey, and returns whether there is one.
+fn grey_all_over(segs: &mut Segs, at: Addr) -> bool
+    ensures { segs.new.grains ≡ segs.old.grains }
+{
+    let Some(base) = segs.segment_of(at) else {
+        return false;
+    };
+    segs.grey_segment(base);
     true
 }
 
@@ -139,36 +164,46 @@ fn grains_over(segs: &Segs, at: Addr) -> u32 {
     }
 }
 
-#[test]
-fn marks_follow_their_blocks(rt: HostRuntime) -> Result<(), AllocError> {
-    let mut segs = Segs::new(rt.alloc(), 4, 4)?;
+/// The marks of a block in its life.
+fn compare_marks(rt: &impl Abort, alloc: Global, segs: &mut Segs)
+    requires { segs.old.grains ≡ 4 }
+{
     let at = Addr(0x1000);
-    assert!(rt; fill(rt.alloc(), &mut segs, 0, 600) == Ok(at));
+    assert!(rt; fill(alloc, segs, 0, 600) == Ok(at));
     assert!(rt; !segs.is_white(at));
-    assert!(rt; condemn_over(&mut segs, Addr(0x2ff8)));
+    assert!(rt; condemn_over(segs, Addr(0x2ff8)));
     assert!(rt; segs.is_white(at));
     segs.keep(at);
     segs.set_grey(at);
     assert!(rt; !segs.is_white(at) && segs.is_kept(at) && segs.is_grey(at));
     assert!(rt; segs.next_grey(Rank::Exact) == Some(at));
     assert!(rt; segs.next_grey(Rank::Weak) == None);
-    assert!(rt; grey_over(&segs, Addr(0x2000)) == Some(at));
+    assert!(rt; grey_over(segs, Addr(0x2000)) == Some(at));
     segs.blacken(at);
     assert!(rt; segs.next_grey(Rank::Exact) == None);
-    assert!(rt; grey_over(&segs, at) == None);
-    segs.set_grey(at);
-    assert!(rt; free_over(&mut segs, 0x1000) == Some(at));
+    assert!(rt; grey_over(segs, at) == None);
+    assert!(rt; grey_all_over(segs, at) && grey_over(segs, at) == Some(at));
+    assert!(rt; segs.live_blocks() == 1 && segs.live_words() == 600);
+    assert!(rt; free_over(segs, 0x1000) == Some(at));
+    assert!(rt; segs.live_blocks() == 0 && segs.live_words() == 0);
     assert!(rt; !segs.is_kept(at) && !segs.is_grey(at) && segs.is_white(at));
     segs.end_collection();
     assert!(rt; !segs.is_white(at));
-    assert_eq!(rt; grains_over(&segs, at), 2);
-    Ok(())
+    assert_eq!(rt; grains_over(segs, at), 2);
 }
 
 #[test]
-fn summaries_gain_the_zone_of_a_target(rt: HostRuntime) -> Result<(), AllocError> {
+fn marks_follow_their_blocks(rt: HostRuntime) -> Result<(), AllocError> {
     let mut segs = Segs::new(rt.alloc(), 4, 4)?;
-    assert!(rt; fill(rt.alloc(), &mut segs, 0, 600) == Ok(Addr(0x1000)));
+    compare_marks(&rt, rt.alloc(), &mut segs);
+    Ok(())
+}
+
+/// Writes at holders in a segment and in none.
+fn compare_summaries(rt: &impl Abort, alloc: Global, segs: &mut Segs)
+    requires { segs.old.grains ≡ 4 }
+{
+    assert!(rt; fill(alloc, segs, 0, 600) == Ok(Addr(0x1000)));
     segs.note_write(Addr(0x2ff8), Addr(0x3ff8));
     segs.note_write(Addr(0x1000), Addr(0x40000));
     segs.note_write(Addr(0x3000), Addr(0x1000));
@@ -176,21 +211,37 @@ fn summaries_gain_the_zone_of_a_target(rt: HostRuntime) -> Result<(), AllocError
     assert_eq!(rt; segs.summary(Addr(0x3000)), ZoneSet(0));
     segs.set_summary(Addr(0x1000), ZoneSet(8));
     assert_eq!(rt; segs.summary(Addr(0x1000)), ZoneSet(8));
+}
+
+#[test]
+fn summaries_gain_the_zone_of_a_target(rt: HostRuntime) -> Result<(), AllocError> {
+    let mut segs = Segs::new(rt.alloc(), 4, 4)?;
+    compare_summaries(&rt, rt.alloc(), &mut segs);
     Ok(())
+}
+
+/// Words are written, copied over themselves and cleared.
+fn compare_words(rt: &impl Abort, segs: &mut Segs)
+    requires { segs.old.grains ≡ 1 }
+{
+    assert_eq!(rt; segs.grains(), 1);
+    segs.set_word(Addr(0x1000), 5);
+    segs.set_word(Addr(0x1008), 6);
+    assert!(rt; segs.word(Addr(0x1008)) == 6);
+    segs.copy(Addr(0x1000), Addr(0x1008), 2);
+    assert_eq!(rt; segs.grains(), 1);
+    let words = segs.lend(Addr(0x1000), 4);
+    assert_eq!(rt; words, [5, 5, 6, 0].as_slice());
+    segs.clear(Addr(0x1008), 1);
+    assert_eq!(rt; segs.grains(), 1);
+    let words = segs.lend(Addr(0x1000), 4);
+    assert_eq!(rt; words, [5, 0, 6, 0].as_slice());
 }
 
 #[test]
 fn words_are_written_and_copied(rt: HostRuntime) -> Result<(), AllocError> {
     let mut segs = Segs::new(rt.alloc(), 1, 1)?;
-    segs.set_word(Addr(0x1000), 5);
-    segs.set_word(Addr(0x1008), 6);
-    assert!(rt; segs.word(Addr(0x1008)) == 6);
-    segs.copy(Addr(0x1000), Addr(0x1008), 2);
-    let words = segs.lend(Addr(0x1000), 4);
-    assert_eq!(rt; words, [5, 5, 6, 0].as_slice());
-    segs.clear(Addr(0x1008), 1);
-    let words = segs.lend(Addr(0x1000), 4);
-    assert_eq!(rt; words, [5, 0, 6, 0].as_slice());
+    compare_words(&rt, &mut segs);
     Ok(())
 }
 
@@ -214,20 +265,25 @@ fn over_limit(committed: u32, need: u32) -> Result<Addr, Refusal> {
     })
 }
 
-#[test]
-fn places_blocks_at_the_lowest_gap(rt: HostRuntime) -> Result<(), AllocError> {
-    let mut segs = Segs::new(rt.alloc(), 4, 3)?;
-    assert!(rt; fills_in_order(rt.alloc(), &mut segs));
+/// Blocks fill gaps, new segments and the whole limit.
+fn compare_places(rt: &impl Abort, alloc: Global, segs: &mut Segs) {
+    assert!(rt; fills_in_order(alloc, segs));
     assert_eq!(rt; segs.committed(), 3);
     assert!(rt; segs.block_at(0x1f9f) == Some(Addr(0x1000)));
     assert!(rt; segs.block_at(0x1fa0) == Some(Addr(0x1fa0)));
     assert!(rt; segs.block_at(0x2018) == None);
-    assert!(rt; free_over(&mut segs, 0x1000) == Some(Addr(0x1000)));
+    assert!(rt; free_over(segs, 0x1000) == Some(Addr(0x1000)));
     assert!(rt; segs.block_at(0x1000) == None);
     assert!(rt; segs.lowest_gap(0, Rank::Exact, 500) == Some(Addr(0x1000)));
     assert!(rt; segs.lowest_gap(0, Rank::Exact, 510) == None);
     assert!(rt; segs.lowest_gap(0, Rank::Weak, 1) == None);
     assert!(rt; segs.set_limit(2) == Err(Refusal::BelowCommitted));
+}
+
+#[test]
+fn places_blocks_at_the_lowest_gap(rt: HostRuntime) -> Result<(), AllocError> {
+    let mut segs = Segs::new(rt.alloc(), 4, 3)?;
+    compare_places(&rt, rt.alloc(), &mut segs);
     Ok(())
 }
 
@@ -387,19 +443,21 @@ fn agree_once(alloc: Global, plain: &mut Plain, segs: &mut Segs, seed: u64) -> b
     }
 }
 
-#[test]
-fn agrees_with_a_plain_table(rt: HostRuntime) -> Result<(), AllocError> {
-    let mut segs = Segs::new(rt.alloc(), 4, 4)?;
-    let mut plain = Plain::new(rt.alloc())?;
+/// 2,000 pseudo-random steps in both.
+fn compare_steps(rt: &impl Abort, alloc: Global, plain: &mut Plain, segs: &mut Segs) {
     let mut seed = 1u64;
     for _ in 0..2000 {
         seed = seed
             .wrapping_mul(6364136223846793005)
             .wrapping_add(1442695040888963407);
-        assert!(rt;
-            agree_once(rt.alloc(), &mut plain, &mut segs, seed),
-            "{seed}"
-        );
+        assert!(rt; agree_once(alloc, plain, segs, seed), "{seed}");
     }
+}
+
+#[test]
+fn agrees_with_a_plain_table(rt: HostRuntime) -> Result<(), AllocError> {
+    let mut plain = Plain::new(rt.alloc())?;
+    let mut segs = Segs::new(rt.alloc(), 4, 4)?;
+    compare_steps(&rt, rt.alloc(), &mut plain, &mut segs);
     Ok(())
 }

@@ -1,18 +1,21 @@
 // What a collection asks of the segments: condemned segments, kept and grey blocks, and summaries.
 #![tactic(auto)]
 
-ghost use Rattle.std.specs.Prelude.{◌≡◌, ℕ, true, false, ◌+◌, ◌*◌, ◌<◌, ◌≤◌, nat_lt, IfSome, IfNone, Contains, option_map};
+ghost use Rattle.std.specs.Prelude.{◌≡◌, ℕ, true, false, ◌+◌, ◌*◌, ◌^◌, ◌<◌, ◌≤◌, length, nat_lt, IfSome, IfNone, Contains, option_map};
 ghost use Rattle.mps_base.specs.Address.{words_of_grain, word_of, grain_of, address_of_grain};
 ghost use Rattle.mps_base.specs.Segment.{Segment};
+ghost use Rattle.mps_base.specs.Run.{runs_within};
 ghost use Rattle.mps_bits.specs.Table.{bit};
 ghost use Rattle.mps_marks.specs.Marks.{grey_of};
 ghost use Rattle.mps_seg.specs.Segs.{base_address, segment_from};
-ghost use Rattle.mps_seg.specs.Collecting.{info_of, lowest_grey_in, first_grain_over, is_white_at, is_kept_at, is_grey_at, rank_at, condemning, collected, keeping, greying, blackening, summary_at, summarizing, noting};
+ghost use Rattle.mps_seg.specs.Collecting.{info_of, lowest_grey_in, first_grain_over, is_white_at, is_kept_at, is_grey_at, rank_at, condemning, collected, keeping, greying, greying_all, all_grey, blackening, summary_at, summarizing, noting};
 
 use super::Segs;
 use crate::SegmentInfo;
 use crate::entry::{Entry, first_entry_from};
 use mps_base::{Addr, BYTES_OF_GRAIN, BYTES_OF_WORD, Rank, WORDS_OF_GRAIN, ZoneSet};
+use mps_extents::Extents;
+use mps_marks::Marks;
 
 impl Segs {
     /// The first grain of the segment in which an address lies.
@@ -159,6 +162,17 @@ impl Segs {
         self.marks.set_grey(at.word(), rank);
     }
 
+    /// All blocks of the segment at `base` become grey.
+    pub fn grey_segment(&mut self, base: Addr)
+        requires { (s : Segment) × Contains self.old.segments s × (s.base ≡ base.0) }
+        ensures state { (s : Segment) → Contains self.old.segments s → s.base ≡ base.0 → self.new ≡ greying_all self.old s }
+    {
+        let SegmentInfo { grains, rank, .. } = self.segment(base);
+        let low = base.word();
+        let high = low + WORDS_OF_GRAIN * grains as usize;
+        grey_blocks(&self.extents, &mut self.marks, rank, low, high);
+    }
+
     /// The block at `at` is grey no longer.
     pub fn blacken(&mut self, at: Addr)
         requires { word_of at.0 < words_of_grain * (self.old.grains + 1) }
@@ -213,5 +227,19 @@ fn grain_from(at: Addr) -> usize
         grain
     } else {
         grain + 1
+    }
+}
+
+/// The blocks that begin from the word `low` on and below `high` become grey, as blocks of a rank.
+fn grey_blocks(extents: &Extents, marks: &mut Marks, rank: Rank, low: usize, high: usize)
+    requires in_table { high ≤ extents.now.size }
+    requires marked { extents.now.size ≤ length marks.old.kept }
+    requires at_most { extents.now.size < 2 ^ 32 }
+    ensures { marks.new ≡ all_grey rank (runs_within low high extents.now.blocks) marks.old }
+{
+    let mut from = low;
+    while let Some(at) = extents.first_block(from, high) {
+        marks.set_grey(at, rank);
+        from = at + 1;
     }
 }

@@ -10,3 +10,9 @@ uncover-requires c =
     let r : Run = record { from = word_of c.in_ok-at.at.0; count = c.args.words } in
     let P : SegsState → Type 0 = λ s. Contains s.reservations r in
     subst P (sym c.cover.ensures) (contains_put r _)
+
+pub commit-requires : goal.commit-requires
+commit-requires c =
+    let r : Run = record { from = word_of c.in_ok-at.at.0; count = c.args.words } in
+    let P : SegsState → Type 0 = λ s. Contains s.reservations r in
+    subst P (sym c.cover-2.ensures) (contains_put r _)

@@ -1,14 +1,29 @@
-use Rattle.std.proofs.Common.{ap, ◌∙◌}
-use Rattle.mps_extents.specs.Extents.{ExtentLists, first_run}
+use Rattle.std.proofs.Common.{Option, Some, None, sym, ap, ◌∙◌, subst, ◌≡◌, ℕ, List, []}
+use Rattle.mps_base.specs.Run.{runs_within}
+use Rattle.mps_extents.specs.Extents.{ExtentLists, first_run, IsFirstWithin}
+use Rattle.mps_extents.specs.Inside.{extents}
 use Rattle.mps_extents.proofs.extents.Extents.first_block.Goals as goal
-use Rattle.mps_extents.proofs.FirstRun.{first_block_is}
+use Rattle.mps_extents.proofs.FirstRun.{first_block_is, first_within, none_within, IfFirst, IfNoneWithin}
+use Rattle.mps_extents.proofs.Tally.{blocks_ascend}
 
-pub returns : goal.returns
-returns c =
-    let covered = c.self.inside.covered in
-    let begins = c.self.inside.begins in
-    let ends = c.self.inside.ends in
-    let blocks = c.self.inside.blocks in
-    let sound = c.self.invariant in
-    c.next_set_below.ensures ∙ first_block_is ends blocks c.args.low c.args.high
+pub returns-clause-value : goal.returns-clause-value
+returns-clause-value c =
+    let t = c.self.inside in
+    c.next_set_below.ensures ∙ first_block_is t.ends t.blocks c.args.low c.args.high
     ∙ ap (λ (e : ExtentLists). first_run c.args.low c.args.high e.blocks) c.self.view_is
+
+pub returns-clause-first : goal.returns-clause-first
+returns-clause-first c =
+    let t = c.self.inside in
+    let is = c.next_set_below.ensures ∙ first_block_is t.ends t.blocks c.args.low c.args.high in
+    let P : ExtentLists → Type 0 = λ e. IfFirst c.args.low c.args.high e.blocks c.next_set_below.result in
+    subst P c.self.view_is
+    (first_within 0 _ c.args.low c.args.high (extents t.blocks t.ends) c.next_set_below.result
+    (blocks_ascend t.covered t.begins t.ends t.blocks c.self.invariant.0) is)
+
+pub returns-clause-none : goal.returns-clause-none
+returns-clause-none c =
+    let t = c.self.inside in
+    let is = c.next_set_below.ensures ∙ first_block_is t.ends t.blocks c.args.low c.args.high in
+    let P : ExtentLists → Type 0 = λ e. IfNoneWithin c.args.low c.args.high e.blocks c.next_set_below.result in
+    subst P c.self.view_is (none_within c.args.low c.args.high (extents t.blocks t.ends) c.next_set_below.result is)

@@ -10,7 +10,7 @@ returns-clause-value c =
     let begins = c.self.inside.begins in
     let ends = c.self.inside.ends in
     let blocks = c.self.inside.blocks in
-    let sound = c.self.invariant in
+    let sound = c.self.invariant.0 in
     let P : ExtentLists → Type 0 = λ e. AreWhole c.args.low c.args.high e.covered in
     c.lowest_clear_run.ensures
     ∙ lowest_gap_is covered begins ends blocks c.args.low c.args.high c.args.words sound c.requires.nonzero c.requires.ordered
@@ -25,5 +25,5 @@ returns-clause-fits c =
     let ends = c.self.inside.ends in
     let blocks = c.self.inside.blocks in
     let P : ExtentLists → Type 0 = λ e. AreWhole c.args.low c.args.high e.covered in
-    lowest_gap_below covered begins ends blocks c.args.low c.args.high c.args.words c.self.invariant c.requires.nonzero
+    lowest_gap_below covered begins ends blocks c.args.low c.args.high c.args.words c.self.invariant.0 c.requires.nonzero
     c.requires.ordered (subst P (sym c.self.view_is) c.requires.whole) c.lowest_clear_run.result c.lowest_clear_run.ensures

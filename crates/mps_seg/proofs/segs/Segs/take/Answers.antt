@@ -23,14 +23,14 @@ index_mut-requires c =
     in
     omega (arith, facts.in_table, s.table.ok.0)
 
-pub index_mut-requires-2 : goal.index_mut-requires-2
-index_mut-requires-2 c =
+pub set-requires : goal.set-requires
+set-requires c =
     let s = c.self.inside in
     let a = c.args in
     let facts =
     taking s c.in_ok-base.base a.words a.pool a.generation a.rank c.self.invariant c.requires.nonzero c.in_ok-base.ensures.value
     in
-    omega (arith, facts.in_counts, s.counts.ok.0)
+    omega (arith, facts.in_free)
 
 pub clear-requires : goal.clear-requires
 clear-requires c =
@@ -41,8 +41,8 @@ clear-requires c =
     in
     omega (arith, facts.in_table, c.self.invariant.0.size, c.self.invariant.2.condemned_size)
 
-pub index_mut-requires-3 : goal.index_mut-requires-3
-index_mut-requires-3 c =
+pub index_mut-requires-2 : goal.index_mut-requires-2
+index_mut-requires-2 c =
     let s = c.self.inside in
     let a = c.args in
     let facts =
@@ -92,7 +92,7 @@ invariant_of-self-2 c =
     let marked =
     marked_taken s.arena.grains s.marks s.condemned s.summaries.items c.self.invariant.2 (grain_of c.in_ok-base.base.0)
     in
-    rw (c.take_run.ensures.state, facts.held_is, now, c.clear.ensures.state) (facts.held, facts.counted c.note_first.new.firsts noted, marked)
+    rw (c.take_run.ensures.state, facts.held_is, now, c.set.ensures, c.clear.ensures.state) (facts.held, facts.counted c.note_first.new.firsts noted, marked)
 
 pub returns-clause-state : goal.returns-clause-state
 returns-clause-state c =

@@ -58,7 +58,7 @@ overflow_mul-result c =
     let grains = grains_read c.in-First.is read in
     let low = word_of c.args.from.0 in
     let high = words_of_grain * (grain + c.in-First.grains) in
-    let below = first_run-below low high s.extents.blocks c.in_ok-word.word (sym c.first_block.ensures ∙ c.in_ok-word.was) in
+    let below = first_run-below low high s.extents.blocks c.in_ok-word.word (sym c.first_block.ensures.value ∙ c.in_ok-word.was) in
     omega (
       arith,
       below,
@@ -78,7 +78,7 @@ returns-in_err-word c =
     let read = get_or_read s.table.items grain c.index.result.now at.within c.index.ensures Free ∙ at.is in
     let grains = grains_read c.in-First.is read in
     let high : words_of_grain * (grain + c.in-First.grains) ≡ word_of (end_of_segment t) = omega (arith, grains, at.aligned, begins) in
-    let answer = c.first_block.ensures ∙ ap (λ (h : ℕ). first_run low h s.extents.blocks) high in
+    let answer = c.first_block.ensures.value ∙ ap (λ (h : ℕ). first_run low h s.extents.blocks) high in
     c.from_residual.ensures ∙ ap (λ (o : Option ℕ). option_map at_word o) (sym c.in_err-word.was ∙ answer)
     ∙ ap (λ (st : SegsState). option_map at_word (first_run low (word_of (end_of_segment t)) st.blocks)) c.self.view_is
 
@@ -92,6 +92,6 @@ returns c =
     let read = get_or_read s.table.items grain c.index.result.now at.within c.index.ensures Free ∙ at.is in
     let grains = grains_read c.in-First.is read in
     let high : words_of_grain * (grain + c.in-First.grains) ≡ word_of (end_of_segment t) = omega (arith, grains, at.aligned, begins) in
-    let answer = c.first_block.ensures ∙ ap (λ (h : ℕ). first_run low h s.extents.blocks) high in
+    let answer = c.first_block.ensures.value ∙ ap (λ (h : ℕ). first_run low h s.extents.blocks) high in
     ap (λ (o : Option ℕ). option_map at_word o) (sym c.in_ok-word.was ∙ answer)
     ∙ ap (λ (st : SegsState). option_map at_word (first_run low (word_of (end_of_segment t)) st.blocks)) c.self.view_is

@@ -1,0 +1,9 @@
+use Rattle.std.proofs.Common.{ℕ, ◌≤◌, ◌<◌, ◌-◌, length}
+use Rattle.mps_free.specs.Bounds.{HasNone}
+use Rattle.mps_free.proofs.free_words.FreeWords.lowest_with.Given as goal
+
+abbrev pub invariant-loop-index : goal.invariant-loop-index
+invariant-loop-index l = (l.from ≤ l.index) × HasNone l.words l.from l.index l.self
+
+abbrev pub decreases-loop-index : goal.decreases-loop-index
+decreases-loop-index l = length l.self - l.index

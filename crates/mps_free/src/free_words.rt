@@ -1,0 +1,113 @@
+// How many words are free, by index.
+#![tactic(auto)]
+
+ghost use Rattle.std.specs.Prelude.{◌≡◌, ℕ, ◌*◌, ◌<◌, ◌≤◌, ◌+◌, ◌/◌, length, replicate, slice_index, slice_set, get_or, IfOk, IfSome, IfNone};
+ghost use Rattle.mps_free.specs.Bounds.{IsLowestWith, HasNone};
+
+use std::alloc::{AllocError, Global};
+use std::marker::Model;
+
+/// How many indexes have one bound together.
+const INDEXES_OF_GROUP: usize = 32;
+
+/// How many words are free at each index, none at first. Clauses see the list of these numbers.
+#[derive(Drop)]
+pub struct FreeWords {
+    words: Vec<u32>,
+    // For each group of indexes a number that none of theirs is above.
+    bounds: Vec<u32>,
+}
+
+impl Model for FreeWords {
+    ghost use Rattle.std.specs.Prelude.{List, ℕ};
+    ghost use Rattle.mps_free.specs.Bounds.{IsBounded};
+
+    ghost Value = { List ℕ };
+
+    ghost view = { λ f. f.words.items };
+
+    ghost invariant = { λ f. IsBounded f.words.items f.bounds.items };
+}
+
+impl FreeWords {
+    /// No word is free at n indexes. This is the only call that allocates.
+    pub fn new(alloc: Global, n: usize) -> Result<FreeWords, AllocError>
+        ensures { IfOk result (λ free. free ≡ replicate n 0) }
+    {
+        Ok(FreeWords {
+            words: vec![in alloc; 0u32; n]?,
+            bounds: vec![in alloc; 0u32; n.div_ceil(INDEXES_OF_GROUP)]?,
+        })
+    }
+
+    /// How many words are free at an index.
+    pub fn at(&self, index: usize) -> u32
+        requires { index < length self.now }
+        ensures { result ≡ slice_index self.now index }
+    {
+        self.words[index]
+    }
+
+    /// From now on `words` words are free at an index.
+    pub fn set(&mut self, index: usize, words: u32)
+        requires { index < length self.old }
+        ensures { self.new ≡ slice_set self.old index words }
+    {
+        let before = self.words[index];
+        self.words[index] = words;
+        let group = index / INDEXES_OF_GROUP;
+        let bound = self.bounds[group];
+        if words > bound {
+            self.bounds[group] = words;
+        } else if before == bound {
+            self.bounds[group] = greatest(&self.words, INDEXES_OF_GROUP * group);
+        }
+    }
+
+    /// The lowest index from `from` on at which at least `words` words are free. Where no index of a group has enough, the whole group
+    /// is one step.
+    pub fn lowest_with(&self, words: u32, from: usize) -> Option<usize>
+        ensures sound { IfSome result (λ index. IsLowestWith words from index self.now) }
+        ensures complete { IfNone result (HasNone words from (length self.now) self.now) }
+    {
+        let mut index = from;
+        while index < self.words.len() {
+            let group = index / INDEXES_OF_GROUP;
+            if self.bounds[group] >= words {
+                let found = lowest_of_group(&self.words, words, index);
+                if found.is_some() {
+                    return found;
+                }
+            }
+            index = INDEXES_OF_GROUP * (group + 1);
+        }
+        None
+    }
+}
+
+/// A number that none of those of a group is above, from the index `from` on.
+fn greatest(words: &[u32], from: usize) -> u32
+    ensures at_most { (i : ℕ) → from ≤ i → i < from + 32 → get_or words.now i 0 ≤ result }
+{
+    let end = words.len().min(from.saturating_add(INDEXES_OF_GROUP));
+    let mut most = 0;
+    for i in from..end {
+        most = most.max(words[i]);
+    }
+    most
+}
+
+/// The lowest index from `from` on, and in its group, at which at least `least` words are free.
+fn lowest_of_group(words: &[u32], least: u32, from: usize) -> Option<usize>
+    requires { from < length words.now }
+    ensures sound { IfSome result (λ index. IsLowestWith least from index words.now) }
+    ensures complete { IfNone result (HasNone least from (32 * (from / 32) + 32) words.now) }
+{
+    let end = words.len().min(from - from % INDEXES_OF_GROUP + INDEXES_OF_GROUP);
+    for i in from..end {
+        if words[i] >= least {
+            return Some(i);
+        }
+    }
+    None
+}

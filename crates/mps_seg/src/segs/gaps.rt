@@ -1,0 +1,80 @@
+// The lowest gap that fits.
+#![tactic(auto)]
+
+ghost use Rattle.std.specs.Prelude.{◌≡◌, ◌+◌, ◌^◌, ◌<◌, ◌≤◌, IfSome, option_map};
+ghost use Rattle.mps_base.specs.Run.{IsAscending, lowest_fitting};
+ghost use Rattle.mps_base.specs.Address.{word_of, max_grains};
+ghost use Rattle.mps_base.specs.Segment.{same_rank, gaps_of};
+ghost use Rattle.mps_seg.specs.Table.{IsWholeAt, gaps_at};
+ghost use Rattle.mps_seg.specs.Segs.{at_word, CanCover, LiesInOpen};
+
+use super::Segs;
+use crate::entry::Entry;
+use mps_base::{Addr, BYTES_OF_WORD, Rank, WORDS_OF_GRAIN};
+use mps_extents::Extents;
+
+impl Segs {
+    /// The lowest gap of at least `words` words in the segments of a pool and a rank. Segments in which fewer words are free are passed
+    /// over, 32 grains a step where that holds of all that begin there.
+    pub fn lowest_gap(&self, pool: u32, rank: Rank, words: u32) -> Option<Addr>
+        requires { 0 < words }
+        ensures value { result ≡ option_map at_word (lowest_fitting words (gaps_of self.now.covered self.now.segments pool rank)) }
+        ensures free { IfSome result (λ at. CanCover self.now (record { from = word_of at.0; count = words })) }
+        ensures in_segment { IfSome result (λ at. LiesInOpen self.now.segments pool rank at.0) }
+    {
+        let mut from = 0;
+        while let Some(grain) = self.free.lowest_with(words, from) {
+            let entry = self.table[grain];
+            if let Some(word) = gap_after(&self.extents, grain, entry, pool, rank, words) {
+                return Some(Addr(BYTES_OF_WORD * word as u64));
+            }
+            from = grain + 1;
+        }
+        None
+    }
+}
+
+/// Whether two ranks are the same.
+fn is_same_rank(a: Rank, b: Rank) -> bool
+    ensures { result ≡ same_rank a b }
+{
+    match (a, b) {
+        (Rank::Exact, Rank::Exact) | (Rank::Weak, Rank::Weak) => true,
+        _ => false,
+    }
+}
+
+/// Where the lowest gap of at least `words` words begins in the segment that begins at a grain. There is none where no segment begins
+/// there, and where the segment is of another pool or rank.
+fn gap_after(
+    extents: &Extents,
+    grain: usize,
+    entry: Entry,
+    pool: u32,
+    rank: Rank,
+    words: u32,
+) -> Option<usize>
+    requires nonzero { 0 < words }
+    requires in_arena { grain ≤ max_grains }
+    requires at_most { extents.now.size < 2 ^ 32 }
+    requires whole { IsWholeAt grain entry extents.now }
+    ensures value { result ≡ lowest_fitting words (gaps_at grain entry pool rank extents.now) }
+    ensures at_most { IfSome result (λ word. word < 2 ^ 32) }
+{
+    match entry {
+        Entry::First {
+            grains,
+            pool: of,
+            rank: at,
+            ..
+        } => {
+            if of == pool && is_same_rank(at, rank) {
+                let low = WORDS_OF_GRAIN * grain;
+                extents.lowest_gap(low, low + WORDS_OF_GRAIN * grains as usize, words as usize)
+            } else {
+                None
+            }
+        }
+        Entry::Free => None,
+    }
+}

@@ -1,0 +1,72 @@
+// The words of the arena: read, written, cleared, copied and lent.
+#![tactic(auto)]
+
+ghost use Rattle.std.specs.Prelude.{◌≡◌, ◌+◌, ◌%◌, ◌<◌, ◌≤◌, length, slice_index, slice_set, slice_range};
+ghost use Rattle.mps_base.specs.Address.{bytes_of_word, word_of};
+ghost use Rattle.mps_arena.specs.Arena.{cleared_words, copied_words};
+ghost use Rattle.std.specs.Borrow.{sem};
+ghost use Rattle.mps_seg.specs.Lending.{LendsSegmentWords};
+
+use super::Segs;
+use mps_base::Addr;
+
+impl Segs {
+    /// All words of the arena, by their address divided by 8.
+    pub fn words(&self) -> &[u64]
+        ensures { result.now ≡ self.now.words }
+    {
+        self.arena.words()
+    }
+
+    /// The word at an address.
+    pub fn word(&self, at: Addr) -> u64
+        requires { word_of at.0 < length self.now.words }
+        ensures { result ≡ slice_index self.now.words (word_of at.0) }
+    {
+        self.arena.word(at)
+    }
+
+    /// Writes the word at an address.
+    pub fn set_word(&mut self, at: Addr, word: u64)
+        requires { word_of at.0 < length self.old.words }
+        ensures { self.new ≡ record self.old { words = slice_set self.old.words (word_of at.0) word } }
+    {
+        self.arena.set_word(at, word);
+    }
+
+    /// Writes 0 in the `words` words from `at` on.
+    pub fn clear(&mut self, at: Addr, words: u32)
+        requires { word_of at.0 + words ≤ length self.old.words }
+        ensures { self.new ≡ record self.old { words = cleared_words self.old.words (word_of at.0) words } }
+    {
+        self.arena.clear(at, words);
+    }
+
+    /// Copies the `words` words from `from` on to `to` and the words after it. The two may overlap.
+    pub fn copy(&mut self, from: Addr, to: Addr, words: u32)
+        requires from_in_arena { word_of from.0 + words ≤ length self.old.words }
+        requires to_in_arena { word_of to.0 + words ≤ length self.old.words }
+        ensures { self.new ≡ record self.old { words = copied_words self.old.words (word_of from.0) (word_of to.0) words } }
+    {
+        self.arena.copy(from, to, words);
+    }
+
+    /// The `words` words from `at` on.
+    pub fn lend(&self, at: Addr, words: u32) -> &[u64]
+        requires aligned { at.0 % bytes_of_word ≡ 0 }
+        requires in_arena { word_of at.0 + words ≤ length self.now.words }
+        ensures { result.now ≡ slice_range self.now.words (word_of at.0) (word_of at.0 + words) }
+    {
+        self.arena.lend(at, words)
+    }
+
+    /// The `words` words from `at` on, to be written.
+    pub fn lend_mut(&mut self, at: Addr, words: u32) -> &mut [u64]
+        requires aligned { at.0 % bytes_of_word ≡ 0 }
+        requires in_arena { word_of at.0 + words ≤ length self.old.words }
+        ensures* writes_back { sem 𝓛 (LendsSegmentWords self.entry at.0 result) }
+        ensures value { result.now ≡ slice_range self.old.words (word_of at.0) (word_of at.0 + words) }
+    {
+        self.arena.lend_mut(at, words)
+    }
+}
