@@ -1,5 +1,5 @@
 -- The run over a number: where it begins, and what it is after a run is put or taken out.
-use Rattle.std.proofs.Common.{IsSome, ℕ, ◌+◌, ◌<◌, ◌≡◌, Bool, true, false, List, [], ◌∷◌, length, set, Contains, refl, sym, ap, ◌∙◌, subst, inl, inr, arith, ◌≤◌, cond, ◌/◌, Option, Some, None, option_map}
+use Rattle.std.proofs.Common.{IsSome, ℕ, ◌+◌, ◌<◌, ◌≡◌, Bool, true, false, List, [], ◌∷◌, length, set, Contains, refl, sym, ap, ◌∙◌, subst, inl, inr, arith, ◌≤◌, cond, Option, Some, None}
 use Rattle.std.proofs.lemmas.Bool.{cases_lt, both_ways, false_from_ne_true, cases_Bool, cond-true, cond-false, cases_eq}
 use Rattle.mps_base.proofs.Runs.{with_run_first, with_run_later, without_run_first, without_run_later, contains_cases, contains_first, contains_later, contained_bounds}
 use Rattle.mps_base.specs.Run.{Run, IsAscending, with_run, without_run, end_of}

@@ -1,5 +1,5 @@
 -- An extent taken out of the tables: a reservation, or a block.
-use Rattle.std.proofs.Common.{ℕ, ◌+◌, ◌-◌, ◌^◌, ◌<◌, ◌≤◌, ◌≡◌, ◌≢◌, ◌⊎◌, ◌&&◌, Bool, true, false, not, Option, Some, IsSome, List, length, set, Contains, refl, sym, ap, ◌∙◌, subst, inl, inr, arith, length-set}
+use Rattle.std.proofs.Common.{ℕ, ◌+◌, ◌-◌, ◌^◌, ◌<◌, ◌≤◌, ◌≡◌, ◌≢◌, ◌⊎◌, ◌&&◌, Bool, true, false, not, Some, List, length, set, Contains, refl, sym, ap, ◌∙◌, subst, inl, inr, arith, length-set}
 use Rattle.std.proofs.lemmas.Bool.{cases_lt, cases_eq, both_ways, and_right}
 use Rattle.mps_base.specs.Run.{Run, end_of, IsAscending, without_run}
 use Rattle.mps_base.proofs.Runs.{contained_bounds, IsAscending-without_run}

@@ -1,9 +1,8 @@
 -- How many blocks there are, and how many words they have.
-use Rattle.std.proofs.Common.{ℕ, suc, ◌+◌, ◌-◌, ◌<◌, ◌≤◌, ◌≡◌, Bool, true, false, List, [], ◌∷◌, length, get_or, Contains, refl, sym, ap, ◌∙◌, subst, inl, inr, arith, add-one}
-use Rattle.std.proofs.lemmas.Bool.{false≢true, cases_lt, cases_eq}
+use Rattle.std.proofs.Common.{ℕ, suc, ◌+◌, ◌-◌, ◌≤◌, ◌≡◌, Bool, true, false, List, [], ◌∷◌, length, get_or, Contains, refl, sym, ap, ◌∙◌, inl, inr, arith}
+use Rattle.std.proofs.lemmas.Bool.{false≢true, cases_lt}
 use Rattle.mps_base.specs.Run.{Run, end_of, IsAscending, with_run, without_run, total}
 use Rattle.mps_base.proofs.Runs.{IsAscending-lower, IsAscending-bounds, total-cons, total-le, total-with_run, total-without_run, with_run_first, with_run_later, without_run_first, without_run_later, contains_cases, contained_bounds}
-use Rattle.mps_bits.specs.Table.{bit}
 use Rattle.mps_extents.specs.Inside.{runs_with, extents, AreSoundTables, IsTally}
 use Rattle.mps_extents.proofs.WrittenBits.{bit_is}
 

@@ -1,5 +1,5 @@
 -- Numbers of free words by index, and bounds of groups of them.
-use Rattle.std.specs.Prelude.{ℕ, ◌+◌, ◌*◌, ◌/◌, ◌≤◌, ◌<◌, List, length, get_or}
+use Rattle.std.specs.Prelude.{ℕ, ◌*◌, ◌/◌, ◌≤◌, ◌<◌, List, length, get_or}
 
 -- how many indexes have one bound together
 abbrev pub indexes_of_group : ℕ

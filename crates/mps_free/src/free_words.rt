@@ -103,7 +103,9 @@ fn lowest_of_group(words: &[u32], least: u32, from: usize) -> Option<usize>
     ensures sound { IfSome result (λ index. IsLowestWith least from index words.now) }
     ensures complete { IfNone result (HasNone least from (32 * (from / 32) + 32) words.now) }
 {
-    let end = words.len().min(from - from % INDEXES_OF_GROUP + INDEXES_OF_GROUP);
+    let end = words
+        .len()
+        .min(from - from % INDEXES_OF_GROUP + INDEXES_OF_GROUP);
     for i in from..end {
         if words[i] >= least {
             return Some(i);

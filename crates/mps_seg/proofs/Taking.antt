@@ -52,6 +52,10 @@ pub record Taking (s : Inside) (base words pool generation : ℕ) (rank : Rank) 
       IsOpenRun s.arena.grains
       (map grains_of_segment (segments_in (set s.table.items (grain_of base) (new_entry words pool generation rank)))) s.extents.covered
       (run_at base words)
+  pub all_free :
+      IsOpenRun s.arena.grains
+      (map grains_of_segment (segments_in (set s.table.items (grain_of base) (new_entry words pool generation rank)))) s.extents.covered
+      (run_at base (words_of_grain * grains_needed words))
 
 pub taking : (s : Inside) (base : Addr) (words pool generation : ℕ) (rank : Rank) → IsSoundInside s → 0 < words
     → Ok base ≡ answer_of_placement (placement_in s.arena (grains_needed words)) → Taking s base.0 words pool generation rank
@@ -68,9 +72,9 @@ taking s base words pool generation rank sound nonzero answer =
     let gap = in_lowest_gap 1 (arena.grains + 1) arena.held need grain some sound.0.ascending lowest in
     let first : words_of_grain * grain ≡ word_of base.0 = omega (arith, taken.1.base_at) in
     let entry = new_entry words pool generation rank in
-    let R : ℕ → Type 0 = λ w.
+    let R : ℕ → ℕ → Type 0 = λ n w.
     IsOpenRun arena.grains (map grains_of_segment (segments_in (set s.table.items grain entry))) s.extents.covered
-    (record { from = w; count = words })
+    (record { from = w; count = n })
     in
     let seen : placement_for (seen_by s) words ≡ placement_in arena need =
     ap (λ (rs : List Run). placement_in (record arena { held = rs }) need) (sym sound.0.held)
@@ -91,6 +95,10 @@ taking s base words pool generation rank sound nonzero answer =
       condemned = ap (λ (p : Placement). noted_for p false s.condemned) (sym (seen ∙ placement_is));
       summaries = ap (λ (p : Placement). noted_for p 0 s.summaries.items) (sym (seen ∙ placement_is));
       can_cover =
-          subst R first
+          subst (R words) first
           (new_is_free arena s.table.items s.extents sound.0 need grain pool generation words rank some nonzero (omega arith) lowest);
+      all_free =
+          subst (R (words_of_grain * need)) first
+          (new_is_free arena s.table.items s.extents sound.0 need grain pool generation (words_of_grain * need) rank some
+          (omega (arith, some)) (omega arith) lowest);
     }

@@ -3,7 +3,7 @@
 
 ghost use Rattle.std.specs.Prelude.{◌≡◌, ℕ, true, false, ◌+◌, ◌*◌, ◌<◌, ◌≤◌, IfOk, IfErr, OnOk, MatchResult, Contains, option_map, length};
 ghost use Rattle.mps_base.specs.Run.{with_run, without_run, total};
-ghost use Rattle.mps_base.specs.Address.{words_of_grain, word_of, max_grains, max_block_words};
+ghost use Rattle.mps_base.specs.Address.{words_of_grain, word_of, grains_needed, max_grains, max_block_words};
 ghost use Rattle.mps_base.specs.Segment.{Segment, end_of_segment, segment_over, without_segment};
 ghost use Rattle.mps_base.specs.Trail.{with_move};
 ghost use Rattle.mps_arena.specs.Arena.{answer_of_placement};
@@ -93,6 +93,7 @@ impl Segs {
         } }
         ensures moves { trail.new ≡ moves_after (placement_for self.old words) pool generation trail.old }
         ensures free { IfOk result (λ base. CanCover self.new (record { from = word_of base.0; count = words })) }
+        ensures all_free { IfOk result (λ base. CanCover self.new (record { from = word_of base.0; count = words_of_grain * grains_needed words })) }
     {
         let grains = (words + (WORDS_OF_GRAIN as u32 - 1)) / WORDS_OF_GRAIN as u32;
         let base = self.arena.take_run(grains)?;

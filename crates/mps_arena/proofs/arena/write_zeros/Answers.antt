@@ -1,5 +1,5 @@
-use Rattle.std.proofs.Common.{ℕ, ◌≡◌, ◌<◌, ◌+◌, List, length, replicate, set, sym, ap, ◌∙◌, subst, arith}
-use Rattle.std.proofs.Math.Seq.{paste, length-paste}
+use Rattle.std.proofs.Common.{ℕ, ◌≡◌, ◌<◌, ◌+◌, List, length, replicate, set, sym, ap, ◌∙◌, arith}
+use Rattle.std.proofs.Math.Seq.{paste}
 use Rattle.std.proofs.lemmas.List.{get_or-replicate, length-replicate}
 use Rattle.std.proofs.lemmas.List.Edits.{paste_more}
 use Rattle.mps_arena.proofs.arena.write_zeros.Goals as goal

@@ -1,4 +1,4 @@
-use Rattle.std.proofs.Common.{◌/◌, sym, ap, ◌∙◌, arith, Contains, subst}
+use Rattle.std.proofs.Common.{sym, ap, ◌∙◌, arith, Contains, subst}
 use Rattle.mps_base.specs.Run.{Run, without_run}
 use Rattle.mps_arena.specs.Arena.{ArenaMemory}
 use Rattle.mps_arena.proofs.Scan.{entry_of, sound_after_give, state_after_give}

@@ -1,4 +1,4 @@
-use Rattle.std.proofs.Common.{ℕ, slice_range, ◌+◌, ◌/◌, List, refl, ap, ◌∙◌}
+use Rattle.std.proofs.Common.{ℕ, slice_range, ◌+◌, List, refl, ap, ◌∙◌}
 use Rattle.mps_arena.specs.Arena.{ArenaMemory, with_words}
 use Rattle.mps_arena.specs.Inside.{memory_of}
 use Rattle.mps_arena.proofs.Loans.{written_over}

@@ -1,6 +1,6 @@
 use Rattle.std.proofs.Common.{ℕ, ◌+◌, ◌-◌, ◌≡◌, Option, Some, IsSome, Contains, refl, sym, ap, ◌∙◌, subst, arith}
 use Rattle.mps_extents.specs.Extents.{ExtentLists}
-use Rattle.mps_extents.proofs.TakenExtent.{TakenFits, block_fits}
+use Rattle.mps_extents.proofs.TakenExtent.{block_fits}
 use Rattle.mps_extents.proofs.extents.Extents.block_words.Goals as goal
 
 -- the last word that the search finds

@@ -45,10 +45,11 @@ invariant_of-self c =
     let t = c.self.inside in
     let fits = put_fits t c.args.self.now c.args.at c.args.words c.self.invariant.0 c.self.view_is c.requires.nonzero c.requires.free in
     let P : List Run → Type 0 = λ rs. IsTally rs t.live_blocks t.live_words in
-    rw (c.set_range.ensures.state, c.set.ensures.state, c.set-2.ensures.state)
-    (put_is_sound t.covered t.begins t.ends t.blocks c.args.at c.args.words fits.put,
-    subst P (sym (ap (λ (e : ExtentLists). e.blocks) (put_lists t.covered t.begins t.ends t.blocks c.args.at c.args.words fits.put)))
-    c.self.invariant.1)
+    rw (c.set_range.ensures.state, c.set.ensures.state, c.set-2.ensures.state) (
+      put_is_sound t.covered t.begins t.ends t.blocks c.args.at c.args.words fits.put,
+      subst P (sym (ap (λ (e : ExtentLists). e.blocks) (put_lists t.covered t.begins t.ends t.blocks c.args.at c.args.words fits.put)))
+          c.self.invariant.1,
+    )
 
 pub returns : goal.returns
 returns c =

@@ -48,12 +48,13 @@ invariant_of-self c =
     let taken = block_fits c.self.inside c.args.self.now c.args.at c.args.words c.self.invariant.0 c.self.view_is c.requires in
     let ascend = blocks_ascend t.covered t.begins t.ends t.blocks c.self.invariant.0 in
     let P : ExtentLists → Type 0 = λ e. Contains e.blocks r in
-    rw (c.clear_range.ensures.state, c.clear.ensures.state, c.clear-2.ensures.state, c.clear-3.ensures.state)
-    (taken_is_sound t.covered t.begins t.ends t.blocks r taken.fits.taken (set t.blocks c.args.at false)
-    (length-set t.blocks c.args.at false) (others_than_block t.covered t.begins t.ends t.blocks r taken.fits.taken taken.block),
-    tally_taken 0 _ r (extents t.blocks t.ends) _ t.live_blocks t.live_words c.self.invariant.1 ascend
-    (subst P (sym c.self.view_is) c.requires)
-    (ap (λ (e : ExtentLists). e.blocks) (drop_lists t.covered t.begins t.ends t.blocks r taken.fits.taken taken.block)))
+    rw (c.clear_range.ensures.state, c.clear.ensures.state, c.clear-2.ensures.state, c.clear-3.ensures.state) (
+      taken_is_sound t.covered t.begins t.ends t.blocks r taken.fits.taken (set t.blocks c.args.at false)
+          (length-set t.blocks c.args.at false) (others_than_block t.covered t.begins t.ends t.blocks r taken.fits.taken taken.block),
+      tally_taken 0 _ r (extents t.blocks t.ends) _ t.live_blocks t.live_words c.self.invariant.1 ascend
+          (subst P (sym c.self.view_is) c.requires)
+          (ap (λ (e : ExtentLists). e.blocks) (drop_lists t.covered t.begins t.ends t.blocks r taken.fits.taken taken.block)),
+    )
 
 pub overflow_sub-self : goal.overflow_sub-self
 overflow_sub-self c =

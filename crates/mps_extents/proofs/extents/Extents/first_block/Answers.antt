@@ -1,6 +1,5 @@
-use Rattle.std.proofs.Common.{Option, Some, None, sym, ap, ◌∙◌, subst, ◌≡◌, ℕ, List, []}
-use Rattle.mps_base.specs.Run.{runs_within}
-use Rattle.mps_extents.specs.Extents.{ExtentLists, first_run, IsFirstWithin}
+use Rattle.std.proofs.Common.{ap, ◌∙◌, subst}
+use Rattle.mps_extents.specs.Extents.{ExtentLists, first_run}
 use Rattle.mps_extents.specs.Inside.{extents}
 use Rattle.mps_extents.proofs.extents.Extents.first_block.Goals as goal
 use Rattle.mps_extents.proofs.FirstRun.{first_block_is, first_within, none_within, IfFirst, IfNoneWithin}

@@ -16,8 +16,7 @@ invariant_of-result c =
     let P : List Run → Type 0 = λ rs. IsTally rs 0 0 in
     let Q3 : List Bool → Type 0 = λ t. IsTally (extents c.in_ok-new-4.field-0 t) 0 0 in
     let Q4 : List Bool → Type 0 = λ t. IsTally (extents t clear) 0 0 in
-    let none : IsTally [] 0 0 = record { counted = refl; summed = refl } in
-    (
+    let none : IsTally [] 0 0 = record { counted = refl; summed = refl } in (
       subst P1 (sym c.in_ok-new.ensures)
           (subst P2 (sym c.in_ok-new-2.ensures)
           (subst P3 (sym c.in_ok-new-3.ensures) (subst P4 (sym c.in_ok-new-4.ensures) (new_is_sound n c.requires)))),

@@ -41,11 +41,12 @@ invariant_of-self c =
     let r : Run = record { from = c.args.at; count = c.args.words } in
     let taken = reservation_fits c.self.inside c.args.self.now c.args.at c.args.words c.self.invariant.0 c.self.view_is c.requires in
     let P : List Run → Type 0 = λ rs. IsTally rs t.live_blocks t.live_words in
-    rw (c.clear_range.ensures.state, c.clear.ensures.state, c.clear-2.ensures.state)
-    (taken_is_sound t.covered t.begins t.ends t.blocks r taken.fits.taken t.blocks refl
-    (others_than_reservation t.covered t.begins t.ends t.blocks r taken.fits.taken taken.reserved.no_block),
-    subst P (sym (ap (λ (e : ExtentLists). e.blocks)
-    (uncover_lists t.covered t.begins t.ends t.blocks r taken.fits.taken taken.reserved))) c.self.invariant.1)
+    rw (c.clear_range.ensures.state, c.clear.ensures.state, c.clear-2.ensures.state) (
+      taken_is_sound t.covered t.begins t.ends t.blocks r taken.fits.taken t.blocks refl
+          (others_than_reservation t.covered t.begins t.ends t.blocks r taken.fits.taken taken.reserved.no_block),
+      subst P (sym (ap (λ (e : ExtentLists). e.blocks)
+          (uncover_lists t.covered t.begins t.ends t.blocks r taken.fits.taken taken.reserved))) c.self.invariant.1,
+    )
 
 pub returns-clause-state : goal.returns-clause-state
 returns-clause-state c =

@@ -1,4 +1,4 @@
-use Rattle.std.proofs.Common.{ℕ, ◌≤◌, ◌<◌, ◌-◌, length}
+use Rattle.std.proofs.Common.{◌≤◌, ◌-◌, length}
 use Rattle.mps_free.specs.Bounds.{HasNone}
 use Rattle.mps_free.proofs.free_words.FreeWords.lowest_with.Given as goal
 

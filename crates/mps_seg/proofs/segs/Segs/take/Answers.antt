@@ -1,7 +1,7 @@
-use Rattle.std.proofs.Common.{ℕ, Bool, false, map, List, length, get_or, set, sym, ap, ◌∙◌, subst, arith}
+use Rattle.std.proofs.Common.{ℕ, ◌*◌, Bool, false, map, List, length, get_or, set, sym, ap, ◌∙◌, subst, arith}
 use Rattle.std.proofs.lemmas.List.{with_items_is}
 use Rattle.mps_base.specs.Run.{Run}
-use Rattle.mps_base.specs.Address.{grain_of, grains_needed}
+use Rattle.mps_base.specs.Address.{words_of_grain, grain_of, grains_needed}
 use Rattle.mps_base.specs.Segment.{Segment, grains_of_segment}
 use Rattle.mps_arena.specs.Arena.{ArenaMemory, placement_in}
 use Rattle.mps_seg.specs.Segs.{SegsState, IsOpenRun, placement_for, segments_after, noted_for}
@@ -133,3 +133,17 @@ returns-clause-free c =
     IsOpenRun arena.grains (map grains_of_segment (segments_in table)) s.extents.covered (run_at c.in_ok-base.base.0 a.words)
     in
     subst P (sym now) facts.can_cover
+
+pub returns-clause-all_free : goal.returns-clause-all_free
+returns-clause-all_free c =
+    let s = c.self.inside in
+    let a = c.args in
+    let facts =
+    taking s c.in_ok-base.base a.words a.pool a.generation a.rank c.self.invariant c.requires.nonzero c.in_ok-base.ensures.value
+    in
+    let now = c.take_run.ensures.state ∙ ap (λ (rs : List Run). record s.arena { held = rs }) facts.held_is in
+    let table = set s.table.items (grain_of c.in_ok-base.base.0) (new_entry a.words a.pool a.generation a.rank) in
+    let P : ArenaMemory → Type 0 = λ arena.
+    IsOpenRun arena.grains (map grains_of_segment (segments_in table)) s.extents.covered (run_at c.in_ok-base.base.0 (words_of_grain * grains_needed a.words))
+    in
+    subst P (sym now) facts.all_free
