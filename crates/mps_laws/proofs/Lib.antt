@@ -47,3 +47,4 @@ pub mod HeldIds
 pub mod Referred
 pub mod PoolsThere
 pub mod Homes
+pub mod Naming
