@@ -48,3 +48,4 @@ pub mod Referred
 pub mod PoolsThere
 pub mod Homes
 pub mod Naming
+pub mod SoundEffects

@@ -1,5 +1,5 @@
 -- What names stand for, once a name is made or dropped.
-use Rattle.std.proofs.Common.{◌≡◌, ℕ, Bool, true, false, true≢false, refl, sym, ◌∙◌, ap, subst, List, [], ◌∷◌, ◌++◌, None, Some, Option}
+use Rattle.std.proofs.Common.{◌≡◌, ℕ, Bool, true, false, true≢false, refl, sym, ◌∙◌, ap, List, [], ◌∷◌, None, Some, Option}
 use Rattle.std.specs.Prelude.{◌==◌, if◌then◌else◌}
 use Rattle.std.specs.Str.{bytes_eq}
 use Rattle.std.proofs.lemmas.Slice.Eq.{bytes_eq-Decides}
@@ -74,12 +74,15 @@ name_dropped (m ∷ ms) name n once = by_first (same_name m.name name) refl (nam
     found_here true same equal = ap (thing_in ms) (sym (equal ∙ same_name_equal name n same)) ∙ once.0
     found_here false other equal =
         ap (λ (b : Bool). if b then Some m.thing else thing_in ms n) (sym (ap (λ (x : Name). same_name x n) equal ∙ other))
+
     found_later : (b here : Bool) → same_name name n ≡ b → same_name m.name n ≡ here → same_name m.name name ≡ false
-        → (if here then Some m.thing else (if b then None else thing_in ms n)) ≡ (if b then None else (if here then Some m.thing else thing_in ms n))
+        → (if here then Some m.thing else (if b then None else thing_in ms n)) ≡
+        (if b then None else (if here then Some m.thing else thing_in ms n))
     found_later b false same e differs = refl
     found_later false true same e differs = refl
     found_later true true same e differs =
         absurd (true≢false (sym e ∙ ap (same_name m.name) (sym (same_name_equal name n same)) ∙ differs))
+
     by_first : (there : Bool) → same_name m.name name ≡ there
         → thing_in (without_name ms name) n ≡ (if same_name name n then None else thing_in ms n)
         → thing_in (if there then ms else m ∷ without_name ms name) n
@@ -118,6 +121,7 @@ dropped_once (m ∷ ms) name once = by_first (same_name m.name name) (dropped_on
     still_free : (b : Bool) → (if b then None else thing_in ms m.name) ≡ None
     still_free true = refl
     still_free false = once.0
+
     by_first : (there : Bool) → AreTakenOnce (without_name ms name) → AreTakenOnce (if there then ms else m ∷ without_name ms name)
     by_first true rest = once.1
     by_first false rest = (name_dropped ms name m.name once.1 ∙ still_free (same_name name m.name), rest)
