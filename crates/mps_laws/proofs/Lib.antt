@@ -49,3 +49,4 @@ pub mod PoolsThere
 pub mod Homes
 pub mod Naming
 pub mod SoundEffects
+pub mod SoundChanges
