@@ -1,25 +1,26 @@
 -- A world stays sound through the effects of a call that aren't writes of ids: things are made and dropped, registrations and
 -- messages come and go, numbers of the world change, an object is made.
-use Rattle.std.proofs.Common.{◌≡◌, ◌∙◌, inl, inr, ℕ, ◌<◌, Bool, true, false, true≢false, refl, sym, ap, subst, List, [], ◌∷◌, ◌++◌, length, Option, Some, None, arith}
-use Rattle.std.proofs.lemmas.Bool.{cases_lt}
-use Rattle.std.specs.Prelude.{◌≢◌, is_some, replicate, slice_get, slice_set}
-use Rattle.std.specs.List.{flat_map}
+use Rattle.std.proofs.Common.{◌≡◌, ◌∙◌, inl, inr, ℕ, zero, suc, ◌<◌, Bool, true, false, true≢false, refl, sym, ap, subst, List, [], ◌∷◌, ◌++◌, length, Option, Some, None, arith}
+use Rattle.std.proofs.lemmas.Bool.{and_from, and_parts, cases_eq, cases_lt, eq-eqb}
+use Rattle.std.specs.Prelude.{◌≢◌, ◌&&◌, ◌==◌, not, is_some, replicate, slice_get, slice_set}
+use Rattle.std.specs.List.{flat_map, list_all}
 use Rattle.std.specs.Option.{option_map_or}
 use Rattle.mps_base.specs.declared.names.Name.{Name}
 use Rattle.mps_base.specs.declared.names.Rank.{Rank}
-use Rattle.mps_model.specs.Graph.{Graph, Object, PlainWord, entry_at, ids_in_blocks, targets, entries, holds_of, slots_of, targets_of, targets_of_point, with_last, without_name}
+use Rattle.mps_model.specs.Graph.{Graph, Object, PlainWord, entry_at, ids_in_blocks, ids_in_holds, ids_in_reservations, ids_in_slots, targets, entries, holds_of, slots_of, targets_of, targets_of_point, with_last, without_name}
 use Rattle.mps_model.specs.Collection.{Collection}
 use Rattle.mps_model.specs.World.{World, Pool, empty_world, is_live, is_running}
 use Rattle.mps_model.specs.Checked.{with_graph}
 use Rattle.mps_model.specs.Making.{graph_with_area, graph_with_blocks, graph_with_table, with_point, without_point}
 use Rattle.mps_model.specs.History.{is_held_rightly}
 use Rattle.mps_model.specs.Allocating.{with_object}
+use Rattle.mps_model.specs.Effect.{with_address}
 use Rattle.mps_laws.proofs.LeftByActs.{owners}
-use Rattle.mps_laws.proofs.Entries.{entry_at-append}
-use Rattle.mps_laws.proofs.Lookups.{entry_at-last, entry_at-after_last, entry_within}
+use Rattle.mps_laws.proofs.Entries.{entry_at-append, entry_at-written}
+use Rattle.mps_laws.proofs.Lookups.{entry_at-set_other, entry_at-last, entry_at-after_last, entry_within}
 use Rattle.mps_laws.proofs.QuietSteps.{IsSound}
 use Rattle.mps_laws.proofs.HeldIds.{All, AreHeld, area_dropped, area_made, blocks_made, message_taken, point_dropped, point_made, all-weaker, table_dropped, table_made, weaker_test}
-use Rattle.mps_laws.proofs.Referred.{SoundParts, object_made, sound_parts, sound_world}
+use Rattle.mps_laws.proofs.Referred.{AreReferred, SoundParts, object_made, sound_parts, sound_world}
 use Rattle.mps_laws.proofs.SoundEffects.{graph_sound}
 
 -- ---- the parts of a world on which soundness rests
@@ -183,3 +184,70 @@ module _ (w : World) (o : Object) (at : ℕ) where
       (λ id live other. all-weaker (is_live w) now made_lives (targets w.graph id)
       (p.referred rest id (lived_before id live (λ same. other (same ∙ lengths))))))
       rightly p.units
+
+-- ---- a block is gone
+
+gone_still : (xs : List (Option ℕ)) (i : ℕ) → entry_at xs i ≡ None → entry_at (slice_set xs i None) i ≡ None
+gone_still [] i none = refl
+gone_still (x ∷ xs) zero none = refl
+gone_still (x ∷ xs) (suc i) none = gone_still xs i none
+
+-- each id passes both tests
+all-both : (one other : ℕ → Bool) (ids : List ℕ) → All one ids → All other ids → All (λ id. one id && other id) ids
+all-both one other [] these those = refl
+all-both one other (id ∷ ids) these those =
+    let first = and_parts (one id) (list_all one ids) these in
+    let second = and_parts (other id) (list_all other ids) those in
+    and_from (one id && other id) (list_all (λ id. one id && other id) ids) (and_from (one id) (other id) first.0 second.0)
+    (all-both one other ids first.1 second.1)
+
+pub both_held : (one other : ℕ → Bool) (g : Graph) → AreHeld one g → AreHeld other g → AreHeld (λ id. one id && other id) g
+both_held one other g these those = record {
+  slots = all-both one other (ids_in_slots g) these.slots those.slots;
+  holds = all-both one other (ids_in_holds g) these.holds those.holds;
+  messages = all-both one other g.messages these.messages those.messages;
+  reservations = all-both one other (ids_in_reservations g) these.reservations those.reservations;
+}
+
+module _ (w : World) (gone : ℕ) where
+  abbrev pub is_other : ℕ → Bool
+  is_other id = not (gone == id)
+
+  abbrev pub lives_otherwise : ℕ → Bool
+  lives_otherwise id = is_live w id && is_other id
+
+  -- what lived lives still, but for the block that is gone
+  pub others_live : (id : ℕ) → lives_otherwise id ≡ true → is_live (with_address w gone None) id ≡ true
+  others_live id both =
+      let parts = and_parts (is_live w id) (is_other id) both in
+      ap is_some (entry_at-set_other w.addresses gone id None (λ same. true≢false (sym parts.1 ∙ ap not (eq-eqb gone id same)))) ∙ parts.0
+
+  pub lived_otherwise : (id : ℕ) (entry : Option ℕ) → entry_at w.addresses gone ≡ entry → is_live (with_address w gone None) id ≡ true
+      → is_live w id ≡ true
+  lived_otherwise id entry e live =
+      elim (cases_eq gone id) [
+        | inl same ↦
+            absurd (true≢false (sym live
+                ∙ ap is_some (subst (λ n. entry_at (slice_set w.addresses gone None) n ≡ None) same (none_there entry e))))
+        | inr other ↦ ap is_some (sym (entry_at-set_other w.addresses gone id None other)) ∙ live
+      ]
+    where
+      none_there : (entry : Option ℕ) → entry_at w.addresses gone ≡ entry → entry_at (slice_set w.addresses gone None) gone ≡ None
+      none_there None e = gone_still w.addresses gone e
+      none_there (Some x) e = entry_at-written w.addresses gone x None e
+
+  -- the world without a block is sound where nothing held it, and at rest nothing referred to it
+  pub gone_sound : IsSound w → AreHeld is_other w.graph → All is_other (ids_in_blocks w.graph)
+      → (is_running w ≡ false → AreReferred (is_live w) is_other w.graph) → IsSound (with_address w gone None)
+  gone_sound sound held blocks referred =
+      let p = sound_parts w sound in
+      let now = is_live (with_address w gone None) in
+      sound_world (with_address w gone None)
+      (weaker_test lives_otherwise w.graph (both_held (is_live w) is_other w.graph p.held held) now others_live)
+      (all-weaker lives_otherwise now others_live (ids_in_blocks w.graph)
+      (all-both (is_live w) is_other (ids_in_blocks w.graph) p.blocks blocks))
+      (λ rest id live.
+      let lived = lived_otherwise id (entry_at w.addresses gone) refl live in
+      all-weaker lives_otherwise now others_live (targets w.graph id)
+      (all-both (is_live w) is_other (targets w.graph id) (p.referred rest id lived) (referred rest id lived)))
+      p.kept p.units
