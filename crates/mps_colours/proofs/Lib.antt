@@ -24,3 +24,4 @@ pub mod Reclaimed
 pub mod Reclaiming
 pub mod Rows
 pub mod Barrier
+pub mod Due

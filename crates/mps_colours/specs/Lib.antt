@@ -3,4 +3,5 @@ pub mod Collecting
 pub mod Fixing
 pub mod Units
 pub mod Laws
+pub mod DueLaws
 pub mod Examples

@@ -2,6 +2,7 @@
 //! with no word, bit or forwarding in it. Each function does nothing; what it shows is its contract.
 #![tactic(auto)]
 
+ghost use Rattle.mps_colours.specs.DueLaws.{WorkIsDue};
 ghost use Rattle.mps_colours.specs.Laws.{ReachableIsKept, AUnitKeepsRunning, UnitsRunOut, ABarrierKeepsRunning};
 
 /// Once nothing but weak objects is grey, whatever is reachable from the client, or from what the collection is known to
@@ -24,4 +25,10 @@ pub fn units_run_out()
 /// A read barrier keeps the invariant, and the client never reads a white object after it.
 pub fn a_barrier_keeps_running()
     ensures { ABarrierKeepsRunning }
+{}
+
+/// The moves of units are those that are due of a `step`, of a poll and of a `park`, and the moves of a read barrier those of a
+/// `get`.
+pub fn work_is_due()
+    ensures { WorkIsDue }
 {}

@@ -1,0 +1,32 @@
+-- The moves of units and of a read barrier are those that are due of a call: of `step`, of the poll of a `reserve`, of `park` and
+-- the first part of a `collect`, and of a `get`.
+use Rattle.std.specs.Prelude.{◌≡◌, ◌≤◌, ℕ, false, IsTrue, Some, List}
+use Rattle.mps_base.specs.Segment.{Segment}
+use Rattle.mps_base.specs.declared.moves.Move.{Move}
+use Rattle.mps_base.specs.declared.names.Slot.{Slot}
+use Rattle.mps_model.specs.World.{is_unclamped}
+use Rattle.mps_model.specs.Answer.{Answer, is_refused}
+use Rattle.mps_model.specs.Checked.{slot_in}
+use Rattle.mps_model.specs.Policy.{units_of_poll}
+use Rattle.mps_model.specs.History.{AreMovesOfStep, IsPoll, FinishesCollection, AreMovesOfGet, segment_of_found}
+use Rattle.mps_colours.specs.Collecting.{Collecting, Running}
+use Rattle.mps_colours.specs.Units.{GoesOn, Ends, BarrierDone}
+
+-- what is shown of a running collection and the calls that work on it
+pub record AreDue (x : Collecting) : Type 0 where
+  -- n units of a `step`, or fewer where the collection ends in them
+  pub step : {y : Collecting} {asked : ℕ} {ms : List Move} → IsTrue (is_unclamped x.world) → GoesOn x asked ms y
+      → AreMovesOfStep x.world asked ms
+  pub last_step : {count asked : ℕ} {ms : List Move} → IsTrue (is_unclamped x.world) → Ends x count ms → count ≤ asked
+      → AreMovesOfStep x.world asked ms
+  -- the same of a poll
+  pub poll : {y : Collecting} {ms : List Move} → GoesOn x units_of_poll ms y → IsPoll x.world ms
+  pub last_poll : {count : ℕ} {ms : List Move} → Ends x count ms → count ≤ units_of_poll → IsPoll x.world ms
+  -- the collection goes on to its end
+  pub finish : {count : ℕ} {ms : List Move} → Ends x count ms → FinishesCollection x.world ms
+  -- an object of a segment is read
+  pub get : {s : Segment} {y : Collecting} {ms : List Move} (source : Slot) (answer : Answer) → BarrierDone s x ms y
+      → segment_of_found x.world (slot_in x.world source) ≡ Some s → is_refused answer ≡ false → AreMovesOfGet x.world source answer ms
+
+abbrev pub WorkIsDue : Type 0
+WorkIsDue = (x : Collecting) → Running x → AreDue x
