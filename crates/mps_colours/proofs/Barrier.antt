@@ -52,7 +52,7 @@ in_segment_at test w id h = of_address (address_of w id) h
     of_address None g = absurd (false≢true g)
     of_address (Some at) g = g
 
-live_in : (test : Address → Bool) (w : World) (id : Id) → is_live_and test w id ≡ true → is_live w id ≡ true
+pub live_in : (test : Address → Bool) (w : World) (id : Id) → is_live_and test w id ≡ true → is_live w id ≡ true
 live_in test w id h = of_address (address_of w id) h
   where
     of_address : (o : Option ℕ) → option_map_or test o false ≡ true → is_some o ≡ true

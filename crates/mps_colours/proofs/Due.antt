@@ -29,7 +29,7 @@ work_is_due x run =
       last_step = λ {count} {asked} {ms} unclamped ends most.
           when_true (AreUnits x.world asked ms) (ms ≡ []) (is_unclamped x.world && is_running x.world)
           (and_from (is_unclamped x.world) (is_running x.world) unclamped runs)
-              ((last_units_done x count ms run ends).are_units asked most);
+          ((last_units_done x count ms run ends).are_units asked most);
       poll = λ {y} {ms} row.
           when_true (AreUnits x.world units_of_poll ms) (ms ≡ poll_at_rest x.world (due_in x.world)) (is_running x.world) runs
           (units_done x y units_of_poll ms run row).are_units;

@@ -25,3 +25,4 @@ pub mod Reclaiming
 pub mod Rows
 pub mod Barrier
 pub mod Due
+pub mod LeftRightly

@@ -1,15 +1,20 @@
--- The moves of units and of a read barrier are those that are due of a call: of `step`, of the poll of a `reserve`, of `park` and
--- the first part of a `collect`, and of a `get`.
+-- What a legal step asks of a collection that runs. The moves of units and of a read barrier are those that are due of a call:
+-- of `step`, of the poll of a `reserve`, of `park` and the first part of a `collect`, and of a `get`. And what the client holds is
+-- held rightly, with units left.
 use Rattle.std.specs.Prelude.{◌≡◌, ◌≤◌, ℕ, false, IsTrue, Some, List}
+use Rattle.std.specs.List.{list_all}
+use Rattle.mps_base.specs.Address.{Id}
 use Rattle.mps_base.specs.Segment.{Segment}
 use Rattle.mps_base.specs.declared.moves.Move.{Move}
 use Rattle.mps_base.specs.declared.names.Slot.{Slot}
-use Rattle.mps_model.specs.World.{is_unclamped}
-use Rattle.mps_model.specs.Answer.{Answer, is_refused}
+use Rattle.mps_model.specs.declared.call.Call.TheVariants as call
+use Rattle.mps_model.specs.Graph.{ids_of_client}
+use Rattle.mps_model.specs.World.{is_unclamped, is_live, block_of_word}
+use Rattle.mps_model.specs.Answer.{Answer, is_refused, is_block}
 use Rattle.mps_model.specs.Checked.{slot_in}
 use Rattle.mps_model.specs.Policy.{units_of_poll}
-use Rattle.mps_model.specs.History.{AreMovesOfStep, IsPoll, FinishesCollection, AreMovesOfGet, segment_of_found}
-use Rattle.mps_colours.specs.Collecting.{Collecting, Running}
+use Rattle.mps_model.specs.History.{AreMovesOfStep, IsPoll, FinishesCollection, AreMovesOfGet, segment_of_found, are_held_kept, has_units_left, IsPossiblyMarked}
+use Rattle.mps_colours.specs.Collecting.{Collecting, Running, is_white_in}
 use Rattle.mps_colours.specs.Units.{GoesOn, Ends, BarrierDone}
 
 -- what is shown of a running collection and the calls that work on it
@@ -30,3 +35,18 @@ pub record AreDue (x : Collecting) : Type 0 where
 
 abbrev pub WorkIsDue : Type 0
 WorkIsDue = (x : Collecting) → Running x → AreDue x
+
+-- a word that is answered `block` lies in no white object
+abbrev pub IsMarkedRightly : Collecting → (word : ℕ) → Answer → Type 0
+IsMarkedRightly x word answer = IsTrue (is_block answer) → (id : Id) → block_of_word x.world word ≡ Some id → is_white_in x id ≡ false
+
+-- what a legal step asks of the world that it leaves, where a collection runs
+pub record IsLeftRightly (x : Collecting) : Type 0 where
+  pub held_live : IsTrue (list_all (is_live x.world) (ids_of_client x.world.graph))
+  pub held_kept : IsTrue (are_held_kept x.world)
+  pub units_are_left : IsTrue (has_units_left x.world)
+  -- and of a `poke` that is answered `block`, where the word lies in no white object
+  pub marked : (place : Slot) (word : ℕ) (answer : Answer) → IsMarkedRightly x word answer → IsPossiblyMarked x.world (call.Poke place word) answer
+
+abbrev pub RunningIsLegal : Type 0
+RunningIsLegal = (x : Collecting) → Running x → IsLeftRightly x

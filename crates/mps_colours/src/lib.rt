@@ -2,7 +2,7 @@
 //! with no word, bit or forwarding in it. Each function does nothing; what it shows is its contract.
 #![tactic(auto)]
 
-ghost use Rattle.mps_colours.specs.DueLaws.{WorkIsDue};
+ghost use Rattle.mps_colours.specs.DueLaws.{RunningIsLegal, WorkIsDue};
 ghost use Rattle.mps_colours.specs.Laws.{ReachableIsKept, AUnitKeepsRunning, UnitsRunOut, ABarrierKeepsRunning};
 
 /// Once nothing but weak objects is grey, whatever is reachable from the client, or from what the collection is known to
@@ -31,4 +31,10 @@ pub fn a_barrier_keeps_running()
 /// `get`.
 pub fn work_is_due()
     ensures { WorkIsDue }
+{}
+
+/// Where a collection runs, what the client holds is live and kept as a legal step asks, units are left, and `poke` answers
+/// `block` rightly.
+pub fn running_is_legal()
+    ensures { RunningIsLegal }
 {}
