@@ -47,9 +47,11 @@ module _ (x : Collecting) (run : Running x) where
   of_poked : (id : Id) → is_live x.world id ≡ true → is_white_in x id ≡ false → OfPoked x.world id (poked_in x.world id (Some x.running))
   of_poked id live black =
       elim (cases_Bool (not (is_condemned x.running id) || is_settled x.running id)) [
-        | inl kept ↦ subst (λ b. OfPoked x.world id (if b then AsBlock else (if is_copying_object x.world id then AsNumber else AsMarked))) (sym kept) tt
+        | inl kept ↦ subst (λ b. OfPoked x.world id
+            (if b then AsBlock else (if is_copying_object x.world id then AsNumber else AsMarked))) (sym kept) tt
         | inr white ↦
-            subst (λ b. OfPoked x.world id (if b then AsBlock else (if is_copying_object x.world id then AsNumber else AsMarked))) (sym white)
+            subst (λ b. OfPoked x.world id (if b then AsBlock else (if is_copying_object x.world id then AsNumber else AsMarked)))
+            (sym white)
             (of_copying (is_copying_object x.world id) (for_some (λ c. MaySurvive c id) x.world.collection x.running run.runs (may white)))
       ]
     where
@@ -80,7 +82,8 @@ module _ (x : Collecting) (run : Running x) where
           (is_live_and (λ at. is_word_in (is_copying_object x.world n) at (words_of x.world n) word) x.world n) lies in
           live_in (λ at. is_word_in (is_copying_object x.world n) at (words_of x.world n) word) x.world n parts.1
 
-  marked : (place : Slot) (word : ℕ) (answer : Answer) → IsMarkedRightly x word answer → IsPossiblyMarked x.world (call.Poke place word) answer
+  marked : (place : Slot) (word : ℕ) (answer : Answer) → IsMarkedRightly x word answer
+      → IsPossiblyMarked x.world (call.Poke place word) answer
   marked place word answer right = of_answer (is_block answer) refl
     where
       of_answer : (b : Bool) → is_block answer ≡ b → MatchBool b (OfPokedBlock x.world (block_of_word x.world word)) (Unit {0})

@@ -46,7 +46,8 @@ pub record IsLeftRightly (x : Collecting) : Type 0 where
   pub held_kept : IsTrue (are_held_kept x.world)
   pub units_are_left : IsTrue (has_units_left x.world)
   -- and of a `poke` that is answered `block`, where the word lies in no white object
-  pub marked : (place : Slot) (word : ℕ) (answer : Answer) → IsMarkedRightly x word answer → IsPossiblyMarked x.world (call.Poke place word) answer
+  pub marked : (place : Slot) (word : ℕ) (answer : Answer) → IsMarkedRightly x word answer
+      → IsPossiblyMarked x.world (call.Poke place word) answer
 
 abbrev pub RunningIsLegal : Type 0
 RunningIsLegal = (x : Collecting) → Running x → IsLeftRightly x
