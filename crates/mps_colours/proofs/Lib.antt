@@ -1,3 +1,8 @@
+pub mod HeldSegments
+pub mod FlipLists
+pub mod Flipped
+pub mod Flipping
+pub mod FlipBegins
 pub mod Lists
 pub mod Reach
 pub mod Addresses
