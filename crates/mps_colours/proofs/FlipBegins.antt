@@ -1,30 +1,25 @@
 -- The act of a flip establishes the invariant; where it condemns nothing, it ends at once.
-use Rattle.std.proofs.Common.{◌≡◌, ◌∙◌, ◌⊎◌, ℕ, Bool, true, false, refl, sym, ap, List, [], ◌∷◌, ◌++◌, map, Option, Some, None, subst, inl, inr}
-use Rattle.std.proofs.lemmas.Bool.{false≢true, true≢false, cases_Bool}
+use Rattle.std.proofs.Common.{◌≡◌, ◌∙◌, ◌⊎◌, Bool, true, false, refl, sym, ap, List, [], ◌∷◌, ◌++◌, map, Option, Some, None, subst, inl, inr}
+use Rattle.std.proofs.lemmas.Bool.{false≢true, cases_Bool}
 use Rattle.std.proofs.lemmas.List.{append-nil}
 use Rattle.std.specs.Prelude.{◌&&◌, ◌||◌, not, filter, IsTrue, is_some, if◌then◌else◌}
-use Rattle.std.specs.List.{flat_map, list_any, list_all, AllByRecursion}
-use Rattle.std.specs.Option.{option_map_or}
-use Rattle.mps_base.specs.Address.{Id, Address}
+use Rattle.std.specs.List.{flat_map, list_all, AllByRecursion}
+use Rattle.mps_base.specs.Address.{Id}
 use Rattle.mps_base.specs.Segment.{Segment}
 use Rattle.mps_base.specs.declared.moves.Move.{Move}
 use Rattle.mps_base.specs.declared.moves.Move.TheVariants as moves
-use Rattle.mps_model.specs.Graph.{Graph, contains, ids_of_client, ids_in_slots, ids_in_holds, ids_in_reservations, targets, targets_of_point}
-use Rattle.mps_model.specs.Collection.{Collection, is_condemned, is_settled, is_kept_in_place, is_surely_kept, MaySurvive}
-use Rattle.mps_model.specs.World.{World, is_live, is_running, is_copying_object, has_area_word, live_automatic_ids, object_is}
+use Rattle.mps_model.specs.Graph.{Graph, contains, ids_of_client, ids_in_slots, ids_in_holds, ids_in_reservations, targets_of_point}
+use Rattle.mps_model.specs.Collection.{is_condemned, is_settled, is_kept_in_place, MaySurvive}
+use Rattle.mps_model.specs.World.{World, is_live, is_copying_object, has_area_word, live_automatic_ids}
 use Rattle.mps_model.specs.Accessing.{address_or_null}
 use Rattle.mps_model.specs.Placement.{ForMove, placement_of}
-use Rattle.mps_model.specs.Effect.{Condemnation, condemnation_of, chain_of, oldest_of, condemned_by, condemned_zones, condemned_ids, lies_in_one, doomed, world_flipped, after_flip, world_after_move, world_after_moves}
-use Rattle.mps_model.specs.LegalMove.{ForOne, IsLegalMove, IsLegalEnd, AreLegalMoves, first_move, live_condemned, holds_something}
-use Rattle.mps_model.specs.Flip.{must_be_fixed, moves_to, fix, fix_all, flip_of, end_where, is_nothing, world_at_flip, flip_act}
-use Rattle.mps_model.specs.WellFormed.{is_live_automatic}
-use Rattle.mps_model.proofs.Reaching.{list_all-contains}
-use Rattle.mps_colours.specs.Colours.{is_white, AllReferredLive}
+use Rattle.mps_model.specs.Effect.{Condemnation, condemned_by, condemned_zones, lies_in_one, doomed, world_flipped, after_flip, world_after_moves}
+use Rattle.mps_model.specs.LegalMove.{ForOne, IsLegalMove, IsLegalEnd, AreLegalMoves, first_move, holds_something}
+use Rattle.mps_model.specs.Flip.{moves_to, fix, fix_all, flip_of, end_where, is_nothing, world_at_flip, flip_act}
+use Rattle.mps_colours.specs.Colours.{AllReferredLive}
 use Rattle.mps_colours.specs.Collecting.{Collecting, Running, is_white_in}
-use Rattle.mps_colours.specs.Fixing.{Fixes}
 use Rattle.mps_colours.specs.FlipLaws.{IsAtRest, IsNumbered, flipped, AreRemembered, FixesHeld, IsFlipDone, IsFlipEnded, AFlipBeginsRunning}
 use Rattle.mps_colours.proofs.Lists.{contains_append, contains_left, contains_right, contains-filter}
-use Rattle.mps_colours.proofs.Addresses.{is_listed_automatic}
 use Rattle.mps_colours.proofs.Keeping.{not_white_if_kept, not_white_outside}
 use Rattle.mps_colours.proofs.Joining.{legal_alone}
 use Rattle.mps_colours.proofs.FlipLists.{holds_show}
@@ -72,9 +67,9 @@ running_with_client y r held = record {
 client_cases : (g : Graph) (id : Id) → ids_in_reservations g ≡ [] → contains (ids_of_client g) id ≡ true
     → (contains (ids_in_slots g ++ g.messages) id ≡ true) ⊎ (contains (ids_in_holds g) id ≡ true)
 client_cases g id none h = elim (contains_append ((ids_in_slots g ++ ids_in_holds g) ++ g.messages) (ids_in_reservations g) id h) [
-  inl e ↦ elim (contains_append (ids_in_slots g ++ ids_in_holds g) g.messages id e) [
-    inl f ↦ elim (contains_append (ids_in_slots g) (ids_in_holds g) id f) [
-      inl slot ↦ inl (contains_left (ids_in_slots g) g.messages id slot)
+  | inl e ↦ elim (contains_append (ids_in_slots g ++ ids_in_holds g) g.messages id e) [
+    | inl f ↦ elim (contains_append (ids_in_slots g) (ids_in_holds g) id f) [
+      | inl slot ↦ inl (contains_left (ids_in_slots g) g.messages id slot)
       | inr hold ↦ inr hold
     ]
     | inr message ↦ inl (contains_right (ids_in_slots g) g.messages id message)
@@ -85,7 +80,7 @@ client_cases g id none h = elim (contains_append ((ids_in_slots g ++ ids_in_hold
 client_of_fixed : (g : Graph) (id : Id) → contains (ids_in_slots g ++ g.messages) id ≡ true → contains (ids_of_client g) id ≡ true
 client_of_fixed g id h = contains_left ((ids_in_slots g ++ ids_in_holds g) ++ g.messages) (ids_in_reservations g) id
     (elim (contains_append (ids_in_slots g) g.messages id h) [
-      inl slot ↦ contains_left (ids_in_slots g ++ ids_in_holds g) g.messages id (contains_left (ids_in_slots g) (ids_in_holds g) id slot)
+      | inl slot ↦ contains_left (ids_in_slots g ++ ids_in_holds g) g.messages id (contains_left (ids_in_slots g) (ids_in_holds g) id slot)
       | inr message ↦ contains_right (ids_in_slots g ++ ids_in_holds g) g.messages id message
     ])
 
@@ -94,7 +89,7 @@ client_no_more : (w : World) (id : Id) → contains ((ids_in_slots w.graph ++ id
     ++ flat_map targets_of_point (map doomed w.graph.points)) id ≡ true → contains (ids_of_client w.graph) id ≡ true
 client_no_more w id h =
     elim (contains_append ((ids_in_slots w.graph ++ ids_in_holds w.graph) ++ w.graph.messages) (flat_map targets_of_point (map doomed w.graph.points)) id h) [
-      inl e ↦ contains_left ((ids_in_slots w.graph ++ ids_in_holds w.graph) ++ w.graph.messages) (ids_in_reservations w.graph) id e
+      | inl e ↦ contains_left ((ids_in_slots w.graph ++ ids_in_holds w.graph) ++ w.graph.messages) (ids_in_reservations w.graph) id e
       | inr e ↦ absurd (false≢true (subst (λ (ids : List Id). contains ids id ≡ true) (none_of_doomed w.graph.points) e))
     ]
 
@@ -127,10 +122,12 @@ module _ (w : World) (what : Condemnation) (others : List Id) (ms : List Move) (
   }
 
   roots : AreRoots x (ids_in_slots w.graph ++ w.graph.messages)
-  roots id h = (rest.held_live id (client_of_fixed w.graph id h),
-      contains_left ((ids_in_slots w.graph ++ w.graph.messages) ++ x.running.pinned)
-      (filter (λ n. not (contains x.running.condemned n)) (live_automatic_ids w)) id
-      (contains_left (ids_in_slots w.graph ++ w.graph.messages) x.running.pinned id h))
+  roots id h = (
+    rest.held_live id (client_of_fixed w.graph id h),
+    contains_left ((ids_in_slots w.graph ++ w.graph.messages) ++ x.running.pinned)
+        (filter (λ n. not (contains x.running.condemned n)) (live_automatic_ids w)) id
+        (contains_left (ids_in_slots w.graph ++ w.graph.messages) x.running.pinned id h),
+  )
 
   all : AreFixed x (ids_in_slots w.graph ++ w.graph.messages) ms y
   all = flip_fixes fixed begun roots
@@ -138,24 +135,25 @@ module _ (w : World) (what : Condemnation) (others : List Id) (ms : List Move) (
   -- what an area word holds is pinned, or wasn't condemned
   hold_kept : (id : Id) → contains (ids_in_holds w.graph) id ≡ true → is_white_in x id ≡ false
   hold_kept id h = elim (cases_Bool (is_condemned x.running id)) [
-    inl is ↦ not_white_if_kept x.running.condemned x.colours id (Rattle.mps_colours.proofs.Lists.contains_filtered (has_area_word w) x.running.condemned id
+    | inl is ↦ not_white_if_kept x.running.condemned x.colours id (Rattle.mps_colours.proofs.Lists.contains_filtered (has_area_word w) x.running.condemned id
         (holds_show w w.graph.areas id rest.well_formed.words h) is)
     | inr isnt ↦ not_white_outside x.running.condemned x.colours id isnt
   ]
 
   held : (id : Id) → contains (ids_of_client y.world.graph) id ≡ true → (is_live y.world id ≡ true) × (is_white_in y id ≡ false)
   held id h =
-      let before = subst (λ (g : Graph). contains (ids_of_client g) id ≡ true) all.graph h in
-      (all.live id ∙ rest.held_live id (client_no_more w id before),
-      elim (client_cases x.world.graph id (none_of_doomed w.graph.points) before) [
-        inl fix ↦ all.fixed id fix
-        | inr hold ↦ all.black id (hold_kept id hold)
-      ])
+      let before = subst (λ (g : Graph). contains (ids_of_client g) id ≡ true) all.graph h in (
+        all.live id ∙ rest.held_live id (client_no_more w id before),
+        elim (client_cases x.world.graph id (none_of_doomed w.graph.points) before) [
+          | inl fix ↦ all.fixed id fix
+          | inr hold ↦ all.black id (hold_kept id hold)
+        ],
+      )
 
   act : flip_act w what ≡ flip_of w what ∷ ms
   act =
       ap (λ (v : World). flip_of w what ∷ fix_all v (ids_in_slots w.graph ++ w.graph.messages) ++ end_where (is_nothing (condemned_by w what)))
-        (at_flip w what numbered)
+      (at_flip w what numbered)
       ∙ ap (λ these. flip_of w what ∷ these ++ end_where (is_nothing (condemned_by w what))) all.act
       ∙ ap (λ b. flip_of w what ∷ ms ++ end_where b) some
       ∙ ap (λ these. flip_of w what ∷ these) (append-nil ms)
@@ -164,10 +162,11 @@ module _ (w : World) (what : Condemnation) (others : List Id) (ms : List Move) (
   flip_done = record {
     act = act;
     leads = ap (world_after_moves w) act ∙ ap (λ (v : World). world_after_moves v ms) (at_flip w what numbered) ∙ all.leads;
-    legal = subst (λ these. AreLegalMoves w None these) (sym act)
-        (flip_legal w what (first_move ms) rest numbered,
-        subst (λ (v : World). AreLegalMoves v (Some (flip_of w what)) ms) (sym (at_flip w what numbered))
-          (legal_alone x.world (Some (flip_of w what)) ms all.legal));
+    legal = subst (λ these. AreLegalMoves w None these) (sym act) (
+      flip_legal w what (first_move ms) rest numbered,
+      subst (λ (v : World). AreLegalMoves v (Some (flip_of w what)) ms) (sym (at_flip w what numbered))
+          (legal_alone x.world (Some (flip_of w what)) ms all.legal),
+    );
     running = running_with_client y all.flipping.running held;
   }
 
@@ -198,7 +197,7 @@ module _ (w : World) (what : Condemnation) (rest : IsAtRest w) (numbered : IsNum
   no_fix : (id : Id) → fix empty.world id ≡ []
   no_fix id =
       ap (λ ids. if not (not (contains ids id) || is_settled empty.running id) && is_copying_object w id
-          then moves_to empty.world id (address_or_null w id) (placement_of empty.world (ForMove id)) else []) none_condemned
+      then moves_to empty.world id (address_or_null w id) (placement_of empty.world (ForMove id)) else []) none_condemned
 
   no_fixes : (ids : List Id) → fix_all empty.world ids ≡ []
   no_fixes [] = refl
@@ -207,7 +206,7 @@ module _ (w : World) (what : Condemnation) (rest : IsAtRest w) (numbered : IsNum
   ended_act : flip_act w what ≡ flip_of w what ∷ moves.End ∷ []
   ended_act =
       ap (λ (v : World). flip_of w what ∷ fix_all v (ids_in_slots w.graph ++ w.graph.messages) ++ end_where (is_nothing (condemned_by w what)))
-        (at_flip w what numbered)
+      (at_flip w what numbered)
       ∙ ap (λ these. flip_of w what ∷ these ++ end_where (is_nothing (condemned_by w what))) (no_fixes (ids_in_slots w.graph ++ w.graph.messages))
       ∙ ap (λ b. flip_of w what ∷ end_where b) nothing
 
@@ -225,9 +224,10 @@ module _ (w : World) (what : Condemnation) (rest : IsAtRest w) (numbered : IsNum
   pub flip_ended : IsFlipEnded w what
   flip_ended = record {
     act = ended_act;
-    legal = subst (λ these. AreLegalMoves w None these) (sym ended_act)
-        (flip_legal w what (Some moves.End) rest numbered,
-        (subst (λ (v : World). ForOne v.collection (IsLegalEnd v)) (sym (at_flip w what numbered)) end_legal, tt));
+    legal = subst (λ these. AreLegalMoves w None these) (sym ended_act) (
+      flip_legal w what (Some moves.End) rest numbered,
+      (subst (λ (v : World). ForOne v.collection (IsLegalEnd v)) (sym (at_flip w what numbered)) end_legal, tt),
+    );
     ended = ap (λ (v : World). v.collection) leaves;
     held_live = λ id h. ap (λ (v : World). is_live v id) leaves
         ∙ rest.held_live id (client_no_more w id (subst (λ (v : World). contains (ids_of_client v.graph) id ≡ true) leaves h));
@@ -235,5 +235,7 @@ module _ (w : World) (what : Condemnation) (rest : IsAtRest w) (numbered : IsNum
   }
 
 pub a_flip_begins_running : AFlipBeginsRunning
-a_flip_begins_running = ((λ w what others ms y rest numbered some remembered fixed. flip_done w what others ms y rest numbered some remembered fixed),
-    (λ w what rest numbered nothing. flip_ended w what rest numbered nothing))
+a_flip_begins_running = (
+  (λ w what others ms y rest numbered some remembered fixed. flip_done w what others ms y rest numbered some remembered fixed),
+  (λ w what rest numbered nothing. flip_ended w what rest numbered nothing),
+)

@@ -1,9 +1,9 @@
 -- Lists that a flip counts and cuts, and the words of areas that hold objects.
-use Rattle.std.proofs.Common.{◌≡◌, ◌∙◌, ◌⊎◌, ℕ, ◌+◌, ◌≤◌, Bool, true, false, cond, refl, sym, ap, List, [], ◌∷◌, ◌++◌, length, map, Option, Some, None, subst, inl, inr, arith}
-use Rattle.std.proofs.lemmas.Bool.{false≢true, and_parts, or_left, or_right, cases_Bool}
+use Rattle.std.proofs.Common.{◌≡◌, ◌∙◌, ◌⊎◌, ℕ, ◌+◌, ◌≤◌, Bool, true, false, cond, refl, sym, List, [], ◌∷◌, ◌++◌, length, map, Option, Some, None, subst, inl, inr, arith}
+use Rattle.std.proofs.lemmas.Bool.{false≢true, and_parts, or_left, or_right}
 use Rattle.std.proofs.lemmas.List.Sums.{sum_by-cons}
 use Rattle.std.proofs.lemmas.List.Folds.{list_any-append}
-use Rattle.std.specs.Prelude.{◌==◌, ◌&&◌, ◌||◌, if◌then◌else◌, filter, count_by}
+use Rattle.std.specs.Prelude.{if◌then◌else◌, filter, count_by}
 use Rattle.std.specs.List.{list_any, list_all, flat_map}
 use Rattle.mps_base.specs.Address.{Id}
 use Rattle.mps_model.specs.Graph.{AreaWord, PlainWord, Hold, contains, entries, held_by_word, holds_of}
@@ -35,10 +35,10 @@ pub filtered_le : {X : Type 0} (p q : X → Bool) (xs : List X) → ((x : X) →
 filtered_le p q [] sub = omega arith
 filtered_le p q (x ∷ xs) sub =
     elim (p x) as (λ b. p x ≡ b → length (if b then x ∷ filter p xs else filter p xs) ≤ length (filter q (x ∷ xs))) [
-      true ↦ (λ e. subst (λ b. length (x ∷ filter p xs) ≤ length (if b then x ∷ filter q xs else filter q xs)) (sym (sub x e))
+      | true ↦ (λ e. subst (λ b. length (x ∷ filter p xs) ≤ length (if b then x ∷ filter q xs else filter q xs)) (sym (sub x e))
           (let rest = filtered_le p q xs sub in omega (arith, rest)))
       | false ↦ (λ e. elim (q x) as (λ b. length (filter p xs) ≤ length (if b then x ∷ filter q xs else filter q xs)) [
-        true ↦ let rest = filtered_le p q xs sub in omega (arith, rest)
+        | true ↦ let rest = filtered_le p q xs sub in omega (arith, rest)
         | false ↦ filtered_le p q xs sub
       ])
     ] refl
@@ -57,7 +57,7 @@ words_show w (PlainWord number ∷ words) id all h =
 words_show w (Hold held offset ∷ words) id all h =
     let parts = and_parts (lies_in w (shown_word w (Hold held offset)) held) (list_all (is_right_word w) words) all in
     elim (contains_cases held (entries (map held_by_word words)) id h) [
-      inl same ↦ or_left (lies_in w (shown_word w (Hold held offset)) id) (list_any (λ word. lies_in w word id) (map (shown_word w) words))
+      | inl same ↦ or_left (lies_in w (shown_word w (Hold held offset)) id) (list_any (λ word. lies_in w word id) (map (shown_word w) words))
           (subst (λ n. lies_in w (shown_word w (Hold held offset)) n ≡ true) same parts.0)
       | inr later ↦ or_right (lies_in w (shown_word w (Hold held offset)) id) (list_any (λ word. lies_in w word id) (map (shown_word w) words))
           (words_show w words id parts.1 later)
@@ -72,6 +72,6 @@ holds_show w (Some words ∷ areas) id all h =
     let parts = and_parts (list_all (is_right_word w) words) (list_all (are_right_words w) areas) all in
     any_append (λ word. lies_in w word id) (map (shown_word w) words) (flat_map (shown_words w) areas)
     (elim (contains_append (entries (map held_by_word words)) (flat_map holds_of areas) id h) [
-      inl here ↦ inl (words_show w words id parts.0 here)
+      | inl here ↦ inl (words_show w words id parts.0 here)
       | inr later ↦ inr (holds_show w areas id parts.1 later)
     ])

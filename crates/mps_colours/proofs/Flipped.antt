@@ -1,31 +1,31 @@
 -- The state right after the record of a flip: all of the invariant holds but what it says of the client, whose roots the act
 -- of the flip has still to fix.
-use Rattle.std.proofs.Common.{◌≡◌, ◌∙◌, ◌⊎◌, ℕ, ◌+◌, ◌-◌, ◌<◌, ◌≤◌, Bool, true, false, refl, sym, ap, List, [], ◌∷◌, ◌++◌, length, map, Option, Some, None, subst, inl, inr, arith}
-use Rattle.std.proofs.lemmas.Bool.{false≢true, true≢false, and_parts, or_cases, or_left, or_right, cases_Bool}
+use Rattle.std.proofs.Common.{◌≡◌, ◌∙◌, ◌⊎◌, ℕ, ◌<◌, ◌≤◌, Bool, true, false, refl, sym, ap, List, [], ◌∷◌, ◌++◌, length, map, Option, Some, None, subst, inl, inr, arith}
+use Rattle.std.proofs.lemmas.Bool.{false≢true, true≢false, and_parts, or_cases, or_left, cases_Bool}
 use Rattle.std.proofs.lemmas.List.{length-map}
 use Rattle.std.proofs.lemmas.List.Sums.{count_by-le-length}
 use Rattle.std.specs.Prelude.{◌==◌, ◌&&◌, ◌||◌, not, filter, is_some, IsTrue, count_by, nat_le, nat_lt, option_map, slice_get}
 use Rattle.std.specs.List.{flat_map, list_any}
 use Rattle.std.specs.Option.{option_map_or}
 use Rattle.mps_base.specs.Address.{Id, Address}
-use Rattle.mps_base.specs.Segment.{Segment, is_in_segment, segment_over}
+use Rattle.mps_base.specs.Segment.{Segment, is_in_segment}
 use Rattle.mps_model.specs.Graph.{Graph, Object, Body, Automatic, Manual, Point, Reservation, contains, entry_at, targets, targets_of, targets_of_body, targets_of_point, targets_of_reservation, is_automatic, is_automatic_body, object_at, ids_of_client, ids_in_slots}
 use Rattle.mps_model.specs.Reachable.{begins, goes_on}
-use Rattle.mps_model.specs.Collection.{Collection, is_condemned}
+use Rattle.mps_model.specs.Collection.{is_condemned}
 use Rattle.mps_model.specs.World.{World, is_live, is_live_and, object_is, live_ids, live_automatic_ids, has_area_word, is_automatic_kind, pool_is, address_of}
-use Rattle.mps_model.specs.Effect.{Condemnation, Everything, Generations, is_condemned_by, condemned_by, condemned_zones, condemned_ids, lies_in_one, is_on_chain, doomed, world_flipped, collection_at_flip, segment_base_of, after_flip}
+use Rattle.mps_model.specs.Effect.{Condemnation, Everything, Generations, is_condemned_by, condemned_by, condemned_zones, lies_in_one, is_on_chain, doomed, world_flipped, segment_base_of}
 use Rattle.mps_model.specs.LegalMove.{ForOne}
 use Rattle.mps_model.specs.Flip.{is_nothing}
 use Rattle.mps_model.specs.WellFormed.{is_live_automatic}
 use Rattle.mps_model.proofs.Reaching.{list_all-contains}
-use Rattle.mps_colours.specs.Colours.{Colours, is_white, is_grey, is_to_scan, Survives}
-use Rattle.mps_colours.specs.Collecting.{Collecting, Running, segments_left, objects_left, units_left, IsToGo}
+use Rattle.mps_colours.specs.Colours.{is_white, is_grey, is_to_scan, Survives}
+use Rattle.mps_colours.specs.Collecting.{Collecting, Running, segments_left}
 use Rattle.mps_colours.specs.FlipLaws.{IsAtRest, flipped, AreRemembered}
 use Rattle.mps_colours.proofs.Lists.{contains_append, contains_left, contains_right, contains-filter, contains_filtered, index_below}
 use Rattle.mps_colours.proofs.Addresses.{automatic_is_live, is_listed_automatic}
 use Rattle.mps_colours.proofs.Keeping.{is_condemned_if_white, not_white_outside, kept_if_not_white, not_white_if_kept}
 use Rattle.mps_colours.proofs.Joining.{for_some}
-use Rattle.mps_colours.proofs.HeldSegments.{AreOrdered, IsAmong, segments_ordered, among_from, over_among, held_among, among_filtered, IsBaseOf, base_among, base_contained, PassesOne, any_among, bases_ascend}
+use Rattle.mps_colours.proofs.HeldSegments.{AreOrdered, segments_ordered, among_from, over_among, held_among, among_filtered, IsBaseOf, base_among, base_contained, any_among, bases_ascend}
 use Rattle.mps_colours.proofs.FlipLists.{count_filtered, filtered_le}
 
 -- ---- a state without what the client holds in tables, areas and messages
@@ -67,13 +67,13 @@ at_address_passes test o at e h = subst (λ p. option_map_or test p false ≡ tr
 
 not_in_left : (xs ys : List Id) (n : Id) → contains (xs ++ ys) n ≡ false → contains xs n ≡ false
 not_in_left xs ys n h = elim (cases_Bool (contains xs n)) [
-  inl is ↦ absurd (true≢false (sym (contains_left xs ys n is) ∙ h))
+  | inl is ↦ absurd (true≢false (sym (contains_left xs ys n is) ∙ h))
   | inr isnt ↦ isnt
 ]
 
 not_in_right : (xs ys : List Id) (n : Id) → contains (xs ++ ys) n ≡ false → contains ys n ≡ false
 not_in_right xs ys n h = elim (cases_Bool (contains ys n)) [
-  inl is ↦ absurd (true≢false (sym (contains_right xs ys n is) ∙ h))
+  | inl is ↦ absurd (true≢false (sym (contains_right xs ys n is) ∙ h))
   | inr isnt ↦ isnt
 ]
 
@@ -129,7 +129,7 @@ module _ (w : World) (what : Condemnation) (others : List Id) (rest : IsAtRest w
 
   grey_automatic : (id : Id) → is_grey x.colours id ≡ true → object_is is_automatic w id ≡ true
   grey_automatic id h = elim (grey_cases id h) [
-    inl pinned ↦ automatic id (pinned_condemned id pinned)
+    | inl pinned ↦ automatic id (pinned_condemned id pinned)
     | inr other ↦ remembered.automatic id other
   ]
 
@@ -150,7 +150,7 @@ module _ (w : World) (what : Condemnation) (others : List Id) (rest : IsAtRest w
       let among = among_filtered passes of.segment w.segments of.among in
       for_some (λ (s : Segment). pool_is is_automatic_kind w s.pool ≡ true) (Rattle.std.specs.Prelude.find (λ s. s.base == base) w.segments) of.segment
       (subst (λ n. Rattle.std.specs.Prelude.find (λ s. s.base == n) w.segments ≡ Some of.segment) of.has_base
-        (held_among 1 of.segment w.segments in_order among.0))
+      (held_among 1 of.segment w.segments in_order among.0))
       (condemned_automatic (world_flipped w (condemned_zones w what)) what of.segment rest.on_chains among.1)
 
   -- an object that is condemned lies in a condemned segment
@@ -158,10 +158,10 @@ module _ (w : World) (what : Condemnation) (others : List Id) (rest : IsAtRest w
       → contains x.running.condemned_segments (segment_base_of w at) ≡ true
   lies_in_condemned id at e is =
       let one = any_among (λ s. is_live_and (is_in_segment s) w id) (filter passes w.segments)
-          (contains-filter (lies_in_one x.world (filter passes w.segments)) (live_automatic_ids w) id is).1 in
+      (contains-filter (lies_in_one x.world (filter passes w.segments)) (live_automatic_ids w) id is).1 in
       let among = among_filtered passes one.segment w.segments one.among in
       let over = over_among 1 one.segment w.segments at in_order among.0
-          (at_address_passes (is_in_segment one.segment) (address_of w id) at e one.passes) in
+      (at_address_passes (is_in_segment one.segment) (address_of w id) at e one.passes) in
       let same : segment_base_of w at ≡ one.segment.base = ap (λ o. option_map_or (λ (s : Segment). s.base) o 0) over in
       ap (contains x.running.condemned_segments) same ∙ base_contained one.segment (filter passes w.segments) one.among
 
@@ -169,7 +169,7 @@ module _ (w : World) (what : Condemnation) (others : List Id) (rest : IsAtRest w
 
   to_scan_automatic : (id : Id) → is_to_scan x.running.condemned x.colours id ≡ true → object_is is_automatic w id ≡ true
   to_scan_automatic id h = elim (or_cases (is_white x.running.condemned x.colours id) (is_grey x.colours id) h) [
-    inl white ↦ automatic id (is_condemned_if_white x.running.condemned x.colours id white)
+    | inl white ↦ automatic id (is_condemned_if_white x.running.condemned x.colours id white)
     | inr grey ↦ grey_automatic id grey
   ]
 
@@ -178,14 +178,14 @@ module _ (w : World) (what : Condemnation) (others : List Id) (rest : IsAtRest w
       let most = count_by-le-length (nat_le 0) x.running.condemned_segments in
       let same = length-map (filter passes w.segments) (λ (s : Segment). s.base) in
       let less = filtered_le passes (λ (s : Segment). pool_is is_automatic_kind w s.pool) w.segments
-          (λ s h. condemned_automatic (world_flipped w (condemned_zones w what)) what s rest.on_chains h) in
+      (λ s h. condemned_automatic (world_flipped w (condemned_zones w what)) what s rest.on_chains h) in
       omega (arith, most, same, less)
 
   -- ---- all together
 
   survives : (id : Id) → is_white x.running.condemned x.colours id ≡ false → Survives x.running id
   survives id black = elim (cases_Bool (is_condemned x.running id)) [
-    inl is ↦ inr (begins (contains_left ((ids_in_slots w.graph ++ w.graph.messages) ++ x.running.pinned)
+    | inl is ↦ inr (begins (contains_left ((ids_in_slots w.graph ++ w.graph.messages) ++ x.running.pinned)
         (filter (λ n. not (contains x.running.condemned n)) (live_automatic_ids w)) id
         (contains_right (ids_in_slots w.graph ++ w.graph.messages) x.running.pinned id (pinned_if_black id is black))))
     | inr isnt ↦ inl isnt
@@ -195,9 +195,9 @@ module _ (w : World) (what : Condemnation) (others : List Id) (rest : IsAtRest w
       → Survives x.running target
   referred_survives id target there isnt h =
       inr (goes_on (begins (contains_right ((ids_in_slots w.graph ++ w.graph.messages) ++ x.running.pinned)
-        (filter (λ n. not (contains x.running.condemned n)) (live_automatic_ids w)) id
-        (contains_filtered (λ n. not (contains x.running.condemned n)) (live_automatic_ids w) id (ap not isnt)
-        (is_listed_automatic w id there (refers_automatic (object_at w.graph id) target h))))) h)
+      (filter (λ n. not (contains x.running.condemned n)) (live_automatic_ids w)) id
+      (contains_filtered (λ n. not (contains x.running.condemned n)) (live_automatic_ids w) id (ap not isnt)
+      (is_listed_automatic w id there (refers_automatic (object_at w.graph id) target h))))) h)
 
   not_registered_later : (position : ℕ) (id : Id) → slice_get w.graph.registered position ≡ Some id
       → (position < 0) ⊎ (length w.graph.registered ≤ position) → ⊥
@@ -221,7 +221,7 @@ module _ (w : World) (what : Condemnation) (others : List Id) (rest : IsAtRest w
       held = λ id h. absurd (no_roots id h);
       referred_live = λ id target there black h. rest.referred_live id target there h;
       referred = λ id target there black grey h. elim (cases_Bool (is_condemned x.running id)) [
-        inl is ↦ absurd (false≢true (sym (not_in_left x.running.pinned others id grey) ∙ pinned_if_black id is black))
+        | inl is ↦ absurd (false≢true (sym (not_in_left x.running.pinned others id grey) ∙ pinned_if_black id is black))
         | inr isnt ↦ remembered.rest id target there isnt (not_in_right x.running.pinned others id grey) h
       ];
     };
@@ -229,13 +229,13 @@ module _ (w : World) (what : Condemnation) (others : List Id) (rest : IsAtRest w
       grey_live = λ id h. elim (grey_cases id h) [ inl pinned ↦ live id (pinned_condemned id pinned) | inr other ↦ remembered.live id other ];
       grey_automatic = grey_automatic;
       grey_kept = λ id h. elim (grey_cases id h) [
-        inl pinned ↦ not_white_if_kept x.running.condemned x.colours id pinned
+        | inl pinned ↦ not_white_if_kept x.running.condemned x.colours id pinned
         | inr other ↦ not_white_outside x.running.condemned x.colours id (remembered.outside id other)
       ];
     };
     settled = record {
       settled = λ id h. elim (or_cases (contains x.running.pinned id) false h) [
-        inl pinned ↦ not_white_if_kept x.running.condemned x.colours id pinned
+        | inl pinned ↦ not_white_if_kept x.running.condemned x.colours id pinned
         | inr none ↦ absurd (false≢true none)
       ];
       in_place = λ id copying is black. or_left (contains x.running.pinned id) false (pinned_if_black id is black);

@@ -1,12 +1,12 @@
 -- The act of a flip: what slots and messages hold is fixed by the moves that the model computes, and then the invariant holds.
-use Rattle.std.proofs.Common.{◌≡◌, ◌∙◌, ◌⊎◌, ℕ, Bool, true, false, refl, sym, ap, List, [], ◌∷◌, ◌++◌, Option, Some, None, subst, inl, inr}
-use Rattle.std.proofs.lemmas.Bool.{false≢true, true≢false, and_parts, or_cases, eqb-true, cases_Bool}
+use Rattle.std.proofs.Common.{◌≡◌, ◌∙◌, Bool, true, false, refl, sym, ap, List, [], ◌∷◌, ◌++◌, Some, subst, inl, inr}
+use Rattle.std.proofs.lemmas.Bool.{false≢true, true≢false, eqb-true, cases_Bool}
 use Rattle.std.specs.Prelude.{◌==◌, ◌&&◌, ◌||◌, not, if◌then◌else◌}
 use Rattle.std.specs.Option.{option_map_or}
-use Rattle.mps_base.specs.Address.{Id, Address}
+use Rattle.mps_base.specs.Address.{Id}
 use Rattle.mps_base.specs.Placement.{Placement, Place, NewSegment, OverLimit, NoFreeRun}
 use Rattle.mps_base.specs.declared.moves.Move.{Move}
-use Rattle.mps_model.specs.Graph.{Graph, contains}
+use Rattle.mps_model.specs.Graph.{contains}
 use Rattle.mps_model.specs.Reachable.{begins}
 use Rattle.mps_model.specs.Collection.{Collection, is_condemned, is_settled, is_surely_kept}
 use Rattle.mps_model.specs.World.{World, is_live, is_copying_object}
@@ -16,7 +16,7 @@ use Rattle.mps_model.specs.Effect.{placing, world_after_moves}
 use Rattle.mps_model.specs.LegalMove.{has_no_room}
 use Rattle.mps_model.specs.Flip.{must_be_fixed, moves_to, fix, fix_all}
 use Rattle.mps_model.proofs.Cutting.{world_after_moves-append}
-use Rattle.mps_colours.specs.Colours.{Colours, is_white, keeping, Survives}
+use Rattle.mps_colours.specs.Colours.{Colours, is_white, keeping}
 use Rattle.mps_colours.specs.Collecting.{Collecting, Running, is_tracing_band, is_white_in}
 use Rattle.mps_colours.specs.Fixing.{Keeps, marks, moves_to_place, moves_to_segment, stays, kept_by, stays_at, Fixes, fixes_no_more, passes, keeps}
 use Rattle.mps_colours.proofs.Lists.{contains_here, contains_later, contains_cases}
@@ -76,7 +76,7 @@ placed_same w w' c k id alike same n h =
 marked_same : (w : World) (c : Collection) (k : Colours) (id : Id) → is_copying_object w id ≡ false → AreKeptSettled w c k
     → AreKeptSettled w c (keeping k id)
 marked_same w c k id other same n h = elim (cases_Bool (id == n)) [
-  inl e ↦ absurd (false≢true (sym other ∙ ap (is_copying_object w) (eqb-true id n e) ∙ h))
+  | inl e ↦ absurd (false≢true (sym other ∙ ap (is_copying_object w) (eqb-true id n e) ∙ h))
   | inr e ↦ ap (λ b. b || contains k.kept n) e ∙ same n h
 ]
 
@@ -211,7 +211,7 @@ flip_fixes (passes {x} {y} {id} {ids} {ms} black rest) f roots =
       live = r.live;
       black = r.black;
       fixed = λ n h. elim (contains_cases id ids n h) [
-        inl same ↦ r.black n (subst (λ m. is_white_in x m ≡ false) same black)
+        | inl same ↦ r.black n (subst (λ m. is_white_in x m ≡ false) same black)
         | inr later ↦ r.fixed n later
       ];
     }
@@ -219,7 +219,7 @@ flip_fixes (keeps {x} {y} {id} {ids} {these} {those} {c} white ks rest) f roots 
     let root = roots id (contains_here id ids) in
     let one = one_kept x id these c f white root.0 root.1 ks in
     let r = flip_fixes rest one.flipping (λ n h. let it = roots n (contains_later id ids n h) in
-        (one.live n ∙ it.0, ap (λ os. contains os n) one.origins ∙ it.1)) in
+    (one.live n ∙ it.0, ap (λ os. contains os n) one.origins ∙ it.1)) in
     record {
       flipping = r.flipping;
       leads = world_after_moves-append x.world these those ∙ r.leads;
@@ -230,7 +230,7 @@ flip_fixes (keeps {x} {y} {id} {ids} {these} {those} {c} white ks rest) f roots 
       live = λ n. r.live n ∙ one.live n;
       black = λ n h. r.black n (ap (λ ids. is_white ids (keeping x.colours id) n) one.condemned ∙ still_kept x.running.condemned x.colours id n h);
       fixed = λ n h. elim (contains_cases id ids n h) [
-        inl same ↦ r.black n (ap (λ ids. is_white ids (keeping x.colours id) n) one.condemned
+        | inl same ↦ r.black n (ap (λ ids. is_white ids (keeping x.colours id) n) one.condemned
             ∙ subst (λ m. is_white x.running.condemned (keeping x.colours id) m ≡ false) same (it_is_kept x.running.condemned x.colours id))
         | inr later ↦ r.fixed n later
       ];

@@ -1,10 +1,10 @@
 -- Held segments of a well-formed world: their bases ascend, and an address lies in one of them at the most.
-use Rattle.std.proofs.Common.{◌≡◌, ◌∙◌, ◌⊎◌, ℕ, ◌+◌, ◌*◌, ◌<◌, ◌≤◌, Bool, true, false, refl, sym, ap, List, [], ◌∷◌, Option, Some, subst, inl, inr, arith, map}
-use Rattle.std.proofs.lemmas.Bool.{false≢true, and_parts, and_from, or_cases, or_left, or_right, eqb-true, eq-eqb, ne_eqb, cases_Bool, leb-true, ltb-true, lt-ltb, lt-leb, le-ltb, and_left, and_right}
+use Rattle.std.proofs.Common.{◌≡◌, ◌∙◌, ◌⊎◌, ◌<◌, ◌≤◌, Bool, true, false, refl, sym, ap, List, [], ◌∷◌, Some, subst, inl, inr, arith, map}
+use Rattle.std.proofs.lemmas.Bool.{false≢true, and_parts, and_from, or_cases, or_left, or_right, eqb-true, eq-eqb, ne_eqb, leb-true, ltb-true, lt-ltb, le-ltb, and_right}
 use Rattle.std.specs.Prelude.{◌==◌, ◌&&◌, ◌||◌, not, if◌then◌else◌, filter, find, nat_le, nat_lt}
 use Rattle.std.specs.List.{list_all, list_any}
 use Rattle.mps_base.specs.Address.{Address, address_of_grain}
-use Rattle.mps_base.specs.Run.{Run, end_of}
+use Rattle.mps_base.specs.Run.{end_of}
 use Rattle.mps_base.specs.Segment.{Segment, is_in_segment, end_of_segment, grains_of_segment, segment_over}
 use Rattle.mps_model.specs.Graph.{contains}
 use Rattle.mps_model.specs.World.{World, pool_is, is_weak_kind}
@@ -36,9 +36,9 @@ pub record HasGrains (s : Segment) : Type 0 where
 has_grains : (w : World) (s : Segment) → is_right_segment w s ≡ true → HasGrains s
 has_grains w s h =
     let all = and_parts (address_of_grain (grains_of_segment s).from == s.base && nat_lt 0 s.grains
-        && lies_within (record { from = 1; count = w.grains }) (grains_of_segment s)) (not (is_weak_rank s.rank) || pool_is is_weak_kind w s.pool) h in
+    && lies_within (record { from = 1; count = w.grains }) (grains_of_segment s)) (not (is_weak_rank s.rank) || pool_is is_weak_kind w s.pool) h in
     let three = and_parts (address_of_grain (grains_of_segment s).from == s.base && nat_lt 0 s.grains)
-        (lies_within (record { from = 1; count = w.grains }) (grains_of_segment s)) all.0 in
+    (lies_within (record { from = 1; count = w.grains }) (grains_of_segment s)) all.0 in
     let two = and_parts (address_of_grain (grains_of_segment s).from == s.base) (nat_lt 0 s.grains) three.0 in
     let within = and_parts (nat_le 1 (grains_of_segment s).from) (nat_le (end_of (grains_of_segment s)) (end_of (record { from = 1; count = w.grains }))) three.1 in
     record {
@@ -57,9 +57,11 @@ ordered_from w from s (t ∷ ts) all apart low =
     let h = has_grains w s parts.0 in
     let g = has_grains w t (and_parts (is_right_segment w t) (list_all (is_right_segment w) ts) parts.1).0 in
     let next = and_parts (nat_le (end_of (grains_of_segment s)) (grains_of_segment t).from) (are_apart (map grains_of_segment (t ∷ ts))) apart in
-    let ends = leb-true (end_of (grains_of_segment s)) (grains_of_segment t).from next.0 in
-    (low, (let n = h.some in omega (arith, n)),
-    ordered_from w (end_of_segment s) t ts parts.1 next.1 (let a = h.aligned in let b = g.aligned in omega (arith, ends, a, b)))
+    let ends = leb-true (end_of (grains_of_segment s)) (grains_of_segment t).from next.0 in (
+      low,
+      (let n = h.some in omega (arith, n)),
+      ordered_from w (end_of_segment s) t ts parts.1 next.1 (let a = h.aligned in let b = g.aligned in omega (arith, ends, a, b)),
+    )
 
 ordered : (w : World) (ss : List Segment) → list_all (is_right_segment w) ss ≡ true → are_apart (map grains_of_segment ss) ≡ true
     → AreOrdered 1 ss
@@ -111,8 +113,8 @@ pub among_filtered : (p : Segment → Bool) (s : Segment) (ss : List Segment) �
 among_filtered p s [] h = absurd h
 among_filtered p s (t ∷ ts) h =
     elim (p t) as (λ b. p t ≡ b → IsAmong s (if b then t ∷ filter p ts else filter p ts) → IsAmong s (t ∷ ts) × (p s ≡ true)) [
-      true ↦ (λ e g. elim g [
-        inl same ↦ (inl same, subst (λ (u : Segment). p u ≡ true) same e)
+      | true ↦ (λ e g. elim g [
+        | inl same ↦ (inl same, subst (λ (u : Segment). p u ≡ true) same e)
         | inr later ↦ let rest = among_filtered p s ts later in (inr rest.0, rest.1)
       ])
       | false ↦ (λ e g. let rest = among_filtered p s ts g in (inr rest.0, rest.1))
@@ -127,7 +129,7 @@ pub record IsBaseOf (ss : List Segment) (base : Address) : Type 0 where
 pub base_among : (ss : List Segment) (base : Address) → contains (bases ss) base ≡ true → IsBaseOf ss base
 base_among [] base h = absurd (false≢true h)
 base_among (s ∷ ss) base h = elim (or_cases (s.base == base) (contains (bases ss) base) h) [
-  inl e ↦ record { segment = s; among = inl refl; has_base = eqb-true s.base base e }
+  | inl e ↦ record { segment = s; among = inl refl; has_base = eqb-true s.base base e }
   | inr e ↦ let rest = base_among ss base e in record { segment = rest.segment; among = inr rest.among; has_base = rest.has_base }
 ]
 
@@ -145,7 +147,7 @@ pub record PassesOne (test : Segment → Bool) (ss : List Segment) : Type 0 wher
 pub any_among : (test : Segment → Bool) (ss : List Segment) → list_any test ss ≡ true → PassesOne test ss
 any_among test [] h = absurd (false≢true h)
 any_among test (s ∷ ss) h = elim (or_cases (test s) (list_any test ss) h) [
-  inl e ↦ record { segment = s; among = inl refl; passes = e }
+  | inl e ↦ record { segment = s; among = inl refl; passes = e }
   | inr e ↦ let rest = any_among test ss e in record { segment = rest.segment; among = inr rest.among; passes = rest.passes }
 ]
 
@@ -155,7 +157,7 @@ pub bases_ascend : (above from : Address) (p : Segment → Bool) (ss : List Segm
 bases_ascend above from p [] low o = refl
 bases_ascend above from p (s ∷ ss) low o =
     elim (p s) as (λ b. is_ascending above (bases (if b then s ∷ filter p ss else filter p ss)) ≡ true) [
-      true ↦ and_from (nat_lt above s.base) (is_ascending s.base (bases (filter p ss))) (lt-ltb above s.base (omega (arith, low, o.0)))
+      | true ↦ and_from (nat_lt above s.base) (is_ascending s.base (bases (filter p ss))) (lt-ltb above s.base (omega (arith, low, o.0)))
           (bases_ascend s.base (end_of_segment s) p ss o.1 o.2)
       | false ↦ bases_ascend above (end_of_segment s) p ss (omega (arith, low, o.0, o.1)) o.2
     ]

@@ -9,7 +9,7 @@ use Rattle.mps_model.specs.WellFormed.{IsWellFormed}
 use Rattle.mps_model.specs.Effect.{Condemnation, Everything, Generations, condemnation_of, chain_of, oldest_of, is_on_chain, condemned_by, condemned_zones, world_flipped, collection_at_flip, after_flip, world_after_moves}
 use Rattle.mps_model.specs.LegalMove.{AreLegalMoves}
 use Rattle.mps_model.specs.Flip.{flip_of, flip_act, is_nothing}
-use Rattle.mps_colours.specs.Colours.{Colours, is_white, AllReferredLive, AreDifferent}
+use Rattle.mps_colours.specs.Colours.{is_white, AllReferredLive, AreDifferent}
 use Rattle.mps_colours.specs.Collecting.{Exact, Collecting, Running}
 use Rattle.mps_colours.specs.Fixing.{Fixes}
 
@@ -74,8 +74,8 @@ pub record IsFlipEnded (w : World) (what : Condemnation) : Type 0 where
 abbrev pub AFlipBeginsRunning : Type 0
 AFlipBeginsRunning =
     ((w : World) (what : Condemnation) (others : List Id) (ms : List Move) (y : Collecting) → IsAtRest w → IsNumbered what
-        → is_nothing (condemned_by w what) ≡ false → AreRemembered (flipped w what others) others
-        → FixesHeld w (flipped w what others) ms y → IsFlipDone w what ms y)
+    → is_nothing (condemned_by w what) ≡ false → AreRemembered (flipped w what others) others
+    → FixesHeld w (flipped w what others) ms y → IsFlipDone w what ms y)
     × ((w : World) (what : Condemnation) → IsAtRest w → IsNumbered what → IsTrue (is_nothing (condemned_by w what)) → IsFlipEnded w what)
 
 -- ---- vectors
