@@ -1,3 +1,4 @@
+pub mod ClientChange
 pub mod HeldSegments
 pub mod FlipLists
 pub mod Flipped
