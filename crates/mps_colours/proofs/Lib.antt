@@ -1,3 +1,6 @@
+pub mod ClientRoots
+pub mod ClientBeside
+pub mod ClientLists
 pub mod ClientChange
 pub mod HeldSegments
 pub mod FlipLists
