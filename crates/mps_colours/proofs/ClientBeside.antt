@@ -4,14 +4,15 @@ use Rattle.std.proofs.lemmas.Bool.{false≢true}
 use Rattle.std.specs.Prelude.{IsTrue, Result, Ok, Err, slice_get, slice_set}
 use Rattle.std.specs.List.{flat_map}
 use Rattle.mps_base.specs.Address.{Id, Address}
+use Rattle.mps_base.specs.declared.names.Name.{Name}
 use Rattle.mps_base.specs.declared.names.Slot.{Slot}
 use Rattle.mps_base.specs.declared.refusal.Refusal.{Refusal}
 use Rattle.mps_base.specs.declared.refusal.Refusal.TheVariants as refusal
-use Rattle.mps_model.specs.Graph.{Graph, AreaWord, contains, entries, entry_at, ids_of_client, ids_in_slots, ids_in_holds, ids_in_reservations, slots_of, holds_of}
+use Rattle.mps_model.specs.Graph.{Graph, AreaWord, Point, contains, entries, entry_at, ids_of_client, ids_in_slots, ids_in_holds, ids_in_reservations, slots_of, holds_of}
 use Rattle.mps_model.specs.Collection.{Collection, is_condemned}
 use Rattle.mps_model.specs.World.{World, is_live, is_copying_object, is_automatic_kind, pool_is}
 use Rattle.mps_model.specs.LegalMove.{holds_something}
-use Rattle.mps_model.specs.Checked.{Act, Checked, Found, Numbered, ◌>>=◌, ◌>>◌, required, numbered, entry_in, number_named, as_table, as_area, slot_in, word_in}
+use Rattle.mps_model.specs.Checked.{Act, Checked, Found, Numbered, ◌>>=◌, ◌>>◌, required, refuse_when, numbered, entry_in, number_named, as_table, as_area, as_point, slot_in, word_in, point_named}
 use Rattle.mps_model.specs.Reply.{world_from}
 use Rattle.mps_colours.specs.Collecting.{Collecting, Running, is_white_in}
 use Rattle.mps_colours.proofs.Lists.{contains_append, contains_left, contains_right}
@@ -117,6 +118,11 @@ pub then_keeps : {A : Type 0} (P : World → Type 0) (w : World) (m : Checked A)
 then_keeps P w (Ok a) next base rest = rest
 then_keeps P w (Err why) next base rest = base
 
+pub refuse_keeps : (P : World → Type 0) (w : World) (b : Bool) (why : Refusal) (next : Checked Act) → P w → (b ≡ false → P (world_from w next))
+    → P (world_from w (refuse_when b why >> next))
+refuse_keeps P w true why next base rest = base
+refuse_keeps P w false why next base rest = rest refl
+
 -- ---- entries that are found
 
 abbrev value_or : {A : Type 0} → Checked A → A → A
@@ -162,3 +168,18 @@ pub slot_held : (g : Graph) (f : Found (Option ℕ)) (id : Id) → IsFound (entr
 slot_held g f id found e = held_so (ids_in_slots g) (ids_in_holds g) g.messages (ids_in_reservations g) id
     (in_slots (among_all slots_of g.tables f.number (Some f.list) id (entry_is g.tables f.number f.list found.list)
     (among_entries f.list f.index id (found.value ∙ ap Some e))))
+
+-- a thing by its number
+module _ {A : Type 0} (things : ℕ → Option A) (f : Numbered A) where
+  numbered_is : (number : ℕ) (o : Option A) → things number ≡ o → numbered number o ≡ Ok f → things f.number ≡ Some f.value
+  numbered_is number None there h = absurd (not_Ok refusal.BadName f h)
+  numbered_is number (Some a) there h =
+      subst (λ (g : Numbered A). things g.number ≡ Some g.value) (same_Ok (record { number = number; value = a }) f h) there
+
+  pub numbered_found : (o : Option ℕ) → (required o refusal.BadName >>= (λ number. numbered number (things number))) ≡ Ok f
+      → things f.number ≡ Some f.value
+  numbered_found None h = absurd (not_Ok refusal.BadName f h)
+  numbered_found (Some number) h = numbered_is number (things number) refl h
+
+pub point_found : (w : World) (name : Name) (p : Numbered Point) → point_named w name ≡ Ok p → entry_at w.graph.points p.number ≡ Some p.value
+point_found w name p h = numbered_found (entry_at w.graph.points) p (number_named w name as_point) h

@@ -1,3 +1,6 @@
+pub mod ClientPoints
+pub mod ClientCells
+pub mod ClientCovered
 pub mod ClientRoots
 pub mod ClientBeside
 pub mod ClientLists

@@ -1,0 +1,238 @@
+-- The calls on allocation points: made and dropped, reservations made, written and ended.
+use Rattle.std.proofs.Common.{◌≡◌, ◌∙◌, ◌⊎◌, ℕ, ◌<◌, Bool, true, false, refl, sym, ap, List, [], ◌∷◌, ◌++◌, length, Option, Some, None, subst, inl, inr}
+use Rattle.std.proofs.lemmas.Bool.{false≢true, true≢false}
+use Rattle.std.proofs.lemmas.Option.{none-some, same_Some}
+use Rattle.std.specs.Prelude.{Result, Ok, Err, slice_get, slice_set, is_some, if◌then◌else◌, not, nat_le}
+use Rattle.std.specs.List.{flat_map, list_any}
+use Rattle.std.specs.Option.{option_map_or}
+use Rattle.mps_base.specs.Address.{Id, Address}
+use Rattle.mps_base.specs.Run.{Run}
+use Rattle.mps_base.specs.Segment.{Segment}
+use Rattle.mps_base.specs.declared.names.Name.{Name}
+use Rattle.mps_base.specs.declared.names.Rank.{Rank}
+use Rattle.mps_base.specs.declared.names.Slot.{Slot}
+use Rattle.mps_base.specs.declared.refusal.Refusal.TheVariants as refusal
+use Rattle.mps_model.specs.Graph.{Graph, Point, Reservation, NumberCell, Cell, PointThing, NamedThing, contains, entry_at, with_last, with_target_cell, targets_of_cells, targets_of_point, targets_of_reservation, without_name, ids_of_client, ids_in_reservations, ids_in_slots, ids_in_holds}
+use Rattle.mps_model.specs.World.{World, PointMemory, Pool, begins_in, extent, extents_of, extent_of_reservation, reserved_extents, segment_at, empty_run}
+use Rattle.mps_model.specs.LegalMove.{holds_something}
+use Rattle.mps_model.specs.Checked.{Act, Checked, Found, Numbered, ◌>>=◌, ◌>>◌, required, refuse_when, done, says, point_named, pool_named, slot_in, number_at, reference_at, with_graph, named}
+use Rattle.mps_model.specs.Making.{act_point, act_drop_point, with_point, without_point, refuse_taken, refuse_at_limit, live_points, most_points, may_have_point}
+use Rattle.mps_model.specs.Allocating.{with_reservation, with_reserved, with_reserved_cells, act_init_number, act_init_reference}
+use Rattle.mps_model.specs.Reply.{world_from}
+use Rattle.mps_colours.specs.Collecting.{Collecting, Running}
+use Rattle.mps_colours.proofs.Lists.{slice_get-set_same, index_below}
+use Rattle.mps_colours.proofs.ClientLists.{among_all, written_among, last_among, entry_is}
+use Rattle.mps_colours.proofs.ClientCells.{length_set, length_with_target, targets_written, targets_retargeted}
+use Rattle.mps_colours.proofs.ClientCovered.{holds_still, any_cases, any_left, any_right, extent_at_point, PassesAt, reserved_written, reserved_point_written, reserved_at_point, reserved_last}
+use Rattle.mps_colours.proofs.ClientBeside.{beside, beside_keeps, IsRightlyHeld, IsHeldIn, in_slots, in_holds, in_messages, in_reservations, held_where, held_so, bind_keeps, then_keeps, refuse_keeps, slot_found, slot_held, point_found}
+
+module _ (x : Collecting) (run : Running x) where
+  abbrev w : World
+  w = x.world
+
+  abbrev P : World → Type 0
+  P v = Running (record x { world = v })
+
+  abbrev with_points : List (Option Point) → List PointMemory → List NamedThing → World
+  with_points points memories names = record w { graph = record w.graph { points = points; names = names }; point_memories = memories }
+
+  still_reserved : (id : Id) → contains (ids_in_reservations w.graph) id ≡ true → IsRightlyHeld x id
+  still_reserved id h =
+      inl (held_so (ids_in_slots w.graph) (ids_in_holds w.graph) w.graph.messages (ids_in_reservations w.graph) id (in_reservations h))
+
+  held_by_points : (points : List (Option Point)) → ((id : Id) → contains (flat_map targets_of_point points) id ≡ true → IsRightlyHeld x id) → (id : Id)
+      → contains (ids_of_client (record w.graph { points = points })) id ≡ true → IsRightlyHeld x id
+  held_by_points points reserved id h =
+      of_part (held_where (ids_in_slots w.graph) (ids_in_holds w.graph) w.graph.messages (flat_map targets_of_point points) id h)
+    where
+      so : IsHeldIn (ids_in_slots w.graph) (ids_in_holds w.graph) w.graph.messages (ids_in_reservations w.graph) id → IsRightlyHeld x id
+      so part = inl (held_so (ids_in_slots w.graph) (ids_in_holds w.graph) w.graph.messages (ids_in_reservations w.graph) id part)
+      of_part : IsHeldIn (ids_in_slots w.graph) (ids_in_holds w.graph) w.graph.messages (flat_map targets_of_point points) id → IsRightlyHeld x id
+      of_part (in_slots e) = so (in_slots e)
+      of_part (in_holds e) = so (in_holds e)
+      of_part (in_messages e) = so (in_messages e)
+      of_part (in_reservations e) = reserved id e
+
+  -- points and what they have in the arena changed
+  pub points_keep : (points : List (Option Point)) (memories : List PointMemory) (names : List NamedThing)
+      → ((id : Id) → contains (flat_map targets_of_point points) id ≡ true → IsRightlyHeld x id)
+      → ((p : Run → Bool) → list_any p (reserved_extents w.graph.points w.point_memories) ≡ true
+          → (list_any p (extents_of w.graph.objects w.addresses) ≡ true) ⊎ (list_any p (reserved_extents points memories) ≡ true))
+      → P (with_points points memories names)
+  points_keep points memories names reserved more = beside_keeps x run (with_points points memories names) (record {
+    copying = λ id is h. h;
+    automatic_pools = λ pool h. h;
+    held = held_by_points points reserved;
+    holds = λ base h. holds_still w (with_points points memories names) base refl
+        (λ s e any. elim (any_cases (begins_in s) (extents_of w.graph.objects w.addresses) (reserved_extents w.graph.points w.point_memories) any) [
+          inl object ↦ any_left (begins_in s) (extents_of w.graph.objects w.addresses) (reserved_extents points memories) object
+          | inr was ↦ elim (more (begins_in s) was) [
+            inl object ↦ any_left (begins_in s) (extents_of w.graph.objects w.addresses) (reserved_extents points memories) object
+            | inr is ↦ any_right (begins_in s) (extents_of w.graph.objects w.addresses) (reserved_extents points memories) is
+          ]
+        ]) h;
+  })
+
+  -- ---- points made and dropped
+
+  pub with_point_keeps : (name : Name) (pool : ℕ) (rank : Rank) → P (with_point w name pool rank)
+  with_point_keeps name pool rank =
+      points_keep (with_last w.graph.points (Some (record { pool = pool; rank = rank; reservation = None })))
+      (with_last w.point_memories (record { reserved_at = 0; buffer = empty_run }))
+      (with_last w.graph.names (record { name = name; thing = PointThing (length w.graph.points) }))
+      (λ id h. elim (last_among targets_of_point w.graph.points (Some (record { pool = pool; rank = rank; reservation = None })) id h) [
+        inl old ↦ still_reserved id old
+        | inr none ↦ absurd (false≢true none)
+      ])
+      (λ p h. inr (reserved_last p w.graph.points w.point_memories (Some (record { pool = pool; rank = rank; reservation = None }))
+        (record { reserved_at = 0; buffer = empty_run }) h))
+
+  pub point_keeps : (name pool : Name) (rank : Rank) → P (world_from w (act_point w name pool rank))
+  point_keeps name pool rank =
+      then_keeps P w (refuse_taken w name) (pool_named w pool >>= (λ of. refuse_when (not (may_have_point of.value.kind rank)) refusal.WrongPool
+        >> (refuse_at_limit (live_points w.graph) most_points >> done (with_point w name of.number rank)))) run
+      (bind_keeps P w (pool_named w pool) (λ of. refuse_when (not (may_have_point of.value.kind rank)) refusal.WrongPool
+        >> (refuse_at_limit (live_points w.graph) most_points >> done (with_point w name of.number rank))) run
+        (λ of e. then_keeps P w (refuse_when (not (may_have_point of.value.kind rank)) refusal.WrongPool)
+          (refuse_at_limit (live_points w.graph) most_points >> done (with_point w name of.number rank)) run
+          (then_keeps P w (refuse_at_limit (live_points w.graph) most_points) (done (with_point w name of.number rank)) run
+            (with_point_keeps name of.number rank))))
+
+  -- no extent of a point without a live reservation
+  none_of : (p : Run → Bool) (o : Option Point) (value : Point) (memory : PointMemory) → o ≡ Some value
+      → extent_of_reservation value.reservation memory ≡ [] → list_any p (extent_at_point o memory) ≡ true → ⊥
+  none_of p o value memory e none h = false≢true (sym (ap (λ q. list_any p (extent_at_point q memory)) e ∙ ap (list_any p) none) ∙ h)
+
+  is_value : (point : Numbered Point) (o : Option Point) → entry_at w.graph.points point.number ≡ Some point.value
+      → slice_get w.graph.points point.number ≡ Some o → o ≡ Some point.value
+  is_value point o found there = sym (same_Some (Some point.value) o (sym (entry_is w.graph.points point.number point.value found) ∙ there))
+
+  no_reservation : (o : Option Reservation) (memory : PointMemory) → is_some o ≡ false → extent_of_reservation o memory ≡ []
+  no_reservation None memory h = refl
+  no_reservation (Some r) memory h = absurd (true≢false h)
+
+  pub without_point_keeps : (name : Name) (point : Numbered Point) → entry_at w.graph.points point.number ≡ Some point.value
+      → is_some point.value.reservation ≡ false → P (without_point w name point.number)
+  without_point_keeps name point found closed =
+      points_keep (slice_set w.graph.points point.number None)
+      (slice_set w.point_memories point.number (record { reserved_at = 0; buffer = empty_run })) (without_name w.graph.names name)
+      (λ id h. elim (written_among targets_of_point w.graph.points point.number None id h) [
+        inl old ↦ still_reserved id old
+        | inr none ↦ absurd (false≢true none)
+      ])
+      (λ p h. elim (reserved_written p w.graph.points w.point_memories point.number None (record { reserved_at = 0; buffer = empty_run }) h) [
+        inl still ↦ inr still
+        | inr at ↦ absurd (none_of p at.point point.value at.memory (is_value point at.point found at.is_point)
+            (no_reservation point.value.reservation at.memory closed) at.passes)
+      ])
+
+  pub drop_point_keeps : (name : Name) → P (world_from w (act_drop_point w name))
+  drop_point_keeps name =
+      bind_keeps P w (point_named w name)
+      (λ point. refuse_when (is_some point.value.reservation) refusal.Open >> done (without_point w name point.number)) run
+      (λ point e. refuse_keeps P w (is_some point.value.reservation) refusal.Open (done (without_point w name point.number)) run
+        (λ closed. without_point_keeps name point (point_found w name point e) closed))
+
+  -- ---- reservations
+
+  -- what a live reservation refers to the client holds
+  reserved_held : (point : Numbered Point) (r : Reservation) (id : Id) → entry_at w.graph.points point.number ≡ Some point.value
+      → point.value.reservation ≡ Some r → contains (targets_of_reservation r) id ≡ true → contains (ids_in_reservations w.graph) id ≡ true
+  reserved_held point r id found is_open h =
+      among_all targets_of_point w.graph.points point.number (Some point.value) id (entry_is w.graph.points point.number point.value found)
+      (ap (λ o. contains (option_map_or targets_of_reservation o []) id) is_open ∙ h)
+
+  -- a reservation ends that a flip has ended already, or whose extent is an object's
+  pub ended_keeps : (point : Numbered Point) → entry_at w.graph.points point.number ≡ Some point.value
+      → ((p : Run → Bool) (memory : PointMemory) → slice_get w.point_memories point.number ≡ Some memory
+          → list_any p (extent_of_reservation point.value.reservation memory) ≡ true → list_any p (extents_of w.graph.objects w.addresses) ≡ true)
+      → P (with_graph w (with_reservation w.graph point None))
+  ended_keeps point found covered =
+      points_keep (slice_set w.graph.points point.number (Some (record point.value { reservation = None }))) w.point_memories w.graph.names
+      (λ id h. elim (written_among targets_of_point w.graph.points point.number (Some (record point.value { reservation = None })) id h) [
+        inl old ↦ still_reserved id old
+        | inr none ↦ absurd (false≢true none)
+      ])
+      (λ p h. elim (reserved_point_written p w.graph.points w.point_memories point.number (Some (record point.value { reservation = None })) h) [
+        inl still ↦ inr still
+        | inr at ↦ inl (covered p at.memory at.is_memory
+            (ap (λ q. list_any p (extent_at_point q at.memory)) (sym (is_value point at.point found at.is_point)) ∙ at.passes))
+      ])
+
+  -- a reservation with other cells, as many
+  module _ (point : Numbered Point) (found : entry_at w.graph.points point.number ≡ Some point.value) (r : Reservation)
+      (open_there : point.value.reservation ≡ Some r) (cells : List Cell) (as_many : length cells ≡ length r.cells)
+      (right : (id : Id) → contains (targets_of_cells cells) id ≡ true → (contains (targets_of_cells r.cells) id ≡ true) ⊎ IsRightlyHeld x id) where
+    abbrev rewritten : Option Point
+    rewritten = Some (record point.value { reservation = Some (record r { cells = cells }) })
+
+    same_extent : (memory : PointMemory) → extent_of_reservation (Some (record r { cells = cells })) memory ≡ extent_of_reservation point.value.reservation memory
+    same_extent memory =
+        ap (λ n. if (if r.is_doomed then false else true) then extent memory.reserved_at n ∷ [] else []) as_many
+        ∙ ap (λ o. extent_of_reservation o memory) (sym open_there)
+
+    rewritten_right : r.is_doomed ≡ false → (id : Id) → contains (targets_of_point rewritten) id ≡ true → IsRightlyHeld x id
+    rewritten_right live id h =
+        elim (right id (sym (ap (λ b. contains (if b then [] else targets_of_cells cells) id) live) ∙ h)) [
+          inl old ↦ still_reserved id (reserved_held point r id found open_there
+              (ap (λ b. contains (if b then [] else targets_of_cells r.cells) id) live ∙ old))
+          | inr new ↦ new
+        ]
+
+    written_keeps : r.is_doomed ≡ false → P (with_graph w (with_reservation w.graph point (Some (record r { cells = cells }))))
+    written_keeps live =
+        points_keep (slice_set w.graph.points point.number rewritten) w.point_memories w.graph.names
+        (λ id h. elim (written_among targets_of_point w.graph.points point.number rewritten id h) [
+          inl old ↦ still_reserved id old
+          | inr new ↦ rewritten_right live id new
+        ])
+        (λ p h. elim (reserved_point_written p w.graph.points w.point_memories point.number rewritten h) [
+          inl still ↦ inr still
+          | inr at ↦ inr (reserved_at_point p (slice_set w.graph.points point.number rewritten) w.point_memories point.number rewritten at.memory
+              (slice_get-set_same w.graph.points point.number rewritten (index_below w.graph.points point.number at.point at.is_point)) at.is_memory
+              (ap (list_any p) (same_extent at.memory)
+              ∙ (ap (λ q. list_any p (extent_at_point q at.memory)) (sym (is_value point at.point found at.is_point)) ∙ at.passes)))
+        ])
+
+    pub cells_keep : P (with_reserved_cells w point r cells)
+    cells_keep = of_doomed r.is_doomed refl
+      where
+        of_doomed : (b : Bool) → r.is_doomed ≡ b
+            → P (if b then w else with_graph w (with_reservation w.graph point (Some (record r { cells = cells }))))
+        of_doomed true e = run
+        of_doomed false e = written_keeps e
+
+  open_reservation : (point : Numbered Point) (r : Reservation) → required point.value.reservation refusal.NotOpen ≡ Ok r
+      → point.value.reservation ≡ Some r
+  open_reservation point r h = of_option point.value.reservation h
+    where
+      of_option : (o : Option Reservation) → required o refusal.NotOpen ≡ Ok r → o ≡ Some r
+      of_option None e = absurd (Rattle.mps_colours.proofs.ClientBeside.not_Ok refusal.NotOpen r e)
+      of_option (Some q) e = ap Some (Rattle.mps_colours.proofs.ClientBeside.same_Ok q r e)
+
+  pub init_number_keeps : (name : Name) (k value : ℕ) → P (world_from w (act_init_number w name k value))
+  init_number_keeps name k value =
+      bind_keeps P w (point_named w name) (λ point. required point.value.reservation refusal.NotOpen
+        >>= (λ r. number_at r.cells k >> done (with_reserved_cells w point r (slice_set r.cells k (NumberCell value))))) run
+      (λ point e. bind_keeps P w (required point.value.reservation refusal.NotOpen)
+        (λ r. number_at r.cells k >> done (with_reserved_cells w point r (slice_set r.cells k (NumberCell value)))) run
+        (λ r f. then_keeps P w (number_at r.cells k) (done (with_reserved_cells w point r (slice_set r.cells k (NumberCell value)))) run
+          (cells_keep point (point_found w name point e) r (open_reservation point r f) (slice_set r.cells k (NumberCell value))
+            (length_set r.cells k (NumberCell value))
+            (λ id h. elim (targets_written r.cells k (NumberCell value) id h) [ inl old ↦ inl old | inr none ↦ absurd (none-some id none) ]))))
+
+  pub init_reference_keeps : (name : Name) (k : ℕ) (source : Slot) → P (world_from w (act_init_reference w name k source))
+  init_reference_keeps name k source =
+      bind_keeps P w (point_named w name) (λ point. slot_in w source >>= (λ from. required point.value.reservation refusal.NotOpen
+        >>= (λ r. reference_at r.cells k >> done (with_reserved_cells w point r (with_target_cell r.cells k from.value))))) run
+      (λ point e. bind_keeps P w (slot_in w source) (λ from. required point.value.reservation refusal.NotOpen
+        >>= (λ r. reference_at r.cells k >> done (with_reserved_cells w point r (with_target_cell r.cells k from.value)))) run
+        (λ from g. bind_keeps P w (required point.value.reservation refusal.NotOpen)
+          (λ r. reference_at r.cells k >> done (with_reserved_cells w point r (with_target_cell r.cells k from.value))) run
+          (λ r f. then_keeps P w (reference_at r.cells k) (done (with_reserved_cells w point r (with_target_cell r.cells k from.value))) run
+            (cells_keep point (point_found w name point e) r (open_reservation point r f) (with_target_cell r.cells k from.value)
+              (length_with_target r.cells k from.value)
+              (λ id h. elim (targets_retargeted r.cells k from.value id h) [
+                inl old ↦ inl old
+                | inr new ↦ inr (inl (slot_held w.graph from id (slot_found w source from g) new))
+              ])))))
