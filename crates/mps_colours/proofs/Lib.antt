@@ -1,3 +1,4 @@
+pub mod ClientObjects
 pub mod ClientPoints
 pub mod ClientCells
 pub mod ClientCovered
