@@ -1,3 +1,4 @@
+pub mod ClientThings
 pub mod ClientObjects
 pub mod ClientPoints
 pub mod ClientCells
