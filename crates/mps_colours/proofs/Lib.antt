@@ -1,3 +1,4 @@
+pub mod ClientRegistrations
 pub mod ClientThings
 pub mod ClientObjects
 pub mod ClientPoints
