@@ -1,3 +1,4 @@
+pub mod ClientBlocks
 pub mod ClientMaking
 pub mod ClientRegistrations
 pub mod ClientThings

@@ -1,3 +1,4 @@
+pub mod ClientLaws
 pub mod FlipLaws
 pub mod Colours
 pub mod Collecting
