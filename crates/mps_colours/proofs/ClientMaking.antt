@@ -104,7 +104,7 @@ refers_below os id t h = of_option (slice_get os id) refl h
 
 -- ---- segments that are found
 
-find_among : (p : Segment → Bool) (ss : List Segment) (s : Segment) → find p ss ≡ Some s → IsAmong s ss × (p s ≡ true)
+pub find_among : (p : Segment → Bool) (ss : List Segment) (s : Segment) → find p ss ≡ Some s → IsAmong s ss × (p s ≡ true)
 find_among p [] s h = absurd (none-some s h)
 find_among p (t ∷ ts) s h = elim (p t) as (λ b. p t ≡ b → (if b then Some t else find p ts) ≡ Some s → IsAmong s (t ∷ ts) × (p s ≡ true)) [
   true ↦ (λ e g. (inl (same_Some t s g), subst (λ u. p u ≡ true) (same_Some t s g) e))

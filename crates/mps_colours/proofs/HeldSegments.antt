@@ -76,6 +76,17 @@ segments_ordered w f =
     let parts = and_parts (list_all (is_right_segment w) w.segments) (are_apart (map grains_of_segment w.segments)) f.segments in
     ordered w w.segments parts.0 parts.1
 
+all_among : (w : World) (s : Segment) (ss : List Segment) → list_all (is_right_segment w) ss ≡ true → IsAmong s ss → is_right_segment w s ≡ true
+all_among w s [] all h = absurd h
+all_among w s (t ∷ ts) all (inl e) =
+    subst (λ (u : Segment). is_right_segment w u ≡ true) e (and_parts (is_right_segment w t) (list_all (is_right_segment w) ts) all).0
+all_among w s (t ∷ ts) all (inr h) = all_among w s ts (and_parts (is_right_segment w t) (list_all (is_right_segment w) ts) all).1 h
+
+-- and have grains
+pub segment_has_grains : (w : World) → IsWellFormed w → (s : Segment) → IsAmong s w.segments → HasGrains s
+segment_has_grains w f s h =
+    has_grains w s (all_among w s w.segments (and_parts (list_all (is_right_segment w) w.segments) (are_apart (map grains_of_segment w.segments)) f.segments).0 h)
+
 -- ---- which segment
 
 pub among_from : (from : Address) (s : Segment) (ss : List Segment) → AreOrdered from ss → IsAmong s ss → from ≤ s.base

@@ -1,3 +1,4 @@
+pub mod ClientFrees
 pub mod ClientBlocks
 pub mod ClientMaking
 pub mod ClientRegistrations

@@ -1,0 +1,302 @@
+-- A manual block is freed by the client, and its segment given back where nothing is left in it.
+use Rattle.std.proofs.Common.{◌≡◌, ◌∙◌, ◌⊎◌, ℕ, ◌+◌, ◌*◌, ◌/◌, ◌<◌, ◌≤◌, Bool, true, false, refl, sym, ap, List, [], ◌∷◌, ◌++◌, length, Option, Some, None, subst, inl, inr, arith}
+use Rattle.std.proofs.lemmas.Bool.{false≢true, true≢false, and_parts, or_cases, eqb-true, leb-true, cases_Bool}
+use Rattle.std.proofs.lemmas.Option.{none-some, same_Some}
+use Rattle.std.specs.Prelude.{◌&&◌, ◌||◌, ◌==◌, not, nat_le, nat_lt, if◌then◌else◌, option_map, option_and_then, Result, Ok, Err, slice_get, slice_set, IsTrue, is_some}
+use Rattle.std.specs.List.{list_any, list_all, flat_map}
+use Rattle.std.specs.Option.{option_map_or}
+use Rattle.mps_base.specs.Address.{Id, Address, word_of, address_of_word}
+use Rattle.mps_base.specs.Run.{Run, end_of}
+use Rattle.mps_base.specs.Segment.{Segment, is_in_segment, segment_over, without_segment, words_of_segment, end_of_segment, same_rank}
+use Rattle.mps_base.specs.declared.moves.Move.{Move}
+use Rattle.mps_base.specs.declared.moves.Move.TheVariants as moves
+use Rattle.mps_base.specs.declared.names.Rank.TheVariants as rank
+use Rattle.mps_base.specs.declared.names.Slot.{Slot}
+use Rattle.mps_model.specs.Answer.{Answer, is_refused}
+use Rattle.mps_model.specs.Graph.{Graph, Object, Body, Automatic, Manual, Cell, Point, Reservation, contains, entries, entry_at, object_at, targets, targets_of, targets_of_body, targets_of_cells, targets_of_point, targets_of_reservation, is_automatic, is_weak_object, size_of, ids_of_client, ids_in_slots, ids_in_holds, ids_in_reservations, ids_in_blocks}
+use Rattle.mps_model.specs.Collection.{Collection, is_condemned}
+use Rattle.mps_model.specs.World.{World, Pool, PoolKind, Collected, OneSize, AnySize, PointMemory, extent, address_of, is_live, is_live_and, live_ids, object_is, pool_of, words_of, pool_at, pool_is, is_automatic_kind, is_any_size_kind, segment_at, segment_of, id_at, begins_in, lies_in, is_empty_segment, has_area_word, area_words, shown_words}
+use Rattle.mps_model.specs.Accessing.{address_or_null}
+use Rattle.mps_model.specs.Effect.{after_free, after_unseg, giving_back, with_address, where_one, world_after_moves}
+use Rattle.mps_model.specs.Flip.{at_address}
+use Rattle.mps_model.specs.LegalMove.{ForOne}
+use Rattle.mps_model.specs.Checked.{Act, Checked, Found, ◌>>=◌, ◌>>◌, done, block_place_in, with_graph, number_named, as_blocks}
+use Rattle.mps_model.specs.Allocating.{act_free, block_in, with_block_place}
+use Rattle.mps_model.specs.History.{free_at, free_of, give_back_empty, moves_of_free, unless_refused}
+use Rattle.mps_model.specs.Reply.{world_from}
+use Rattle.mps_model.specs.WellFormed.{IsWellFormed, is_live_automatic, is_right_object, is_right_body, is_right_place, is_right_point, is_right_reservation, are_right_points, are_right_cells, is_right_at_hand, is_home, lies_within, are_shaped}
+use Rattle.mps_model.specs.Making.{is_block_size, is_weak_rank}
+use Rattle.mps_model.proofs.Reaching.{list_all-contains}
+use Rattle.mps_colours.specs.Collecting.{Collecting, Running}
+use Rattle.mps_colours.proofs.Lists.{contains_append}
+use Rattle.mps_colours.proofs.Addresses.{id_at-live, live_is_listed, address_of-live}
+use Rattle.mps_colours.proofs.Joining.{from_some}
+use Rattle.mps_colours.proofs.HeldSegments.{AreOrdered, IsAmong, segments_ordered, segment_has_grains, over_among, held_among, any_among}
+use Rattle.mps_colours.proofs.FlipLists.{holds_show}
+use Rattle.mps_colours.proofs.ClientLists.{among_all, among_entries}
+use Rattle.mps_colours.proofs.ClientBeside.{IsHeldIn, in_slots, in_holds, in_messages, in_reservations, held_where, bind_keeps, same_Ok, not_Ok, IsFound, found}
+use Rattle.mps_colours.proofs.ClientChange.{IsUsed, held_by_client, referred_to, is_registered, is_to_be_scanned}
+use Rattle.mps_colours.proofs.ClientThings.{aside_keeps, list_all-at}
+use Rattle.mps_colours.proofs.ClientMaking.{freed_keeps, segments_keep, among_without, find_among}
+
+-- ---- what is used is automatic
+
+cells_automatic : (w : World) (p : Pool) (head : ℕ) (cells : List Cell) (id : Id) → are_right_cells w p head cells ≡ true
+    → contains (targets_of_cells cells) id ≡ true → object_is is_automatic w id ≡ true
+cells_automatic w p head cells id right h = list_all-contains (object_is is_automatic w) (targets_of_cells cells) id
+    (and_parts ((w.formats p.format).is_valid head && are_shaped (Rattle.mps_model.specs.Graph.new_cells (w.formats p.format) head) cells)
+      (list_all (object_is is_automatic w) (targets_of_cells cells)) right).1 h
+
+body_automatic : (w : World) (p : Pool) (b : Body) (id : Id) → is_right_body w p b ≡ true → contains (targets_of_body b) id ≡ true
+    → object_is is_automatic w id ≡ true
+body_automatic w p (Automatic head cells is_weak) id right h =
+    let parts = and_parts (is_automatic_kind p.kind && are_right_cells w p head cells) (not is_weak || Rattle.mps_model.specs.World.is_weak_kind p.kind) right in
+    cells_automatic w p head cells id (and_parts (is_automatic_kind p.kind) (are_right_cells w p head cells) parts.0).1 h
+body_automatic w p (Manual words) id right h = absurd (false≢true h)
+
+object_automatic : (w : World) (o : Object) (id : Id) → is_right_object w o ≡ true → contains (targets_of o) id ≡ true
+    → object_is is_automatic w id ≡ true
+object_automatic w o id right h = of_pool (pool_at w o.pool) right
+  where
+    of_pool : (p : Option Pool) → option_map_or (λ p. is_right_body w p o.body) p false ≡ true → object_is is_automatic w id ≡ true
+    of_pool None e = absurd (false≢true e)
+    of_pool (Some p) e = body_automatic w p o.body id e h
+
+target_automatic : (w : World) → IsWellFormed w → (from id : Id) → contains (targets w.graph from) id ≡ true → object_is is_automatic w id ≡ true
+target_automatic w formed from id h = of_object (object_at w.graph from) refl h
+  where
+    of_object : (o : Option Object) → object_at w.graph from ≡ o → contains (option_map_or targets_of o []) id ≡ true → object_is is_automatic w id ≡ true
+    of_object None e g = absurd (false≢true g)
+    of_object (Some o) e g = object_automatic w o id (list_all-at (is_right_object w) w.graph.objects from o formed.objects e) g
+
+reservation_automatic : (w : World) (p : Point) (m : PointMemory) (r : Reservation) (id : Id) → is_right_reservation w p m r ≡ true
+    → contains (targets_of_reservation r) id ≡ true → object_is is_automatic w id ≡ true
+reservation_automatic w p m r id right h =
+    let cells = (and_parts (option_map_or (λ of. are_right_cells w of r.head r.cells) (pool_at w p.pool) false)
+        (r.is_doomed || is_home w p.pool (is_weak_rank p.rank) (extent m.reserved_at (length r.cells))) right).0 in
+    of_pool (pool_at w p.pool) cells (of_doomed r.is_doomed h)
+  where
+    of_doomed : (b : Bool) → contains (if b then [] else targets_of_cells r.cells) id ≡ true → contains (targets_of_cells r.cells) id ≡ true
+    of_doomed true g = absurd (false≢true g)
+    of_doomed false g = g
+    of_pool : (o : Option Pool) → option_map_or (λ of. are_right_cells w of r.head r.cells) o false ≡ true → contains (targets_of_cells r.cells) id ≡ true
+        → object_is is_automatic w id ≡ true
+    of_pool None e g = absurd (false≢true e)
+    of_pool (Some of) e g = cells_automatic w of r.head r.cells id e g
+
+point_automatic : (w : World) (p : Point) (m : PointMemory) (id : Id) → is_right_point w p m ≡ true
+    → contains (option_map_or targets_of_reservation p.reservation []) id ≡ true → object_is is_automatic w id ≡ true
+point_automatic w p m id right h =
+    of_reservation p.reservation (and_parts (option_map_or (is_right_reservation w p m) p.reservation true) (is_right_at_hand w p.pool m.buffer) right).0 h
+  where
+    of_reservation : (o : Option Reservation) → option_map_or (is_right_reservation w p m) o true ≡ true
+        → contains (option_map_or targets_of_reservation o []) id ≡ true → object_is is_automatic w id ≡ true
+    of_reservation None e g = absurd (false≢true g)
+    of_reservation (Some r) e g = reservation_automatic w p m r id e g
+
+points_automatic : (w : World) (ps : List (Option Point)) (ms : List PointMemory) (id : Id) → are_right_points w ps ms ≡ true
+    → contains (flat_map targets_of_point ps) id ≡ true → object_is is_automatic w id ≡ true
+points_automatic w [] ms id right h = absurd (false≢true h)
+points_automatic w (None ∷ ps) [] id right h = absurd (false≢true right)
+points_automatic w (Some p ∷ ps) [] id right h = absurd (false≢true right)
+points_automatic w (None ∷ ps) (m ∷ ms) id right h = points_automatic w ps ms id right h
+points_automatic w (Some p ∷ ps) (m ∷ ms) id right h =
+    let parts = and_parts (is_right_point w p m) (are_right_points w ps ms) right in
+    elim (contains_append (option_map_or targets_of_reservation p.reservation []) (flat_map targets_of_point ps) id h) [
+      inl here ↦ point_automatic w p m id parts.0 here
+      | inr later ↦ points_automatic w ps ms id parts.1 later
+    ]
+
+-- a word lies only in automatic objects
+any_automatic : (w : World) (words : List ℕ) (id : Id) → list_any (λ word. lies_in w word id) words ≡ true → object_is is_automatic w id ≡ true
+any_automatic w [] id h = absurd (false≢true h)
+any_automatic w (word ∷ words) id h = elim (or_cases (lies_in w word id) (list_any (λ word. lies_in w word id) words) h) [
+  inl e ↦ (and_parts (object_is is_automatic w id) (is_live_and (λ at. Rattle.mps_model.specs.World.is_word_in
+      (Rattle.mps_model.specs.World.is_copying_object w id) at (words_of w id) word) w id) e).0
+  | inr e ↦ any_automatic w words id e
+]
+
+is_automatic_part : (w : World) (ids : List Id) (id : Id) → list_all (is_live_automatic w) ids ≡ true → contains ids id ≡ true
+    → object_is is_automatic w id ≡ true
+is_automatic_part w ids id all h =
+    (and_parts (is_live w id) (object_is is_automatic w id) (list_all-contains (is_live_automatic w) ids id all h)).1
+
+pub used_automatic : (x : Collecting) → Running x → IsWellFormed x.world → (id : Id) → IsUsed x id → object_is is_automatic x.world id ≡ true
+used_automatic x run formed id (held_by_client h) =
+    of_part (held_where (ids_in_slots x.world.graph) (ids_in_holds x.world.graph) x.world.graph.messages (ids_in_reservations x.world.graph) id h)
+  where
+    of_part : IsHeldIn (ids_in_slots x.world.graph) (ids_in_holds x.world.graph) x.world.graph.messages (ids_in_reservations x.world.graph) id
+        → object_is is_automatic x.world id ≡ true
+    of_part (in_slots e) = list_all-contains (object_is is_automatic x.world) (ids_in_slots x.world.graph) id formed.slots e
+    of_part (in_holds e) = any_automatic x.world (flat_map (shown_words x.world) x.world.graph.areas) id
+        (holds_show x.world x.world.graph.areas id formed.words e)
+    of_part (in_messages e) = is_automatic_part x.world x.world.graph.messages id formed.messages e
+    of_part (in_reservations e) = points_automatic x.world x.world.graph.points x.world.point_memories id formed.points e
+used_automatic x run formed id (referred_to from h) = target_automatic x.world formed from id h
+used_automatic x run formed id (is_registered h) = is_automatic_part x.world x.world.graph.registered id formed.registered h
+used_automatic x run formed id (is_to_be_scanned h) = run.grey.grey_automatic id h
+
+-- ---- a manual object lies in a segment of a manual pool
+
+manual_is : (w : World) (id : Id) → object_is (λ o. not (is_automatic o)) w id ≡ true → object_is is_automatic w id ≡ false
+manual_is w id h = of_object (object_at w.graph id) h
+  where
+    of_automatic : (b : Bool) → not b ≡ true → b ≡ false
+    of_automatic true g = absurd (false≢true g)
+    of_automatic false g = refl
+    of_object : (o : Option Object) → option_map_or (λ o. not (is_automatic o)) o false ≡ true → option_map_or is_automatic o false ≡ false
+    of_object None g = absurd (false≢true g)
+    of_object (Some o) g = of_automatic (is_automatic o) g
+
+-- its pool is manual, and it has words
+record IsManual (w : World) (o : Object) : Type 0 where
+  pool : pool_is is_automatic_kind w o.pool ≡ false
+  some_words : 1 ≤ size_of o
+
+manual_object : (w : World) (o : Object) → is_right_object w o ≡ true → is_automatic o ≡ false → IsManual w o
+manual_object w o right manual = of_pool (pool_at w o.pool) refl right
+  where
+    of_not : (b : Bool) → not b ≡ true → b ≡ false
+    of_not true g = absurd (false≢true g)
+    of_not false g = refl
+    of_body : (p : Pool) (b : Body) → o.body ≡ b → pool_at w o.pool ≡ Some p → is_right_body w p b ≡ true
+        → Rattle.mps_model.specs.Graph.is_automatic_body b ≡ false → IsManual w o
+    of_body p (Automatic head cells is_weak) same e g m = absurd (true≢false m)
+    of_body p (Manual words) same e g m =
+        let parts = and_parts (not (is_automatic_kind p.kind)) (is_block_size (length words)) g in
+        let least = leb-true 1 (length words) (and_parts (nat_le 1 (length words)) (nat_le (length words) 65536) parts.1).0 in
+        record {
+          pool = ap (λ q. option_map_or (λ (p : Pool). is_automatic_kind p.kind) q false) e ∙ of_not (is_automatic_kind p.kind) parts.0;
+          some_words = subst (λ body. 1 ≤ Rattle.mps_model.specs.Graph.size_of_body body) (sym same) least;
+        }
+    of_pool : (q : Option Pool) → pool_at w o.pool ≡ q → option_map_or (λ p. is_right_body w p o.body) q false ≡ true → IsManual w o
+    of_pool None e g = absurd (false≢true g)
+    of_pool (Some p) e g = of_body p o.body refl e g manual
+
+module _ (x : Collecting) (run : Running x) (formed : IsWellFormed x.world) (id : Id) (manual : object_is is_automatic x.world id ≡ false) where
+  abbrev w : World
+  w = x.world
+
+  -- where it lies
+  record LiesIn (o : Object) (at : Address) : Type 0 where
+    segment : Segment
+    among : IsAmong segment w.segments
+    of_pool : segment.pool ≡ o.pool
+    inside : is_in_segment segment (address_of_word (word_of at)) ≡ true
+
+  lies : (o : Object) (at : Address) → object_at w.graph id ≡ Some o → entry_at w.addresses id ≡ Some at → 1 ≤ size_of o → LiesIn o at
+  lies o at there e least =
+      let right = list_all-contains (is_right_place w) (live_ids w) id formed.places (live_is_listed w id (ap is_some e)) in
+      let home : is_home w o.pool (object_is is_weak_object w id) (extent at (size_of o)) ≡ true =
+          sym (ap (λ q. option_map_or (λ a. is_home w (option_map_or (λ (b : Object). b.pool) q 0) (object_is is_weak_object w id)
+              (extent a (option_map_or size_of q 0))) (Some at) false) there)
+          ∙ (sym (ap (λ a. option_map_or (λ a. is_home w (pool_of w id) (object_is is_weak_object w id) (extent a (words_of w id))) a false) e) ∙ right) in
+      let one = any_among (λ t. t.pool == o.pool && same_rank t.rank (if object_is is_weak_object w id then rank.Weak else rank.Exact)
+          && lies_within (words_of_segment t) (extent at (size_of o))) w.segments home in
+      let both = and_parts (one.segment.pool == o.pool && same_rank one.segment.rank (if object_is is_weak_object w id then rank.Weak else rank.Exact))
+          (lies_within (words_of_segment one.segment) (extent at (size_of o))) one.passes in
+      let within = and_parts (nat_le (words_of_segment one.segment).from (word_of at))
+          (nat_le (end_of (extent at (size_of o))) (end_of (words_of_segment one.segment))) both.1 in
+      let low = leb-true (words_of_segment one.segment).from (word_of at) within.0 in
+      let high = leb-true (end_of (extent at (size_of o))) (end_of (words_of_segment one.segment)) within.1 in
+      let aligned = (segment_has_grains w formed one.segment one.among).aligned in
+      record {
+        segment = one.segment;
+        among = one.among;
+        of_pool = eqb-true one.segment.pool o.pool (and_parts (one.segment.pool == o.pool)
+            (same_rank one.segment.rank (if object_is is_weak_object w id then rank.Weak else rank.Exact)) both.0).0;
+        inside = Rattle.std.proofs.lemmas.Bool.and_from (nat_le one.segment.base (address_of_word (word_of at)))
+            (nat_lt (address_of_word (word_of at)) (end_of_segment one.segment))
+            (Rattle.std.proofs.lemmas.Bool.le-leb one.segment.base (address_of_word (word_of at)) (omega (arith, low, aligned)))
+            (Rattle.std.proofs.lemmas.Bool.lt-ltb (address_of_word (word_of at)) (end_of_segment one.segment) (omega (arith, high, aligned, least)));
+      }
+
+  elsewhere : (base : Address) (s : Segment) (o : Object) (at : Address) → contains x.running.condemned_segments base ≡ true
+      → segment_at w base ≡ Some s → object_at w.graph id ≡ Some o → entry_at w.addresses id ≡ Some at → begins_in s (extent at (size_of o)) ≡ true → ⊥
+  elsewhere base s o at is e there lying begins =
+      let m = manual_object w o (list_all-at (is_right_object w) w.graph.objects id o formed.objects there)
+          (sym (ap (λ q. option_map_or is_automatic q false) there) ∙ manual) in
+      let l = lies o at there lying m.some_words in
+      let in_order = segments_ordered w formed in
+      let among = find_among (λ t. t.base == base) w.segments s e in
+      let same = same_Some s l.segment (sym (over_among 1 s w.segments (address_of_word (word_of at)) in_order among.0 begins)
+          ∙ over_among 1 l.segment w.segments (address_of_word (word_of at)) in_order l.among l.inside) in
+      let automatic = from_some (λ (t : Segment). IsTrue (pool_is is_automatic_kind w t.pool)) (segment_at w base) s e (run.condemned.segments base is) in
+      true≢false (sym automatic ∙ (ap (λ (t : Segment). pool_is is_automatic_kind w t.pool) same ∙ (ap (pool_is is_automatic_kind w) l.of_pool ∙ m.pool)))
+
+  pub manual_freed_keeps : Running (record x { world = with_address w id None })
+  manual_freed_keeps = freed_keeps x run id (λ used. true≢false (sym (used_automatic x run formed id used) ∙ manual)) elsewhere
+
+-- ---- its segment may be given back
+
+exclusive : (kind : PoolKind) → is_any_size_kind kind ≡ true → is_automatic_kind kind ≡ true → ⊥
+exclusive (Collected kind) any automatic = false≢true any
+exclusive (OneSize words) any automatic = false≢true any
+exclusive AnySize any automatic = false≢true automatic
+
+pool_exclusive : (w : World) (pool : ℕ) → pool_is is_any_size_kind w pool ≡ true → pool_is is_automatic_kind w pool ≡ true → ⊥
+pool_exclusive w pool any automatic = of_pool (pool_at w pool) any automatic
+  where
+    of_pool : (o : Option Pool) → option_map_or (λ (p : Pool). is_any_size_kind p.kind) o false ≡ true
+        → option_map_or (λ (p : Pool). is_automatic_kind p.kind) o false ≡ true → ⊥
+    of_pool None a b = false≢true a
+    of_pool (Some p) a b = exclusive p.kind a b
+
+module _ (x : Collecting) (run : Running x) (in_order : AreOrdered 1 x.world.segments) where
+  not_condemned : (s : Segment) → IsAmong s x.world.segments → pool_is is_any_size_kind x.world s.pool ≡ true
+      → contains x.running.condemned_segments s.base ≡ false
+  not_condemned s among any = elim (cases_Bool (contains x.running.condemned_segments s.base)) [
+    inl is ↦ absurd (pool_exclusive x.world s.pool any (from_some (λ (t : Segment). IsTrue (pool_is is_automatic_kind x.world t.pool))
+        (segment_at x.world s.base) s (held_among 1 s x.world.segments in_order among) (run.condemned.segments s.base is)))
+    | inr isnt ↦ isnt
+  ]
+
+  -- the world without a segment of a manual pool
+  given_back : (s : Segment) → IsAmong s x.world.segments → pool_is is_any_size_kind x.world s.pool ≡ true
+      → AreOrdered 1 (without_segment x.world.segments s.base) → Running (record x { world = after_unseg x.world s.base })
+  given_back s among any after =
+      let outside = not_condemned s among any in
+      subst (λ o. Running (record x { world = record x.world { segments = without_segment x.world.segments s.base; collection = o } }))
+      (sym (fix s.base outside))
+      (segments_keep x run (without_segment x.world.segments s.base) x.world.tails after
+        (λ t h is. among_without s.base t x.world.segments (λ e. true≢false (sym is ∙ (ap (contains x.running.condemned_segments) e ∙ outside))) h))
+    where
+      fix : (base : Address) → contains x.running.condemned_segments base ≡ false → option_map (giving_back base) x.world.collection ≡ x.world.collection
+      fix base outside = ap (option_map (giving_back base)) run.runs
+          ∙ (ap (λ b. Some (if b then Rattle.mps_model.specs.Effect.reclaiming base (record x.running {
+            condemned_segments = Rattle.mps_model.specs.Graph.without_first x.running.condemned_segments base;
+          }) else x.running)) outside ∙ sym run.runs)
+
+  pub give_back_keeps : (o : Option Segment) → ((s : Segment) → o ≡ Some s → IsAmong s x.world.segments)
+      → AreOrdered 1 (world_after_moves x.world (give_back_empty x.world o)).segments
+      → Running (record x { world = world_after_moves x.world (give_back_empty x.world o) })
+  give_back_keeps None among after = run
+  give_back_keeps (Some s) among after = of_test (pool_is is_any_size_kind x.world s.pool) (is_empty_segment x.world s) refl after
+    where
+      of_test : (a b : Bool) → pool_is is_any_size_kind x.world s.pool ≡ a
+          → AreOrdered 1 (world_after_moves x.world (if a && b then moves.Unseg (at_address s.base) ∷ [] else [])).segments
+          → Running (record x { world = world_after_moves x.world (if a && b then moves.Unseg (at_address s.base) ∷ [] else []) })
+      of_test true true any fine = given_back s (among s refl) any fine
+      of_test true false any fine = run
+      of_test false b any fine = run
+
+-- ---- free
+
+module _ (x : Collecting) (run : Running x) (formed : IsWellFormed x.world) where
+  -- the moves of a free of a live manual block
+  free_of_keeps : (id : Id) → is_live x.world id ≡ true → object_is is_automatic x.world id ≡ false
+      → AreOrdered 1 (world_after_moves x.world (free_of x.world (address_or_null x.world id))).segments
+      → Running (record x { world = world_after_moves x.world (free_of x.world (address_or_null x.world id)) })
+  free_of_keeps id live manual fine =
+      subst (λ (v : World). AreOrdered 1 (world_after_moves v (give_back_empty v (segment_of x.world at))).segments
+        → Running (record x { world = world_after_moves v (give_back_empty v (segment_of x.world at)) })) (sym leads)
+      (λ ordered. give_back_keeps (record x { world = with_address x.world id None }) (manual_freed_keeps x run formed id manual)
+        (segments_ordered x.world formed) (segment_of x.world at) (λ s e. (find_among (λ t. is_in_segment t at) x.world.segments s e).0) ordered) fine
+    where
+      at : Address
+      at = address_or_null x.world id
+      leads : world_after_moves x.world (free_at (address_or_null x.world id)) ≡ with_address x.world id None
+      leads = ap (λ found. where_one x.world found (λ n. after_free x.world n (address_or_null x.world id))) (id_at-live x.world id run.different live)
+          ∙ ap (λ b. if b then Rattle.mps_model.specs.Effect.with_collection (with_address x.world id None)
+              (Rattle.mps_model.specs.Effect.reclaiming (Rattle.mps_model.specs.Effect.segment_base_of x.world (address_or_null x.world id)))
+              else with_address x.world id None) manual
