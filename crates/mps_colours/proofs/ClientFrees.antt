@@ -34,7 +34,7 @@ use Rattle.mps_colours.proofs.Joining.{from_some}
 use Rattle.mps_colours.proofs.HeldSegments.{AreOrdered, IsAmong, segments_ordered, segment_has_grains, over_among, held_among, any_among}
 use Rattle.mps_colours.proofs.FlipLists.{holds_show}
 use Rattle.mps_colours.proofs.ClientLists.{among_all, among_entries}
-use Rattle.mps_colours.proofs.ClientBeside.{IsHeldIn, in_slots, in_holds, in_messages, in_reservations, held_where, bind_keeps, same_Ok, not_Ok, IsFound, found}
+use Rattle.mps_colours.proofs.ClientBeside.{IsHeldIn, in_slots, in_holds, in_messages, in_reservations, held_where, bind_keeps, then_keeps, same_Ok, not_Ok, IsFound, found}
 use Rattle.mps_colours.proofs.ClientChange.{IsUsed, held_by_client, referred_to, is_registered, is_to_be_scanned}
 use Rattle.mps_colours.proofs.ClientThings.{aside_keeps, list_all-at}
 use Rattle.mps_colours.proofs.ClientMaking.{freed_keeps, segments_keep, among_without, find_among}
@@ -300,3 +300,49 @@ module _ (x : Collecting) (run : Running x) (formed : IsWellFormed x.world) wher
           ∙ ap (λ b. if b then Rattle.mps_model.specs.Effect.with_collection (with_address x.world id None)
               (Rattle.mps_model.specs.Effect.reclaiming (Rattle.mps_model.specs.Effect.segment_base_of x.world (address_or_null x.world id)))
               else with_address x.world id None) manual
+
+  -- the moves of a free
+  free_moves_keeps : (m : Checked (Found (Option ℕ))) (refused : Bool)
+      → ((f : Found (Option ℕ)) (id : Id) → m ≡ Ok f → f.value ≡ Some id → (is_live x.world id ≡ true) × (object_is is_automatic x.world id ≡ false))
+      → AreOrdered 1 (world_after_moves x.world (if refused then [] else moves_of_free x.world m)).segments
+      → Running (record x { world = world_after_moves x.world (if refused then [] else moves_of_free x.world m) })
+  free_moves_keeps m true right fine = run
+  free_moves_keeps (Err why) false right fine = run
+  free_moves_keeps (Ok f) false right fine = of_value f.value (λ id e. right f id refl e) fine
+    where
+      of_value : (o : Option ℕ) → ((id : Id) → o ≡ Some id → (is_live x.world id ≡ true) × (object_is is_automatic x.world id ≡ false))
+          → AreOrdered 1 (world_after_moves x.world (option_map_or (λ id. free_of x.world (address_or_null x.world id)) o [])).segments
+          → Running (record x { world = world_after_moves x.world (option_map_or (λ id. free_of x.world (address_or_null x.world id)) o []) })
+      of_value None each ordered = run
+      of_value (Some id) each ordered = let it = each id refl in free_of_keeps id it.0 it.1 ordered
+
+  -- a place of a table of blocks has a live manual block
+  block_right : list_all (is_live x.world) (ids_in_blocks x.world.graph) ≡ true → (place : Slot) (f : Found (Option ℕ)) (id : Id)
+      → block_place_in x.world place ≡ Ok f → f.value ≡ Some id → (is_live x.world id ≡ true) × (object_is is_automatic x.world id ≡ false)
+  block_right live place f id e value =
+      let there = found (slice_get x.world.graph.blocks) f (number_named x.world place.name as_blocks) place.index e in
+      let among = among_all entries x.world.graph.blocks f.number f.list id there.list (among_entries f.list f.index id (there.value ∙ ap Some value)) in
+      (list_all-contains (is_live x.world) (ids_in_blocks x.world.graph) id live among,
+      manual_is x.world id (list_all-contains (object_is (λ o. not (is_automatic o)) x.world) (ids_in_blocks x.world.graph) id formed.blocks among))
+
+  pub freeing_keeps : list_all (is_live x.world) (ids_in_blocks x.world.graph) ≡ true → (place : Slot) (answer : Answer)
+      → AreOrdered 1 (world_after_moves x.world (unless_refused answer (moves_of_free x.world (block_place_in x.world place)))).segments
+      → Running (record x { world = world_after_moves x.world (unless_refused answer (moves_of_free x.world (block_place_in x.world place))) })
+  freeing_keeps live place answer fine =
+      free_moves_keeps (block_place_in x.world place) (is_refused answer) (λ f id e value. block_right live place f id e value) fine
+
+-- the act of a free changes tables of blocks alone
+pub free_act_keeps : (x : Collecting) → Running x → (place : Slot) → Running (record x { world = world_from x.world (act_free x.world place) })
+free_act_keeps x run place =
+    bind_keeps (λ v. Running (record x { world = v })) x.world (block_place_in x.world place)
+    (λ at. block_in at >> done (with_graph x.world (with_block_place x.world.graph at None))) run
+    (λ at e. then_keeps (λ v. Running (record x { world = v })) x.world (block_in at)
+      (done (with_graph x.world (with_block_place x.world.graph at None))) run
+      (aside_keeps x run x.world.grains x.world.limit x.world.chains x.world.graph.names
+        (slice_set x.world.graph.blocks at.number (slice_set at.list at.index None)) x.world.state x.world.dependencies))
+
+pub free_act_segments : (v : World) (place : Slot) → (world_from v (act_free v place)).segments ≡ v.segments
+free_act_segments v place =
+    bind_keeps (λ u. u.segments ≡ v.segments) v (block_place_in v place)
+    (λ at. block_in at >> done (with_graph v (with_block_place v.graph at None))) refl
+    (λ at e. then_keeps (λ u. u.segments ≡ v.segments) v (block_in at) (done (with_graph v (with_block_place v.graph at None))) refl refl)

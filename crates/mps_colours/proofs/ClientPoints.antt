@@ -17,7 +17,7 @@ use Rattle.mps_model.specs.World.{World, PointMemory, Pool, begins_in, extent, e
 use Rattle.mps_model.specs.LegalMove.{holds_something}
 use Rattle.mps_model.specs.Checked.{Act, Checked, Found, Numbered, ◌>>=◌, ◌>>◌, required, refuse_when, done, says, point_named, pool_named, slot_in, number_at, reference_at, with_graph, named}
 use Rattle.mps_model.specs.Making.{act_point, act_drop_point, with_point, without_point, refuse_taken, refuse_at_limit, live_points, most_points, may_have_point}
-use Rattle.mps_model.specs.Allocating.{with_reservation, with_reserved, with_reserved_cells, act_init_number, act_init_reference}
+use Rattle.mps_model.specs.Allocating.{with_reservation, with_reserved, with_reserved_cells, buffer_after, act_init_number, act_init_reference}
 use Rattle.mps_model.specs.Reply.{world_from}
 use Rattle.mps_colours.specs.Collecting.{Collecting, Running}
 use Rattle.mps_colours.proofs.Lists.{slice_get-set_same, index_below}
@@ -157,6 +157,29 @@ module _ (x : Collecting) (run : Running x) where
         inl still ↦ inr still
         | inr at ↦ inl (covered p at.memory at.is_memory
             (ap (λ q. list_any p (extent_at_point q at.memory)) (sym (is_value point at.point found at.is_point)) ∙ at.passes))
+      ])
+
+  -- a point that has no reservation gets one, which refers to nothing yet
+  pub with_reserved_keeps : (point : Numbered Point) → entry_at w.graph.points point.number ≡ Some point.value
+      → is_some point.value.reservation ≡ false → (r : Reservation) (address : Address)
+      → ((id : Id) → contains (targets_of_reservation r) id ≡ false) → P (with_reserved w point r address)
+  with_reserved_keeps point found closed r address nothing =
+      points_keep (slice_set w.graph.points point.number (Some (record point.value { reservation = Some r })))
+      (slice_set w.point_memories point.number (record {
+        reserved_at = address;
+        buffer = buffer_after w point.number point.value (length r.cells);
+      })) w.graph.names
+      (λ id h. elim (written_among targets_of_point w.graph.points point.number (Some (record point.value { reservation = Some r })) id h) [
+        inl old ↦ still_reserved id old
+        | inr new ↦ absurd (true≢false (sym new ∙ nothing id))
+      ])
+      (λ p h. elim (reserved_written p w.graph.points w.point_memories point.number (Some (record point.value { reservation = Some r })) (record {
+        reserved_at = address;
+        buffer = buffer_after w point.number point.value (length r.cells);
+      }) h) [
+        inl still ↦ inr still
+        | inr at ↦ absurd (none_of p at.point point.value at.memory (is_value point at.point found at.is_point)
+            (no_reservation point.value.reservation at.memory closed) at.passes)
       ])
 
   -- a reservation with other cells, as many

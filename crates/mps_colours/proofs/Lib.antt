@@ -1,3 +1,5 @@
+pub mod ClientReads
+pub mod ClientReserves
 pub mod ClientFrees
 pub mod ClientBlocks
 pub mod ClientMaking
