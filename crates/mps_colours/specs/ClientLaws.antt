@@ -15,8 +15,7 @@ use Rattle.mps_model.specs.Checked.{Checked, Found, ◌>>=◌, required, slot_in
 use Rattle.mps_model.specs.Collecting.{without_position, without_registration}
 use Rattle.mps_model.specs.Effect.{world_after_moves}
 use Rattle.mps_model.specs.Policy.{units_asked}
-use Rattle.mps_model.specs.Reply.{reply_to}
-use Rattle.mps_model.specs.History.{moves_of_collector, judged_world, moved_world, asking, remembering, world_after, AreMovesOf}
+use Rattle.mps_model.specs.History.{moves_of_collector, asking, remembering, world_after, AreMovesOf}
 use Rattle.mps_colours.specs.Colours.{AreDifferent}
 use Rattle.mps_colours.specs.Collecting.{Collecting, Running, is_white_in}
 
@@ -66,14 +65,12 @@ IsReadKept x (call.Get target source cell) =
     → IsTrue (contains (targets x.world.graph id) read) → is_white_in x read ≡ false
 IsReadKept x _ = Unit {0}
 
--- a step that was answered, with its moves, whose collector's part led to a state. Whether it is legal isn't asked, since that
--- it leaves what the client holds live is part of what is shown
+-- a step whose collector's part led to a state. Whether the step is legal isn't asked: that it leaves what the client holds live
+-- is part of what is shown
 pub record IsClientStep (w : World) (x : Collecting) (s : Step) : Type 0 where
   pub supported : is_unsupported s.answer ≡ false
   pub collected : collected_world w s ≡ x.world
   pub moves_are_due : AreMovesOf w s.call s.answer s.moves
-  pub answer_is_due :
-      s.answer ≡ reply_to (is_block s.answer) (judged_world w s.call s.moves) (moved_world w s.call s.moves) s.call
   pub marked_kept : IsMarkedKept x s.call s.answer
   pub read_kept : IsReadKept x s.call
   -- the worlds before the client's part and after it are well-formed, and no two objects have one address

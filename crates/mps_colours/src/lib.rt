@@ -2,8 +2,10 @@
 //! with no word, bit or forwarding in it. Each function does nothing; what it shows is its contract.
 #![tactic(auto)]
 
+mod clients;
 mod flips;
 
+pub use clients::clients_keep_running;
 pub use flips::a_flip_begins_running;
 
 ghost use Rattle.mps_colours.specs.DueLaws.{RunningIsLegal, WorkIsDue};
