@@ -295,7 +295,6 @@ module _ (w : World) (x : Collecting) (run : Running x) (formed : IsWellFormed x
       plain (call.DependencyStale dependency) (world_after_moves w ms) led (dependency_stale_keeps x run dependency)
   call_keeps call.Live ms answer led due marked read fine = plain call.Live (world_after_moves w ms) led run
   call_keeps (call.Dump at) ms answer led due marked read fine = plain (call.Dump at) (world_after_moves w ms) led (dump_keeps x run at)
-  call_keeps call.Other ms answer led due marked read fine = plain call.Other (world_after_moves w ms) led run
 
 -- ---- the whole step
 
