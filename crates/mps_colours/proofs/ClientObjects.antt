@@ -32,7 +32,7 @@ pub record IsRewritten (held : Id → Type 0) (o q : Object) : Type 0 where
   pub referred : (t : Id) → contains (targets_of q) t ≡ true → (contains (targets_of o) t ≡ true) ⊎ held t
 
 -- a test of objects that the two pass alike
-written_passes : {A : Type 0} (test : Object → A) (otherwise : A) (os : List Object) (n id : Id) (o q : Object) → slice_get os n ≡ Some o
+pub written_passes : {A : Type 0} (test : Object → A) (otherwise : A) (os : List Object) (n id : Id) (o q : Object) → slice_get os n ≡ Some o
     → test q ≡ test o → option_map_or test (slice_get (slice_set os n q) id) otherwise ≡ option_map_or test (slice_get os id) otherwise
 written_passes test otherwise os n id o q e same = elim (cases_eq n id) [
   inl it ↦ ap (λ p. option_map_or test p otherwise)

@@ -1,3 +1,4 @@
+pub mod WholePaths
 pub mod ClientCalls
 pub mod ClientReads
 pub mod ClientReserves

@@ -156,7 +156,7 @@ module _ (x : Collecting) (run : Running x) (s : Segment) (freed : List Address)
   made_all : (b : Bool) → is_last_condemned x.running s.base ≡ b → reclaim_by x s.base freed ≡ moves_made x run s freed next ++ end_where b
   made_all b e = ap (λ t. moves_made x run s freed next ++ end_where t) e
 
-  goes_on_leads : is_last_condemned x.running s.base ≡ false
+  pub goes_on_leads : is_last_condemned x.running s.base ≡ false
       → world_after_moves x.world (reclaim_by x s.base freed) ≡ final_world x run s freed next
   goes_on_leads not_last =
       ap (world_after_moves x.world) (made_all false not_last ∙ append-nil (moves_made x run s freed next)) ∙ final_lead x run s freed next
@@ -190,7 +190,7 @@ module _ (x : Collecting) (run : Running x) (s : Segment) (freed : List Address)
     below_last base h = leb-true base s.base (list_all-contains (λ other. nat_le other s.base) x.running.condemned_segments base last h)
 
     -- nothing is white any more
-    all_black : (n : Id) → is_live (final_world x run s freed next) n ≡ true → is_white_in x n ≡ false
+    pub all_black : (n : Id) → is_live (final_world x run s freed next) n ≡ true → is_white_in x n ≡ false
     all_black n h = elim (cases_Bool (is_white_in x n)) [
       | inr isnt ↦ isnt
       | inl white ↦
@@ -223,7 +223,7 @@ module _ (x : Collecting) (run : Running x) (s : Segment) (freed : List Address)
               hold x run s freed next base h (omega (arith, most)));
         }
 
-    last_leads : world_after_moves x.world (reclaim_by x s.base freed) ≡ record (final_world x run s freed next) { collection = None }
+    pub last_leads : world_after_moves x.world (reclaim_by x s.base freed) ≡ record (final_world x run s freed next) { collection = None }
     last_leads =
         ap (world_after_moves x.world) (made_all true last)
         ∙ world_after_moves-append x.world (moves_made x run s freed next) (moves.End ∷ [])

@@ -1,3 +1,4 @@
+pub mod WholeLaws
 pub mod ClientLaws
 pub mod FlipLaws
 pub mod Colours
