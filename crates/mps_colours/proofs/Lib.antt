@@ -1,3 +1,4 @@
+pub mod WholeUnits
 pub mod WholePaths
 pub mod ClientCalls
 pub mod ClientReads
