@@ -32,6 +32,7 @@ use Rattle.mps_colours.proofs.Lists.{contains_append}
 use Rattle.mps_colours.proofs.Addresses.{id_at-live, live_is_listed, address_of-live}
 use Rattle.mps_colours.proofs.Joining.{from_some}
 use Rattle.mps_colours.proofs.HeldSegments.{AreOrdered, IsAmong, segments_ordered, segment_has_grains, over_among, held_among, any_among}
+use Rattle.mps_colours.proofs.Homes.{lies_at}
 use Rattle.mps_colours.proofs.FlipLists.{holds_show}
 use Rattle.mps_colours.proofs.ClientLists.{among_all, among_entries}
 use Rattle.mps_colours.proofs.ClientBeside.{IsHeldIn, in_slots, in_holds, in_messages, in_reservations, held_where, bind_keeps, then_keeps, same_Ok, not_Ok, IsFound, found}
@@ -177,50 +178,16 @@ module _ (x : Collecting) (run : Running x) (formed : IsWellFormed x.world) (id 
   abbrev w : World
   w = x.world
 
-  -- where it lies
-  record LiesIn (o : Object) (at : Address) : Type 0 where
-    segment : Segment
-    among : IsAmong segment w.segments
-    of_pool : segment.pool ≡ o.pool
-    inside : is_in_segment segment (address_of_word (word_of at)) ≡ true
-
-  lies : (o : Object) (at : Address) → object_at w.graph id ≡ Some o → entry_at w.addresses id ≡ Some at → 1 ≤ size_of o → LiesIn o at
-  lies o at there e least =
-      let right = list_all-contains (is_right_place w) (live_ids w) id formed.places (live_is_listed w id (ap is_some e)) in
-      let home : is_home w o.pool (object_is is_weak_object w id) (extent at (size_of o)) ≡ true =
-          sym (ap (λ q. option_map_or (λ a. is_home w (option_map_or (λ (b : Object). b.pool) q 0) (object_is is_weak_object w id)
-              (extent a (option_map_or size_of q 0))) (Some at) false) there)
-          ∙ (sym (ap (λ a. option_map_or (λ a. is_home w (pool_of w id) (object_is is_weak_object w id) (extent a (words_of w id))) a false) e) ∙ right) in
-      let one = any_among (λ t. t.pool == o.pool && same_rank t.rank (if object_is is_weak_object w id then rank.Weak else rank.Exact)
-          && lies_within (words_of_segment t) (extent at (size_of o))) w.segments home in
-      let both = and_parts (one.segment.pool == o.pool && same_rank one.segment.rank (if object_is is_weak_object w id then rank.Weak else rank.Exact))
-          (lies_within (words_of_segment one.segment) (extent at (size_of o))) one.passes in
-      let within = and_parts (nat_le (words_of_segment one.segment).from (word_of at))
-          (nat_le (end_of (extent at (size_of o))) (end_of (words_of_segment one.segment))) both.1 in
-      let low = leb-true (words_of_segment one.segment).from (word_of at) within.0 in
-      let high = leb-true (end_of (extent at (size_of o))) (end_of (words_of_segment one.segment)) within.1 in
-      let aligned = (segment_has_grains w formed one.segment one.among).aligned in
-      record {
-        segment = one.segment;
-        among = one.among;
-        of_pool = eqb-true one.segment.pool o.pool (and_parts (one.segment.pool == o.pool)
-            (same_rank one.segment.rank (if object_is is_weak_object w id then rank.Weak else rank.Exact)) both.0).0;
-        inside = Rattle.std.proofs.lemmas.Bool.and_from (nat_le one.segment.base (address_of_word (word_of at)))
-            (nat_lt (address_of_word (word_of at)) (end_of_segment one.segment))
-            (Rattle.std.proofs.lemmas.Bool.le-leb one.segment.base (address_of_word (word_of at)) (omega (arith, low, aligned)))
-            (Rattle.std.proofs.lemmas.Bool.lt-ltb (address_of_word (word_of at)) (end_of_segment one.segment) (omega (arith, high, aligned, least)));
-      }
-
   elsewhere : (base : Address) (s : Segment) (o : Object) (at : Address) → contains x.running.condemned_segments base ≡ true
       → segment_at w base ≡ Some s → object_at w.graph id ≡ Some o → entry_at w.addresses id ≡ Some at → begins_in s (extent at (size_of o)) ≡ true → ⊥
   elsewhere base s o at is e there lying begins =
       let m = manual_object w o (list_all-at (is_right_object w) w.graph.objects id o formed.objects there)
           (sym (ap (λ q. option_map_or is_automatic q false) there) ∙ manual) in
-      let l = lies o at there lying m.some_words in
+      let l = lies_at w formed id o at there lying m.some_words in
       let in_order = segments_ordered w formed in
       let among = find_among (λ t. t.base == base) w.segments s e in
       let same = same_Some s l.segment (sym (over_among 1 s w.segments (address_of_word (word_of at)) in_order among.0 begins)
-          ∙ over_among 1 l.segment w.segments (address_of_word (word_of at)) in_order l.among l.inside) in
+          ∙ over_among 1 l.segment w.segments (address_of_word (word_of at)) in_order l.among l.word_inside) in
       let automatic = from_some (λ (t : Segment). IsTrue (pool_is is_automatic_kind w t.pool)) (segment_at w base) s e (run.condemned.segments base is) in
       true≢false (sym automatic ∙ (ap (λ (t : Segment). pool_is is_automatic_kind w t.pool) same ∙ (ap (pool_is is_automatic_kind w) l.of_pool ∙ m.pool)))
 

@@ -99,7 +99,7 @@ only_pinned false = refl
 
 -- ---- the flip
 
-flip_legal : (w : World) (what : Condemnation) (next : Option Move) → IsAtRest w → IsNumbered what → IsLegalMove w None (flip_of w what) next
+pub flip_legal : (w : World) (what : Condemnation) (next : Option Move) → IsAtRest w → IsNumbered what → IsLegalMove w None (flip_of w what) next
 flip_legal w what next rest numbered = record {
   none_runs = ap (λ o. not (is_some o)) rest.none_runs;
   of_zones = ap (condemned_zones w) (sym numbered);
@@ -129,7 +129,7 @@ module _ (w : World) (what : Condemnation) (others : List Id) (ms : List Move) (
         (contains_left (ids_in_slots w.graph ++ w.graph.messages) x.running.pinned id h),
   )
 
-  all : AreFixed x (ids_in_slots w.graph ++ w.graph.messages) ms y
+  pub all : AreFixed x (ids_in_slots w.graph ++ w.graph.messages) ms y
   all = flip_fixes fixed begun roots
 
   -- what an area word holds is pinned, or wasn't condemned
@@ -191,7 +191,7 @@ module _ (w : World) (what : Condemnation) (rest : IsAtRest w) (numbered : IsNum
   no_segments : condemned_by flipped_world what ≡ []
   no_segments = same_condemned w (condemned_zones w what) what ∙ nothing_is (condemned_by w what) nothing
 
-  none_condemned : empty.running.condemned ≡ []
+  pub none_condemned : empty.running.condemned ≡ []
   none_condemned = ap (λ ss. filter (lies_in_one flipped_world ss) (live_automatic_ids w)) no_segments ∙ none_pass (live_automatic_ids w)
 
   no_fix : (id : Id) → fix empty.world id ≡ []

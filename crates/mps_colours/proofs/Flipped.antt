@@ -53,7 +53,7 @@ none_of_doomed (Some p ∷ ps) = ap (λ ids. ids ++ flat_map targets_of_point (m
     of_reservation (Some r) = refl
 
 -- an object that refers to something is automatic
-refers_automatic : (o : Option Object) (t : Id) → contains (option_map_or targets_of o []) t ≡ true → option_map_or is_automatic o false ≡ true
+pub refers_automatic : (o : Option Object) (t : Id) → contains (option_map_or targets_of o []) t ≡ true → option_map_or is_automatic o false ≡ true
 refers_automatic None t h = absurd (false≢true h)
 refers_automatic (Some o) t h = of_body o.body h
   where

@@ -1,3 +1,6 @@
+pub mod WholeEnds
+pub mod WholeBegins
+pub mod Homes
 pub mod WholeUnits
 pub mod WholePaths
 pub mod ClientCalls

@@ -4,9 +4,11 @@
 
 mod clients;
 mod flips;
+mod whole;
 
 pub use clients::clients_keep_running;
 pub use flips::a_flip_begins_running;
+pub use whole::a_whole_collection_is_exact;
 
 ghost use Rattle.mps_colours.specs.DueLaws.{RunningIsLegal, WorkIsDue};
 ghost use Rattle.mps_colours.specs.Laws.{ReachableIsKept, AUnitKeepsRunning, UnitsRunOut, ABarrierKeepsRunning};
