@@ -1,0 +1,15 @@
+pub mod Entries
+pub mod Targets
+pub mod References
+pub mod Forwarded
+pub mod Written
+pub mod Marked
+pub mod Copied
+pub mod InOrder
+pub mod Extents
+pub mod Runs
+pub mod Fixing
+pub mod Segments
+pub mod Scanning
+pub mod AtHand
+pub mod Bands

@@ -1,0 +1,6 @@
+pub mod Memory
+pub mod Image
+pub mod Fixing
+pub mod Scanning
+pub mod AtHand
+pub mod Bands
