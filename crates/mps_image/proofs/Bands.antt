@@ -1,15 +1,15 @@
 -- The image where no collection runs, at a flip, and once blocks are freed.
-use Rattle.std.proofs.Common.{◌≡◌, ◌∙◌, ℕ, Bool, true, false, refl, sym, ap, List, [], length, Option, Some, None, slice_index, subst}
+use Rattle.std.proofs.Common.{◌≡◌, ◌∙◌, ℕ, Bool, false, refl, sym, ap, List, [], length, Option, Some, slice_index, subst}
 use Rattle.std.proofs.lemmas.Bool.{true≢false, and_from}
 use Rattle.std.proofs.lemmas.Option.{none-some, same_Some}
-use Rattle.std.specs.Prelude.{slice_get, not, ◌&&◌, ◌≢◌, IsTrue}
+use Rattle.std.specs.Prelude.{slice_get, not, IsTrue}
 use Rattle.mps_base.specs.Address.{Address, Id, Word}
 use Rattle.mps_model.specs.Graph.{Cell, Object, Point, Reservation, entry_at, target_of_cell}
 use Rattle.mps_model.specs.Checked.{head_of_body}
 use Rattle.mps_model.specs.World.{PointMemory}
 use Rattle.mps_colours.specs.Colours.{Colours, is_white, is_grey, is_black}
-use Rattle.mps_image.specs.Memory.{Setting, Memory, Lies, LiesReserved, cells_in, live_reservation}
-use Rattle.mps_image.specs.Image.{IsCellWord, ArePlaced, WordsStand, IsFixed, CellSet, MarksStand, RunsStand, ImageStands, Stands}
+use Rattle.mps_image.specs.Memory.{Setting, Memory, Lies, cells_in, live_reservation}
+use Rattle.mps_image.specs.Image.{IsCellWord, ArePlaced, IsFixed, CellSet, MarksStand, RunsStand, ImageStands, Stands}
 use Rattle.mps_image.specs.Bands.{flipped, freeing}
 use Rattle.mps_image.proofs.Written.{holds_still}
 

@@ -4,11 +4,11 @@ use Rattle.std.proofs.lemmas.Bool.{false≢true, cases_eq, and_left, or_cases, o
 use Rattle.std.proofs.lemmas.Option.{none-some, same_Some}
 use Rattle.std.specs.Prelude.{slice_get, not, ◌&&◌, ◌||◌, ◌≢◌, IsTrue}
 use Rattle.mps_base.specs.Address.{Address, Id, Word, word_of}
-use Rattle.mps_model.specs.Graph.{Cell, HeadCell, NumberCell, ReferenceCell, Object, Reservation, entry_at, size_of, target_of_cell}
+use Rattle.mps_model.specs.Graph.{Cell, HeadCell, NumberCell, ReferenceCell, Object, entry_at, size_of, target_of_cell}
 use Rattle.mps_model.specs.Checked.{head_of_body}
 use Rattle.mps_colours.specs.Colours.{Colours, is_white, is_grey, keeping}
-use Rattle.mps_image.specs.Memory.{Setting, Memory, Lies, LiesReserved, Begins, cells_in}
-use Rattle.mps_image.specs.Image.{MeansAt, IsCellWord, IsAddress, ArePlaced, IsForwarded, WordsStand, IsFixed, CellSet, AreFixed, MarksStand, ImageStands}
+use Rattle.mps_image.specs.Memory.{Setting, Lies, LiesReserved, Begins}
+use Rattle.mps_image.specs.Image.{MeansAt, IsCellWord, IsAddress, ArePlaced, IsForwarded, WordsStand, IsFixed, CellSet, AreFixed, MarksStand}
 use Rattle.mps_image.specs.Fixing.{AreCopied, AreAtHand, AreMarksMoved, address_moved}
 use Rattle.mps_image.proofs.Entries.{entry_at-set_same, entry_at-set_other, entry_replaced}
 use Rattle.mps_image.proofs.Forwarded.{forwarded_still}
@@ -245,7 +245,7 @@ module _ (s : Setting) (addresses : List (Option Address)) (k : Colours) (t : Id
       reserved = λ point i r n c there cell.
           let not_from' : (q : ℕ) → q < size_of o → n ≢ word_of from + q =
           λ q lt x. placed.reserved_apart t point q i o r (word_of from + q) (was_there q lt)
-            (subst (λ y. LiesReserved s.points s.point_memories point i r y) x there)
+          (subst (λ y. LiesReserved s.points s.point_memories point i r y) x there)
           in
           let not_to' : (q : ℕ) → q < size_of o → n ≢ word_of to + q =
           λ q lt x. v.hand.unreserved q point i r lt (subst (λ y. LiesReserved s.points s.point_memories point i r y) x there)
@@ -305,11 +305,11 @@ module _ (s : Setting) (addresses : List (Option Address)) (k : Colours) (t : Id
         | inl x ↦
             subst (λ y. is_white s.condemned (keeping k t) y ≡ false) (sym x.0) (kept_not_white s.condemned k t)
             ∙ sym (and_left (s.is_condemned_over (word_of at)) (not (kept' (word_of at)))
-              (ap (λ y. s.is_condemned_over (word_of y)) x.1 ∙ not_condemned_there))
+            (ap (λ y. s.is_condemned_over (word_of y)) x.1 ∙ not_condemned_there))
         | inr x ↦
             others_white s.condemned k t id x.0 ∙ marks.white_there id at x.1
             ∙ ap (λ y. s.is_condemned_over (word_of at) && not y)
-              (sym (b.kept_others (word_of at) (from_apart id at x.1 x.0) (to_apart id at x.1)))
+            (sym (b.kept_others (word_of at) (from_apart id at x.1 x.0) (to_apart id at x.1)))
       ];
       grey_there = λ id at e. elim (entry_moved id at e) [
         | inl x ↦

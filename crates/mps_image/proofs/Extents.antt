@@ -1,10 +1,10 @@
 -- The extents of live blocks and of live reservations, one by one, and one among the others.
-use Rattle.std.proofs.Common.{◌≡◌, ◌∙◌, ◌⊎◌, ℕ, zero, suc, ◌+◌, refl, sym, ap, List, [], ◌∷◌, ◌++◌, length, Bool, true, false, Option, Some, None, subst, inl, inr, arith, append-nil}
+use Rattle.std.proofs.Common.{◌≡◌, ◌∙◌, ℕ, zero, suc, refl, sym, ap, List, [], ◌∷◌, ◌++◌, length, Bool, true, false, Option, Some, None, subst, arith}
 use Rattle.std.proofs.lemmas.Option.{none-some, same_Some}
 use Rattle.std.proofs.lemmas.List.{append_assoc}
 use Rattle.std.specs.Prelude.{slice_get, slice_set, ◌≢◌, option_and_then, if◌then◌else◌}
 use Rattle.std.specs.List.{AllByRecursion}
-use Rattle.mps_base.specs.Address.{Address, Id, word_of}
+use Rattle.mps_base.specs.Address.{Address, Id}
 use Rattle.mps_base.specs.Run.{Run}
 use Rattle.mps_model.specs.Graph.{Object, Point, Reservation, entry_at, size_of, is_live_reservation}
 use Rattle.mps_model.specs.World.{PointMemory, extent, extents_of, extent_of_reservation, reserved_extents}
@@ -171,9 +171,8 @@ parted_points (q ∷ ps) (m ∷ ms) (suc i) point memory e h =
           first_point q (slice_set ps i new) m (slice_set ms i there) ∙ ap (λ rs. extent_at q m ++ rs) (s.set new there)
           ∙ sym (append_assoc (extent_at q m) s.before (extent_at new there ++ s.after));
       others = λ P f.
-          let rest = s.others P (λ j r n x y z. f (suc j) r n (later x) y z) in
-          (
+          let rest = s.others P (λ j r n x y z. f (suc j) r n (later x) y z) in (
             all_append P (extent_at q m) s.before (all_first P q m (λ r x. f zero r m (λ z. omega (arith, z)) x refl)) rest.0,
-            rest.1
+            rest.1,
           );
     }

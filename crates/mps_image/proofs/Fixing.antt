@@ -1,16 +1,14 @@
 -- One fix keeps the image, whatever the code finds: of an address, and of the reference in a word.
-use Rattle.std.proofs.Common.{◌≡◌, ◌∙◌, ℕ, ◌+◌, ◌<◌, Bool, true, false, refl, sym, ap, List, [], Option, Some, None, subst, arith, slice_index}
+use Rattle.std.proofs.Common.{◌≡◌, ◌∙◌, ℕ, ◌+◌, ◌<◌, Bool, true, false, refl, sym, ap, List, Option, Some, None, subst, inl, arith, slice_index}
 use Rattle.std.proofs.lemmas.Bool.{false≢true, and_right, and_from}
 use Rattle.std.proofs.lemmas.Option.{none-some, same_Some}
-use Rattle.std.specs.Prelude.{slice_get, slice_set, not, ◌&&◌, ◌≢◌, IsTrue}
+use Rattle.std.specs.Prelude.{slice_get, slice_set, not, IsTrue}
 use Rattle.mps_base.specs.Address.{Address, Id, Word, word_of}
-use Rattle.mps_format.specs.Layout.{Layout}
-use Rattle.mps_model.specs.Graph.{Cell, ReferenceCell, Object, entry_at, size_of, target_of_cell}
-use Rattle.mps_model.specs.Checked.{head_of_body}
+use Rattle.mps_model.specs.Graph.{ReferenceCell, Object, entry_at, size_of}
 use Rattle.mps_colours.specs.Colours.{Colours, is_white, keeping}
 use Rattle.mps_image.specs.Memory.{Setting, Memory, Lies, cells_in}
-use Rattle.mps_image.specs.Image.{AreShaped, IsFixed, CellSet, with_cell, ImageStands, is_white_over}
-use Rattle.mps_image.specs.Fixing.{AreCopied, AreAtHand, IsMarked, AreMarksMoved, marked_in, copied_in, address_moved, IsNotForwarded, IsToKeep, FixAt, passes, forwards, is_kept, stays, copies, FixWord, null, writes, FixesOne, nothing, passed, kept, moved, IsFixedAt, IsFixedCell}
+use Rattle.mps_image.specs.Image.{AreShaped, CellSet, ImageStands, is_white_over}
+use Rattle.mps_image.specs.Fixing.{Target, AreCopied, AreAtHand, IsMarked, AreMarksMoved, marked_in, copied_in, address_moved, IsNotForwarded, IsToKeep, FixAt, passes, forwards, is_kept, stays, copies, FixWord, null, writes, FixesOne, nothing, passed, kept, moved, IsFixedAt, IsFixedCell}
 use Rattle.mps_image.proofs.Entries.{entry_at-set_same, entry_at-set_other}
 use Rattle.mps_image.proofs.Targets as targets
 use Rattle.mps_image.proofs.References as references
@@ -36,7 +34,7 @@ image_copied s m addresses k done t from to o words' kept' grey' st v copy b = r
 -- ---- an address is fixed
 
 module _ (s : Setting) (m : Memory) (addresses : List (Option Address)) (k : Colours) (done : CellSet) (shaped : AreShaped s.objects s.layout)
-    (st : ImageStands s m addresses k done) (t address now : ℕ) (p : Object) (x : targets.Target s addresses t address now p) where
+    (st : ImageStands s m addresses k done) (t address now : ℕ) (p : Object) (x : Target s addresses t address now p) where
   at_there : address ≡ now → is_white s.condemned k t ≡ false → IsFixedAt s m addresses k done t address
   at_there e w = record {
     addresses_after = addresses;
@@ -200,13 +198,13 @@ module _ (s : Setting) (m : Memory) (addresses : List (Option Address)) (k : Col
                 holds = record {
                   address = answer;
                   is = r.retarget answer (f.stands.placed.address t answer f.there);
-                  means = Rattle.std.proofs.Common.inl f.there;
+                  means = inl f.there;
                 };
                 not_white = λ u e. subst (λ y. is_white s.condemned f.colours_after y ≡ false) (same_Some t u e) f.not_white;
               });
         }
 
-    fix_object : (address : Address) (p : Object) (m' : Memory) → targets.Target s addresses t address now p
+    fix_object : (address : Address) (p : Object) (m' : Memory) → Target s addresses t address now p
         → references.Reads (s.layout o.pool) (slice_index m.words n) address tag → 0 < address
         → FixWord s addresses (s.layout o.pool) m n address m' → IsFixedCell s m' addresses k done (Some t) holder i
     fix_object address p m' x r lt (null e) = absurd (omega (arith, e, lt))
@@ -219,5 +217,19 @@ module _ (s : Setting) (m : Memory) (addresses : List (Option Address)) (k : Col
     fix_keeps address m' read f =
         let found = references.found s m.words addresses shaped st.placed st.words all_read holder i o n tag lies t now cell there in
         let e : found.address ≡ address = sym found.read.target ∙ read in
-        fix_object address found.object m' (subst (λ y. targets.Target s addresses t y now found.object) e found.target)
+        fix_object address found.object m' (subst (λ y. Target s addresses t y now found.object) e found.target)
         (subst (λ y. references.Reads (s.layout o.pool) (slice_index m.words n) y tag) e found.read) (subst (λ y. 0 < y) e found.not_null) f
+
+-- a word is fixed, whatever it refers to
+pub fix_word : (s : Setting) (m : Memory) (addresses : List (Option Address)) (k : Colours) (done : CellSet) (holder i tag : ℕ) (o : Object)
+    (n : Word) (t : Option Id) → AreShaped s.objects s.layout → ((id : Id) → IsTrue (s.is_read id)) → ImageStands s m addresses k done
+    → Lies s.objects addresses holder i o n → is_white s.condemned k holder ≡ false
+    → slice_get (cells_in o.body) i ≡ Some (ReferenceCell t tag)
+    → ((u : Id) → t ≡ Some u → (now : Address) × (entry_at addresses u ≡ Some now)) → (address : Address) (m' : Memory)
+    → (s.layout o.pool).target (slice_index m.words n) ≡ address → FixWord s addresses (s.layout o.pool) m n address m'
+    → IsFixedCell s m' addresses k done t holder i
+fix_word s m addresses k done holder i tag o n None shaped all_read st lies not_white cell live address m' read f =
+    fix_null s m addresses k done shaped all_read st holder i o n tag lies address m' cell read f
+fix_word s m addresses k done holder i tag o n (Some t) shaped all_read st lies not_white cell live address m' read f =
+    let there = live t refl in
+    fix_keeps s m addresses k done shaped all_read st holder i o n tag lies t there.0 not_white cell there.1 address m' read f

@@ -94,10 +94,9 @@ module _ {X : Type 0} (key : X → ℕ) where
   ascending_put new (x ∷ xs) s =
       elim (cases_lt (key new) (key x)) [
         | inl low ↦
-            subst AreInOrder (sym (put-lower new x xs low))
-            (
+            subst AreInOrder (sym (put-lower new x xs low)) (
               (omega (arith, low), all_weaker (λ t. key x ≤ key t) (λ t. key new ≤ key t) xs (λ t h. omega (arith, low, h)) s.0),
-              (s.0, s.1)
+              (s.0, s.1),
             )
         | inr high ↦
             subst AreInOrder (sym (put-higher new x xs high)) (all_put (λ t. key x ≤ key t) new xs high s.0, ascending_put new xs s.1)

@@ -13,3 +13,5 @@ pub mod Segments
 pub mod Scanning
 pub mod AtHand
 pub mod Bands
+pub mod AtRest
+pub mod Laws

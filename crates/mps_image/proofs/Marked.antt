@@ -1,13 +1,13 @@
 -- A white block is kept where it is: it is marked.
-use Rattle.std.proofs.Common.{◌≡◌, ◌∙◌, ℕ, ◌+◌, Bool, true, false, refl, sym, ap, List, [], ◌∷◌, Option, Some, subst, inl, inr, arith, slice_index}
+use Rattle.std.proofs.Common.{◌≡◌, ◌∙◌, Bool, true, false, refl, sym, ap, List, Option, Some, subst, inl, inr, arith}
 use Rattle.std.proofs.lemmas.Bool.{false≢true, cases_eq, eq-eqb, ne_eqb, and_right, or_cases, or_left, or_right}
 use Rattle.std.proofs.lemmas.Option.{same_Some}
 use Rattle.std.specs.Prelude.{slice_get, not, ◌&&◌, ◌||◌, ◌≢◌, IsTrue}
 use Rattle.mps_base.specs.Address.{Address, Id, Word, word_of}
-use Rattle.mps_model.specs.Graph.{Object, contains, entry_at, target_of_cell}
+use Rattle.mps_model.specs.Graph.{Object, contains, entry_at}
 use Rattle.mps_colours.specs.Colours.{Colours, is_white, is_grey, keeping}
 use Rattle.mps_image.specs.Memory.{Setting, Memory, Lies, Begins}
-use Rattle.mps_image.specs.Image.{ArePlaced, IsFixed, CellSet, AreFixed, MarksStand, ImageStands}
+use Rattle.mps_image.specs.Image.{ArePlaced, CellSet, AreFixed, MarksStand, ImageStands}
 use Rattle.mps_image.specs.Fixing.{IsMarked, marked_in}
 
 -- ---- colours of objects

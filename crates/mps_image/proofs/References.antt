@@ -1,14 +1,12 @@
 -- What a lawful format reads in a reference word.
-use Rattle.std.proofs.Common.{◌≡◌, ◌⊎◌, ℕ, ◌+◌, ◌%◌, ◌^◌, ◌<◌, sym, ap, List, Option, Some, None, inl, inr, arith, slice_index}
+use Rattle.std.proofs.Common.{◌≡◌, ℕ, ◌+◌, ◌%◌, ◌^◌, ◌<◌, List, Option, Some, None, inl, inr, arith, slice_index}
 use Rattle.std.specs.Prelude.{slice_get, IsTrue}
 use Rattle.mps_base.specs.Address.{Address, Id, Word}
 use Rattle.mps_format.specs.Layout.{Layout, IsLawful}
-use Rattle.mps_model.specs.Graph.{Cell, ReferenceCell, Object, entry_at}
-use Rattle.mps_model.specs.Checked.{head_of_body}
-use Rattle.mps_colours.specs.Colours.{Colours}
-use Rattle.mps_image.specs.Memory.{Setting, Memory, Lies, cells_in}
+use Rattle.mps_model.specs.Graph.{ReferenceCell, Object, entry_at}
+use Rattle.mps_image.specs.Memory.{Setting, Lies, cells_in}
 use Rattle.mps_image.specs.Image.{MeansAt, Refers, AreShaped, IsAddress, ArePlaced, WordsStand}
-use Rattle.mps_image.proofs.Targets.{Target}
+use Rattle.mps_image.specs.Fixing.{Target}
 
 -- the address that is read from the word of a reference, and the word with another address
 pub record Reads (f : Layout) (word : ℕ) (address : Address) (tag : ℕ) : Type 0 where

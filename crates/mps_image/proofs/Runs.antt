@@ -1,14 +1,13 @@
 -- The runs of blocks and of all that is covered, after a block has moved.
 use Rattle.std.proofs.Common.{◌≡◌, ◌∙◌, ℕ, ◌+◌, ◌<◌, sym, ap, List, [], ◌∷◌, ◌++◌, length, Option, Some, subst, arith}
 use Rattle.std.proofs.lemmas.List.{append_assoc}
-use Rattle.std.specs.Prelude.{slice_get, slice_set, ◌≢◌}
-use Rattle.std.specs.List.{AllByRecursion}
+use Rattle.std.specs.Prelude.{◌≢◌}
 use Rattle.mps_base.specs.Address.{Address, Id, Word, word_of}
 use Rattle.mps_base.specs.Run.{Run, in_order}
-use Rattle.mps_model.specs.Graph.{Object, Reservation, entry_at, size_of}
-use Rattle.mps_model.specs.World.{PointMemory, extent, extents_of, reserved_extents}
+use Rattle.mps_model.specs.Graph.{Object, Reservation, size_of}
+use Rattle.mps_model.specs.World.{extent, extents_of, reserved_extents}
 use Rattle.mps_colours.specs.Colours.{Colours}
-use Rattle.mps_image.specs.Memory.{Setting, Memory, Lies, LiesReserved, live_reservation}
+use Rattle.mps_image.specs.Memory.{Setting, Memory, LiesReserved}
 use Rattle.mps_image.specs.Image.{ArePlaced, RunsStand}
 use Rattle.mps_image.specs.Fixing.{run_moved_in, copied_in, address_moved}
 use Rattle.mps_image.proofs.InOrder.{BeginElsewhere, all_append, in_order-moved}
@@ -62,5 +61,5 @@ module _ (s : Setting) (m : Memory) (addresses : List (Option Address)) (k : Col
             ap (λ rs. run_moved_in rs from to (size_of o)) (r.covered ∙ ap in_order before)
             ∙ sym (ap in_order after
             ∙ in_order-moved d.before (extent from (size_of o)) (extent to (size_of o)) after' old.0
-              (all_append (λ (x : Run). x.from ≢ word_of from) d.after reserved old.1 not_reserved) new.0);
+            (all_append (λ (x : Run). x.from ≢ word_of from) d.after reserved old.1 not_reserved) new.0);
       }

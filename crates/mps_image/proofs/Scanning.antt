@@ -11,7 +11,7 @@ use Rattle.mps_colours.specs.Colours.{Colours, is_white, is_grey, is_black, keep
 use Rattle.mps_image.specs.Memory.{Setting, Memory, Lies, Begins, cells_in}
 use Rattle.mps_image.specs.Image.{IsCellWord, AreShaped, IsFixed, CellSet, with_cell, black_cells, ImageStands, Stands}
 use Rattle.mps_image.specs.Fixing.{IsCleared, address_moved, FixWord, FixesOne, nothing, passed, kept, moved, IsFixedCell}
-use Rattle.mps_image.specs.Scanning.{with_pools, HoldsMore, ScansFrom, ends, takes, skips, fixes, IsToScan, Scans, Leaves}
+use Rattle.mps_image.specs.Scanning.{with_pools, ScansFrom, ends, takes, skips, fixes, IsToScan, Scans, Leaves}
 use Rattle.mps_image.proofs.Entries.{entry_at-set_same, entry_at-set_other}
 use Rattle.mps_image.proofs.Targets as targets
 use Rattle.mps_image.proofs.Marked.{still_not_white, others_white, others_grey, grey_now, begins_apart}
@@ -150,18 +150,16 @@ module _ (s : Setting) (shaped : AreShaped s.objects s.layout) (all_read : (id :
   fix_cell pools m next addresses k done i address HeadCell x st lt is cell read f = absurd (false≢true is)
   fix_cell pools m next addresses k done i address (NumberCell number) x st lt is cell read f = absurd (false≢true is)
   fix_cell pools m next addresses k done i address (ReferenceCell None tag) x st lt is cell read f =
-      let l = word_there addresses k i x lt in
-      (
+      let l = word_there addresses k i x lt in (
         None,
-        fix_null (with_pools s pools) m addresses k done shaped all_read st id i o (word_of at + i) tag l address next cell read f
+        fix_null (with_pools s pools) m addresses k done shaped all_read st id i o (word_of at + i) tag l address next cell read f,
       )
   fix_cell pools m next addresses k done i address (ReferenceCell (Some t) tag) x st lt is cell read f =
       let l = word_there addresses k i x lt in
-      let to = x.live i t tag cell in
-      (
+      let to = x.live i t tag cell in (
         Some t,
         fix_keeps (with_pools s pools) m addresses k done shaped all_read st id i o (word_of at + i) tag l t to.0 x.not_white cell to.1
-            address next read f
+            address next read f,
       )
 
   -- a run keeps the image, and all cells that it went over are fixed

@@ -1,7 +1,7 @@
 -- A new segment is taken, or one that is empty is given back: the image stands as before.
-use Rattle.std.proofs.Common.{◌≡◌, ℕ, ◌+◌, List, Option, Some}
+use Rattle.std.proofs.Common.{ℕ, ◌+◌, List, Option}
 use Rattle.mps_base.specs.Address.{Address, Word, word_of}
-use Rattle.mps_model.specs.Graph.{Object, size_of}
+use Rattle.mps_model.specs.Graph.{Object}
 use Rattle.mps_colours.specs.Colours.{Colours}
 use Rattle.mps_image.specs.Memory.{Setting, Memory}
 use Rattle.mps_image.specs.Scanning.{with_pools, HoldsMore}

@@ -1,17 +1,17 @@
 -- What code finds at an address tells what the object is that the address means, and where it is now.
-use Rattle.std.proofs.Common.{◌≡◌, ◌∙◌, ◌⊎◌, ℕ, ◌+◌, ◌<◌, Bool, true, false, sym, ap, List, Option, Some, subst, inl, inr, arith, slice_index}
+use Rattle.std.proofs.Common.{◌≡◌, ◌∙◌, ◌⊎◌, ℕ, ◌+◌, ◌<◌, false, sym, ap, List, Option, Some, subst, inl, inr, arith, slice_index}
 use Rattle.std.proofs.lemmas.Bool.{false≢true, cases_Bool, cases_eq, and_left, or_cases, and_parts, eqb-true}
 use Rattle.std.proofs.lemmas.Option.{same_Some}
 use Rattle.std.proofs.lemmas.List.{get_or-drop}
 use Rattle.std.specs.Prelude.{slice_get, not, ◌&&◌, ◌==◌, ◌≢◌, IsTrue}
-use Rattle.mps_base.specs.Address.{Address, Id, Word, word_of}
+use Rattle.mps_base.specs.Address.{Address, Word, word_of}
 use Rattle.mps_format.specs.Layout.{IsBlockSize}
-use Rattle.mps_model.specs.Graph.{Cell, HeadCell, Object, entry_at, size_of, is_automatic}
+use Rattle.mps_model.specs.Graph.{Cell, HeadCell, Object, entry_at, size_of}
 use Rattle.mps_model.specs.Checked.{head_of_body}
 use Rattle.mps_colours.specs.Colours.{Colours, is_white}
 use Rattle.mps_image.specs.Memory.{Setting, Memory, Lies, cells_in}
-use Rattle.mps_image.specs.Image.{MeansAt, AreShaped, IsForwarded, WordsStand, IsFixed, CellSet, with_cell, AreFixed, MarksStand, ImageStands, is_white_over}
-use Rattle.mps_image.specs.Fixing.{IsNotForwarded}
+use Rattle.mps_image.specs.Image.{AreShaped, IsForwarded, IsFixed, CellSet, with_cell, AreFixed, ImageStands, is_white_over}
+use Rattle.mps_image.specs.Fixing.{Target, IsNotForwarded}
 
 -- ---- the words of an object
 
@@ -68,14 +68,6 @@ module _ (s : Setting) (addresses : List (Option Address)) (k : Colours) (done :
 
 -- ---- what code finds at an address
 
--- an address that means an object, which is now somewhere
-pub record Target (s : Setting) (addresses : List (Option Address)) (t address now : ℕ) (p : Object) : Type 0 where
-  pub means : MeansAt addresses s.at_flip address t
-  pub there : entry_at addresses t ≡ Some now
-  pub object : slice_get s.objects t ≡ Some p
-  pub automatic : IsTrue (is_automatic p)
-  pub read : IsTrue (s.is_read t)
-
 module _ (s : Setting) (m : Memory) (addresses : List (Option Address)) (k : Colours) (done : CellSet) (shaped : AreShaped s.objects s.layout)
     (st : ImageStands s m addresses k done) (t address now : ℕ) (p : Object) (x : Target s addresses t address now p) where
   -- it is there, or it was there and has moved
@@ -109,8 +101,8 @@ module _ (s : Setting) (m : Memory) (addresses : List (Option Address)) (k : Col
         | inl e ↦ (
           e,
           st.marks.white_there t now x.there
-          ∙ and_left (s.is_condemned_over (word_of now)) (not (m.kept (word_of now)))
-            (subst (λ n. s.is_condemned_over (word_of n) ≡ false) e h)
+              ∙ and_left (s.is_condemned_over (word_of now)) (not (m.kept (word_of now)))
+              (subst (λ n. s.is_condemned_over (word_of n) ≡ false) e h),
         )
         | inr f ↦
             absurd (false≢true (sym h ∙ ap s.is_condemned_over (let e : word_of address ≡ word_of address + 0 = omega arith in e)
@@ -146,7 +138,7 @@ module _ (s : Setting) (m : Memory) (addresses : List (Option Address)) (k : Col
       elim there_or_moved [
         | inl e ↦ (
           e,
-          st.marks.white_there t now x.there ∙ ap (λ q. is_white_over s.is_condemned_over m.kept (word_of q)) (sym e)
+          st.marks.white_there t now x.there ∙ ap (λ q. is_white_over s.is_condemned_over m.kept (word_of q)) (sym e),
         )
         | inr f ↦
             absurd (n (size_of p) (shaped.sizes t p x.object x.automatic)
@@ -162,7 +154,7 @@ module _ (s : Setting) (m : Memory) (addresses : List (Option Address)) (k : Col
         | inl e ↦
             ap (λ y. s.pool_over (word_of y)) e
             ∙ st.placed.home t 0 p (word_of now)
-              (record { at = now; address = x.there; object = x.object; within = positive; is = first now })
+            (record { at = now; address = x.there; object = x.object; within = positive; is = first now })
         | inr f ↦ ap s.pool_over (first address) ∙ f.2.home 0 positive
       ]
 

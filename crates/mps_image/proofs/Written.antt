@@ -4,11 +4,11 @@ use Rattle.std.proofs.Common.{◌≡◌, ◌∙◌, ◌⊎◌, ℕ, ◌+◌, ◌
 use Rattle.std.proofs.lemmas.Bool.{cases_eq}
 use Rattle.std.proofs.lemmas.Option.{none-some, same_Some}
 use Rattle.std.proofs.lemmas.List.{get_or-set_same, get_or-set_other, length-set}
-use Rattle.std.specs.Prelude.{slice_get, slice_set, drop, ◌≢◌, IsTrue}
+use Rattle.std.specs.Prelude.{slice_get, slice_set, drop, ◌≢◌}
 use Rattle.mps_base.specs.Address.{Address, Id, Word, word_of}
 use Rattle.mps_base.specs.Run.{in_order}
 use Rattle.mps_format.specs.Blocks.{BeginsForwarded}
-use Rattle.mps_model.specs.Graph.{Cell, HeadCell, NumberCell, ReferenceCell, Object, Reservation, entry_at, size_of, target_of_cell}
+use Rattle.mps_model.specs.Graph.{Cell, HeadCell, NumberCell, ReferenceCell, Object, entry_at, size_of}
 use Rattle.mps_model.specs.Checked.{head_of_body}
 use Rattle.mps_model.specs.World.{extents_of, reserved_extents}
 use Rattle.mps_colours.specs.Colours.{Colours}
@@ -218,5 +218,5 @@ no_cell_changed objects holder i o c object cell = record {
         inr (
           e,
           f,
-          same_Some d c (sym is ∙ ap (slice_get (cells_in p.body)) f ∙ ap (λ (q : Object). slice_get (cells_in q.body) i) same ∙ cell)
+          same_Some d c (sym is ∙ ap (slice_get (cells_in p.body)) f ∙ ap (λ (q : Object). slice_get (cells_in q.body) i) same ∙ cell),
         )

@@ -1,7 +1,7 @@
 -- The words that are at hand: those of the tails of copying pools and of the buffers of points, while a collection runs.
-use Rattle.std.specs.Prelude.{◌≡◌, ◌≢◌, ℕ, ◌+◌, ◌<◌, Bool, true, false, ◌&&◌, nat_le, nat_lt, if◌then◌else◌, Option, Some, None, List, [], ◌∷◌, refl}
-use Rattle.mps_base.specs.Address.{Address, Id, Word, word_of}
-use Rattle.mps_base.specs.Run.{Run, end_of}
+use Rattle.std.specs.Prelude.{◌≡◌, ◌≢◌, ℕ, ◌+◌, ◌<◌, false, ◌&&◌, nat_le, nat_lt, if◌then◌else◌, Option, Some, None, List, [], ◌∷◌, refl}
+use Rattle.mps_base.specs.Address.{Address, Word}
+use Rattle.mps_base.specs.Run.{end_of}
 use Rattle.mps_model.specs.Graph.{Object, Reservation}
 use Rattle.mps_model.specs.World.{Tail}
 use Rattle.mps_image.specs.Memory.{Setting, Lies, LiesReserved}

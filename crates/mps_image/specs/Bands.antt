@@ -1,5 +1,5 @@
 -- What a flip changes of what the words stand for, and what the last band does.
-use Rattle.std.specs.Prelude.{◌≡◌, ℕ, Bool, true, false, not, Option, Some, None, List, [], ◌∷◌, refl}
+use Rattle.std.specs.Prelude.{◌≡◌, Bool, true, false, not, Option, Some, List, [], ◌∷◌, refl}
 use Rattle.mps_base.specs.Address.{Address, Id, Word}
 use Rattle.mps_model.specs.Graph.{Point}
 use Rattle.mps_model.specs.World.{PointMemory}

@@ -1,14 +1,14 @@
 -- What a collector does with one address and with one reference word, in words and in ids.
-use Rattle.std.specs.Prelude.{◌≡◌, ◌≢◌, ℕ, ◌+◌, ◌<◌, ◌≤◌, Bool, true, false, IsTrue, Option, Some, None, List, [], ◌∷◌, slice_set, slice_index, length, drop, refl}
+use Rattle.std.specs.Prelude.{◌≡◌, ◌≢◌, ℕ, ◌+◌, ◌<◌, ◌≤◌, Bool, true, false, IsTrue, Option, Some, None, List, slice_get, slice_set, slice_index, length, drop}
 use Rattle.mps_base.specs.Address.{Address, Id, Word, word_of}
 use Rattle.mps_base.specs.Run.{Run, with_run, without_run}
 use Rattle.mps_format.specs.Layout.{Layout, IsBlockSize}
 use Rattle.mps_format.specs.Blocks.{BeginsForwarded}
-use Rattle.mps_model.specs.Graph.{Object, Reservation, entry_at}
+use Rattle.mps_model.specs.Graph.{Object, Reservation, entry_at, is_automatic}
 use Rattle.mps_model.specs.World.{extent}
 use Rattle.mps_colours.specs.Colours.{Colours, is_white, keeping}
 use Rattle.mps_image.specs.Memory.{Setting, Memory, Lies, LiesReserved}
-use Rattle.mps_image.specs.Image.{IsAddress, CellSet, with_cell, ImageStands}
+use Rattle.mps_image.specs.Image.{MeansAt, IsAddress, CellSet, with_cell, ImageStands}
 
 -- ---- words, marks and runs
 
@@ -67,6 +67,14 @@ copied_in m words kept grey from to size = record m {
 }
 
 -- ---- in words
+
+-- an address that means an automatic object, which is live and whose words are read: where that is now
+pub record Target (s : Setting) (addresses : List (Option Address)) (t : Id) (address now : Address) (p : Object) : Type 0 where
+  pub means : MeansAt addresses s.at_flip address t
+  pub there : entry_at addresses t ≡ Some now
+  pub object : slice_get s.objects t ≡ Some p
+  pub automatic : IsTrue (is_automatic p)
+  pub read : IsTrue (s.is_read t)
 
 -- no forwarded block begins at an address, in a pool
 abbrev pub IsNotForwarded : Setting → List ℕ → (at : Address) → (pool : ℕ) → Type 0

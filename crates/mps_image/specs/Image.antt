@@ -4,7 +4,7 @@ use Rattle.std.specs.Prelude.{◌≡◌, ◌≢◌, ◌⊎◌, ℕ, ◌+◌, ◌
 use Rattle.std.proofs.Common.{arith, inl, inr}
 use Rattle.std.proofs.lemmas.Option.{none-some, same_Some}
 use Rattle.mps_base.specs.Address.{Address, Id, Word, word_of}
-use Rattle.mps_base.specs.Run.{Run, in_order}
+use Rattle.mps_base.specs.Run.{in_order}
 use Rattle.mps_format.specs.Layout.{Layout, IsLawful, IsBlockSize}
 use Rattle.mps_format.specs.Blocks.{BeginsForwarded}
 use Rattle.mps_model.specs.Graph.{Cell, HeadCell, NumberCell, ReferenceCell, Object, Reservation, entry_at, size_of, is_automatic, is_reference_cell, target_of_cell}

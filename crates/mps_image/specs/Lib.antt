@@ -4,3 +4,5 @@ pub mod Fixing
 pub mod Scanning
 pub mod AtHand
 pub mod Bands
+pub mod AtRest
+pub mod Laws

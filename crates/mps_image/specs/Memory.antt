@@ -1,16 +1,15 @@
 -- What the words of an arena stand for, and what the arena has of them: its words, its marks by word, and its runs.
-use Rattle.std.specs.Prelude.{◌≡◌, ℕ, ◌+◌, ◌*◌, ◌<◌, Bool, true, false, not, ◌&&◌, ◌||◌, if◌then◌else◌, Option, Some, None, option_map, option_and_then, List, [], ◌∷◌, map, length, slice_get, slice_set, refl}
+use Rattle.std.specs.Prelude.{◌≡◌, ℕ, ◌+◌, ◌*◌, ◌<◌, Bool, true, false, ◌||◌, if◌then◌else◌, Option, Some, None, option_map, option_and_then, List, [], ◌∷◌, map, length, slice_get, refl}
 use Rattle.mps_base.specs.Address.{Address, Id, Word, word_of, address_of_word, words_of_grain}
-use Rattle.mps_base.specs.Run.{Run, with_run, without_run}
-use Rattle.mps_base.specs.Segment.{Segment, segment_over}
+use Rattle.mps_base.specs.Run.{Run}
+use Rattle.mps_base.specs.Segment.{segment_over}
 use Rattle.mps_base.specs.declared.names.Rank.TheVariants as rank
 use Rattle.mps_bits.specs.Table.{bit}
 use Rattle.mps_format.specs.Layout.{Layout}
-use Rattle.mps_format.specs.Any.{numbered_layout}
 use Rattle.mps_seg.specs.Segs.{SegsState, new_segments}
 use Rattle.mps_seg.specs.Collecting.{is_condemned_at, condemning, keeping, greying}
-use Rattle.mps_model.specs.Graph.{Cell, HeadCell, NumberCell, ReferenceCell, Body, Automatic, Manual, Object, Point, Reservation, entry_at, size_of, is_live_reservation}
-use Rattle.mps_model.specs.World.{PointMemory, extent, empty_run}
+use Rattle.mps_model.specs.Graph.{Cell, HeadCell, NumberCell, Body, Automatic, Manual, Object, Point, Reservation, entry_at, size_of, is_live_reservation}
+use Rattle.mps_model.specs.World.{PointMemory}
 
 -- ---- what the words stand for
 

@@ -1,8 +1,8 @@
 -- What a collector does with all references of one block, in words.
-use Rattle.std.specs.Prelude.{◌≡◌, ℕ, ◌+◌, ◌<◌, Bool, true, false, IsTrue, Option, Some, None, List, slice_get, slice_index}
+use Rattle.std.specs.Prelude.{◌≡◌, ℕ, ◌+◌, ◌<◌, false, IsTrue, Option, Some, List, slice_get, slice_index}
 use Rattle.mps_base.specs.Address.{Address, Id, Word, word_of}
 use Rattle.mps_format.specs.Layout.{Layout}
-use Rattle.mps_model.specs.Graph.{Cell, ReferenceCell, Object, entry_at, size_of, is_automatic}
+use Rattle.mps_model.specs.Graph.{ReferenceCell, Object, entry_at, size_of, is_automatic}
 use Rattle.mps_model.specs.Checked.{head_of_body}
 use Rattle.mps_colours.specs.Colours.{Colours, is_white, is_black}
 use Rattle.mps_image.specs.Memory.{Setting, Memory, cells_in}
