@@ -1,7 +1,7 @@
 -- What stands in a list after a write, and what the entries of a list of options are then.
-use Rattle.std.proofs.Common.{◌≡◌, ◌∙◌, ◌⊎◌, ℕ, zero, suc, refl, sym, ap, List, [], ◌∷◌, Option, Some, None, inl, inr}
+use Rattle.std.proofs.Common.{◌≡◌, ◌∙◌, ◌⊎◌, ℕ, zero, suc, ◌<◌, refl, sym, ap, List, [], ◌∷◌, ◌++◌, length, Option, Some, None, inl, inr, arith}
 use Rattle.std.proofs.lemmas.Bool.{cases_eq}
-use Rattle.std.proofs.lemmas.Option.{none-some, same_Some}
+use Rattle.std.proofs.lemmas.Option.{none-some, same_Some, slice_get_within}
 use Rattle.std.specs.Prelude.{slice_get, slice_set, option_and_then, ◌≢◌}
 use Rattle.mps_model.specs.Graph.{entry_at}
 
@@ -49,3 +49,44 @@ module _ {X : Type 0} (entries : List (Option X)) (id : ℕ) (old : X) (is : ent
 pub entry_at-set_other : {X : Type 0} (entries : List (Option X)) (id j : ℕ) (new : Option X) → j ≢ id
     → entry_at (slice_set entries id new) j ≡ entry_at entries j
 entry_at-set_other entries id j new other = ap (option_and_then (λ e. e)) (slice_get-set_other entries id j new other)
+
+-- ---- one more at the end
+
+pub slice_get-pushed : {X : Type 0} (xs : List X) (new : X) (j : ℕ) (x : X) → slice_get (xs ++ new ∷ []) j ≡ Some x
+    → ((j ≡ length xs) × (x ≡ new)) ⊎ (slice_get xs j ≡ Some x)
+slice_get-pushed [] new zero x is = inl (refl, sym (same_Some new x is))
+slice_get-pushed [] new (suc j) x is = absurd (none-some x is)
+slice_get-pushed (y ∷ ys) new zero x is = inr is
+slice_get-pushed (y ∷ ys) new (suc j) x is =
+    elim (slice_get-pushed ys new j x is) [
+      | inl e ↦ inl (ap suc e.0, e.1)
+      | inr e ↦ inr e
+    ]
+
+pub slice_get-still : {X : Type 0} (xs : List X) (new : X) (j : ℕ) (x : X) → slice_get xs j ≡ Some x → slice_get (xs ++ new ∷ []) j ≡ Some x
+slice_get-still [] new j x is = absurd (none-some x is)
+slice_get-still (y ∷ ys) new zero x is = is
+slice_get-still (y ∷ ys) new (suc j) x is = slice_get-still ys new j x is
+
+pub entry_pushed : {X : Type 0} (entries : List (Option X)) (new : X) (j : ℕ) (x : X) → entry_at (entries ++ Some new ∷ []) j ≡ Some x
+    → ((j ≡ length entries) × (x ≡ new)) ⊎ (entry_at entries j ≡ Some x)
+entry_pushed entries new j x is =
+    elim (slice_get-pushed entries (Some new) j (Some x) (there_entry (slice_get (entries ++ Some new ∷ []) j) x is)) [
+      | inl e ↦ inl (e.0, same_Some x new e.1)
+      | inr e ↦ inr (ap (option_and_then (λ o. o)) e)
+    ]
+
+pub entry_still : {X : Type 0} (entries : List (Option X)) (new : Option X) (j : ℕ) (x : X) → entry_at entries j ≡ Some x
+    → entry_at (entries ++ new ∷ []) j ≡ Some x
+entry_still entries new j x is =
+    ap (option_and_then (λ o. o)) (slice_get-still entries new j (Some x) (there_entry (slice_get entries j) x is))
+
+pub entry_within : {X : Type 0} (entries : List (Option X)) (j : ℕ) (x : X) → entry_at entries j ≡ Some x → j < length entries
+entry_within entries j x is = slice_get_within entries j (Some x) (there_entry (slice_get entries j) x is)
+
+pub slice_get-last : {X : Type 0} (xs : List X) (new : X) → slice_get (xs ++ new ∷ []) (length xs) ≡ Some new
+slice_get-last [] new = refl
+slice_get-last (x ∷ xs) new = slice_get-last xs new
+
+pub entry_last : {X : Type 0} (entries : List (Option X)) (new : X) → entry_at (entries ++ Some new ∷ []) (length entries) ≡ Some new
+entry_last entries new = ap (option_and_then (λ o. o)) (slice_get-last entries (Some new))

@@ -15,3 +15,7 @@ pub mod AtHand
 pub mod Bands
 pub mod AtRest
 pub mod Laws
+pub mod Changing
+pub mod Made
+pub mod Gone
+pub mod Reserved

@@ -1,0 +1,200 @@
+-- A block goes to which nothing refers that is read: a client frees a manual one, or a collection a white one.
+use Rattle.std.proofs.Common.{◌≡◌, ◌∙◌, ◌⊎◌, ℕ, ◌+◌, ◌<◌, Bool, true, false, refl, sym, ap, List, [], ◌∷◌, ◌++◌, length, Option, Some, None, subst, inl, inr, arith, slice_index}
+use Rattle.std.proofs.lemmas.Bool.{false≢true, true≢false, cases_eq, or_cases, or_left, or_right}
+use Rattle.std.proofs.lemmas.Option.{none-some, same_Some}
+use Rattle.std.proofs.lemmas.List.{append_assoc}
+use Rattle.std.specs.Prelude.{slice_get, slice_set, not, ◌&&◌, ◌||◌, ◌≢◌, IsTrue}
+use Rattle.mps_base.specs.Address.{Address, Id, Word, word_of}
+use Rattle.mps_base.specs.Run.{Run, in_order, without_run}
+use Rattle.mps_model.specs.Graph.{Cell, Object, Point, Reservation, entry_at, size_of, is_automatic, target_of_cell}
+use Rattle.mps_model.specs.Checked.{head_of_body}
+use Rattle.mps_model.specs.World.{extent, extents_of, reserved_extents}
+use Rattle.mps_colours.specs.Colours.{Colours, is_white}
+use Rattle.mps_image.specs.Memory.{Setting, Memory, Lies, LiesReserved, Begins, cells_in}
+use Rattle.mps_image.specs.Image.{ArePlaced, CellSet, MarksStand, RunsStand, ImageStands}
+use Rattle.mps_image.specs.Fixing.{IsCleared}
+use Rattle.mps_image.proofs.Entries.{entry_left, entry_at-set_other}
+use Rattle.mps_image.proofs.InOrder.{all_append, in_order-without}
+use Rattle.mps_image.proofs.Extents.{parted}
+use Rattle.mps_image.proofs.Marked.{begins_there, begins_apart}
+use Rattle.mps_image.proofs.Runs.{reserved_elsewhere}
+use Rattle.mps_image.proofs.Changing.{with_graph, Change, after, WasCell, WasReserved, WasForwarded, Changes, words_changed, fixed_changed}
+
+-- the memory after a block at an address has gone
+abbrev pub without_block : Memory → (kept grey : Word → Bool) → (from : Address) → Memory
+without_block m kept grey from = record m {
+  kept = kept;
+  grey = grey;
+  blocks = without_run (word_of from) m.blocks;
+  covered = without_run (word_of from) m.covered;
+}
+
+-- which block goes: nothing refers to it that is read or fixed, and its marks are cleared
+pub record IsToGo (s : Setting) (m : Memory) (addresses : List (Option Address)) (done : CellSet) (t : Id) (from : Address) (o : Object)
+    (kept' grey' : Word → Bool) : Type 0 where
+  pub there : entry_at addresses t ≡ Some from
+  pub object : slice_get s.objects t ≡ Some o
+  pub unreferred : (id i : ℕ) (p : Object) (n : Word) (c : Cell) → IsTrue (s.is_read id) ⊎ IsTrue (done id i) → id ≢ t
+      → Lies s.objects addresses id i p n → slice_get (cells_in p.body) i ≡ Some c → target_of_cell c ≡ Some t → ⊥
+  pub unreserved : (point i : ℕ) (r : Reservation) (n : Word) (c : Cell) → LiesReserved s.points s.point_memories point i r n
+      → slice_get r.cells i ≡ Some c → target_of_cell c ≡ Some t → ⊥
+  pub kept_cleared : IsCleared m.kept kept' (word_of from)
+  pub grey_cleared : IsCleared m.grey grey' (word_of from)
+
+module _ (s : Setting) (m : Memory) (addresses : List (Option Address)) (k : Colours) (done : CellSet) (t : Id) (from : Address) (o : Object)
+    (kept' grey' : Word → Bool) (st : ImageStands s m addresses k done) (v : IsToGo s m addresses done t from o kept' grey') where
+  abbrev left : List (Option Address)
+  left = slice_set addresses t None
+
+  abbrev change : Change
+  change = record {
+    before = s;
+    objects = s.objects;
+    points = s.points;
+    memories = s.point_memories;
+    words = m.words;
+    words_after = m.words;
+    addresses = addresses;
+    addresses_after = left;
+  }
+
+  was_left : (id : Id) (a : Address) → entry_at left id ≡ Some a → (id ≢ t) × (entry_at addresses id ≡ Some a)
+  was_left id a e = entry_left addresses t from v.there id a e
+
+  lay : (id i : ℕ) (p : Object) (n : Word) → Lies s.objects left id i p n → (id ≢ t) × Lies s.objects addresses id i p n
+  lay id i p n l =
+      let e = was_left id l.at l.address in
+      (e.0, record { at = l.at; address = e.1; object = l.object; within = l.within; is = l.is })
+
+  still : (id : Id) → id ≢ t → (a : Address) → entry_at addresses id ≡ Some a → entry_at left id ≡ Some a
+  still id other a e = entry_at-set_other addresses t id None other ∙ e
+
+  placed_left : ArePlaced s left
+  placed_left = record {
+    exists = λ id a e. st.placed.exists id a (was_left id a e).1;
+    positive = λ id a p e x. st.placed.positive id a p (was_left id a e).1 x;
+    address = λ id a e. st.placed.address id a (was_left id a e).1;
+    address_at_flip = st.placed.address_at_flip;
+    within = λ id i p n l. st.placed.within id i p n (lay id i p n l).1;
+    apart = λ a b i j p q n l r. st.placed.apart a b i j p q n (lay a i p n l).1 (lay b j q n r).1;
+    home = λ id i p n l. st.placed.home id i p n (lay id i p n l).1;
+    whole = λ id i p n a l e. st.placed.whole id i p n a (lay id i p n l).1 (was_left id a e).1;
+    reserved_positive = st.placed.reserved_positive;
+    reserved_within = st.placed.reserved_within;
+    reserved_alone = st.placed.reserved_alone;
+    reserved_apart = λ id point i j p r n l there. st.placed.reserved_apart id point i j p r n (lay id i p n l).1 there;
+  }
+
+  changes : Changes change k done
+  changes = record {
+    long = refl;
+    cells = λ id i p n c there cell.
+        let l = lay id i p n there in
+        inl (record {
+          was = p;
+          lies = l.1;
+          cell = cell;
+          head = refl;
+          word = refl;
+          target = λ u e any. still u (λ same. v.unreferred id i p n c any l.0 l.1 cell (e ∙ ap Some same));
+        });
+    reserved = λ point i r n c there cell. inl (record {
+      point = point;
+      i = i;
+      was = r;
+      lies = there;
+      cell = cell;
+      head = refl;
+      word = refl;
+      target = λ u e. still u (λ same. v.unreserved point i r n c there cell (e ∙ ap Some same));
+    });
+    forwarded = λ id from' to p was now apart object.
+        let e = was_left id to now in
+        let f = st.words.forwarded id from' to p was e.1 apart object in
+        record {
+          was = p;
+          there = e.1;
+          object = object;
+          pool = refl;
+          size = refl;
+          words = λ q lt. refl;
+          free = λ q j l p' lt there. f.free q j l p' lt (lay j l p' (word_of from' + q) there).1;
+          unreserved = f.unreserved;
+        };
+  }
+
+  apart : (id : Id) (a : Address) → entry_at addresses id ≡ Some a → id ≢ t → word_of a ≢ word_of from
+  apart id a e other = begins_apart s addresses st.placed id t a from e v.there other
+
+  still_begins : (n : Word) → n ≢ word_of from → Begins addresses n → Begins left n
+  still_begins n other x =
+      let not_it : x.id ≢ t = λ same.
+      other (x.is ∙ ap (λ y. word_of y) (same_Some x.at from (sym x.address ∙ ap (entry_at addresses) same ∙ v.there)))
+      in
+      record { id = x.id; at = x.at; address = still x.id not_it x.at x.address; is = x.is }
+
+  marked_word : (n : Word) → IsTrue (kept' n || grey' n) → Begins left n
+  marked_word n is =
+      elim (cases_eq n (word_of from)) [
+        | inl same ↦
+            absurd (elim (or_cases (kept' n) (grey' n) is) [
+              | inl e ↦ false≢true (sym v.kept_cleared.clear ∙ ap kept' (sym same) ∙ e)
+              | inr e ↦ false≢true (sym v.grey_cleared.clear ∙ ap grey' (sym same) ∙ e)
+            ])
+        | inr other ↦
+            still_begins n other (st.marks.marked n (elim (or_cases (kept' n) (grey' n) is) [
+              | inl e ↦ or_left (m.kept n) (m.grey n) (sym (v.kept_cleared.others n other) ∙ e)
+              | inr e ↦ or_right (m.kept n) (m.grey n) (sym (v.grey_cleared.others n other) ∙ e)
+            ]))
+      ]
+
+  marks_left : MarksStand s kept' grey' left k
+  marks_left = record {
+    white_there = λ id a e.
+        let x = was_left id a e in
+        st.marks.white_there id a x.1
+        ∙ ap (λ b. s.is_condemned_over (word_of a) && not b) (sym (v.kept_cleared.others (word_of a) (apart id a x.1 x.0)));
+    grey_there = λ id a e.
+        let x = was_left id a e in st.marks.grey_there id a x.1 ∙ sym (v.grey_cleared.others (word_of a) (apart id a x.1 x.0));
+    marked = marked_word;
+    unmoved = λ id a e read white. st.marks.unmoved id a (was_left id a e).1 read white;
+  }
+
+  runs_left : RunsStand s (without_block m kept' grey' from) left
+  runs_left =
+      let d = parted s.objects addresses t from o v.object v.there in
+      let others =
+      d.others (λ (x : Run). x.from ≢ word_of from)
+      (λ j bt p x e h. begins_apart s addresses st.placed j t bt from e v.there x)
+      in
+      let reserved = reserved_extents s.points s.point_memories in
+      let free =
+      reserved_elsewhere s addresses (word_of from) st.placed (λ point l r there.
+      st.placed.reserved_apart t point 0 l o r (word_of from) (begins_there s addresses st.placed t from o v.there v.object) there)
+      in
+      let old : extents_of s.objects addresses ++ reserved ≡ d.before ++ extent from (size_of o) ∷ (d.after ++ reserved) =
+      ap (λ rs. rs ++ reserved) d.is ∙ append_assoc d.before (extent from (size_of o) ∷ d.after) reserved
+      in
+      let new : extents_of s.objects left ++ reserved ≡ d.before ++ (d.after ++ reserved) =
+      ap (λ rs. rs ++ reserved) d.gone ∙ append_assoc d.before d.after reserved
+      in
+      record {
+        blocks =
+            ap (without_run (word_of from)) (st.runs.blocks ∙ ap in_order d.is)
+            ∙ sym (ap in_order d.gone ∙ in_order-without d.before (extent from (size_of o)) d.after others.0 others.1);
+        reservations = st.runs.reservations;
+        covered =
+            ap (without_run (word_of from)) (st.runs.covered ∙ ap in_order old)
+            ∙ sym (ap in_order new
+            ∙ in_order-without d.before (extent from (size_of o)) (d.after ++ reserved) others.0
+              (all_append (λ (x : Run). x.from ≢ word_of from) d.after reserved others.1 free));
+      }
+
+  pub image_gone : ImageStands s (without_block m kept' grey' from) left k done
+  image_gone = record {
+    placed = placed_left;
+    words = words_changed change k done changes st.words;
+    fixed = fixed_changed change k done changes st.fixed;
+    marks = marks_left;
+    runs = runs_left;
+  }

@@ -1,0 +1,115 @@
+-- A reservation is made, a cell of one is written, or reservations end.
+use Rattle.std.proofs.Common.{◌≡◌, ◌∙◌, ◌⊎◌, ℕ, ◌+◌, ◌<◌, Bool, true, false, refl, sym, ap, List, [], length, Option, Some, None, subst, inl, inr, arith, slice_index}
+use Rattle.std.proofs.lemmas.Bool.{cases_eq}
+use Rattle.std.proofs.lemmas.Option.{none-some, same_Some}
+use Rattle.std.proofs.lemmas.List.{get_or-set_same, get_or-set_other, length-set}
+use Rattle.std.specs.Prelude.{slice_get, slice_set, ◌≢◌, ◌||◌, IsTrue}
+use Rattle.mps_base.specs.Address.{Address, Id, Word, word_of}
+use Rattle.mps_model.specs.Graph.{Cell, Object, Point, Reservation, entry_at, size_of, target_of_cell}
+use Rattle.mps_model.specs.Checked.{head_of_body}
+use Rattle.mps_model.specs.World.{PointMemory}
+use Rattle.mps_colours.specs.Colours.{Colours}
+use Rattle.mps_image.specs.Memory.{Setting, Memory, Lies, LiesReserved, cells_in}
+use Rattle.mps_image.specs.Image.{ArePlaced, IsFixed, CellSet, RunsStand, ImageStands, is_white_over}
+use Rattle.mps_image.proofs.Changing.{with_graph, Change, after, WasCell, WasReserved, WasForwarded, Changes, words_changed, fixed_changed, IsClear}
+
+-- the setting with other reservations
+abbrev pub with_points : Setting → List (Option Point) → List PointMemory → Setting
+with_points s points memories = with_graph s s.objects points memories
+
+-- what the call does: the words that it changes are those of live reservations, whose new cells are fixed
+pub record AreReserved (s : Setting) (m m' : Memory) (addresses : List (Option Address)) (k : Colours) (points : List (Option Point))
+    (memories : List PointMemory) : Type 0 where
+  pub placed : ArePlaced (with_points s points memories) addresses
+  pub runs : RunsStand (with_points s points memories) m' addresses
+  pub kept_same : (n : Word) → m'.kept n ≡ m.kept n
+  pub grey_same : (n : Word) → m'.grey n ≡ m.grey n
+  pub long : length m'.words ≡ length m.words
+  -- each cell was reserved with the same word, or is new
+  pub cells : (point i : ℕ) (r : Reservation) (n : Word) (c : Cell) → LiesReserved points memories point i r n → slice_get r.cells i ≡ Some c
+      → ((q : Reservation) × LiesReserved s.points s.point_memories point i q n × (slice_get q.cells i ≡ Some c) × (q.head ≡ r.head)
+      × (slice_index m'.words n ≡ slice_index m.words n)) ⊎ IsFixed s.condemned addresses k r.head c (slice_index m'.words n)
+  pub written : (n : Word) → (slice_index m'.words n ≡ slice_index m.words n)
+      ⊎ ((point : ℕ) × (i : ℕ) × (r : Reservation) × LiesReserved points memories point i r n)
+  pub clear : (point i : ℕ) (r : Reservation) (n : Word) → LiesReserved points memories point i r n → IsClear s addresses n
+
+module _ (s : Setting) (m m' : Memory) (addresses : List (Option Address)) (k : Colours) (done : CellSet) (points : List (Option Point))
+    (memories : List PointMemory) (st : ImageStands s m addresses k done) (v : AreReserved s m m' addresses k points memories) where
+  abbrev change : Change
+  change = record {
+    before = s;
+    objects = s.objects;
+    points = points;
+    memories = memories;
+    words = m.words;
+    words_after = m'.words;
+    addresses = addresses;
+    addresses_after = addresses;
+  }
+
+  changes : Changes change k done
+  changes = record {
+    long = v.long;
+    cells = λ id i o n c l cell. inl (record {
+      was = o;
+      lies = l;
+      cell = cell;
+      head = refl;
+      word = elim (v.written n) [
+        | inl e ↦ e
+        | inr x ↦ absurd (v.placed.reserved_apart id x.0 i x.1 o x.2 n l x.3)
+      ];
+      target = λ t e any at is. is;
+    });
+    reserved = λ point i r n c l cell. elim (v.cells point i r n c l cell) [
+      | inl x ↦
+          inl (record {
+            point = point;
+            i = i;
+            was = x.0;
+            lies = x.1;
+            cell = x.2;
+            head = x.3;
+            word = x.4;
+            target = λ t e at is. is;
+          })
+      | inr f ↦ inr f
+    ];
+    forwarded = λ id from to o was now apart object.
+        let f = st.words.forwarded id from to o was now apart object in
+        let not_there : (q point i : ℕ) (r : Reservation) → q < size_of o → LiesReserved points memories point i r (word_of from + q) → ⊥ =
+        λ q point i r lt there. (v.clear point i r (word_of from + q) there).clear id from to o q was now apart object lt refl
+        in
+        record {
+          was = o;
+          there = now;
+          object = object;
+          pool = refl;
+          size = refl;
+          words = λ q lt. elim (v.written (word_of from + q)) [
+            | inl e ↦ e
+            | inr x ↦ absurd (not_there q x.0 x.1 x.2 lt x.3)
+          ];
+          free = f.free;
+          unreserved = λ q point i r lt there. not_there q point i r lt there;
+        };
+  }
+
+  pub image_reserved : ImageStands (with_points s points memories) m' addresses k done
+  image_reserved = record {
+    placed = v.placed;
+    words = words_changed change k done changes st.words;
+    fixed = fixed_changed change k done changes st.fixed;
+    marks = record {
+      white_there = λ id at e.
+          st.marks.white_there id at e
+          ∙ ap (λ b. is_white_over s.is_condemned_over (λ n. b) (word_of at)) (sym (v.kept_same (word_of at)));
+      grey_there = λ id at e. st.marks.grey_there id at e ∙ sym (v.grey_same (word_of at));
+      marked = λ n is.
+          st.marks.marked n
+          (subst (λ b. IsTrue (b || m.grey n)) (v.kept_same n)
+          (subst (λ b. IsTrue (m'.kept n || b)) (v.grey_same n) is));
+      unmoved = st.marks.unmoved;
+    };
+    runs = v.runs;
+  }
