@@ -19,3 +19,4 @@ pub mod Changing
 pub mod Made
 pub mod Gone
 pub mod Reserved
+pub mod Example
