@@ -11,12 +11,9 @@ use Rattle.mps_model.specs.World.{PointMemory}
 use Rattle.mps_colours.specs.Colours.{Colours}
 use Rattle.mps_image.specs.Memory.{Setting, Lies, LiesReserved, cells_in}
 use Rattle.mps_image.specs.Image.{MeansAt, IsCellWord, IsForwarded, WordsStand, IsFixed, CellSet, AreFixed}
+use Rattle.mps_image.specs.Changes.{with_graph, IsClear}
 use Rattle.mps_image.proofs.Forwarded.{forwarded_still}
 use Rattle.mps_image.proofs.Written.{holds_still}
-
--- the setting after a client's call, with these objects, points and what points have in the arena
-abbrev pub with_graph : Setting → List Object → List (Option Point) → List PointMemory → Setting
-with_graph s objects points memories = record s { objects = objects; points = points; point_memories = memories }
 
 -- an object is where it was, if it was live
 abbrev pub IsStillThere : (addresses addresses' : List (Option Address)) → Id → Type 0
@@ -177,11 +174,6 @@ module _ (x : Change) (k : Colours) (done : CellSet) (changes : Changes x k done
   }
 
 -- ---- where blocks were that have moved
-
--- no block that has moved had this word
-pub record IsClear (s : Setting) (addresses : List (Option Address)) (n : Word) : Type 0 where
-  pub clear : (id : Id) (from to : Address) (o : Object) (q : ℕ) → entry_at s.at_flip id ≡ Some from → entry_at addresses id ≡ Some to
-      → from ≢ to → slice_get s.objects id ≡ Some o → q < size_of o → n ≢ word_of from + q
 
 module _ (s : Setting) (words : List ℕ) (addresses : List (Option Address)) (stand : WordsStand s words addresses) (n : Word) where
   -- so it is outside condemned segments

@@ -13,33 +13,13 @@ use Rattle.mps_colours.specs.Colours.{Colours, is_white}
 use Rattle.mps_image.specs.Memory.{Setting, Memory, Lies, LiesReserved, Begins, cells_in}
 use Rattle.mps_image.specs.Image.{ArePlaced, CellSet, MarksStand, RunsStand, ImageStands}
 use Rattle.mps_image.specs.Fixing.{IsCleared}
+use Rattle.mps_image.specs.Changes.{without_block, IsToGo}
 use Rattle.mps_image.proofs.Entries.{entry_left, entry_at-set_other}
 use Rattle.mps_image.proofs.InOrder.{all_append, in_order-without}
 use Rattle.mps_image.proofs.Extents.{parted}
 use Rattle.mps_image.proofs.Marked.{begins_there, begins_apart}
 use Rattle.mps_image.proofs.Runs.{reserved_elsewhere}
-use Rattle.mps_image.proofs.Changing.{with_graph, Change, after, WasCell, WasReserved, WasForwarded, Changes, words_changed, fixed_changed}
-
--- the memory after a block at an address has gone
-abbrev pub without_block : Memory → (kept grey : Word → Bool) → (from : Address) → Memory
-without_block m kept grey from = record m {
-  kept = kept;
-  grey = grey;
-  blocks = without_run (word_of from) m.blocks;
-  covered = without_run (word_of from) m.covered;
-}
-
--- which block goes: nothing refers to it that is read or fixed, and its marks are cleared
-pub record IsToGo (s : Setting) (m : Memory) (addresses : List (Option Address)) (done : CellSet) (t : Id) (from : Address) (o : Object)
-    (kept' grey' : Word → Bool) : Type 0 where
-  pub there : entry_at addresses t ≡ Some from
-  pub object : slice_get s.objects t ≡ Some o
-  pub unreferred : (id i : ℕ) (p : Object) (n : Word) (c : Cell) → IsTrue (s.is_read id) ⊎ IsTrue (done id i) → id ≢ t
-      → Lies s.objects addresses id i p n → slice_get (cells_in p.body) i ≡ Some c → target_of_cell c ≡ Some t → ⊥
-  pub unreserved : (point i : ℕ) (r : Reservation) (n : Word) (c : Cell) → LiesReserved s.points s.point_memories point i r n
-      → slice_get r.cells i ≡ Some c → target_of_cell c ≡ Some t → ⊥
-  pub kept_cleared : IsCleared m.kept kept' (word_of from)
-  pub grey_cleared : IsCleared m.grey grey' (word_of from)
+use Rattle.mps_image.proofs.Changing.{Change, Changes, words_changed, fixed_changed}
 
 module _ (s : Setting) (m : Memory) (addresses : List (Option Address)) (k : Colours) (done : CellSet) (t : Id) (from : Address) (o : Object)
     (kept' grey' : Word → Bool) (st : ImageStands s m addresses k done) (v : IsToGo s m addresses done t from o kept' grey') where

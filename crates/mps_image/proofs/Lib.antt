@@ -14,9 +14,10 @@ pub mod Scanning
 pub mod AtHand
 pub mod Bands
 pub mod AtRest
-pub mod Laws
 pub mod Changing
 pub mod Made
 pub mod Gone
 pub mod Reserved
 pub mod Example
+pub mod CellChanged
+pub mod Laws

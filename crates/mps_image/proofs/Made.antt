@@ -10,40 +10,10 @@ use Rattle.mps_model.specs.World.{PointMemory}
 use Rattle.mps_colours.specs.Colours.{Colours, is_white, is_grey}
 use Rattle.mps_image.specs.Memory.{Setting, Memory, Lies, LiesReserved, Begins, cells_in}
 use Rattle.mps_image.specs.Image.{ArePlaced, IsFixed, CellSet, MarksStand, RunsStand, ImageStands, is_white_over}
+use Rattle.mps_image.specs.Changes.{made, made_at, IsMade, IsClear}
 use Rattle.mps_image.proofs.Entries.{slice_get-last, entry_last, slice_get-pushed, slice_get-still, entry_pushed, entry_still, entry_within}
 use Rattle.mps_image.proofs.Marked.{begins_there, begins_apart}
-use Rattle.mps_image.proofs.Changing.{with_graph, Change, after, WasCell, WasReserved, WasForwarded, Changes, words_changed, fixed_changed, IsClear}
-
--- the setting and the addresses after an object was made
-abbrev pub made : Setting → Object → List (Option Point) → List PointMemory → Setting
-made s o points memories = with_graph s (s.objects ++ o ∷ []) points memories
-
-abbrev pub made_at : List (Option Address) → (at : Address) → List (Option Address)
-made_at addresses at = addresses ++ Some at ∷ []
-
--- what the call does, where the object is made at an address
-pub record IsMade (s : Setting) (m m' : Memory) (addresses : List (Option Address)) (k : Colours) (o : Object) (at : Address)
-    (points : List (Option Point)) (memories : List PointMemory) : Type 0 where
-  pub placed : ArePlaced (made s o points memories) (made_at addresses at)
-  pub runs : RunsStand (made s o points memories) m' (made_at addresses at)
-  pub numbered : length addresses ≡ length s.objects
-  -- it has no colour, and had no address at a flip
-  pub not_white : is_white s.condemned k (length s.objects) ≡ false
-  pub not_grey : is_grey k (length s.objects) ≡ false
-  pub fresh : entry_at s.at_flip (length s.objects) ≡ None
-  -- its block is marked as kept where it lies in a condemned segment, and no other mark changes
-  pub mark : is_white_over s.is_condemned_over m'.kept (word_of at) ≡ false
-  pub kept_others : (n : Word) → n ≢ word_of at → m'.kept n ≡ m.kept n
-  pub grey_same : (n : Word) → m'.grey n ≡ m.grey n
-  -- no reservation is new
-  pub reserved : (i l : ℕ) (r : Reservation) (n : Word) → LiesReserved points memories i l r n
-      → LiesReserved s.points s.point_memories i l r n
-  -- its words are those of its cells, and no others change
-  pub long : length m'.words ≡ length m.words
-  pub words : (i : ℕ) (c : Cell) → slice_get (cells_in o.body) i ≡ Some c
-      → IsFixed s.condemned (made_at addresses at) k (head_of_body o.body) c (slice_index m'.words (word_of at + i))
-  pub others : (n : Word) → ((i : ℕ) → i < size_of o → n ≢ word_of at + i) → slice_index m'.words n ≡ slice_index m.words n
-  pub clear : (i : ℕ) → i < size_of o → IsClear s addresses (word_of at + i)
+use Rattle.mps_image.proofs.Changing.{Change, Changes, words_changed, fixed_changed}
 
 module _ (s : Setting) (m m' : Memory) (addresses : List (Option Address)) (k : Colours) (done : CellSet) (o : Object) (at : Address)
     (points : List (Option Point)) (memories : List PointMemory) (st : ImageStands s m addresses k done)

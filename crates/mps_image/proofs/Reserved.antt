@@ -11,27 +11,8 @@ use Rattle.mps_model.specs.World.{PointMemory}
 use Rattle.mps_colours.specs.Colours.{Colours}
 use Rattle.mps_image.specs.Memory.{Setting, Memory, Lies, LiesReserved, cells_in}
 use Rattle.mps_image.specs.Image.{ArePlaced, IsFixed, CellSet, RunsStand, ImageStands, is_white_over}
-use Rattle.mps_image.proofs.Changing.{with_graph, Change, after, WasCell, WasReserved, WasForwarded, Changes, words_changed, fixed_changed, IsClear}
-
--- the setting with other reservations
-abbrev pub with_points : Setting → List (Option Point) → List PointMemory → Setting
-with_points s points memories = with_graph s s.objects points memories
-
--- what the call does: the words that it changes are those of live reservations, whose new cells are fixed
-pub record AreReserved (s : Setting) (m m' : Memory) (addresses : List (Option Address)) (k : Colours) (points : List (Option Point))
-    (memories : List PointMemory) : Type 0 where
-  pub placed : ArePlaced (with_points s points memories) addresses
-  pub runs : RunsStand (with_points s points memories) m' addresses
-  pub kept_same : (n : Word) → m'.kept n ≡ m.kept n
-  pub grey_same : (n : Word) → m'.grey n ≡ m.grey n
-  pub long : length m'.words ≡ length m.words
-  -- each cell was reserved with the same word, or is new
-  pub cells : (point i : ℕ) (r : Reservation) (n : Word) (c : Cell) → LiesReserved points memories point i r n → slice_get r.cells i ≡ Some c
-      → ((q : Reservation) × LiesReserved s.points s.point_memories point i q n × (slice_get q.cells i ≡ Some c) × (q.head ≡ r.head)
-      × (slice_index m'.words n ≡ slice_index m.words n)) ⊎ IsFixed s.condemned addresses k r.head c (slice_index m'.words n)
-  pub written : (n : Word) → (slice_index m'.words n ≡ slice_index m.words n)
-      ⊎ ((point : ℕ) × (i : ℕ) × (r : Reservation) × LiesReserved points memories point i r n)
-  pub clear : (point i : ℕ) (r : Reservation) (n : Word) → LiesReserved points memories point i r n → IsClear s addresses n
+use Rattle.mps_image.specs.Changes.{with_points, AreReserved, IsClear}
+use Rattle.mps_image.proofs.Changing.{Change, Changes, words_changed, fixed_changed}
 
 module _ (s : Setting) (m m' : Memory) (addresses : List (Option Address)) (k : Colours) (done : CellSet) (points : List (Option Point))
     (memories : List PointMemory) (st : ImageStands s m addresses k done) (v : AreReserved s m m' addresses k points memories) where

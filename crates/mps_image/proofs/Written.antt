@@ -14,25 +14,9 @@ use Rattle.mps_model.specs.World.{extents_of, reserved_extents}
 use Rattle.mps_colours.specs.Colours.{Colours}
 use Rattle.mps_image.specs.Memory.{Setting, Memory, Lies, LiesReserved, cells_in}
 use Rattle.mps_image.specs.Image.{IsCellWord, ArePlaced, IsForwarded, WordsStand, IsFixed, CellSet, with_cell, AreFixed, ImageStands}
+use Rattle.mps_image.specs.Changes.{with_objects, with_word, Was, IsCellChanged}
 use Rattle.mps_image.proofs.Targets.{cell_cases}
 use Rattle.mps_image.proofs.Forwarded.{forwarded_still}
-
--- what an object was before one cell of one object changed
-pub record Was (objects : List Object) (id : Id) (p : Object) (holder i : ℕ) (new : Cell) : Type 0 where
-  pub object : Object
-  pub there : slice_get objects id ≡ Some object
-  pub pool : object.pool ≡ p.pool
-  pub size : size_of object ≡ size_of p
-  pub head : head_of_body object.body ≡ head_of_body p.body
-  -- each cell is as it was, or is the new one
-  pub cells : (j : ℕ) (c : Cell) → slice_get (cells_in p.body) j ≡ Some c
-      → (((id ≡ holder) × (j ≡ i) → ⊥) × (slice_get (cells_in object.body) j ≡ Some c)) ⊎ ((id ≡ holder) × (j ≡ i) × (c ≡ new))
-
--- one cell of one object changed, or none did
-pub record IsCellChanged (objects objects' : List Object) (holder i : ℕ) (new : Cell) : Type 0 where
-  pub was : (id : Id) (p : Object) → slice_get objects' id ≡ Some p → Was objects id p holder i new
-  pub still : (id : Id) (p : Object) → slice_get objects id ≡ Some p → (q : Object) × (slice_get objects' id ≡ Some q)
-  pub extents : (addresses : List (Option Address)) → extents_of objects' addresses ≡ extents_of objects addresses
 
 -- a word that holds addresses of now means the same where addresses of the flip count too
 pub holds_still : (addresses at_flip : List (Option Address)) (head : ℕ) (c : Cell) (word : ℕ) → IsCellWord addresses [] head c word
@@ -42,10 +26,6 @@ holds_still addresses at_flip head (NumberCell number) word h = h
 holds_still addresses at_flip head (ReferenceCell None tag) word h = h
 holds_still addresses at_flip head (ReferenceCell (Some id) tag) word h =
     record { address = h.address; is = h.is; means = elim h.means [ inl e ↦ inl e | inr e ↦ absurd (none-some h.address e) ] }
-
--- the setting with other objects
-abbrev pub with_objects : Setting → List Object → Setting
-with_objects s objects = record s { objects = objects }
 
 module _ (s : Setting) (objects' : List Object) (m : Memory) (addresses : List (Option Address)) (k : Colours) (done : CellSet)
     (holder i : ℕ) (o : Object) (n : Word) (new : Cell) (word : ℕ) (changed : IsCellChanged s.objects objects' holder i new)
@@ -172,7 +152,7 @@ module _ (s : Setting) (objects' : List Object) (m : Memory) (addresses : List (
   }
 
   -- the cell is fixed then
-  pub cell_written : ImageStands (with_objects s objects') (record m { words = slice_set m.words n word }) addresses k (with_cell done holder i)
+  pub cell_written : ImageStands (with_objects s objects') (with_word m n word) addresses k (with_cell done holder i)
   cell_written = record {
     placed = placed_written;
     words = words_written;

@@ -1,12 +1,16 @@
 -- What is shown of the image, each law a statement.
-use Rattle.std.specs.Prelude.{◌≡◌, ℕ, Bool, false, IsTrue, Option, Some, List, slice_get, slice_index}
+use Rattle.std.specs.Prelude.{◌≡◌, ℕ, ◌<◌, Bool, false, IsTrue, Option, Some, None, List, [], slice_get, slice_set, slice_index}
 use Rattle.mps_base.specs.Address.{Address, Id, Word, word_of}
-use Rattle.mps_model.specs.Graph.{ReferenceCell, Object, entry_at}
-use Rattle.mps_colours.specs.Colours.{Colours, is_white, blackened}
-use Rattle.mps_image.specs.Memory.{Setting, Memory, Lies, cells_in}
-use Rattle.mps_image.specs.Image.{AreShaped, CellSet, ImageStands, Stands}
+use Rattle.mps_model.specs.Graph.{Cell, ReferenceCell, Object, Point, Reservation, entry_at, target_of_cell}
+use Rattle.mps_model.specs.Checked.{head_of_body}
+use Rattle.mps_model.specs.World.{PointMemory}
+use Rattle.mps_colours.specs.Colours.{Colours, is_white, is_grey, is_black, blackened}
+use Rattle.mps_image.specs.Memory.{Setting, Memory, Lies, cells_in, live_reservation}
+use Rattle.mps_image.specs.Image.{AreShaped, ArePlaced, IsFixed, MarksStand, RunsStand, CellSet, with_cell, ImageStands, Stands}
 use Rattle.mps_image.specs.Fixing.{Target, FixAt, FixWord, IsFixedAt, IsFixedCell, IsCleared}
 use Rattle.mps_image.specs.Scanning.{with_pools, IsToScan, Scans, Leaves}
+use Rattle.mps_image.specs.Changes.{with_objects, with_word, IsCellChanged, made, made_at, IsMade, without_block, IsToGo, with_points, AreReserved}
+use Rattle.mps_image.specs.Bands.{flipped, freeing}
 
 -- all words are read: blocks aren't freed yet
 abbrev pub AreAllRead : Setting → Type 0
@@ -45,3 +49,69 @@ AScanBlackens =
     (id : Id) (at : Address) (o : Object) → AreShaped s.objects s.layout → AreAllRead s → Stands s m addresses k
     → IsToScan s addresses k id at o → Scans s o at m addresses k pools m' → IsCleared m'.grey grey' (word_of at)
     → IsScanned (with_pools s pools) (record m' { grey = grey' }) addresses k id
+
+-- ---- what a client's call changes
+
+-- a word is written that is that of a cell, whether the cell changes too or not: it is fixed then
+abbrev pub ACellIsWritten : Type 0
+ACellIsWritten =
+    (s : Setting) (objects' : List Object) (m : Memory) (addresses : List (Option Address)) (k : Colours) (done : CellSet) (holder i : ℕ)
+    (o : Object) (n : Word) (new : Cell) (word : ℕ) → IsCellChanged s.objects objects' holder i new → ImageStands s m addresses k done
+    → Lies s.objects addresses holder i o n → IsFixed s.condemned addresses k (head_of_body o.body) new word
+    → ImageStands (with_objects s objects') (with_word m n word) addresses k (with_cell done holder i)
+
+-- an object is made
+abbrev pub AnObjectIsMade : Type 0
+AnObjectIsMade =
+    (s : Setting) (m m' : Memory) (addresses : List (Option Address)) (k : Colours) (done : CellSet) (o : Object) (at : Address)
+    (points : List (Option Point)) (memories : List PointMemory) → ImageStands s m addresses k done
+    → IsMade s m m' addresses k o at points memories → ImageStands (made s o points memories) m' (made_at addresses at) k done
+
+-- a block goes
+abbrev pub ABlockGoes : Type 0
+ABlockGoes =
+    (s : Setting) (m : Memory) (addresses : List (Option Address)) (k : Colours) (done : CellSet) (t : Id) (from : Address) (o : Object)
+    (kept' grey' : Word → Bool) → ImageStands s m addresses k done → IsToGo s m addresses done t from o kept' grey'
+    → ImageStands s (without_block m kept' grey' from) (slice_set addresses t None) k done
+
+-- a reservation is made, written, or ends
+abbrev pub ReservationsChange : Type 0
+ReservationsChange =
+    (s : Setting) (m m' : Memory) (addresses : List (Option Address)) (k : Colours) (done : CellSet) (points : List (Option Point))
+    (memories : List PointMemory) → ImageStands s m addresses k done → AreReserved s m m' addresses k points memories
+    → ImageStands (with_points s points memories) m' addresses k done
+
+-- ---- the bands of a collection
+
+-- a flip, where no address of a flip counts yet: the words stay as they are, no reservation is live any more, and the objects that are
+-- black then refer to nothing white
+abbrev pub AFlipBegins : Type 0
+AFlipBegins =
+    (s : Setting) (m m' : Memory) (addresses : List (Option Address)) (k k' : Colours) (done : CellSet) (points : List (Option Point))
+    (memories : List PointMemory) (condemned : List Id) (is_condemned_over : Word → Bool) → s.at_flip ≡ [] → AreAllRead s
+    → m'.words ≡ m.words → ImageStands s m addresses k done
+    → ArePlaced (flipped s addresses points memories condemned is_condemned_over) addresses
+    → ((id i : ℕ) (o : Object) (c : Cell) (t : Id) → IsTrue (is_black condemned k' id) → slice_get s.objects id ≡ Some o
+    → slice_get (cells_in o.body) i ≡ Some c → target_of_cell c ≡ Some t → is_white condemned k' t ≡ false)
+    → ((point : ℕ) (r : Reservation) → live_reservation (entry_at points point) ≡ Some r → ⊥)
+    → MarksStand (flipped s addresses points memories condemned is_condemned_over) m'.kept m'.grey addresses k'
+    → RunsStand (flipped s addresses points memories condemned is_condemned_over) m' addresses
+    → Stands (flipped s addresses points memories condemned is_condemned_over) m' addresses k'
+
+-- once nothing is grey, addresses of the flip count no more, and white objects aren't read any more
+abbrev pub FreeingBegins : Type 0
+FreeingBegins =
+    (s : Setting) (m : Memory) (addresses : List (Option Address)) (k : Colours)
+    → ((id : Id) (at : Address) → entry_at addresses id ≡ Some at → is_grey k id ≡ false) → Stands s m addresses k
+    → Stands (freeing s k) m addresses k
+
+-- where no white object is left, the words hold addresses of now alone
+abbrev pub ACollectionEnds : Type 0
+ACollectionEnds =
+    (s : Setting) (m m' : Memory) (addresses : List (Option Address)) (k k' : Colours) (is_condemned_over : Word → Bool)
+    → ((id : Id) (at : Address) → entry_at addresses id ≡ Some at → is_white s.condemned k id ≡ false)
+    → ((id : Id) (at : Address) → entry_at addresses id ≡ Some at → is_grey k id ≡ false) → m'.words ≡ m.words → Stands s m addresses k
+    → ArePlaced (flipped s [] s.points s.point_memories [] is_condemned_over) addresses
+    → MarksStand (flipped s [] s.points s.point_memories [] is_condemned_over) m'.kept m'.grey addresses k'
+    → RunsStand (flipped s [] s.points s.point_memories [] is_condemned_over) m' addresses
+    → Stands (flipped s [] s.points s.point_memories [] is_condemned_over) m' addresses k'

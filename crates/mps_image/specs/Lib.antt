@@ -5,4 +5,5 @@ pub mod Scanning
 pub mod AtHand
 pub mod Bands
 pub mod AtRest
+pub mod Changes
 pub mod Laws

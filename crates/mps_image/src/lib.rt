@@ -3,7 +3,7 @@
 #![tactic(auto)]
 
 ghost use Rattle.mps_image.specs.AtRest.{RestingWordsAreImages};
-ghost use Rattle.mps_image.specs.Laws.{AnAddressIsFixed, AWordIsFixed, AScanBlackens};
+ghost use Rattle.mps_image.specs.Laws.{AnAddressIsFixed, AWordIsFixed, AScanBlackens, ACellIsWritten, AnObjectIsMade, ABlockGoes, ReservationsChange, AFlipBegins, FreeingBegins, ACollectionEnds};
 
 /// Where no collection runs, the words of each live block are its image exactly where its cells' words refer to addresses of now.
 pub fn resting_words_are_images()
@@ -23,4 +23,39 @@ pub fn a_word_is_fixed()
 /// A scan of all references of a block leaves it black.
 pub fn a_scan_blackens()
     ensures { AScanBlackens }
+{}
+
+/// A cell's word is written, by a client or by a collector: the words stand for the objects with that cell.
+pub fn a_cell_is_written()
+    ensures { ACellIsWritten }
+{}
+
+/// A block is committed or allocated: the words stand for the objects with one more.
+pub fn an_object_is_made()
+    ensures { AnObjectIsMade }
+{}
+
+/// A block is freed to which nothing refers that is read: the words stand for the other objects.
+pub fn a_block_goes()
+    ensures { ABlockGoes }
+{}
+
+/// A reservation is made, a cell of one is written, or reservations end: the words stand for the objects and the reservations then.
+pub fn reservations_change()
+    ensures { ReservationsChange }
+{}
+
+/// A flip changes no word, and the words stand for the objects as before.
+pub fn a_flip_begins()
+    ensures { AFlipBegins }
+{}
+
+/// Once nothing is grey, what isn't white holds addresses of now alone.
+pub fn freeing_begins()
+    ensures { FreeingBegins }
+{}
+
+/// Where no white object is left, all words hold addresses of now alone.
+pub fn a_collection_ends()
+    ensures { ACollectionEnds }
 {}

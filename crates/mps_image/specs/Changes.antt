@@ -1,0 +1,126 @@
+-- What a client's call changes, by what it does: a cell is written, an object is made or goes, or reservations change. The memory
+-- then stands for the objects as before.
+use Rattle.std.specs.Prelude.{◌≡◌, ◌≢◌, ◌⊎◌, ℕ, ◌+◌, ◌<◌, Bool, true, false, IsTrue, Option, Some, None, List, [], ◌∷◌, ◌++◌, length, slice_get, slice_set, slice_index, refl}
+use Rattle.mps_base.specs.Address.{Address, Id, Word, word_of}
+use Rattle.mps_base.specs.Run.{without_run}
+use Rattle.mps_model.specs.Graph.{Cell, Object, Point, Reservation, entry_at, size_of, target_of_cell}
+use Rattle.mps_model.specs.Checked.{head_of_body}
+use Rattle.mps_model.specs.World.{PointMemory, extents_of}
+use Rattle.mps_colours.specs.Colours.{Colours, is_white, is_grey}
+use Rattle.mps_image.specs.Memory.{Setting, Memory, Lies, LiesReserved, cells_in}
+use Rattle.mps_image.specs.Image.{ArePlaced, IsFixed, CellSet, RunsStand, is_white_over}
+use Rattle.mps_image.specs.Fixing.{IsCleared}
+
+-- the setting after a client's call, with these objects, points and what points have in the arena
+abbrev pub with_graph : Setting → List Object → List (Option Point) → List PointMemory → Setting
+with_graph s objects points memories = record s { objects = objects; points = points; point_memories = memories }
+
+-- the setting with other objects
+abbrev pub with_objects : Setting → List Object → Setting
+with_objects s objects = record s { objects = objects }
+
+-- the word of a cell is written
+abbrev pub with_word : Memory → (n : Word) → (word : ℕ) → Memory
+with_word m n word = record m { words = slice_set m.words n word }
+
+-- ---- a cell is written
+
+-- what an object was before one cell of one object changed
+pub record Was (objects : List Object) (id : Id) (p : Object) (holder i : ℕ) (new : Cell) : Type 0 where
+  pub object : Object
+  pub there : slice_get objects id ≡ Some object
+  pub pool : object.pool ≡ p.pool
+  pub size : size_of object ≡ size_of p
+  pub head : head_of_body object.body ≡ head_of_body p.body
+  -- each cell is as it was, or is the new one
+  pub cells : (j : ℕ) (c : Cell) → slice_get (cells_in p.body) j ≡ Some c
+      → (((id ≡ holder) × (j ≡ i) → ⊥) × (slice_get (cells_in object.body) j ≡ Some c)) ⊎ ((id ≡ holder) × (j ≡ i) × (c ≡ new))
+
+-- one cell of one object changed, or none did
+pub record IsCellChanged (objects objects' : List Object) (holder i : ℕ) (new : Cell) : Type 0 where
+  pub was : (id : Id) (p : Object) → slice_get objects' id ≡ Some p → Was objects id p holder i new
+  pub still : (id : Id) (p : Object) → slice_get objects id ≡ Some p → (q : Object) × (slice_get objects' id ≡ Some q)
+  pub extents : (addresses : List (Option Address)) → extents_of objects' addresses ≡ extents_of objects addresses
+
+-- ---- an object is made
+
+-- no block that has moved had this word
+pub record IsClear (s : Setting) (addresses : List (Option Address)) (n : Word) : Type 0 where
+  pub clear : (id : Id) (from to : Address) (o : Object) (q : ℕ) → entry_at s.at_flip id ≡ Some from → entry_at addresses id ≡ Some to
+      → from ≢ to → slice_get s.objects id ≡ Some o → q < size_of o → n ≢ word_of from + q
+
+-- the setting and the addresses after an object was made
+abbrev pub made : Setting → Object → List (Option Point) → List PointMemory → Setting
+made s o points memories = with_graph s (s.objects ++ o ∷ []) points memories
+
+abbrev pub made_at : List (Option Address) → (at : Address) → List (Option Address)
+made_at addresses at = addresses ++ Some at ∷ []
+
+-- what the call does, where the object is made at an address
+pub record IsMade (s : Setting) (m m' : Memory) (addresses : List (Option Address)) (k : Colours) (o : Object) (at : Address)
+    (points : List (Option Point)) (memories : List PointMemory) : Type 0 where
+  pub placed : ArePlaced (made s o points memories) (made_at addresses at)
+  pub runs : RunsStand (made s o points memories) m' (made_at addresses at)
+  pub numbered : length addresses ≡ length s.objects
+  -- it has no colour, and had no address at a flip
+  pub not_white : is_white s.condemned k (length s.objects) ≡ false
+  pub not_grey : is_grey k (length s.objects) ≡ false
+  pub fresh : entry_at s.at_flip (length s.objects) ≡ None
+  -- its block is marked as kept where it lies in a condemned segment, and no other mark changes
+  pub mark : is_white_over s.is_condemned_over m'.kept (word_of at) ≡ false
+  pub kept_others : (n : Word) → n ≢ word_of at → m'.kept n ≡ m.kept n
+  pub grey_same : (n : Word) → m'.grey n ≡ m.grey n
+  -- no reservation is new
+  pub reserved : (i l : ℕ) (r : Reservation) (n : Word) → LiesReserved points memories i l r n
+      → LiesReserved s.points s.point_memories i l r n
+  -- its words are those of its cells, and no others change
+  pub long : length m'.words ≡ length m.words
+  pub words : (i : ℕ) (c : Cell) → slice_get (cells_in o.body) i ≡ Some c
+      → IsFixed s.condemned (made_at addresses at) k (head_of_body o.body) c (slice_index m'.words (word_of at + i))
+  pub others : (n : Word) → ((i : ℕ) → i < size_of o → n ≢ word_of at + i) → slice_index m'.words n ≡ slice_index m.words n
+  pub clear : (i : ℕ) → i < size_of o → IsClear s addresses (word_of at + i)
+
+-- ---- a block goes
+
+-- the memory after a block at an address has gone
+abbrev pub without_block : Memory → (kept grey : Word → Bool) → (from : Address) → Memory
+without_block m kept grey from = record m {
+  kept = kept;
+  grey = grey;
+  blocks = without_run (word_of from) m.blocks;
+  covered = without_run (word_of from) m.covered;
+}
+
+-- which block goes: nothing refers to it that is read or fixed, and its marks are cleared
+pub record IsToGo (s : Setting) (m : Memory) (addresses : List (Option Address)) (done : CellSet) (t : Id) (from : Address) (o : Object)
+    (kept' grey' : Word → Bool) : Type 0 where
+  pub there : entry_at addresses t ≡ Some from
+  pub object : slice_get s.objects t ≡ Some o
+  pub unreferred : (id i : ℕ) (p : Object) (n : Word) (c : Cell) → IsTrue (s.is_read id) ⊎ IsTrue (done id i) → id ≢ t
+      → Lies s.objects addresses id i p n → slice_get (cells_in p.body) i ≡ Some c → target_of_cell c ≡ Some t → ⊥
+  pub unreserved : (point i : ℕ) (r : Reservation) (n : Word) (c : Cell) → LiesReserved s.points s.point_memories point i r n
+      → slice_get r.cells i ≡ Some c → target_of_cell c ≡ Some t → ⊥
+  pub kept_cleared : IsCleared m.kept kept' (word_of from)
+  pub grey_cleared : IsCleared m.grey grey' (word_of from)
+
+-- ---- reservations change
+
+-- the setting with other reservations
+abbrev pub with_points : Setting → List (Option Point) → List PointMemory → Setting
+with_points s points memories = with_graph s s.objects points memories
+
+-- what the call does: the words that it changes are those of live reservations, whose new cells are fixed
+pub record AreReserved (s : Setting) (m m' : Memory) (addresses : List (Option Address)) (k : Colours) (points : List (Option Point))
+    (memories : List PointMemory) : Type 0 where
+  pub placed : ArePlaced (with_points s points memories) addresses
+  pub runs : RunsStand (with_points s points memories) m' addresses
+  pub kept_same : (n : Word) → m'.kept n ≡ m.kept n
+  pub grey_same : (n : Word) → m'.grey n ≡ m.grey n
+  pub long : length m'.words ≡ length m.words
+  -- each cell was reserved with the same word, or is new
+  pub cells : (point i : ℕ) (r : Reservation) (n : Word) (c : Cell) → LiesReserved points memories point i r n → slice_get r.cells i ≡ Some c
+      → ((q : Reservation) × LiesReserved s.points s.point_memories point i q n × (slice_get q.cells i ≡ Some c) × (q.head ≡ r.head)
+      × (slice_index m'.words n ≡ slice_index m.words n)) ⊎ IsFixed s.condemned addresses k r.head c (slice_index m'.words n)
+  pub written : (n : Word) → (slice_index m'.words n ≡ slice_index m.words n)
+      ⊎ ((point : ℕ) × (i : ℕ) × (r : Reservation) × LiesReserved points memories point i r n)
+  pub clear : (point i : ℕ) (r : Reservation) (n : Word) → LiesReserved points memories point i r n → IsClear s addresses n
