@@ -20,4 +20,5 @@ pub mod Gone
 pub mod Reserved
 pub mod Example
 pub mod CellChanged
+pub mod ChangedRuns
 pub mod Laws

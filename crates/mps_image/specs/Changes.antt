@@ -2,10 +2,10 @@
 -- then stands for the objects as before.
 use Rattle.std.specs.Prelude.{◌≡◌, ◌≢◌, ◌⊎◌, ℕ, ◌+◌, ◌<◌, Bool, true, false, IsTrue, Option, Some, None, List, [], ◌∷◌, ◌++◌, length, slice_get, slice_set, slice_index, refl}
 use Rattle.mps_base.specs.Address.{Address, Id, Word, word_of}
-use Rattle.mps_base.specs.Run.{without_run}
+use Rattle.mps_base.specs.Run.{with_run, without_run}
 use Rattle.mps_model.specs.Graph.{Cell, Object, Point, Reservation, entry_at, size_of, target_of_cell}
 use Rattle.mps_model.specs.Checked.{head_of_body}
-use Rattle.mps_model.specs.World.{PointMemory, extents_of}
+use Rattle.mps_model.specs.World.{PointMemory, extent, extents_of}
 use Rattle.mps_colours.specs.Colours.{Colours, is_white, is_grey}
 use Rattle.mps_image.specs.Memory.{Setting, Memory, Lies, LiesReserved, cells_in}
 use Rattle.mps_image.specs.Image.{ArePlaced, IsFixed, CellSet, RunsStand, is_white_over}
@@ -22,6 +22,21 @@ with_objects s objects = record s { objects = objects }
 -- the word of a cell is written
 abbrev pub with_word : Memory → (n : Word) → (word : ℕ) → Memory
 with_word m n word = record m { words = slice_set m.words n word }
+
+-- a block of n words more
+abbrev pub with_block : Memory → (at : Address) → (size : ℕ) → Memory
+with_block m at size =
+    record m { blocks = with_run (extent at size) m.blocks; covered = with_run (extent at size) m.covered }
+
+-- a reservation of n words more
+abbrev pub with_reservation : Memory → (at : Address) → (size : ℕ) → Memory
+with_reservation m at size =
+    record m { reservations = with_run (extent at size) m.reservations; covered = with_run (extent at size) m.covered }
+
+-- a reservation has ended
+abbrev pub without_reservation : Memory → (at : Address) → Memory
+without_reservation m at =
+    record m { reservations = without_run (word_of at) m.reservations; covered = without_run (word_of at) m.covered }
 
 -- ---- a cell is written
 
