@@ -22,3 +22,5 @@ pub mod Example
 pub mod CellChanged
 pub mod ChangedRuns
 pub mod Laws
+pub mod Steps
+pub mod SegmentMarks

@@ -6,4 +6,5 @@ pub mod AtHand
 pub mod Bands
 pub mod AtRest
 pub mod Changes
+pub mod Steps
 pub mod Laws

@@ -3,6 +3,7 @@
 #![tactic(auto)]
 
 ghost use Rattle.mps_image.specs.AtRest.{RestingWordsAreImages};
+ghost use Rattle.mps_image.specs.Steps.{AFixIsAStep};
 ghost use Rattle.mps_image.specs.Laws.{AnAddressIsFixed, AWordIsFixed, AScanBlackens, ACellIsWritten, AnObjectIsMade, ABlockGoes, ReservationsChange, AFlipBegins, FreeingBegins, ACollectionEnds};
 
 /// Where no collection runs, the words of each live block are its image exactly where its cells' words refer to addresses of now.
@@ -18,6 +19,11 @@ pub fn an_address_is_fixed()
 /// A fix of a reference word is one fix of what its cell refers to, and then the word holds the address of that, which isn't white.
 pub fn a_word_is_fixed()
     ensures { AWordIsFixed }
+{}
+
+/// A fix of an object in words is a step of the abstract collector, with the same addresses and colours after it.
+pub fn a_fix_is_a_step()
+    ensures { AFixIsAStep }
 {}
 
 /// A scan of all references of a block leaves it black.
