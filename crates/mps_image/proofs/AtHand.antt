@@ -4,7 +4,7 @@ use Rattle.mps_base.specs.Address.{Address, Id, Word, word_of}
 use Rattle.mps_model.specs.Graph.{Object, size_of}
 use Rattle.mps_colours.specs.Colours.{Colours}
 use Rattle.mps_image.specs.Memory.{Setting}
-use Rattle.mps_image.specs.Image.{IsAddress, ArePlaced}
+use Rattle.mps_image.specs.Image.{IsAddress, LieApart}
 use Rattle.mps_image.specs.Fixing.{AreAtHand, address_moved}
 use Rattle.mps_image.specs.AtHand.{Hand, HandsStand, AreTaken}
 use Rattle.mps_image.proofs.Copied.{IsMove, lies_moved}
@@ -22,7 +22,7 @@ at_hand s hand addresses to size p h address positive all = record {
 }
 
 pub hands_moved : (s : Setting) (hand hand' : Word → Option Hand) (addresses : List (Option Address)) (k : Colours) (t : Id) (from to : Address)
-    (o : Object) → ArePlaced s addresses → IsMove s addresses k t from to o → AreTaken hand hand' (word_of to) (size_of o)
+    (o : Object) → LieApart s addresses → IsMove s addresses k t from to o → AreTaken hand hand' (word_of to) (size_of o)
     → HandsStand s hand addresses → HandsStand s hand' (address_moved addresses t to)
 hands_moved s hand hand' addresses k t from to o placed v taken h = record {
   within = λ n p e. h.within n p (taken.was n p e);

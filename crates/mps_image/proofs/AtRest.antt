@@ -9,9 +9,9 @@ use Rattle.mps_model.specs.Graph.{Cell, HeadCell, NumberCell, ReferenceCell, Bod
 use Rattle.mps_model.specs.Checked.{head_of_body}
 use Rattle.mps_model.specs.World.{World, words_of}
 use Rattle.mps_model.specs.Image.{address_of_target, image_of_cell, image_of_body, image_of}
-use Rattle.mps_image.specs.Memory.{Setting, Memory, Lies, cells_in}
+use Rattle.mps_image.specs.Memory.{Setting, Memory, Lies, all_cells}
 use Rattle.mps_image.specs.Image.{IsCellWord, ImageStands, CellSet}
-use Rattle.mps_image.specs.AtRest.{CellsHold, HoldsImages, AreWhole, RestingWordsAreImages}
+use Rattle.mps_image.specs.AtRest.{CellsHold, HoldsImages, AreSelfContained, RestingWordsAreImages}
 use Rattle.mps_image.proofs.Scanning.{cell_there}
 use Rattle.mps_image.proofs.Bands.{holds_now}
 
@@ -47,7 +47,7 @@ module _ (w : World) where
   numbers (x ∷ xs) zero c e = let same : NumberCell x ≡ c = same_Some (NumberCell x) c e in ap (λ d. Some (image_of_cell w 0 d)) same
   numbers (x ∷ xs) (suc i) c e = numbers xs i c e
 
-  image_at : (b : Body) (i : ℕ) (c : Cell) → slice_get (cells_in b) i ≡ Some c
+  image_at : (b : Body) (i : ℕ) (c : Cell) → slice_get (all_cells b) i ≡ Some c
       → slice_get (image_of_body w b) i ≡ Some (image_of_cell w (head_of_body b) c)
   image_at (Automatic head cells is_weak) i c e =
       slice_get-map (image_of_cell w head) cells i ∙ ap (option_map (image_of_cell w head)) e
@@ -57,7 +57,7 @@ module _ (w : World) where
   long (Automatic head cells is_weak) = length-map cells (image_of_cell w head)
   long (Manual words) = refl
 
-  module _ (words : List ℕ) (whole : AreWhole w.graph.objects w.addresses words) (id : Id) (at : Address) (o : Object)
+  module _ (words : List ℕ) (whole : AreSelfContained w.graph.objects w.addresses words) (id : Id) (at : Address) (o : Object)
       (there : entry_at w.addresses id ≡ Some at) (object : object_at w.graph id ≡ Some o) where
     lies : (i : ℕ) → i < size_of o → Lies w.graph.objects w.addresses id i o (word_of at + i)
     lies i lt = record { at = at; address = there; object = object; within = lt; is = refl }
@@ -75,7 +75,7 @@ module _ (w : World) where
         get_or-take (word_of at + size_of o - word_of at) (drop (word_of at) words) i 0 (omega (arith, lt))
         ∙ get_or-drop (word_of at) words i 0
 
-    word_in_image : (i : ℕ) (c : Cell) → slice_get (cells_in o.body) i ≡ Some c
+    word_in_image : (i : ℕ) (c : Cell) → slice_get (all_cells o.body) i ≡ Some c
         → get_or (image_of_body w o.body) i 0 ≡ image_of_cell w (head_of_body o.body) c
     word_in_image i c cell =
         get_or_from_slice_get (image_of_body w o.body) i (image_of_cell w (head_of_body o.body) c) 0 (image_at o.body i c cell)
@@ -102,7 +102,7 @@ module _ (w : World) where
                 ∙ omega (arith, f (omega arith), length-drop (word_of at) words)
 
     from_image : slice_range words (word_of at) (word_of at + size_of o) ≡ image_of_body w o.body → (i : ℕ) (c : Cell) → i < size_of o
-        → slice_get (cells_in o.body) i ≡ Some c → slice_index words (word_of at + i) ≡ image_of_cell w (head_of_body o.body) c
+        → slice_get (all_cells o.body) i ≡ Some c → slice_index words (word_of at + i) ≡ image_of_cell w (head_of_body o.body) c
     from_image same i c lt cell = sym (word_at i lt) ∙ ap (λ ws. get_or ws i 0) same ∙ word_in_image i c cell
 
 pub resting_words_are_images : RestingWordsAreImages

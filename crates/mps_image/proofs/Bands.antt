@@ -8,9 +8,9 @@ use Rattle.mps_model.specs.Graph.{Cell, Object, Point, Reservation, entry_at, ta
 use Rattle.mps_model.specs.Checked.{head_of_body}
 use Rattle.mps_model.specs.World.{PointMemory}
 use Rattle.mps_colours.specs.Colours.{Colours, is_white, is_grey, is_black}
-use Rattle.mps_image.specs.Memory.{Setting, Memory, Lies, cells_in, live_reservation}
-use Rattle.mps_image.specs.Image.{IsCellWord, ArePlaced, IsFixed, CellSet, MarksStand, RunsStand, ImageStands, Stands}
-use Rattle.mps_image.specs.Bands.{flipped, freeing}
+use Rattle.mps_image.specs.Memory.{Setting, Memory, Lies, all_cells, live_reservation}
+use Rattle.mps_image.specs.Image.{IsCellWord, LieApart, IsFixed, CellSet, MarksStand, RunsStand, ImageStands, Stands}
+use Rattle.mps_image.specs.Bands.{setting_flipped, setting_freeing}
 use Rattle.mps_image.proofs.Written.{holds_still}
 
 -- ---- at rest, and at a flip
@@ -24,12 +24,12 @@ module _ (s : Setting) (m m' : Memory) (addresses : List (Option Address)) (k k'
     (memories : List PointMemory) (condemned : List Id) (is_condemned_over : Word → Bool) (none : s.at_flip ≡ [])
     (all_read : (id : Id) → IsTrue (s.is_read id)) (same : m'.words ≡ m.words) where
   abbrev after : Setting
-  after = flipped s addresses points memories condemned is_condemned_over
+  after = setting_flipped s addresses points memories condemned is_condemned_over
 
   -- at a flip: the words are as they were, no reservation is live any more, and black objects refer to nothing white
-  pub flip_stands : ImageStands s m addresses k done → ArePlaced after addresses
+  pub flip_stands : ImageStands s m addresses k done → LieApart after addresses
       → ((id i : ℕ) (o : Object) (c : Cell) (t : Id) → IsTrue (is_black condemned k' id) → slice_get s.objects id ≡ Some o
-      → slice_get (cells_in o.body) i ≡ Some c → target_of_cell c ≡ Some t → is_white condemned k' t ≡ false)
+      → slice_get (all_cells o.body) i ≡ Some c → target_of_cell c ≡ Some t → is_white condemned k' t ≡ false)
       → ((point : ℕ) (r : Reservation) → live_reservation (entry_at points point) ≡ Some r → ⊥)
       → MarksStand after m'.kept m'.grey addresses k' → RunsStand after m' addresses → Stands after m' addresses k'
   flip_stands st placed targets doomed marks runs = record {
@@ -48,7 +48,7 @@ module _ (s : Setting) (m m' : Memory) (addresses : List (Option Address)) (k k'
     runs = runs;
   }
     where
-      word : (id i : ℕ) (o : Object) (n : Word) (c : Cell) → Lies s.objects addresses id i o n → slice_get (cells_in o.body) i ≡ Some c
+      word : (id i : ℕ) (o : Object) (n : Word) (c : Cell) → Lies s.objects addresses id i o n → slice_get (all_cells o.body) i ≡ Some c
           → IsCellWord addresses [] (head_of_body o.body) c (slice_index m'.words n)
       word id i o n c l cell =
           subst (λ ws. IsCellWord addresses [] (head_of_body o.body) c (slice_index ws n)) (sym same)
@@ -59,7 +59,7 @@ module _ (s : Setting) (m m' : Memory) (addresses : List (Option Address)) (k k'
 -- once nothing is grey, addresses of the flip are used no more, and white objects aren't read any more
 pub freeing_begins : (s : Setting) (m : Memory) (addresses : List (Option Address)) (k : Colours)
     → ((id : Id) (at : Address) → entry_at addresses id ≡ Some at → is_grey k id ≡ false) → Stands s m addresses k
-    → Stands (freeing s k) m addresses k
+    → Stands (setting_freeing s k) m addresses k
 freeing_begins s m addresses k none_grey st = record {
   placed = record {
     exists = st.placed.exists;
@@ -97,10 +97,10 @@ pub collection_ends : (s : Setting) (m m' : Memory) (addresses : List (Option Ad
     → ((id : Id) (at : Address) → entry_at addresses id ≡ Some at → is_white s.condemned k id ≡ false)
     → ((id : Id) (at : Address) → entry_at addresses id ≡ Some at → is_grey k id ≡ false) → m'.words ≡ m.words
     → Stands s m addresses k
-    → ArePlaced (flipped s [] s.points s.point_memories [] is_condemned_over) addresses
-    → MarksStand (flipped s [] s.points s.point_memories [] is_condemned_over) m'.kept m'.grey addresses k'
-    → RunsStand (flipped s [] s.points s.point_memories [] is_condemned_over) m' addresses
-    → Stands (flipped s [] s.points s.point_memories [] is_condemned_over) m' addresses k'
+    → LieApart (setting_flipped s [] s.points s.point_memories [] is_condemned_over) addresses
+    → MarksStand (setting_flipped s [] s.points s.point_memories [] is_condemned_over) m'.kept m'.grey addresses k'
+    → RunsStand (setting_flipped s [] s.points s.point_memories [] is_condemned_over) m' addresses
+    → Stands (setting_flipped s [] s.points s.point_memories [] is_condemned_over) m' addresses k'
 collection_ends s m m' addresses k k' is_condemned_over none_white none_grey same st placed marks runs = record {
   placed = placed;
   words = record {
@@ -120,7 +120,7 @@ collection_ends s m m' addresses k k' is_condemned_over none_white none_grey sam
   runs = runs;
 }
   where
-    fixed : (id i : ℕ) (o : Object) (n : Word) (c : Cell) → Lies s.objects addresses id i o n → slice_get (cells_in o.body) i ≡ Some c
+    fixed : (id i : ℕ) (o : Object) (n : Word) (c : Cell) → Lies s.objects addresses id i o n → slice_get (all_cells o.body) i ≡ Some c
         → IsFixed s.condemned addresses k (head_of_body o.body) c (slice_index m'.words n)
     fixed id i o n c l cell =
         let black =

@@ -10,7 +10,7 @@ use Rattle.mps_model.specs.Graph.{Cell, NumberCell, ReferenceCell, Body, Automat
 use Rattle.mps_model.specs.Checked.{head_of_body}
 use Rattle.mps_model.specs.World.{extent, extents_of}
 use Rattle.mps_colours.specs.Colours.{Colours}
-use Rattle.mps_image.specs.Memory.{Setting, Memory, cells_in}
+use Rattle.mps_image.specs.Memory.{Setting, Memory, all_cells}
 use Rattle.mps_image.specs.Image.{CellSet, ImageStands}
 use Rattle.mps_image.specs.Changes.{Was, IsCellChanged}
 use Rattle.mps_image.proofs.Entries.{slice_get-set_same, slice_get-set_other}
@@ -19,7 +19,7 @@ use Rattle.mps_image.proofs.Entries.{slice_get-set_same, slice_get-set_other}
 pub record IsBodyChanged (b b' : Body) (i : ℕ) (new : Cell) : Type 0 where
   pub size : size_of_body b ≡ size_of_body b'
   pub head : head_of_body b ≡ head_of_body b'
-  pub cells : (j : ℕ) (c : Cell) → slice_get (cells_in b') j ≡ Some c → ((j ≢ i) × (slice_get (cells_in b) j ≡ Some c)) ⊎ ((j ≡ i) × (c ≡ new))
+  pub cells : (j : ℕ) (c : Cell) → slice_get (all_cells b') j ≡ Some c → ((j ≢ i) × (slice_get (all_cells b) j ≡ Some c)) ⊎ ((j ≡ i) × (c ≡ new))
 
 set_cases : {X : Type 0} (xs : List X) (i : ℕ) (new : X) (j : ℕ) (x : X) → slice_get (slice_set xs i new) j ≡ Some x
     → ((j ≢ i) × (slice_get xs j ≡ Some x)) ⊎ ((j ≡ i) × (x ≡ new))

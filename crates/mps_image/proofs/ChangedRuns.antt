@@ -8,14 +8,14 @@ use Rattle.mps_base.specs.Run.{Run, in_order, with_run, without_run}
 use Rattle.mps_model.specs.Graph.{Object, Point, Reservation, entry_at, size_of, is_live_reservation}
 use Rattle.mps_model.specs.World.{PointMemory, extent, extents_of, extent_of_reservation, reserved_extents}
 use Rattle.mps_image.specs.Memory.{Setting, Memory, Lies, LiesReserved, live_reservation}
-use Rattle.mps_image.specs.Image.{ArePlaced, RunsStand}
-use Rattle.mps_image.specs.Changes.{made, made_at, with_points, with_block, with_reservation, without_reservation}
+use Rattle.mps_image.specs.Image.{LieApart, RunsStand}
+use Rattle.mps_image.specs.Changes.{setting_made, addresses_made, setting_with_points, memory_with_block, memory_with_reservation, memory_without_reservation}
 use Rattle.mps_image.proofs.InOrder.{BeginElsewhere, all_append, in_order-with, in_order-without}
-use Rattle.mps_image.proofs.Extents.{all_extents, extents_made, extent_at, parted_points}
+use Rattle.mps_image.proofs.Extents.{all_extents, extents_made, reserved_extent, parted_points}
 use Rattle.mps_image.proofs.Marked.{begins_there}
 
 -- no block begins where none lies
-pub blocks_elsewhere : (s : Setting) (addresses : List (Option Address)) (n : Word) → ArePlaced s addresses
+pub blocks_elsewhere : (s : Setting) (addresses : List (Option Address)) (n : Word) → LieApart s addresses
     → ((id i : ℕ) (o : Object) → Lies s.objects addresses id i o n → ⊥) → BeginElsewhere n (extents_of s.objects addresses)
 blocks_elsewhere s addresses n placed free =
     all_extents (λ (r : Run). r.from ≢ n) s.objects addresses (λ id at o there object e.
@@ -24,8 +24,8 @@ blocks_elsewhere s addresses n placed free =
 -- ---- a block
 
 pub runs_made : (s : Setting) (m : Memory) (addresses : List (Option Address)) (o : Object) (at : Address) → length addresses ≡ length s.objects
-    → ArePlaced s addresses → ((id i : ℕ) (p : Object) → Lies s.objects addresses id i p (word_of at) → ⊥) → RunsStand s m addresses
-    → RunsStand (made s o s.points s.point_memories) (with_block m at (size_of o)) (made_at addresses at)
+    → LieApart s addresses → ((id i : ℕ) (p : Object) → Lies s.objects addresses id i p (word_of at) → ⊥) → RunsStand s m addresses
+    → RunsStand (setting_made s o s.points s.point_memories) (memory_with_block m at (size_of o)) (addresses_made addresses at)
 runs_made s m addresses o at numbered placed free r =
     let old = extents_of s.objects addresses in
     let new = extent at (size_of o) in
@@ -64,7 +64,7 @@ of_none r false live e m = ap (λ b. if b then extent m.reserved_at (length r.ce
 
 -- the extent of a live reservation
 pub extent_live : (p : Option Point) (q : Reservation) (m : PointMemory) → live_reservation p ≡ Some q
-    → extent_at p m ≡ extent m.reserved_at (length q.cells) ∷ []
+    → reserved_extent p m ≡ extent m.reserved_at (length q.cells) ∷ []
 extent_live None q m e = absurd (none-some q e)
 extent_live (Some p) q m e = go p.reservation e
   where
@@ -74,7 +74,7 @@ extent_live (Some p) q m e = go p.reservation e
     go None e' = absurd (none-some q e')
     go (Some r) e' = of_live r (is_live_reservation r) q refl e' m
 
-pub extent_none : (p : Option Point) (m : PointMemory) → live_reservation p ≡ None → extent_at p m ≡ []
+pub extent_none : (p : Option Point) (m : PointMemory) → live_reservation p ≡ None → reserved_extent p m ≡ []
 extent_none None m e = refl
 extent_none (Some p) m e = go p.reservation e
   where
@@ -94,8 +94,8 @@ module _ (s : Setting) (m : Memory) (addresses : List (Option Address)) (i : ℕ
       → BeginElsewhere (word_of there.reserved_at) blocks
       → ((j : ℕ) (r : Reservation) (n : PointMemory) → j ≢ i → live_reservation (entry_at s.points j) ≡ Some r
       → slice_get s.point_memories j ≡ Some n → word_of n.reserved_at ≢ word_of there.reserved_at)
-      → RunsStand (with_points s (slice_set s.points i (Some p')) (slice_set s.point_memories i there))
-        (with_reservation m there.reserved_at (length q.cells)) addresses
+      → RunsStand (setting_with_points s (slice_set s.points i (Some p')) (slice_set s.point_memories i there))
+        (memory_with_reservation m there.reserved_at (length q.cells)) addresses
   runs_reserved p' q there none live elsewhere apart =
       let d = parted_points s.points s.point_memories i p memory point has in
       let new = extent there.reserved_at (length q.cells) in
@@ -123,7 +123,7 @@ module _ (s : Setting) (m : Memory) (addresses : List (Option Address)) (i : ℕ
       → BeginElsewhere (word_of memory.reserved_at) blocks
       → ((j : ℕ) (r : Reservation) (n : PointMemory) → j ≢ i → live_reservation (entry_at s.points j) ≡ Some r
       → slice_get s.point_memories j ≡ Some n → word_of n.reserved_at ≢ word_of memory.reserved_at)
-      → RunsStand (with_points s (slice_set s.points i (Some p')) s.point_memories) (without_reservation m memory.reserved_at) addresses
+      → RunsStand (setting_with_points s (slice_set s.points i (Some p')) s.point_memories) (memory_without_reservation m memory.reserved_at) addresses
   runs_ended p' q live none elsewhere apart =
       let d = parted_points s.points s.point_memories i p memory point has in
       let old = extent memory.reserved_at (length q.cells) in
@@ -151,7 +151,7 @@ module _ (s : Setting) (m : Memory) (addresses : List (Option Address)) (i : ℕ
   -- the cells of a live reservation are written: it has as many as before
   pub runs_written : (p' : Point) (q q' : Reservation) → live_reservation p ≡ Some q → live_reservation (Some p') ≡ Some q'
       → length q.cells ≡ length q'.cells
-      → RunsStand (with_points s (slice_set s.points i (Some p')) s.point_memories) m addresses
+      → RunsStand (setting_with_points s (slice_set s.points i (Some p')) s.point_memories) m addresses
   runs_written p' q q' live live' same =
       let d = parted_points s.points s.point_memories i p memory point has in
       let is : reserved_extents s.points s.point_memories ≡ reserved_extents (slice_set s.points i (Some p')) s.point_memories =

@@ -9,9 +9,9 @@ use Rattle.mps_model.specs.Graph.{Cell, HeadCell, NumberCell, ReferenceCell, Obj
 use Rattle.mps_model.specs.Checked.{head_of_body}
 use Rattle.mps_model.specs.World.{PointMemory}
 use Rattle.mps_colours.specs.Colours.{Colours}
-use Rattle.mps_image.specs.Memory.{Setting, Lies, LiesReserved, cells_in}
-use Rattle.mps_image.specs.Image.{MeansAt, IsCellWord, IsForwarded, WordsStand, IsFixed, CellSet, AreFixed}
-use Rattle.mps_image.specs.Changes.{with_graph, IsClear}
+use Rattle.mps_image.specs.Memory.{Setting, Lies, LiesReserved, all_cells}
+use Rattle.mps_image.specs.Image.{MeansAt, IsCellWord, IsForwarded, WordsStand, IsFixed, CellSet, FixedCellsStand}
+use Rattle.mps_image.specs.Changes.{setting_with, IsUnforwarded}
 use Rattle.mps_image.proofs.Forwarded.{forwarded_still}
 use Rattle.mps_image.proofs.Written.{holds_still}
 
@@ -31,13 +31,13 @@ pub record Change : Type 0 where
   pub addresses_after : List (Option Address)
 
 abbrev pub after : Change → Setting
-after x = with_graph x.before x.objects x.points x.memories
+after x = setting_with x.before x.objects x.points x.memories
 
 -- a word is that of a cell, as it was
 pub record WasCell (x : Change) (done : CellSet) (id i : ℕ) (o : Object) (n : Word) (c : Cell) : Type 0 where
   pub was : Object
   pub lies : Lies x.before.objects x.addresses id i was n
-  pub cell : slice_get (cells_in was.body) i ≡ Some c
+  pub cell : slice_get (all_cells was.body) i ≡ Some c
   pub head : head_of_body was.body ≡ head_of_body o.body
   pub word : slice_index x.words_after n ≡ slice_index x.words n
   pub target : (t : Id) → target_of_cell c ≡ Some t → IsTrue (x.before.is_read id) ⊎ IsTrue (done id i)
@@ -66,10 +66,10 @@ pub record WasForwarded (x : Change) (id : Id) (from to : Address) (o : Object) 
   pub unreserved : (q point l : ℕ) (r : Reservation) → q < size_of was → LiesReserved x.points x.memories point l r (word_of from + q) → ⊥
 
 -- what a call does to words
-pub record Changes (x : Change) (k : Colours) (done : CellSet) : Type 0 where
+pub record CallChanges (x : Change) (k : Colours) (done : CellSet) : Type 0 where
   pub long : length x.words_after ≡ length x.words
   pub cells : (id i : ℕ) (o : Object) (n : Word) (c : Cell) → Lies x.objects x.addresses_after id i o n
-      → slice_get (cells_in o.body) i ≡ Some c → WasCell x done id i o n c
+      → slice_get (all_cells o.body) i ≡ Some c → WasCell x done id i o n c
       ⊎ IsFixed x.before.condemned x.addresses_after k (head_of_body o.body) c (slice_index x.words_after n)
   pub reserved : (point i : ℕ) (r : Reservation) (n : Word) (c : Cell) → LiesReserved x.points x.memories point i r n
       → slice_get r.cells i ≡ Some c → WasReserved x r n c
@@ -77,7 +77,7 @@ pub record Changes (x : Change) (k : Colours) (done : CellSet) : Type 0 where
   pub forwarded : (id : Id) (from to : Address) (o : Object) → entry_at x.before.at_flip id ≡ Some from
       → entry_at x.addresses_after id ≡ Some to → from ≢ to → slice_get x.objects id ≡ Some o → WasForwarded x id from to o
 
-module _ (x : Change) (k : Colours) (done : CellSet) (changes : Changes x k done) where
+module _ (x : Change) (k : Colours) (done : CellSet) (changes : CallChanges x k done) where
   -- what a word of a cell means, if what it refers to is where it was
   meaning_kept : (at_flip : List (Option Address)) (head : ℕ) (c : Cell) (word : ℕ)
       → ((t : Id) → target_of_cell c ≡ Some t → IsStillThere x.addresses x.addresses_after t) → IsCellWord x.addresses at_flip head c word
@@ -143,7 +143,7 @@ module _ (x : Change) (k : Colours) (done : CellSet) (changes : Changes x k done
         (like x.words y.was o from to y.pool y.size (w.forwarded id from to y.was was y.there apart y.object));
   }
 
-  pub fixed_changed : AreFixed x.before x.words x.addresses k done → AreFixed (after x) x.words_after x.addresses_after k done
+  pub fixed_changed : FixedCellsStand x.before x.words x.addresses k done → FixedCellsStand (after x) x.words_after x.addresses_after k done
   fixed_changed f = record {
     cells = λ id i o n c d l cell. elim (changes.cells id i o n c l cell) [
       | inl y ↦
@@ -177,7 +177,7 @@ module _ (x : Change) (k : Colours) (done : CellSet) (changes : Changes x k done
 
 module _ (s : Setting) (words : List ℕ) (addresses : List (Option Address)) (stand : WordsStand s words addresses) (n : Word) where
   -- so it is outside condemned segments
-  pub clear_outside : s.is_condemned_over n ≡ false → IsClear s addresses n
+  pub clear_outside : s.is_condemned_over n ≡ false → IsUnforwarded s addresses n
   clear_outside outside = record {
     clear = λ id from to o q was now apart object lt e.
         let f = stand.forwarded id from to o was now apart object in
@@ -187,7 +187,7 @@ module _ (s : Setting) (words : List ℕ) (addresses : List (Option Address)) (s
   -- and in pools from which nothing has moved
   pub clear_in_pool : (pool : ℕ) → s.pool_over n ≡ Some pool
       → ((id : Id) (from to : Address) (o : Object) → entry_at s.at_flip id ≡ Some from → entry_at addresses id ≡ Some to → from ≢ to
-      → slice_get s.objects id ≡ Some o → o.pool ≢ pool) → IsClear s addresses n
+      → slice_get s.objects id ≡ Some o → o.pool ≢ pool) → IsUnforwarded s addresses n
   clear_in_pool pool over none = record {
     clear = λ id from to o q was now apart object lt e.
         let f = stand.forwarded id from to o was now apart object in
@@ -195,7 +195,7 @@ module _ (s : Setting) (words : List ℕ) (addresses : List (Option Address)) (s
   }
 
 -- where no addresses of a flip count, nothing has moved
-pub clear_at_rest : (s : Setting) (addresses : List (Option Address)) (n : Word) → s.at_flip ≡ [] → IsClear s addresses n
+pub clear_at_rest : (s : Setting) (addresses : List (Option Address)) (n : Word) → s.at_flip ≡ [] → IsUnforwarded s addresses n
 clear_at_rest s addresses n none = record {
   clear = λ id from to o q was now apart object lt e. none-some from (sym (ap (λ old. entry_at old id) none) ∙ was);
 }

@@ -7,8 +7,8 @@ use Rattle.mps_base.specs.Address.{Address, Id, Word, word_of}
 use Rattle.mps_model.specs.Graph.{Cell, HeadCell, NumberCell, ReferenceCell, Object, entry_at, size_of, target_of_cell}
 use Rattle.mps_model.specs.Checked.{head_of_body}
 use Rattle.mps_colours.specs.Colours.{Colours, is_white, is_grey, keeping}
-use Rattle.mps_image.specs.Memory.{Setting, Lies, LiesReserved, Begins}
-use Rattle.mps_image.specs.Image.{MeansAt, IsCellWord, IsAddress, ArePlaced, IsForwarded, WordsStand, IsFixed, CellSet, AreFixed, MarksStand}
+use Rattle.mps_image.specs.Memory.{Setting, Lies, LiesReserved, BlockBegins}
+use Rattle.mps_image.specs.Image.{MeansAt, IsCellWord, IsAddress, LieApart, IsForwarded, WordsStand, IsFixed, CellSet, FixedCellsStand, MarksStand}
 use Rattle.mps_image.specs.Fixing.{AreCopied, AreAtHand, AreMarksMoved, address_moved}
 use Rattle.mps_image.proofs.Entries.{entry_at-set_same, entry_at-set_other, entry_replaced}
 use Rattle.mps_image.proofs.Forwarded.{forwarded_still}
@@ -24,7 +24,7 @@ pub record IsMove (s : Setting) (addresses : List (Option Address)) (k : Colours
   pub hand : AreAtHand s addresses to (size_of o) o.pool
 
 module _ (s : Setting) (addresses : List (Option Address)) (k : Colours) (t : Id) (from to : Address) (o : Object)
-    (placed : ArePlaced s addresses) (v : IsMove s addresses k t from to o) where
+    (placed : LieApart s addresses) (v : IsMove s addresses k t from to o) where
   abbrev addresses_after : List (Option Address)
   addresses_after = address_moved addresses t to
 
@@ -72,7 +72,7 @@ module _ (s : Setting) (addresses : List (Option Address)) (k : Colours) (t : Id
   not_condemned_there =
       ap s.is_condemned_over (let e : word_of to ≡ word_of to + 0 = omega arith in e) ∙ v.hand.not_condemned 0 positive
 
-  pub placed_moved : ArePlaced s addresses_after
+  pub placed_moved : LieApart s addresses_after
   placed_moved = record {
     exists = λ id at e. elim (entry_moved id at e) [
       | inl x ↦ (o, ap (slice_get s.objects) x.0 ∙ v.object)
@@ -236,7 +236,7 @@ module _ (s : Setting) (addresses : List (Option Address)) (k : Colours) (t : Id
       ];
     }
 
-    pub fixed_copied : (done : CellSet) → AreFixed s words addresses k done → AreFixed s words' addresses_after (keeping k t) done
+    pub fixed_copied : (done : CellSet) → FixedCellsStand s words addresses k done → FixedCellsStand s words' addresses_after (keeping k t) done
     fixed_copied done f = record {
       cells = λ id i p n c d l cell.
           let was = came_from id i p n l in
@@ -268,7 +268,7 @@ module _ (s : Setting) (addresses : List (Option Address)) (k : Colours) (t : Id
 
   module _ (kept grey kept' grey' : Word → Bool) (b : AreMarksMoved kept grey kept' grey' (word_of from) (word_of to))
       (marks : MarksStand s kept grey addresses k) where
-    still_begins : (n : Word) → n ≢ word_of from → Begins addresses n → Begins addresses_after n
+    still_begins : (n : Word) → n ≢ word_of from → BlockBegins addresses n → BlockBegins addresses_after n
     still_begins n other x = record {
       id = x.id;
       at = x.at;
@@ -280,7 +280,7 @@ module _ (s : Setting) (addresses : List (Option Address)) (k : Colours) (t : Id
       is = x.is;
     }
 
-    marked_word : (n : Word) → IsTrue (kept' n || grey' n) → Begins addresses_after n
+    marked_word : (n : Word) → IsTrue (kept' n || grey' n) → BlockBegins addresses_after n
     marked_word n is =
         elim (cases_eq n (word_of to)) [
           | inl same ↦ record { id = t; at = to; address = entry_at-set_same addresses t from v.there (Some to); is = same }

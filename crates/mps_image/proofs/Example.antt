@@ -11,8 +11,8 @@ use Rattle.mps_format.specs.Laws.{front_is_lawful}
 use Rattle.mps_model.specs.Graph.{Cell, HeadCell, NumberCell, ReferenceCell, Automatic, Object, Reservation, entry_at, size_of, is_automatic, is_reference_cell, target_of_cell}
 use Rattle.mps_model.specs.Checked.{head_of_body}
 use Rattle.mps_colours.specs.Colours.{Colours, is_white, is_grey}
-use Rattle.mps_image.specs.Memory.{Setting, Memory, Lies, LiesReserved, Begins, cells_in}
-use Rattle.mps_image.specs.Image.{IsCellWord, AreShaped, IsAddress, ArePlaced, IsFixed, AreFixed, WordsStand, CellSet, ImageStands, is_white_over}
+use Rattle.mps_image.specs.Memory.{Setting, Memory, Lies, LiesReserved, BlockBegins, all_cells}
+use Rattle.mps_image.specs.Image.{IsCellWord, AreShaped, IsAddress, LieApart, IsFixed, FixedCellsStand, WordsStand, CellSet, ImageStands, is_white_over}
 use Rattle.mps_image.specs.Fixing.{AreCopied, AreAtHand, copies, FixWord, writes, IsFixedCell}
 use Rattle.mps_image.proofs.Fixing.{fix_keeps}
 
@@ -71,12 +71,12 @@ object zero o e = inl (refl, sym (same_Some one o e))
 object (suc zero) o e = inr (refl, sym (same_Some two o e))
 object (suc (suc id)) o e = absurd (none-some o e)
 
-cell_of_one : (k : ℕ) (c : Cell) → slice_get (cells_in one.body) k ≡ Some c → ((k ≡ 0) × (c ≡ HeadCell)) ⊎ ((k ≡ 1) × (c ≡ ReferenceCell (Some 1) 3))
+cell_of_one : (k : ℕ) (c : Cell) → slice_get (all_cells one.body) k ≡ Some c → ((k ≡ 0) × (c ≡ HeadCell)) ⊎ ((k ≡ 1) × (c ≡ ReferenceCell (Some 1) 3))
 cell_of_one zero c e = inl (refl, sym (same_Some HeadCell c e))
 cell_of_one (suc zero) c e = inr (refl, sym (same_Some (ReferenceCell (Some 1) 3) c e))
 cell_of_one (suc (suc k)) c e = absurd (none-some c e)
 
-cell_of_two : (k : ℕ) (c : Cell) → slice_get (cells_in two.body) k ≡ Some c → ((k ≡ 0) × (c ≡ HeadCell)) ⊎ ((k ≡ 1) × (c ≡ NumberCell 7))
+cell_of_two : (k : ℕ) (c : Cell) → slice_get (all_cells two.body) k ≡ Some c → ((k ≡ 0) × (c ≡ HeadCell)) ⊎ ((k ≡ 1) × (c ≡ NumberCell 7))
 cell_of_two zero c e = inl (refl, sym (same_Some HeadCell c e))
 cell_of_two (suc zero) c e = inr (refl, sym (same_Some (NumberCell 7) c e))
 cell_of_two (suc (suc k)) c e = absurd (none-some c e)
@@ -94,8 +94,8 @@ of_addresses P a b id at e = elim (entry id at e) [
   | inr x ↦ subst (λ i. P i at) (sym x.0) (subst (λ q. P 1 q) (sym x.1) b)
 ]
 
-of_cells_of : (P : ℕ → Object → ℕ → Cell → Type 0) → P 0 one 0 HeadCell → P 0 one 1 (ReferenceCell (Some 1) 3) → P 1 two 0 HeadCell → P 1 two 1 (NumberCell 7) → (id : ℕ) (o : Object) (k : ℕ) (c : Cell) → slice_get objects id ≡ Some o → slice_get (cells_in o.body) k ≡ Some c → P id o k c
-of_cells_of P a b d e id o k c is = of_objects (λ i q. slice_get (cells_in q.body) k ≡ Some c → P i q k c)
+of_cells_of : (P : ℕ → Object → ℕ → Cell → Type 0) → P 0 one 0 HeadCell → P 0 one 1 (ReferenceCell (Some 1) 3) → P 1 two 0 HeadCell → P 1 two 1 (NumberCell 7) → (id : ℕ) (o : Object) (k : ℕ) (c : Cell) → slice_get objects id ≡ Some o → slice_get (all_cells o.body) k ≡ Some c → P id o k c
+of_cells_of P a b d e id o k c is = of_objects (λ i q. slice_get (all_cells q.body) k ≡ Some c → P i q k c)
     (λ x. elim (cell_of_one k c x) [ inl y ↦ subst (λ j. P 0 one j c) (sym y.0) (subst (λ j. P 0 one 0 j) (sym y.1) a) | inr y ↦ subst (λ j. P 0 one j c) (sym y.0) (subst (λ j. P 0 one 1 j) (sym y.1) b) ])
     (λ x. elim (cell_of_two k c x) [ inl y ↦ subst (λ j. P 1 two j c) (sym y.0) (subst (λ j. P 1 two 0 j) (sym y.1) d) | inr y ↦ subst (λ j. P 1 two j c) (sym y.0) (subst (λ j. P 1 two 1 j) (sym y.1) e) ])
     id o is
@@ -137,7 +137,7 @@ shaped = record {
   lawful = λ pool. front_is_lawful;
   tags = λ id k o t tag e c. subst (λ n. n < 8) refl (of_cells_of (λ i q j d. tag_of_cell d < 8) (lit< tt) (lit< tt) (lit< tt) (lit< tt) id o k (ReferenceCell t tag) e c);
   targets = λ id k o t tag e c. of_cells_of (λ i q j d. target_of_cell d ≡ Some t → (p : Object) × (slice_get objects t ≡ Some p) × (is_automatic p ≡ true)) (λ x. absurd (none-some t x)) (λ x. (two, ap (slice_get objects) (sym (same_Some 1 t x)), refl)) (λ x. absurd (none-some t x)) (λ x. absurd (none-some t x)) id o k (ReferenceCell (Some t) tag) e c refl;
-  first = λ id o e a. of_objects (λ i q. slice_get (cells_in q.body) 0 ≡ Some HeadCell) refl refl id o e;
+  first = λ id o e a. of_objects (λ i q. slice_get (all_cells q.body) 0 ≡ Some HeadCell) refl refl id o e;
   valid = λ id o e a. of_objects (λ i q. front_layout.is_valid (head_of_body q.body) ≡ true) refl refl id o e;
   kinds = λ id k o c e a d. of_cells_of (λ i q j b. is_reference_cell b ≡ front_layout.is_reference (head_of_body q.body) j) refl refl refl refl id o k c e d;
   whole = λ id o e a. of_objects (λ i q. front_layout.size (head_of_body q.body) ≡ size_of q) refl refl id o e;
@@ -147,7 +147,7 @@ shaped = record {
 no_reservation : {r : Reservation} {point l : ℕ} {n : Word} → LiesReserved [] [] point l r n → ⊥
 no_reservation {r} x = none-some r x.reserved
 
-placed : ArePlaced setting addresses
+placed : LieApart setting addresses
 placed = record {
   exists = of_addresses (λ i at. (o : Object) × (slice_get objects i ≡ Some o)) (one, refl) (two, refl);
   positive = λ id at o e x. of_objects (λ i q. 0 < size_of q) (lit< tt) (lit< tt) id o x;
@@ -168,7 +168,7 @@ stands = record {
   placed = placed;
   words = record {
     long = refl;
-    cells = λ id i o n c read l e. of_lying (λ j k q m. (d : Cell) → slice_get (cells_in q.body) k ≡ Some d → IsCellWord addresses addresses (head_of_body q.body) d (slice_index before.words m))
+    cells = λ id i o n c read l e. of_lying (λ j k q m. (d : Cell) → slice_get (all_cells q.body) k ≡ Some d → IsCellWord addresses addresses (head_of_body q.body) d (slice_index before.words m))
         (λ d x. subst (λ y. IsCellWord addresses addresses 0x100000201 y 0x100000201) (same_Some HeadCell d x) refl)
         (λ d x. subst (λ y. IsCellWord addresses addresses 0x100000201 y 27) (same_Some (ReferenceCell (Some 1) 3) d x) (record { address = 24; is = refl; means = inl refl }))
         (λ d x. subst (λ y. IsCellWord addresses addresses 0x201 y 0x201) (same_Some HeadCell d x) refl)

@@ -117,28 +117,28 @@ all_reserved P (Some p ∷ ps) (m ∷ ms) f =
     (all_reserved P ps ms (λ i r n e h. f (suc i) r n e h))
 
 -- the extent of a point's live reservation, where it has one
-abbrev pub extent_at : Option Point → PointMemory → List Run
-extent_at None m = []
-extent_at (Some p) m = extent_of_reservation p.reservation m
+abbrev pub reserved_extent : Option Point → PointMemory → List Run
+reserved_extent None m = []
+reserved_extent (Some p) m = extent_of_reservation p.reservation m
 
 -- the extents before and after that of one point
 pub record PartedPoints (points : List (Option Point)) (memories : List PointMemory) (i : ℕ) (point : Option Point) (memory : PointMemory)
     : Type 1 where
   pub before : List Run
   pub after : List Run
-  pub is : reserved_extents points memories ≡ before ++ (extent_at point memory ++ after)
+  pub is : reserved_extents points memories ≡ before ++ (reserved_extent point memory ++ after)
   pub set : (new : Option Point) (there : PointMemory)
-      → reserved_extents (slice_set points i new) (slice_set memories i there) ≡ before ++ (extent_at new there ++ after)
+      → reserved_extents (slice_set points i new) (slice_set memories i there) ≡ before ++ (reserved_extent new there ++ after)
   pub others : (P : Run → Type 0) → ((j : ℕ) (r : Reservation) (m : PointMemory) → j ≢ i → live_reservation (entry_at points j) ≡ Some r
       → slice_get memories j ≡ Some m → P (extent m.reserved_at (length r.cells))) → AllByRecursion P before × AllByRecursion P after
 
 first_point : (q : Option Point) (ps : List (Option Point)) (m : PointMemory) (ms : List PointMemory)
-    → reserved_extents (q ∷ ps) (m ∷ ms) ≡ extent_at q m ++ reserved_extents ps ms
+    → reserved_extents (q ∷ ps) (m ∷ ms) ≡ reserved_extent q m ++ reserved_extents ps ms
 first_point None ps m ms = refl
 first_point (Some p) ps m ms = refl
 
 all_first : (P : Run → Type 0) (q : Option Point) (m : PointMemory)
-    → ((r : Reservation) → live_reservation q ≡ Some r → P (extent m.reserved_at (length r.cells))) → AllByRecursion P (extent_at q m)
+    → ((r : Reservation) → live_reservation q ≡ Some r → P (extent m.reserved_at (length r.cells))) → AllByRecursion P (reserved_extent q m)
 all_first P None m f = tt
 all_first P (Some p) m f = reserved_one p.reservation m P (λ q e live. f q (live_is p q e live))
 
@@ -154,25 +154,25 @@ parted_points (q ∷ ps) (m ∷ ms) zero point memory e h = record {
   after = reserved_extents ps ms;
   is =
       first_point q ps m ms
-      ∙ ap (λ x. extent_at x m ++ reserved_extents ps ms) (same_Some q point e)
-      ∙ ap (λ x. extent_at point x ++ reserved_extents ps ms) (same_Some m memory h);
+      ∙ ap (λ x. reserved_extent x m ++ reserved_extents ps ms) (same_Some q point e)
+      ∙ ap (λ x. reserved_extent point x ++ reserved_extents ps ms) (same_Some m memory h);
   set = λ new there. first_point new ps there ms;
   others = λ P f. (tt, all_reserved P ps ms (λ j r n x y. f (suc j) r n (λ z. omega (arith, z)) x y));
 }
 parted_points (q ∷ ps) (m ∷ ms) (suc i) point memory e h =
     let s = parted_points ps ms i point memory e h in
     record {
-      before = extent_at q m ++ s.before;
+      before = reserved_extent q m ++ s.before;
       after = s.after;
       is =
-          first_point q ps m ms ∙ ap (λ rs. extent_at q m ++ rs) s.is
-          ∙ sym (append_assoc (extent_at q m) s.before (extent_at point memory ++ s.after));
+          first_point q ps m ms ∙ ap (λ rs. reserved_extent q m ++ rs) s.is
+          ∙ sym (append_assoc (reserved_extent q m) s.before (reserved_extent point memory ++ s.after));
       set = λ new there.
-          first_point q (slice_set ps i new) m (slice_set ms i there) ∙ ap (λ rs. extent_at q m ++ rs) (s.set new there)
-          ∙ sym (append_assoc (extent_at q m) s.before (extent_at new there ++ s.after));
+          first_point q (slice_set ps i new) m (slice_set ms i there) ∙ ap (λ rs. reserved_extent q m ++ rs) (s.set new there)
+          ∙ sym (append_assoc (reserved_extent q m) s.before (reserved_extent new there ++ s.after));
       others = λ P f.
           let rest = s.others P (λ j r n x y z. f (suc j) r n (later x) y z) in (
-            all_append P (extent_at q m) s.before (all_first P q m (λ r x. f zero r m (λ z. omega (arith, z)) x refl)) rest.0,
+            all_append P (reserved_extent q m) s.before (all_first P q m (λ r x. f zero r m (λ z. omega (arith, z)) x refl)) rest.0,
             rest.1,
           );
     }

@@ -6,9 +6,9 @@ use Rattle.std.specs.Prelude.{slice_get, slice_set, not, IsTrue}
 use Rattle.mps_base.specs.Address.{Address, Id, Word, word_of}
 use Rattle.mps_model.specs.Graph.{ReferenceCell, Object, entry_at, size_of}
 use Rattle.mps_colours.specs.Colours.{Colours, is_white, keeping}
-use Rattle.mps_image.specs.Memory.{Setting, Memory, Lies, cells_in}
+use Rattle.mps_image.specs.Memory.{Setting, Memory, Lies, all_cells}
 use Rattle.mps_image.specs.Image.{AreShaped, CellSet, ImageStands, is_white_over}
-use Rattle.mps_image.specs.Fixing.{Target, AreCopied, AreAtHand, IsMarked, AreMarksMoved, marked_in, copied_in, address_moved, IsNotForwarded, IsToKeep, FixAt, passes, forwards, is_kept, stays, copies, FixWord, null, writes, FixesOne, nothing, passed, kept, moved, IsFixedAt, IsFixedCell}
+use Rattle.mps_image.specs.Fixing.{Target, AreCopied, AreAtHand, IsMarkSet, AreMarksMoved, marked_in, copied_in, address_moved, IsNotForwarded, IsToKeep, FixAt, passes, forwards, is_kept, stays, copies, FixWord, null, writes, FixesOne, nothing, passed, kept, moved, IsFixedAt, IsFixedCell}
 use Rattle.mps_image.proofs.Entries.{entry_at-set_same, entry_at-set_other}
 use Rattle.mps_image.proofs.Targets as targets
 use Rattle.mps_image.proofs.References as references
@@ -55,8 +55,8 @@ module _ (s : Setting) (m : Memory) (addresses : List (Option Address)) (k : Col
     stands = st;
   }
 
-  at_stay : (kept' grey' : Word → Bool) → address ≡ now → is_white s.condemned k t ≡ true → IsMarked m.kept kept' (word_of address)
-      → IsMarked m.grey grey' (word_of address) → IsFixedAt s (marked_in m kept' grey') addresses k done t address
+  at_stay : (kept' grey' : Word → Bool) → address ≡ now → is_white s.condemned k t ≡ true → IsMarkSet m.kept kept' (word_of address)
+      → IsMarkSet m.grey grey' (word_of address) → IsFixedAt s (marked_in m kept' grey') addresses k done t address
   at_stay kept' grey' e w keeps greys = record {
     addresses_after = addresses;
     colours_after = keeping k t;
@@ -65,7 +65,7 @@ module _ (s : Setting) (m : Memory) (addresses : List (Option Address)) (k : Col
     not_white = marking.kept_not_white s.condemned k t;
     stands =
         marking.image_marked s m addresses k done t now kept' grey' st x.there
-        (subst (λ y. IsMarked m.kept kept' (word_of y)) e keeps) (subst (λ y. IsMarked m.grey grey' (word_of y)) e greys);
+        (subst (λ y. IsMarkSet m.kept kept' (word_of y)) e keeps) (subst (λ y. IsMarkSet m.grey grey' (word_of y)) e greys);
   }
 
   abbrev Copying : (to : Address) (words' : List ℕ) (kept' grey' : Word → Bool) (from pool size : ℕ) → Type 0
@@ -161,7 +161,7 @@ module _ (s : Setting) (m : Memory) (addresses : List (Option Address)) (k : Col
     (all_read : (id : Id) → IsTrue (s.is_read id)) (st : ImageStands s m addresses k done) (holder i : ℕ) (o : Object) (n : Word) (tag : ℕ)
     (lies : Lies s.objects addresses holder i o n) where
   -- a null reference
-  pub fix_null : (address : Address) (m' : Memory) → slice_get (cells_in o.body) i ≡ Some (ReferenceCell None tag)
+  pub fix_null : (address : Address) (m' : Memory) → slice_get (all_cells o.body) i ≡ Some (ReferenceCell None tag)
       → (s.layout o.pool).target (slice_index m.words n) ≡ address → FixWord s addresses (s.layout o.pool) m n address m'
       → IsFixedCell s m' addresses k done None holder i
   fix_null address m' cell read (null e) = record {
@@ -179,9 +179,9 @@ module _ (s : Setting) (m : Memory) (addresses : List (Option Address)) (k : Col
       omega (arith, lt, e, read))
 
   module _ (t now : ℕ) (holder_kept : is_white s.condemned k holder ≡ false)
-      (cell : slice_get (cells_in o.body) i ≡ Some (ReferenceCell (Some t) tag)) (there : entry_at addresses t ≡ Some now) where
+      (cell : slice_get (all_cells o.body) i ≡ Some (ReferenceCell (Some t) tag)) (there : entry_at addresses t ≡ Some now) where
     -- the word is written after what its address means was fixed
-    write_cell : (address answer : Address) (m₁ : Memory) → references.Reads (s.layout o.pool) (slice_index m.words n) address tag
+    write_cell : (address answer : Address) (m₁ : Memory) → references.ReadsAddress (s.layout o.pool) (slice_index m.words n) address tag
         → IsFixedAt s m₁ addresses k done t answer
         → IsFixedCell s (record m₁ { words = slice_set m₁.words n ((s.layout o.pool).retarget (slice_index m.words n) answer) }) addresses k
         done (Some t) holder i
@@ -205,7 +205,7 @@ module _ (s : Setting) (m : Memory) (addresses : List (Option Address)) (k : Col
         }
 
     fix_object : (address : Address) (p : Object) (m' : Memory) → Target s addresses t address now p
-        → references.Reads (s.layout o.pool) (slice_index m.words n) address tag → 0 < address
+        → references.ReadsAddress (s.layout o.pool) (slice_index m.words n) address tag → 0 < address
         → FixWord s addresses (s.layout o.pool) m n address m' → IsFixedCell s m' addresses k done (Some t) holder i
     fix_object address p m' x r lt (null e) = absurd (omega (arith, e, lt))
     fix_object address p m' x r lt (writes {m' = m₁} answer lt' f) =
@@ -218,13 +218,13 @@ module _ (s : Setting) (m : Memory) (addresses : List (Option Address)) (k : Col
         let found = references.found s m.words addresses shaped st.placed st.words all_read holder i o n tag lies t now cell there in
         let e : found.address ≡ address = sym found.read.target ∙ read in
         fix_object address found.object m' (subst (λ y. Target s addresses t y now found.object) e found.target)
-        (subst (λ y. references.Reads (s.layout o.pool) (slice_index m.words n) y tag) e found.read) (subst (λ y. 0 < y) e found.not_null) f
+        (subst (λ y. references.ReadsAddress (s.layout o.pool) (slice_index m.words n) y tag) e found.read) (subst (λ y. 0 < y) e found.not_null) f
 
 -- a word is fixed, whatever it refers to
 pub fix_word : (s : Setting) (m : Memory) (addresses : List (Option Address)) (k : Colours) (done : CellSet) (holder i tag : ℕ) (o : Object)
     (n : Word) (t : Option Id) → AreShaped s.objects s.layout → ((id : Id) → IsTrue (s.is_read id)) → ImageStands s m addresses k done
     → Lies s.objects addresses holder i o n → is_white s.condemned k holder ≡ false
-    → slice_get (cells_in o.body) i ≡ Some (ReferenceCell t tag)
+    → slice_get (all_cells o.body) i ≡ Some (ReferenceCell t tag)
     → ((u : Id) → t ≡ Some u → (now : Address) × (entry_at addresses u ≡ Some now)) → (address : Address) (m' : Memory)
     → (s.layout o.pool).target (slice_index m.words n) ≡ address → FixWord s addresses (s.layout o.pool) m n address m'
     → IsFixedCell s m' addresses k done t holder i

@@ -10,19 +10,19 @@ use Rattle.mps_model.specs.Graph.{Cell, Object, Point, Reservation, entry_at, si
 use Rattle.mps_model.specs.Checked.{head_of_body}
 use Rattle.mps_model.specs.World.{extent, extents_of, reserved_extents}
 use Rattle.mps_colours.specs.Colours.{Colours, is_white}
-use Rattle.mps_image.specs.Memory.{Setting, Memory, Lies, LiesReserved, Begins, cells_in}
-use Rattle.mps_image.specs.Image.{ArePlaced, CellSet, MarksStand, RunsStand, ImageStands}
-use Rattle.mps_image.specs.Fixing.{IsCleared}
-use Rattle.mps_image.specs.Changes.{without_block, IsToGo}
+use Rattle.mps_image.specs.Memory.{Setting, Memory, Lies, LiesReserved, BlockBegins, all_cells}
+use Rattle.mps_image.specs.Image.{LieApart, CellSet, MarksStand, RunsStand, ImageStands}
+use Rattle.mps_image.specs.Fixing.{IsMarkCleared}
+use Rattle.mps_image.specs.Changes.{memory_without_block, MayGo}
 use Rattle.mps_image.proofs.Entries.{entry_left, entry_at-set_other}
 use Rattle.mps_image.proofs.InOrder.{all_append, in_order-without}
 use Rattle.mps_image.proofs.Extents.{parted}
 use Rattle.mps_image.proofs.Marked.{begins_there, begins_apart}
 use Rattle.mps_image.proofs.Runs.{reserved_elsewhere}
-use Rattle.mps_image.proofs.Changing.{Change, Changes, words_changed, fixed_changed}
+use Rattle.mps_image.proofs.Changing.{Change, CallChanges, words_changed, fixed_changed}
 
 module _ (s : Setting) (m : Memory) (addresses : List (Option Address)) (k : Colours) (done : CellSet) (t : Id) (from : Address) (o : Object)
-    (kept' grey' : Word → Bool) (st : ImageStands s m addresses k done) (v : IsToGo s m addresses done t from o kept' grey') where
+    (kept' grey' : Word → Bool) (st : ImageStands s m addresses k done) (v : MayGo s m addresses done t from o kept' grey') where
   abbrev left : List (Option Address)
   left = slice_set addresses t None
 
@@ -49,7 +49,7 @@ module _ (s : Setting) (m : Memory) (addresses : List (Option Address)) (k : Col
   still : (id : Id) → id ≢ t → (a : Address) → entry_at addresses id ≡ Some a → entry_at left id ≡ Some a
   still id other a e = entry_at-set_other addresses t id None other ∙ e
 
-  placed_left : ArePlaced s left
+  placed_left : LieApart s left
   placed_left = record {
     exists = λ id a e. st.placed.exists id a (was_left id a e).1;
     positive = λ id a p e x. st.placed.positive id a p (was_left id a e).1 x;
@@ -65,7 +65,7 @@ module _ (s : Setting) (m : Memory) (addresses : List (Option Address)) (k : Col
     reserved_apart = λ id point i j p r n l there. st.placed.reserved_apart id point i j p r n (lay id i p n l).1 there;
   }
 
-  changes : Changes change k done
+  changes : CallChanges change k done
   changes = record {
     long = refl;
     cells = λ id i p n c there cell.
@@ -106,14 +106,14 @@ module _ (s : Setting) (m : Memory) (addresses : List (Option Address)) (k : Col
   apart : (id : Id) (a : Address) → entry_at addresses id ≡ Some a → id ≢ t → word_of a ≢ word_of from
   apart id a e other = begins_apart s addresses st.placed id t a from e v.there other
 
-  still_begins : (n : Word) → n ≢ word_of from → Begins addresses n → Begins left n
+  still_begins : (n : Word) → n ≢ word_of from → BlockBegins addresses n → BlockBegins left n
   still_begins n other x =
       let not_it : x.id ≢ t = λ same.
       other (x.is ∙ ap (λ y. word_of y) (same_Some x.at from (sym x.address ∙ ap (entry_at addresses) same ∙ v.there)))
       in
       record { id = x.id; at = x.at; address = still x.id not_it x.at x.address; is = x.is }
 
-  marked_word : (n : Word) → IsTrue (kept' n || grey' n) → Begins left n
+  marked_word : (n : Word) → IsTrue (kept' n || grey' n) → BlockBegins left n
   marked_word n is =
       elim (cases_eq n (word_of from)) [
         | inl same ↦
@@ -140,7 +140,7 @@ module _ (s : Setting) (m : Memory) (addresses : List (Option Address)) (k : Col
     unmoved = λ id a e read white. st.marks.unmoved id a (was_left id a e).1 read white;
   }
 
-  runs_left : RunsStand s (without_block m kept' grey' from) left
+  runs_left : RunsStand s (memory_without_block m kept' grey' from) left
   runs_left =
       let d = parted s.objects addresses t from o v.object v.there in
       let others =
@@ -170,7 +170,7 @@ module _ (s : Setting) (m : Memory) (addresses : List (Option Address)) (k : Col
               (all_append (λ (x : Run). x.from ≢ word_of from) d.after reserved others.1 free));
       }
 
-  pub image_gone : ImageStands s (without_block m kept' grey' from) left k done
+  pub image_gone : ImageStands s (memory_without_block m kept' grey' from) left k done
   image_gone = record {
     placed = placed_left;
     words = words_changed change k done changes st.words;

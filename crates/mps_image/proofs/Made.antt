@@ -8,12 +8,12 @@ use Rattle.mps_model.specs.Graph.{Cell, Object, Point, Reservation, entry_at, si
 use Rattle.mps_model.specs.Checked.{head_of_body}
 use Rattle.mps_model.specs.World.{PointMemory}
 use Rattle.mps_colours.specs.Colours.{Colours, is_white, is_grey}
-use Rattle.mps_image.specs.Memory.{Setting, Memory, Lies, LiesReserved, Begins, cells_in}
-use Rattle.mps_image.specs.Image.{ArePlaced, IsFixed, CellSet, MarksStand, RunsStand, ImageStands, is_white_over}
-use Rattle.mps_image.specs.Changes.{made, made_at, IsMade, IsClear}
+use Rattle.mps_image.specs.Memory.{Setting, Memory, Lies, LiesReserved, BlockBegins, all_cells}
+use Rattle.mps_image.specs.Image.{LieApart, IsFixed, CellSet, MarksStand, RunsStand, ImageStands, is_white_over}
+use Rattle.mps_image.specs.Changes.{setting_made, addresses_made, IsMade, IsUnforwarded}
 use Rattle.mps_image.proofs.Entries.{slice_get-last, entry_last, slice_get-pushed, slice_get-still, entry_pushed, entry_still, entry_within}
 use Rattle.mps_image.proofs.Marked.{begins_there, begins_apart}
-use Rattle.mps_image.proofs.Changing.{Change, Changes, words_changed, fixed_changed}
+use Rattle.mps_image.proofs.Changing.{Change, CallChanges, words_changed, fixed_changed}
 
 module _ (s : Setting) (m m' : Memory) (addresses : List (Option Address)) (k : Colours) (done : CellSet) (o : Object) (at : Address)
     (points : List (Option Point)) (memories : List PointMemory) (st : ImageStands s m addresses k done)
@@ -30,7 +30,7 @@ module _ (s : Setting) (m m' : Memory) (addresses : List (Option Address)) (k : 
     words = m.words;
     words_after = m'.words;
     addresses = addresses;
-    addresses_after = made_at addresses at;
+    addresses_after = addresses_made addresses at;
   }
 
   old_below : (id : Id) (a : Address) → entry_at addresses id ≡ Some a → id < new
@@ -43,7 +43,7 @@ module _ (s : Setting) (m m' : Memory) (addresses : List (Option Address)) (k : 
         | inr x ↦ x
       ]
 
-  lies_made : (id i : ℕ) (p : Object) (n : Word) → Lies (s.objects ++ o ∷ []) (made_at addresses at) id i p n
+  lies_made : (id i : ℕ) (p : Object) (n : Word) → Lies (s.objects ++ o ∷ []) (addresses_made addresses at) id i p n
       → ((id ≡ new) × (p ≡ o) × (i < size_of o) × (n ≡ word_of at + i)) ⊎ Lies s.objects addresses id i p n
   lies_made id i p n l =
       elim (entry_pushed addresses at id l.at l.address) [
@@ -64,10 +64,10 @@ module _ (s : Setting) (m m' : Memory) (addresses : List (Option Address)) (k : 
             })
       ]
 
-  new_address : entry_at (made_at addresses at) new ≡ Some at
-  new_address = subst (λ y. entry_at (made_at addresses at) y ≡ Some at) v.numbered (entry_last addresses at)
+  new_address : entry_at (addresses_made addresses at) new ≡ Some at
+  new_address = subst (λ y. entry_at (addresses_made addresses at) y ≡ Some at) v.numbered (entry_last addresses at)
 
-  new_there : (i : ℕ) → i < size_of o → Lies (s.objects ++ o ∷ []) (made_at addresses at) new i o (word_of at + i)
+  new_there : (i : ℕ) → i < size_of o → Lies (s.objects ++ o ∷ []) (addresses_made addresses at) new i o (word_of at + i)
   new_there i lt = record {
     at = at;
     address = new_address;
@@ -78,22 +78,22 @@ module _ (s : Setting) (m m' : Memory) (addresses : List (Option Address)) (k : 
 
   -- the words of others aren't the new ones
   not_new : (id i : ℕ) (p : Object) (n : Word) → Lies s.objects addresses id i p n
-      → Lies (s.objects ++ o ∷ []) (made_at addresses at) id i p n → (q : ℕ) → q < size_of o → n ≢ word_of at + q
+      → Lies (s.objects ++ o ∷ []) (addresses_made addresses at) id i p n → (q : ℕ) → q < size_of o → n ≢ word_of at + q
   not_new id i p n l there q lt e =
       let same : id ≡ new =
       v.placed.apart id new i q p o (word_of at + q)
-      (subst (λ y. Lies (s.objects ++ o ∷ []) (made_at addresses at) id i p y) e there) (new_there q lt)
+      (subst (λ y. Lies (s.objects ++ o ∷ []) (addresses_made addresses at) id i p y) e there) (new_there q lt)
       in
       absurd (omega (arith, old_below id l.at l.address, same))
 
-  changes : Changes change k done
+  changes : CallChanges change k done
   changes = record {
     long = v.long;
     cells = λ id i p n c there cell. elim (lies_made id i p n there) [
       | inl e ↦
-          let cell' : slice_get (cells_in o.body) i ≡ Some c = subst (λ (q : Object). slice_get (cells_in q.body) i ≡ Some c) e.1 cell in
-          inr (subst (λ y. IsFixed s.condemned (made_at addresses at) k (head_of_body p.body) c (slice_index m'.words y)) (sym e.3)
-          (subst (λ (q : Object). IsFixed s.condemned (made_at addresses at) k (head_of_body q.body) c (slice_index m'.words (word_of at + i)))
+          let cell' : slice_get (all_cells o.body) i ≡ Some c = subst (λ (q : Object). slice_get (all_cells q.body) i ≡ Some c) e.1 cell in
+          inr (subst (λ y. IsFixed s.condemned (addresses_made addresses at) k (head_of_body p.body) c (slice_index m'.words y)) (sym e.3)
+          (subst (λ (q : Object). IsFixed s.condemned (addresses_made addresses at) k (head_of_body q.body) c (slice_index m'.words (word_of at + i)))
           (sym e.1) (v.words i c cell')))
       | inr l ↦
           inl (record {
@@ -147,16 +147,16 @@ module _ (s : Setting) (m m' : Memory) (addresses : List (Option Address)) (k : 
         ];
   }
 
-  still : (id : Id) (a : Address) → entry_at addresses id ≡ Some a → entry_at (made_at addresses at) id ≡ Some a
+  still : (id : Id) (a : Address) → entry_at addresses id ≡ Some a → entry_at (addresses_made addresses at) id ≡ Some a
   still id a e = entry_still addresses (Some at) id a e
 
   positive : 0 < size_of o
   positive = v.placed.positive new at o new_address (slice_get-last s.objects o)
 
   -- no block began where the new one begins
-  unoccupied : Begins addresses (word_of at) → ⊥
+  unoccupied : BlockBegins addresses (word_of at) → ⊥
   unoccupied x =
-      begins_apart (made s o points memories) (made_at addresses at) v.placed x.id new x.at at (still x.id x.at x.address) new_address
+      begins_apart (setting_made s o points memories) (addresses_made addresses at) v.placed x.id new x.at at (still x.id x.at x.address) new_address
       (λ e. omega (arith, old_below x.id x.at x.address, e)) (sym x.is)
 
   not_marked : m.grey (word_of at) ≡ false
@@ -169,7 +169,7 @@ module _ (s : Setting) (m m' : Memory) (addresses : List (Option Address)) (k : 
   others_apart : (id : Id) (a : Address) → entry_at addresses id ≡ Some a → word_of a ≢ word_of at
   others_apart id a e same = unoccupied (record { id = id; at = a; address = e; is = sym same })
 
-  marks_made : MarksStand (made s o points memories) m'.kept m'.grey (made_at addresses at) k
+  marks_made : MarksStand (setting_made s o points memories) m'.kept m'.grey (addresses_made addresses at) k
   marks_made = record {
     white_there = λ id a e. elim (entry_pushed addresses at id a e) [
       | inl x ↦
@@ -203,7 +203,7 @@ module _ (s : Setting) (m m' : Memory) (addresses : List (Option Address)) (k : 
     ];
   }
 
-  pub image_made : ImageStands (made s o points memories) m' (made_at addresses at) k done
+  pub image_made : ImageStands (setting_made s o points memories) m' (addresses_made addresses at) k done
   image_made = record {
     placed = v.placed;
     words = words_changed change k done changes st.words;

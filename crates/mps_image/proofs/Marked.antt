@@ -6,9 +6,9 @@ use Rattle.std.specs.Prelude.{slice_get, not, ◌&&◌, ◌||◌, ◌≢◌, IsT
 use Rattle.mps_base.specs.Address.{Address, Id, Word, word_of}
 use Rattle.mps_model.specs.Graph.{Object, contains, entry_at}
 use Rattle.mps_colours.specs.Colours.{Colours, is_white, is_grey, keeping}
-use Rattle.mps_image.specs.Memory.{Setting, Memory, Lies, Begins}
-use Rattle.mps_image.specs.Image.{ArePlaced, CellSet, AreFixed, MarksStand, ImageStands}
-use Rattle.mps_image.specs.Fixing.{IsMarked, marked_in}
+use Rattle.mps_image.specs.Memory.{Setting, Memory, Lies, BlockBegins}
+use Rattle.mps_image.specs.Image.{LieApart, CellSet, FixedCellsStand, MarksStand, ImageStands}
+use Rattle.mps_image.specs.Fixing.{IsMarkSet, marked_in}
 
 -- ---- colours of objects
 
@@ -35,7 +35,7 @@ module _ (condemned : List Id) (k : Colours) (t : Id) where
 
 -- ---- blocks lie apart
 
-module _ (s : Setting) (addresses : List (Option Address)) (placed : ArePlaced s addresses) where
+module _ (s : Setting) (addresses : List (Option Address)) (placed : LieApart s addresses) where
   -- a block begins at its first word
   pub begins_there : (id : Id) (at : Address) (o : Object) → entry_at addresses id ≡ Some at → slice_get s.objects id ≡ Some o
       → Lies s.objects addresses id 0 o (word_of at)
@@ -54,8 +54,8 @@ module _ (s : Setting) (addresses : List (Option Address)) (placed : ArePlaced s
 
 module _ (s : Setting) (m : Memory) (addresses : List (Option Address)) (k : Colours) (done : CellSet) (t : Id) (now : Address)
     (kept' grey' : Word → Bool) (st : ImageStands s m addresses k done) (there : entry_at addresses t ≡ Some now)
-    (keeps : IsMarked m.kept kept' (word_of now)) (greys : IsMarked m.grey grey' (word_of now)) where
-  fixed_marked : AreFixed s m.words addresses (keeping k t) done
+    (keeps : IsMarkSet m.kept kept' (word_of now)) (greys : IsMarkSet m.grey grey' (word_of now)) where
+  fixed_marked : FixedCellsStand s m.words addresses (keeping k t) done
   fixed_marked = record {
     cells = λ id j p l d d' there' cell.
         let f = st.fixed.cells id j p l d d' there' cell in
@@ -65,7 +65,7 @@ module _ (s : Setting) (m : Memory) (addresses : List (Option Address)) (k : Col
         record { holds = f.holds; not_white = λ u e. still_not_white s.condemned k t u (f.not_white u e) };
   }
 
-  marked_word : (n : Word) → IsTrue (kept' n || grey' n) → Begins addresses n
+  marked_word : (n : Word) → IsTrue (kept' n || grey' n) → BlockBegins addresses n
   marked_word n is =
       elim (cases_eq n (word_of now)) [
         | inl same ↦ record { id = t; at = now; address = there; is = same }

@@ -4,16 +4,16 @@ use Rattle.std.specs.Prelude.{slice_get, IsTrue}
 use Rattle.mps_base.specs.Address.{Address, Id, Word}
 use Rattle.mps_format.specs.Layout.{Layout, IsLawful}
 use Rattle.mps_model.specs.Graph.{ReferenceCell, Object, entry_at}
-use Rattle.mps_image.specs.Memory.{Setting, Lies, cells_in}
-use Rattle.mps_image.specs.Image.{MeansAt, Refers, AreShaped, IsAddress, ArePlaced, WordsStand}
+use Rattle.mps_image.specs.Memory.{Setting, Lies, all_cells}
+use Rattle.mps_image.specs.Image.{MeansAt, Refers, AreShaped, IsAddress, LieApart, WordsStand}
 use Rattle.mps_image.specs.Fixing.{Target}
 
 -- the address that is read from the word of a reference, and the word with another address
-pub record Reads (f : Layout) (word : ℕ) (address : Address) (tag : ℕ) : Type 0 where
+pub record ReadsAddress (f : Layout) (word : ℕ) (address : Address) (tag : ℕ) : Type 0 where
   pub target : f.target word ≡ address
   pub retarget : (to : Address) → IsAddress to → f.retarget word to ≡ to + tag
 
-pub reads : (f : Layout) (word address tag : ℕ) → IsLawful f → IsAddress address → tag < 8 → word ≡ address + tag → Reads f word address tag
+pub reads : (f : Layout) (word address tag : ℕ) → IsLawful f → IsAddress address → tag < 8 → word ≡ address + tag → ReadsAddress f word address tag
 reads f word address tag lawful a low is =
     let small : word < 2 ^ 64 = omega (arith, is, a.small, low) in
     let rest : word % 8 ≡ tag = omega (arith, is, a.aligned, low) in
@@ -25,22 +25,22 @@ reads f word address tag lawful a low is =
     }
 
 -- of a cell that refers to a live object: what its word says, and what the address in it means
-pub record Found (s : Setting) (addresses : List (Option Address)) (f : Layout) (t tag word now : ℕ) : Type 0 where
+pub record FoundTarget (s : Setting) (addresses : List (Option Address)) (f : Layout) (t tag word now : ℕ) : Type 0 where
   pub object : Object
   pub address : Address
   pub not_null : 0 < address
-  pub read : Reads f word address tag
+  pub read : ReadsAddress f word address tag
   pub target : Target s addresses t address now object
 
 module _ (s : Setting) (words : List ℕ) (addresses : List (Option Address)) (shaped : AreShaped s.objects s.layout)
-    (placed : ArePlaced s addresses) (stand : WordsStand s words addresses) (all_read : (id : Id) → IsTrue (s.is_read id))
+    (placed : LieApart s addresses) (stand : WordsStand s words addresses) (all_read : (id : Id) → IsTrue (s.is_read id))
     (holder i : ℕ) (o : Object) (n : Word) (tag : ℕ) (lies : Lies s.objects addresses holder i o n) where
   address_of_meaning : (address : Address) (id : Id) → MeansAt addresses s.at_flip address id → IsAddress address
   address_of_meaning address id (inl e) = placed.address id address e
   address_of_meaning address id (inr e) = placed.address_at_flip id address e
 
-  pub found : (t now : ℕ) → slice_get (cells_in o.body) i ≡ Some (ReferenceCell (Some t) tag) → entry_at addresses t ≡ Some now
-      → Found s addresses (s.layout o.pool) t tag (slice_index words n) now
+  pub found : (t now : ℕ) → slice_get (all_cells o.body) i ≡ Some (ReferenceCell (Some t) tag) → entry_at addresses t ≡ Some now
+      → FoundTarget s addresses (s.layout o.pool) t tag (slice_index words n) now
   found t now cell there =
       let stands : Refers addresses s.at_flip t tag (slice_index words n) =
       stand.cells holder i o n (ReferenceCell (Some t) tag) (all_read holder) lies cell
@@ -57,7 +57,7 @@ module _ (s : Setting) (words : List ℕ) (addresses : List (Option Address)) (s
       }
 
   -- a null reference reads as null
-  pub found_null : slice_get (cells_in o.body) i ≡ Some (ReferenceCell None tag) → (s.layout o.pool).target (slice_index words n) ≡ 0
+  pub found_null : slice_get (all_cells o.body) i ≡ Some (ReferenceCell None tag) → (s.layout o.pool).target (slice_index words n) ≡ 0
   found_null cell =
       let is : slice_index words n ≡ tag = stand.cells holder i o n (ReferenceCell None tag) (all_read holder) lies cell in
       let low : tag < 8 = shaped.tags holder i o None tag lies.object cell in

@@ -1,4 +1,4 @@
--- A reservation is made, a cell of one is written, or reservations end.
+-- A reservation is setting_made, a cell of one is written, or reservations end.
 use Rattle.std.proofs.Common.{◌≡◌, ◌∙◌, ◌⊎◌, ℕ, ◌+◌, ◌<◌, Bool, true, false, refl, sym, ap, List, [], length, Option, Some, None, subst, inl, inr, arith, slice_index}
 use Rattle.std.proofs.lemmas.Bool.{cases_eq}
 use Rattle.std.proofs.lemmas.Option.{none-some, same_Some}
@@ -9,10 +9,10 @@ use Rattle.mps_model.specs.Graph.{Cell, Object, Point, Reservation, entry_at, si
 use Rattle.mps_model.specs.Checked.{head_of_body}
 use Rattle.mps_model.specs.World.{PointMemory}
 use Rattle.mps_colours.specs.Colours.{Colours}
-use Rattle.mps_image.specs.Memory.{Setting, Memory, Lies, LiesReserved, cells_in}
-use Rattle.mps_image.specs.Image.{ArePlaced, IsFixed, CellSet, RunsStand, ImageStands, is_white_over}
-use Rattle.mps_image.specs.Changes.{with_points, AreReserved, IsClear}
-use Rattle.mps_image.proofs.Changing.{Change, Changes, words_changed, fixed_changed}
+use Rattle.mps_image.specs.Memory.{Setting, Memory, Lies, LiesReserved, all_cells}
+use Rattle.mps_image.specs.Image.{LieApart, IsFixed, CellSet, RunsStand, ImageStands, is_white_over}
+use Rattle.mps_image.specs.Changes.{setting_with_points, AreReserved, IsUnforwarded}
+use Rattle.mps_image.proofs.Changing.{Change, CallChanges, words_changed, fixed_changed}
 
 module _ (s : Setting) (m m' : Memory) (addresses : List (Option Address)) (k : Colours) (done : CellSet) (points : List (Option Point))
     (memories : List PointMemory) (st : ImageStands s m addresses k done) (v : AreReserved s m m' addresses k points memories) where
@@ -28,7 +28,7 @@ module _ (s : Setting) (m m' : Memory) (addresses : List (Option Address)) (k : 
     addresses_after = addresses;
   }
 
-  changes : Changes change k done
+  changes : CallChanges change k done
   changes = record {
     long = v.long;
     cells = λ id i o n c l cell. inl (record {
@@ -76,7 +76,7 @@ module _ (s : Setting) (m m' : Memory) (addresses : List (Option Address)) (k : 
         };
   }
 
-  pub image_reserved : ImageStands (with_points s points memories) m' addresses k done
+  pub image_reserved : ImageStands (setting_with_points s points memories) m' addresses k done
   image_reserved = record {
     placed = v.placed;
     words = words_changed change k done changes st.words;

@@ -8,7 +8,7 @@ use Rattle.mps_model.specs.Graph.{Object, Reservation, size_of}
 use Rattle.mps_model.specs.World.{extent, extents_of, reserved_extents}
 use Rattle.mps_colours.specs.Colours.{Colours}
 use Rattle.mps_image.specs.Memory.{Setting, Memory, LiesReserved}
-use Rattle.mps_image.specs.Image.{ArePlaced, RunsStand}
+use Rattle.mps_image.specs.Image.{LieApart, RunsStand}
 use Rattle.mps_image.specs.Fixing.{run_moved_in, copied_in, address_moved}
 use Rattle.mps_image.proofs.InOrder.{BeginElsewhere, all_append, in_order-moved}
 use Rattle.mps_image.proofs.Extents.{all_reserved, parted}
@@ -16,7 +16,7 @@ use Rattle.mps_image.proofs.Marked.{begins_there, begins_apart}
 use Rattle.mps_image.proofs.Copied.{IsMove, to_apart}
 
 -- no live reservation begins where no word of one is
-pub reserved_elsewhere : (s : Setting) (addresses : List (Option Address)) (n : Word) → ArePlaced s addresses
+pub reserved_elsewhere : (s : Setting) (addresses : List (Option Address)) (n : Word) → LieApart s addresses
     → ((point l : ℕ) (r : Reservation) → LiesReserved s.points s.point_memories point l r n → ⊥)
     → BeginElsewhere n (reserved_extents s.points s.point_memories)
 reserved_elsewhere s addresses n placed free =
@@ -30,7 +30,7 @@ reserved_elsewhere s addresses n placed free =
     }))
 
 module _ (s : Setting) (m : Memory) (addresses : List (Option Address)) (k : Colours) (t : Id) (from to : Address) (o : Object)
-    (words : List ℕ) (kept grey : Word → Rattle.std.proofs.Common.Bool) (placed : ArePlaced s addresses) (v : IsMove s addresses k t from to o) where
+    (words : List ℕ) (kept grey : Word → Rattle.std.proofs.Common.Bool) (placed : LieApart s addresses) (v : IsMove s addresses k t from to o) where
   pub runs_moved : RunsStand s m addresses → RunsStand s (copied_in m words kept grey from to (size_of o)) (address_moved addresses t to)
   runs_moved r =
       let d = parted s.objects addresses t from o v.object v.there in

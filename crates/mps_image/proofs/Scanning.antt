@@ -8,10 +8,10 @@ use Rattle.mps_base.specs.Address.{Address, Id, Word, word_of}
 use Rattle.mps_model.specs.Graph.{Cell, HeadCell, NumberCell, ReferenceCell, Body, Automatic, Manual, Object, contains, entry_at, size_of, size_of_body, is_reference_cell}
 use Rattle.mps_model.specs.Checked.{head_of_body}
 use Rattle.mps_colours.specs.Colours.{Colours, is_white, is_grey, is_black, keeping, blackened}
-use Rattle.mps_image.specs.Memory.{Setting, Memory, Lies, Begins, cells_in}
+use Rattle.mps_image.specs.Memory.{Setting, Memory, Lies, BlockBegins, all_cells}
 use Rattle.mps_image.specs.Image.{IsCellWord, AreShaped, IsFixed, CellSet, with_cell, black_cells, ImageStands, Stands}
-use Rattle.mps_image.specs.Fixing.{IsCleared, address_moved, FixWord, FixesOne, nothing, passed, kept, moved, IsFixedCell}
-use Rattle.mps_image.specs.Scanning.{with_pools, ScansFrom, ends, takes, skips, fixes, IsToScan, Scans, Leaves}
+use Rattle.mps_image.specs.Fixing.{IsMarkCleared, address_moved, FixWord, FixesOne, nothing, passed, kept, moved, IsFixedCell}
+use Rattle.mps_image.specs.Scanning.{setting_with_pools, ScansFrom, ends, takes, skips, fixes, IsToScan, ScansBlock, LeavesOthers}
 use Rattle.mps_image.proofs.Entries.{entry_at-set_same, entry_at-set_other}
 use Rattle.mps_image.proofs.Targets as targets
 use Rattle.mps_image.proofs.Marked.{still_not_white, others_white, others_grey, grey_now, begins_apart}
@@ -36,11 +36,11 @@ module _ (condemned : List Id) where
             ∙ ap (λ g. not (is_white condemned (keeping k u) id) && not g) (sym (others_grey condemned k u id n)) ∙ b
       ]
 
-  all_left : (addresses : List (Option Address)) (k : Colours) → Leaves condemned addresses addresses k k
+  all_left : (addresses : List (Option Address)) (k : Colours) → LeavesOthers condemned addresses addresses k k
   all_left addresses k = record { there = λ id at w e. e; not_white = λ id w. w; live = λ id at e. (at, e); black = λ id b. b }
 
   pub fix_leaves : (addresses addresses' : List (Option Address)) (k k' : Colours) (t : Option Id)
-      → FixesOne condemned addresses k t addresses' k' → Leaves condemned addresses addresses' k k'
+      → FixesOne condemned addresses k t addresses' k' → LeavesOthers condemned addresses addresses' k k'
   fix_leaves addresses addresses' k k' t nothing = all_left addresses k
   fix_leaves addresses addresses' k k' t (passed u w) = all_left addresses k
   fix_leaves addresses addresses' k k' t (kept u w) = record {
@@ -61,8 +61,8 @@ module _ (condemned : List Id) where
     black = λ id b. keeping_blackens_none k u id b;
   }
 
-  both_leave : (a b c : List (Option Address)) (k l n : Colours) → Leaves condemned a b k l → Leaves condemned b c l n
-      → Leaves condemned a c k n
+  both_leave : (a b c : List (Option Address)) (k l n : Colours) → LeavesOthers condemned a b k l → LeavesOthers condemned b c l n
+      → LeavesOthers condemned a c k n
   both_leave a b c k l n x y = record {
     there = λ id at w e. y.there id at (x.not_white id w) (x.there id at w e);
     not_white = λ id w. y.not_white id (x.not_white id w);
@@ -78,13 +78,13 @@ pub record Scanned (s : Setting) (pools : Word → Option ℕ) (m' : Memory) (ad
     pub addresses_after : List (Option Address)
     pub colours_after : Colours
     pub done_after : CellSet
-    pub leaves : Leaves s.condemned addresses addresses_after k colours_after
+    pub leaves : LeavesOthers s.condemned addresses addresses_after k colours_after
     pub more : (j l : ℕ) → IsTrue (done j l) → IsTrue (done_after j l)
     pub all : (l : ℕ) → i ≤ l → l < size → IsTrue (done_after id l)
-    pub stands : ImageStands (with_pools s pools) m' addresses_after colours_after done_after
+    pub stands : ImageStands (setting_with_pools s pools) m' addresses_after colours_after done_after
 
 to_scan_still : (s : Setting) (addresses addresses' : List (Option Address)) (k k' : Colours) (id at : ℕ) (o : Object)
-    → Leaves s.condemned addresses addresses' k k' → IsToScan s addresses k id at o → IsToScan s addresses' k' id at o
+    → LeavesOthers s.condemned addresses addresses' k k' → IsToScan s addresses k id at o → IsToScan s addresses' k' id at o
 to_scan_still s addresses addresses' k k' id at o l x = record {
   there = l.there id at x.not_white x.there;
   object = x.object;
@@ -98,7 +98,7 @@ now_done done id i = rw (eq-eqb id id refl, eq-eqb i i refl) refl
 
 -- one cell more
 one_more : (s : Setting) (pools : Word → Option ℕ) (m' : Memory) (addresses addresses' : List (Option Address)) (k k' : Colours) (done : CellSet) (id i size : ℕ)
-    → Leaves s.condemned addresses addresses' k k' → Scanned s pools m' addresses' k' (with_cell done id i) id (i + 1) size
+    → LeavesOthers s.condemned addresses addresses' k k' → Scanned s pools m' addresses' k' (with_cell done id i) id (i + 1) size
     → Scanned s pools m' addresses k done id i size
 one_more s pools m' addresses addresses' k k' done id i size l x = record {
   addresses_after = x.addresses_after;
@@ -131,7 +131,7 @@ length-map : (words : List ℕ) → length (map NumberCell words) ≡ length wor
 length-map [] = refl
 length-map (w ∷ ws) = ap suc (length-map ws)
 
-pub cell_there : (b : Body) (i : ℕ) → i < size_of_body b → (c : Cell) × (slice_get (cells_in b) i ≡ Some c)
+pub cell_there : (b : Body) (i : ℕ) → i < size_of_body b → (c : Cell) × (slice_get (all_cells b) i ≡ Some c)
 cell_there (Automatic head cells is_weak) i lt = in_range cells i lt
 cell_there (Manual words) i lt = in_range (map NumberCell words) i (omega (arith, lt, length-map words))
 
@@ -142,30 +142,30 @@ module _ (s : Setting) (shaped : AreShaped s.objects s.layout) (all_read : (id :
 
   -- a reference is fixed, to null or to an object
   fix_cell : (pools : Word → Option ℕ) (m next : Memory) (addresses : List (Option Address)) (k : Colours) (done : CellSet) (i address : ℕ)
-      (c : Cell) → IsToScan s addresses k id at o → ImageStands (with_pools s pools) m addresses k done → i < size_of o
-      → is_reference_cell c ≡ true → slice_get (cells_in o.body) i ≡ Some c
+      (c : Cell) → IsToScan s addresses k id at o → ImageStands (setting_with_pools s pools) m addresses k done → i < size_of o
+      → is_reference_cell c ≡ true → slice_get (all_cells o.body) i ≡ Some c
       → (s.layout o.pool).target (slice_index m.words (word_of at + i)) ≡ address
-      → FixWord (with_pools s pools) addresses (s.layout o.pool) m (word_of at + i) address next
-      → (t : Option Id) × IsFixedCell (with_pools s pools) next addresses k done t id i
+      → FixWord (setting_with_pools s pools) addresses (s.layout o.pool) m (word_of at + i) address next
+      → (t : Option Id) × IsFixedCell (setting_with_pools s pools) next addresses k done t id i
   fix_cell pools m next addresses k done i address HeadCell x st lt is cell read f = absurd (false≢true is)
   fix_cell pools m next addresses k done i address (NumberCell number) x st lt is cell read f = absurd (false≢true is)
   fix_cell pools m next addresses k done i address (ReferenceCell None tag) x st lt is cell read f =
       let l = word_there addresses k i x lt in (
         None,
-        fix_null (with_pools s pools) m addresses k done shaped all_read st id i o (word_of at + i) tag l address next cell read f,
+        fix_null (setting_with_pools s pools) m addresses k done shaped all_read st id i o (word_of at + i) tag l address next cell read f,
       )
   fix_cell pools m next addresses k done i address (ReferenceCell (Some t) tag) x st lt is cell read f =
       let l = word_there addresses k i x lt in
       let to = x.live i t tag cell in (
         Some t,
-        fix_keeps (with_pools s pools) m addresses k done shaped all_read st id i o (word_of at + i) tag l t to.0 x.not_white cell to.1
+        fix_keeps (setting_with_pools s pools) m addresses k done shaped all_read st id i o (word_of at + i) tag l t to.0 x.not_white cell to.1
             address next read f,
       )
 
   -- a run keeps the image, and all cells that it went over are fixed
   pub scan_keeps : {i : ℕ} {pools pools' : Word → Option ℕ} {m m' : Memory} {addresses : List (Option Address)} {k : Colours}
       → ScansFrom s (s.layout o.pool) (head_of_body o.body) at (size_of o) i pools m addresses k pools' m' → (done : CellSet)
-      → IsToScan s addresses k id at o → ImageStands (with_pools s pools) m addresses k done
+      → IsToScan s addresses k id at o → ImageStands (setting_with_pools s pools) m addresses k done
       → Scanned s pools' m' addresses k done id i (size_of o)
   scan_keeps (ends {pools} {m} {addresses} {k}) done x st = record {
     addresses_after = addresses;
@@ -177,7 +177,7 @@ module _ (s : Setting) (shaped : AreShaped s.objects s.layout) (all_read : (id :
     stands = st;
   }
   scan_keeps (takes {i} {pools} {pools'} {m} {m'} {addresses} {k} more held run) done x st =
-      scan_keeps run done x (image_more (with_pools s pools) more held addresses m k done st)
+      scan_keeps run done x (image_more (setting_with_pools s pools) more held addresses m k done st)
   scan_keeps (skips {i} {pools} {pools'} {m} {m'} {addresses} {k} lt isnt run) done x st =
       let c = cell_there o.body i lt in
       let l = word_there addresses k i x lt in
@@ -188,7 +188,7 @@ module _ (s : Setting) (shaped : AreShaped s.objects s.layout) (all_read : (id :
       in
       one_more s pools' m' addresses addresses k k done id i (size_of o) (all_left s.condemned addresses k)
       (scan_keeps run (with_cell done id i) x
-      (targets.passed (with_pools s pools) addresses k done id i o (word_of at + i) c.0 l c.1 m fixed st))
+      (targets.passed (setting_with_pools s pools) addresses k done id i o (word_of at + i) c.0 l c.1 m fixed st))
   scan_keeps (fixes {i} {pools} {pools'} {m} {m'} {addresses} {k} address next lt is read f rest) done x st =
       let c = cell_there o.body i lt in
       let reference = shaped.kinds id i o c.0 x.object x.automatic c.1 ∙ is in
@@ -228,7 +228,7 @@ module _ (s : Setting) (m : Memory) (addresses : List (Option Address)) (k₀ k 
     (grey' : Word → Bool) (st : ImageStands s m addresses k done) (there : entry_at addresses id ≡ Some at)
     (object : slice_get s.objects id ≡ Some o) (more : (j i : ℕ) → IsTrue (black_cells s.condemned k₀ j i) → IsTrue (done j i))
     (all : (i : ℕ) → i < size_of o → IsTrue (done id i))
-    (black : (j : Id) → IsTrue (is_black s.condemned k j) → IsTrue (is_black s.condemned k₀ j)) (off : IsCleared m.grey grey' (word_of at))
+    (black : (j : Id) → IsTrue (is_black s.condemned k j) → IsTrue (is_black s.condemned k₀ j)) (off : IsMarkCleared m.grey grey' (word_of at))
   where
     is_done : (j i : ℕ) (p : Object) (n : Word) → IsTrue (black_cells s.condemned (blackened k id) j i) → Lies s.objects addresses j i p n
         → IsTrue (done j i)
@@ -241,7 +241,7 @@ module _ (s : Setting) (m : Memory) (addresses : List (Option Address)) (k₀ k 
               more j i (black j (ap (λ g. not (is_white s.condemned k j) && not g) (sym (grey_without k.grey id j x)) ∙ b))
         ]
 
-    marked_word : (n : Word) → IsTrue (m.kept n || grey' n) → Begins addresses n
+    marked_word : (n : Word) → IsTrue (m.kept n || grey' n) → BlockBegins addresses n
     marked_word n is =
         elim (cases_eq n (word_of at)) [
           | inl same ↦ record { id = id; at = at; address = there; is = same }
@@ -282,14 +282,14 @@ module _ (s : Setting) (m : Memory) (addresses : List (Option Address)) (k₀ k 
 -- a scan of a block: before and after it the cells of black objects are fixed, and after it the block is black
 pub scan_blackens : (s : Setting) (pools : Word → Option ℕ) (m m' : Memory) (addresses : List (Option Address)) (k : Colours)
     (grey' : Word → Bool) (id at : ℕ) (o : Object) → AreShaped s.objects s.layout → ((j : Id) → IsTrue (s.is_read j))
-    → Stands s m addresses k → IsToScan s addresses k id at o → Scans s o at m addresses k pools m'
-    → IsCleared m'.grey grey' (word_of at)
-    → (addresses' : List (Option Address)) × (k' : Colours) × Leaves s.condemned addresses addresses' k k'
-    × Stands (with_pools s pools) (record m' { grey = grey' }) addresses' (blackened k' id)
+    → Stands s m addresses k → IsToScan s addresses k id at o → ScansBlock s o at m addresses k pools m'
+    → IsMarkCleared m'.grey grey' (word_of at)
+    → (addresses' : List (Option Address)) × (k' : Colours) × LeavesOthers s.condemned addresses addresses' k k'
+    × Stands (setting_with_pools s pools) (record m' { grey = grey' }) addresses' (blackened k' id)
 scan_blackens s pools m m' addresses k grey' id at o shaped all_read st x run off =
     let y = scan_keeps s shaped all_read id at o run (black_cells s.condemned k) x st in
     let z =
-    scan_ends (with_pools s pools) m' y.addresses_after k y.colours_after y.done_after id at o grey' y.stands
+    scan_ends (setting_with_pools s pools) m' y.addresses_after k y.colours_after y.done_after id at o grey' y.stands
     (y.leaves.there id at x.not_white x.there) x.object y.more (λ i lt. y.all i (omega arith) lt) y.leaves.black off
     in
     (y.addresses_after, y.colours_after, y.leaves, z)

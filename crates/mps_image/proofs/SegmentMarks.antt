@@ -10,8 +10,8 @@ use Rattle.mps_bits.specs.Table.{bit}
 use Rattle.mps_marks.specs.Marks.{MarkTables, with_grey, blackened, without_marks}
 use Rattle.mps_seg.specs.Segs.{SegsState}
 use Rattle.mps_seg.specs.Collecting.{keeping, greying, blackening, rank_at}
-use Rattle.mps_image.specs.Memory.{Memory, memory_of}
-use Rattle.mps_image.specs.Fixing.{IsMarked, IsCleared, AreMarksMoved}
+use Rattle.mps_image.specs.Memory.{Memory, memory_in}
+use Rattle.mps_image.specs.Fixing.{IsMarkSet, IsMarkCleared, AreMarksMoved}
 
 -- ---- one bit
 
@@ -45,7 +45,7 @@ grey_bit m n = bit m.exact n || bit m.weak n
 
 -- a block is kept
 pub keeping_marks : (s : SegsState) (at : Address) → word_of at < length s.marks.kept
-    → IsMarked (memory_of s).kept (memory_of (keeping s at)).kept (word_of at)
+    → IsMarkSet (memory_in s).kept (memory_in (keeping s at)).kept (word_of at)
 keeping_marks s at lt =
     record { set = set_bit s.marks.kept (word_of at) lt; others = λ n other. other_bit s.marks.kept (word_of at) n true other }
 
@@ -63,17 +63,17 @@ kept_still Weak m n l = refl
 
 -- a block becomes grey, and what is kept stays so
 pub greying_marks : (s : SegsState) (at : Address) → HasMarks s.marks (word_of at)
-    → IsMarked (memory_of s).grey (memory_of (greying s at)).grey (word_of at)
+    → IsMarkSet (memory_in s).grey (memory_in (greying s at)).grey (word_of at)
 greying_marks s at has = record {
   set = grey_set (rank_at s at) s.marks (word_of at) has;
   others = λ n other. grey_others (rank_at s at) s.marks (word_of at) n other;
 }
 
-pub greying_keeps : (s : SegsState) (at : Address) (n : Word) → (memory_of (greying s at)).kept n ≡ (memory_of s).kept n
+pub greying_keeps : (s : SegsState) (at : Address) (n : Word) → (memory_in (greying s at)).kept n ≡ (memory_in s).kept n
 greying_keeps s at n = kept_still (rank_at s at) s.marks (word_of at) n
 
 -- a block is grey no longer
-pub blackening_clears : (s : SegsState) (at : Address) → IsCleared (memory_of s).grey (memory_of (blackening s at)).grey (word_of at)
+pub blackening_clears : (s : SegsState) (at : Address) → IsMarkCleared (memory_in s).grey (memory_in (blackening s at)).grey (word_of at)
 blackening_clears s at = record {
   clear =
       ap (λ b. b || bit (slice_set s.marks.weak (word_of at) false) (word_of at)) (clear_bit s.marks.exact (word_of at))
@@ -85,8 +85,8 @@ blackening_clears s at = record {
 
 -- a block that goes has no mark any longer
 pub removing_clears : (s : SegsState) (at : Address)
-    → IsCleared (memory_of s).kept (memory_of (record s { marks = without_marks (word_of at) s.marks })).kept (word_of at)
-    × IsCleared (memory_of s).grey (memory_of (record s { marks = without_marks (word_of at) s.marks })).grey (word_of at)
+    → IsMarkCleared (memory_in s).kept (memory_in (record s { marks = without_marks (word_of at) s.marks })).kept (word_of at)
+    × IsMarkCleared (memory_in s).grey (memory_in (record s { marks = without_marks (word_of at) s.marks })).grey (word_of at)
 removing_clears s at = (
   record {
     clear = clear_bit s.marks.kept (word_of at);
@@ -97,9 +97,9 @@ removing_clears s at = (
 
 -- a block goes in one place, and becomes grey in another
 pub moving_marks : (s : SegsState) (from to : Address) → word_of from ≢ word_of to → HasMarks s.marks (word_of to)
-    → AreMarksMoved (memory_of s).kept (memory_of s).grey
-      (memory_of (greying (record s { marks = without_marks (word_of from) s.marks }) to)).kept
-      (memory_of (greying (record s { marks = without_marks (word_of from) s.marks }) to)).grey (word_of from) (word_of to)
+    → AreMarksMoved (memory_in s).kept (memory_in s).grey
+      (memory_in (greying (record s { marks = without_marks (word_of from) s.marks }) to)).kept
+      (memory_in (greying (record s { marks = without_marks (word_of from) s.marks }) to)).grey (word_of from) (word_of to)
 moving_marks s from to apart has =
     let gone : SegsState = record s { marks = without_marks (word_of from) s.marks } in
     let clears = removing_clears s from in

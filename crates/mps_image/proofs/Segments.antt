@@ -4,11 +4,11 @@ use Rattle.mps_base.specs.Address.{Address, Word, word_of}
 use Rattle.mps_model.specs.Graph.{Object}
 use Rattle.mps_colours.specs.Colours.{Colours}
 use Rattle.mps_image.specs.Memory.{Setting, Memory}
-use Rattle.mps_image.specs.Scanning.{with_pools, HoldsMore}
-use Rattle.mps_image.specs.Image.{IsForwarded, ArePlaced, CellSet, ImageStands}
+use Rattle.mps_image.specs.Scanning.{setting_with_pools, HoldsMore}
+use Rattle.mps_image.specs.Image.{IsForwarded, LieApart, CellSet, ImageStands}
 
 module _ (s : Setting) (pools : Word → Option ℕ) (more : HoldsMore s.pool_over pools) (addresses : List (Option Address)) where
-  pub placed_more : ArePlaced s addresses → ArePlaced (with_pools s pools) addresses
+  pub placed_more : LieApart s addresses → LieApart (setting_with_pools s pools) addresses
   placed_more p = record {
     exists = p.exists;
     positive = p.positive;
@@ -25,7 +25,7 @@ module _ (s : Setting) (pools : Word → Option ℕ) (more : HoldsMore s.pool_ov
   }
 
   forwarded_more : (words : List ℕ) (o : Object) (from to : Address) → IsForwarded s words addresses o from to
-      → IsForwarded (with_pools s pools) words addresses o from to
+      → IsForwarded (setting_with_pools s pools) words addresses o from to
   forwarded_more words o from to f = record {
     begins = f.begins;
     leads = f.leads;
@@ -36,7 +36,7 @@ module _ (s : Setting) (pools : Word → Option ℕ) (more : HoldsMore s.pool_ov
   }
 
   pub image_more : (m : Memory) (k : Colours) (done : CellSet) → ImageStands s m addresses k done
-      → ImageStands (with_pools s pools) m addresses k done
+      → ImageStands (setting_with_pools s pools) m addresses k done
   image_more m k done st = record {
     placed = placed_more st.placed;
     words = record {

@@ -9,8 +9,8 @@ use Rattle.mps_format.specs.Layout.{IsBlockSize}
 use Rattle.mps_model.specs.Graph.{Cell, HeadCell, Object, entry_at, size_of}
 use Rattle.mps_model.specs.Checked.{head_of_body}
 use Rattle.mps_colours.specs.Colours.{Colours, is_white}
-use Rattle.mps_image.specs.Memory.{Setting, Memory, Lies, cells_in}
-use Rattle.mps_image.specs.Image.{AreShaped, IsForwarded, IsFixed, CellSet, with_cell, AreFixed, ImageStands, is_white_over}
+use Rattle.mps_image.specs.Memory.{Setting, Memory, Lies, all_cells}
+use Rattle.mps_image.specs.Image.{AreShaped, IsForwarded, IsFixed, CellSet, with_cell, FixedCellsStand, ImageStands, is_white_over}
 use Rattle.mps_image.specs.Fixing.{Target, IsNotForwarded}
 
 -- ---- the words of an object
@@ -33,18 +33,18 @@ cell_cases done holder i id j d =
     ]
 
 module _ (s : Setting) (addresses : List (Option Address)) (k : Colours) (done : CellSet) (holder i : ℕ) (o : Object) (n : Word) (c : Cell)
-    (lies : Lies s.objects addresses holder i o n) (cell : slice_get (cells_in o.body) i ≡ Some c) where
+    (lies : Lies s.objects addresses holder i o n) (cell : slice_get (all_cells o.body) i ≡ Some c) where
   -- where a cell is fixed, it is one more
   pub one_more_fixed : (words : List ℕ) → IsFixed s.condemned addresses k (head_of_body o.body) c (slice_index words n)
-      → AreFixed s words addresses k done → AreFixed s words addresses k (with_cell done holder i)
+      → FixedCellsStand s words addresses k done → FixedCellsStand s words addresses k (with_cell done holder i)
   one_more_fixed words fixed a = record {
     cells = λ id j p l d done' there cell'. elim (cell_cases done holder i id j done') [
       | inl e ↦
           let there' : Lies s.objects addresses holder j p l = subst (λ x. Lies s.objects addresses x j p l) e.0 there in
           let same = same_word lies there' (sym e.1) in
-          let cell'' : slice_get (cells_in o.body) i ≡ Some d =
-          subst (λ x. slice_get (cells_in o.body) x ≡ Some d) e.1
-          (subst (λ (q : Object). slice_get (cells_in q.body) j ≡ Some d) (sym same.0) cell')
+          let cell'' : slice_get (all_cells o.body) i ≡ Some d =
+          subst (λ x. slice_get (all_cells o.body) x ≡ Some d) e.1
+          (subst (λ (q : Object). slice_get (all_cells q.body) j ≡ Some d) (sym same.0) cell')
           in
           subst (λ x. IsFixed s.condemned addresses k (head_of_body p.body) d (slice_index words x)) same.1
           (subst (λ (q : Object). IsFixed s.condemned addresses k (head_of_body q.body) d (slice_index words n)) same.0

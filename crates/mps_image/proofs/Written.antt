@@ -12,9 +12,9 @@ use Rattle.mps_model.specs.Graph.{Cell, HeadCell, NumberCell, ReferenceCell, Obj
 use Rattle.mps_model.specs.Checked.{head_of_body}
 use Rattle.mps_model.specs.World.{extents_of, reserved_extents}
 use Rattle.mps_colours.specs.Colours.{Colours}
-use Rattle.mps_image.specs.Memory.{Setting, Memory, Lies, LiesReserved, cells_in}
-use Rattle.mps_image.specs.Image.{IsCellWord, ArePlaced, IsForwarded, WordsStand, IsFixed, CellSet, with_cell, AreFixed, ImageStands}
-use Rattle.mps_image.specs.Changes.{with_objects, with_word, Was, IsCellChanged}
+use Rattle.mps_image.specs.Memory.{Setting, Memory, Lies, LiesReserved, all_cells}
+use Rattle.mps_image.specs.Image.{IsCellWord, LieApart, IsForwarded, WordsStand, IsFixed, CellSet, with_cell, FixedCellsStand, ImageStands}
+use Rattle.mps_image.specs.Changes.{setting_with_objects, memory_with_word, Was, IsCellChanged}
 use Rattle.mps_image.proofs.Targets.{cell_cases}
 use Rattle.mps_image.proofs.Forwarded.{forwarded_still}
 
@@ -46,7 +46,7 @@ module _ (s : Setting) (objects' : List Object) (m : Memory) (addresses : List (
       let same : a.at ≡ lies.at = same_Some a.at lies.at (sym a.address ∙ ap (entry_at addresses) one ∙ lies.address) in
       apart (one, let w : word_of a.at ≡ word_of lies.at = ap (λ q. word_of q) same in omega (arith, a.is, lies.is, w))
 
-  placed_written : ArePlaced (with_objects s objects') addresses
+  placed_written : LieApart (setting_with_objects s objects') addresses
   placed_written = record {
     exists = λ id at e. let q = st.placed.exists id at e in changed.still id q.0 q.1;
     positive = λ id at p e x. let w = changed.was id p x in subst (λ y. 0 < y) w.size (st.placed.positive id at w.object e w.there);
@@ -90,7 +90,7 @@ module _ (s : Setting) (objects' : List Object) (m : Memory) (addresses : List (
       (subst (λ x. IsFixed s.condemned addresses k (head_of_body o.body) new x) (sym (ap (slice_index words_after) at_n ∙ here)) fixed))
 
   forwarded_written : (id from to : ℕ) (p : Object) → entry_at s.at_flip id ≡ Some from → entry_at addresses id ≡ Some to → from ≢ to
-      → slice_get objects' id ≡ Some p → IsForwarded (with_objects s objects') words_after addresses p from to
+      → slice_get objects' id ≡ Some p → IsForwarded (setting_with_objects s objects') words_after addresses p from to
   forwarded_written id from to p was now x object =
       let w = changed.was id p object in
       let f = st.words.forwarded id from to w.object was now x w.there in
@@ -113,7 +113,7 @@ module _ (s : Setting) (objects' : List Object) (m : Memory) (addresses : List (
         unreserved = λ q point l r lt there. g.unreserved q point l r (lower q lt) there;
       }
 
-  words_written : WordsStand (with_objects s objects') words_after addresses
+  words_written : WordsStand (setting_with_objects s objects') words_after addresses
   words_written = record {
     long = length-set m.words n word ∙ st.words.long;
     cells = λ id j p l c read there cell.
@@ -129,7 +129,7 @@ module _ (s : Setting) (objects' : List Object) (m : Memory) (addresses : List (
     forwarded = forwarded_written;
   }
 
-  fixed_written : AreFixed (with_objects s objects') words_after addresses k (with_cell done holder i)
+  fixed_written : FixedCellsStand (setting_with_objects s objects') words_after addresses k (with_cell done holder i)
   fixed_written = record {
     cells = λ id j p l c d there cell.
         let w = changed.was id p there.object in
@@ -152,7 +152,7 @@ module _ (s : Setting) (objects' : List Object) (m : Memory) (addresses : List (
   }
 
   -- the cell is fixed then
-  pub cell_written : ImageStands (with_objects s objects') (with_word m n word) addresses k (with_cell done holder i)
+  pub cell_written : ImageStands (setting_with_objects s objects') (memory_with_word m n word) addresses k (with_cell done holder i)
   cell_written = record {
     placed = placed_written;
     words = words_written;
@@ -174,7 +174,7 @@ module _ (s : Setting) (objects' : List Object) (m : Memory) (addresses : List (
 
 -- none, where the cell is the one that was there
 pub no_cell_changed : (objects : List Object) (holder i : ℕ) (o : Object) (c : Cell) → slice_get objects holder ≡ Some o
-    → slice_get (cells_in o.body) i ≡ Some c → IsCellChanged objects objects holder i c
+    → slice_get (all_cells o.body) i ≡ Some c → IsCellChanged objects objects holder i c
 no_cell_changed objects holder i o c object cell = record {
   was = λ id p there. record {
     object = p;
@@ -188,9 +188,9 @@ no_cell_changed objects holder i o c object cell = record {
   extents = λ addresses. Rattle.std.proofs.Common.refl;
 }
   where
-    which : (id : Id) (p : Object) → slice_get objects id ≡ Some p → (j : ℕ) (d : Cell) → slice_get (cells_in p.body) j ≡ Some d
+    which : (id : Id) (p : Object) → slice_get objects id ≡ Some p → (j : ℕ) (d : Cell) → slice_get (all_cells p.body) j ≡ Some d
         → (id ≡ holder) ⊎ (id ≢ holder) → (j ≡ i) ⊎ (j ≢ i)
-        → (((id ≡ holder) × (j ≡ i) → ⊥) × (slice_get (cells_in p.body) j ≡ Some d)) ⊎ ((id ≡ holder) × (j ≡ i) × (d ≡ c))
+        → (((id ≡ holder) × (j ≡ i) → ⊥) × (slice_get (all_cells p.body) j ≡ Some d)) ⊎ ((id ≡ holder) × (j ≡ i) × (d ≡ c))
     which id p there j d is (inr n) at = inl ((λ e. n e.0), is)
     which id p there j d is (inl e) (inr n) = inl ((λ e'. n e'.1), is)
     which id p there j d is (inl e) (inl f) =
@@ -198,5 +198,5 @@ no_cell_changed objects holder i o c object cell = record {
         inr (
           e,
           f,
-          same_Some d c (sym is ∙ ap (slice_get (cells_in p.body)) f ∙ ap (λ (q : Object). slice_get (cells_in q.body) i) same ∙ cell),
+          same_Some d c (sym is ∙ ap (slice_get (all_cells p.body)) f ∙ ap (λ (q : Object). slice_get (all_cells q.body) i) same ∙ cell),
         )

@@ -6,13 +6,13 @@ use Rattle.mps_model.specs.Graph.{Cell, HeadCell, NumberCell, ReferenceCell, Aut
 use Rattle.mps_model.specs.Checked.{head_of_body}
 use Rattle.mps_model.specs.World.{World, address_of, words_of, empty_world}
 use Rattle.mps_model.specs.Image.{image_of}
-use Rattle.mps_image.specs.Memory.{Lies, cells_in}
+use Rattle.mps_image.specs.Memory.{Lies, all_cells}
 use Rattle.mps_image.specs.Image.{IsCellWord}
 
 -- each word of a live object is that of its cell, and no address of a flip is left
 abbrev pub CellsHold : List Object → List (Option Address) → List ℕ → Type 0
 CellsHold objects addresses words =
-    (id i : ℕ) (o : Object) (n : Word) (c : Cell) → Lies objects addresses id i o n → slice_get (cells_in o.body) i ≡ Some c
+    (id i : ℕ) (o : Object) (n : Word) (c : Cell) → Lies objects addresses id i o n → slice_get (all_cells o.body) i ≡ Some c
     → IsCellWord addresses [] (head_of_body o.body) c (slice_index words n)
 
 -- the words of each live object are its image
@@ -21,15 +21,15 @@ HoldsImages w words =
     (id : Id) (at : Address) → address_of w id ≡ Some at → slice_range words (word_of at) (word_of at + words_of w id) ≡ image_of w id
 
 -- live objects lie within these words, and what they refer to is live
-pub record AreWhole (objects : List Object) (addresses : List (Option Address)) (words : List ℕ) : Type 0 where
+pub record AreSelfContained (objects : List Object) (addresses : List (Option Address)) (words : List ℕ) : Type 0 where
   pub within : (id i : ℕ) (o : Object) (n : Word) → Lies objects addresses id i o n → n < length words
-  pub live : (id i : ℕ) (o : Object) (n : Word) (c : Cell) (t : Id) → Lies objects addresses id i o n → slice_get (cells_in o.body) i ≡ Some c
+  pub live : (id i : ℕ) (o : Object) (n : Word) (c : Cell) (t : Id) → Lies objects addresses id i o n → slice_get (all_cells o.body) i ≡ Some c
       → target_of_cell c ≡ Some t → (to : Address) × (entry_at addresses t ≡ Some to)
 
 -- where no collection runs, the words of each live object are its image exactly where its cells' words refer to addresses of now
 abbrev pub RestingWordsAreImages : Type 0
 RestingWordsAreImages =
-    (w : World) (words : List ℕ) → AreWhole w.graph.objects w.addresses words
+    (w : World) (words : List ℕ) → AreSelfContained w.graph.objects w.addresses words
     → CellsHold w.graph.objects w.addresses words ↔ HoldsImages w words
 
 -- ---- vectors: object 0 at 0x1000 refers to itself, with the tag 3

@@ -10,9 +10,9 @@ use Rattle.mps_image.specs.Memory.{Setting, setting_at_rest}
 
 -- the setting after a flip where these are the addresses, which condemned these objects and segments. Where these are none, and
 -- no segment is condemned, it is that after the end of a collection
-abbrev pub flipped : Setting → (addresses : List (Option Address)) → List (Option Point) → List PointMemory → (condemned : List Id)
+abbrev pub setting_flipped : Setting → (addresses : List (Option Address)) → List (Option Point) → List PointMemory → (condemned : List Id)
     → (is_condemned_over : Word → Bool) → Setting
-flipped s addresses points memories condemned is_condemned_over = record s {
+setting_flipped s addresses points memories condemned is_condemned_over = record s {
   points = points;
   point_memories = memories;
   at_flip = addresses;
@@ -22,14 +22,14 @@ flipped s addresses points memories condemned is_condemned_over = record s {
 }
 
 -- the setting once blocks are freed: addresses of the flip count no more, and white objects aren't read any more
-abbrev pub freeing : Setting → Colours → Setting
-freeing s k = record s { at_flip = []; is_read = λ id. not (is_white s.condemned k id) }
+abbrev pub setting_freeing : Setting → Colours → Setting
+setting_freeing s k = record s { at_flip = []; is_read = λ id. not (is_white s.condemned k id) }
 
 -- ---- vectors: object 1 is condemned and not kept
 
 abbrev example : Setting
 example =
-    flipped (setting_at_rest (new_segments 2 2) [] [] [] numbered_layout) (Some 0x1000 ∷ Some 0x1020 ∷ []) [] [] (0 ∷ 1 ∷ []) (λ n. true)
+    setting_flipped (setting_at_rest (new_segments 2 2) [] [] [] numbered_layout) (Some 0x1000 ∷ Some 0x1020 ∷ []) [] [] (0 ∷ 1 ∷ []) (λ n. true)
 
 abbrev one_kept : Colours
 one_kept = record { kept = 0 ∷ []; grey = [] }
@@ -37,11 +37,11 @@ one_kept = record { kept = 0 ∷ []; grey = [] }
 pub all_are_read_after_a_flip : example.is_read 1 ≡ true
 all_are_read_after_a_flip = refl
 
-pub white_objects_are_read_no_more : (freeing example one_kept).is_read 1 ≡ false
+pub white_objects_are_read_no_more : (setting_freeing example one_kept).is_read 1 ≡ false
 white_objects_are_read_no_more = refl
 
-pub others_are : (freeing example one_kept).is_read 0 ≡ true
+pub others_are : (setting_freeing example one_kept).is_read 0 ≡ true
 others_are = refl
 
-pub addresses_of_the_flip_count_no_more : (freeing example one_kept).at_flip ≡ []
+pub addresses_of_the_flip_count_no_more : (setting_freeing example one_kept).at_flip ≡ []
 addresses_of_the_flip_count_no_more = refl

@@ -7,35 +7,35 @@ use Rattle.mps_model.specs.Graph.{Cell, Object, Point, Reservation, entry_at, si
 use Rattle.mps_model.specs.Checked.{head_of_body}
 use Rattle.mps_model.specs.World.{PointMemory, extent, extents_of}
 use Rattle.mps_colours.specs.Colours.{Colours, is_white, is_grey}
-use Rattle.mps_image.specs.Memory.{Setting, Memory, Lies, LiesReserved, cells_in}
-use Rattle.mps_image.specs.Image.{ArePlaced, IsFixed, CellSet, RunsStand, is_white_over}
-use Rattle.mps_image.specs.Fixing.{IsCleared}
+use Rattle.mps_image.specs.Memory.{Setting, Memory, Lies, LiesReserved, all_cells}
+use Rattle.mps_image.specs.Image.{LieApart, IsFixed, CellSet, RunsStand, is_white_over}
+use Rattle.mps_image.specs.Fixing.{IsMarkCleared}
 
 -- the setting after a client's call, with these objects, points and what points have in the arena
-abbrev pub with_graph : Setting → List Object → List (Option Point) → List PointMemory → Setting
-with_graph s objects points memories = record s { objects = objects; points = points; point_memories = memories }
+abbrev pub setting_with : Setting → List Object → List (Option Point) → List PointMemory → Setting
+setting_with s objects points memories = record s { objects = objects; points = points; point_memories = memories }
 
 -- the setting with other objects
-abbrev pub with_objects : Setting → List Object → Setting
-with_objects s objects = record s { objects = objects }
+abbrev pub setting_with_objects : Setting → List Object → Setting
+setting_with_objects s objects = record s { objects = objects }
 
 -- the word of a cell is written
-abbrev pub with_word : Memory → (n : Word) → (word : ℕ) → Memory
-with_word m n word = record m { words = slice_set m.words n word }
+abbrev pub memory_with_word : Memory → (n : Word) → (word : ℕ) → Memory
+memory_with_word m n word = record m { words = slice_set m.words n word }
 
 -- a block of n words more
-abbrev pub with_block : Memory → (at : Address) → (size : ℕ) → Memory
-with_block m at size =
+abbrev pub memory_with_block : Memory → (at : Address) → (size : ℕ) → Memory
+memory_with_block m at size =
     record m { blocks = with_run (extent at size) m.blocks; covered = with_run (extent at size) m.covered }
 
 -- a reservation of n words more
-abbrev pub with_reservation : Memory → (at : Address) → (size : ℕ) → Memory
-with_reservation m at size =
+abbrev pub memory_with_reservation : Memory → (at : Address) → (size : ℕ) → Memory
+memory_with_reservation m at size =
     record m { reservations = with_run (extent at size) m.reservations; covered = with_run (extent at size) m.covered }
 
 -- a reservation has ended
-abbrev pub without_reservation : Memory → (at : Address) → Memory
-without_reservation m at =
+abbrev pub memory_without_reservation : Memory → (at : Address) → Memory
+memory_without_reservation m at =
     record m { reservations = without_run (word_of at) m.reservations; covered = without_run (word_of at) m.covered }
 
 -- ---- a cell is written
@@ -48,8 +48,8 @@ pub record Was (objects : List Object) (id : Id) (p : Object) (holder i : ℕ) (
   pub size : size_of object ≡ size_of p
   pub head : head_of_body object.body ≡ head_of_body p.body
   -- each cell is as it was, or is the new one
-  pub cells : (j : ℕ) (c : Cell) → slice_get (cells_in p.body) j ≡ Some c
-      → (((id ≡ holder) × (j ≡ i) → ⊥) × (slice_get (cells_in object.body) j ≡ Some c)) ⊎ ((id ≡ holder) × (j ≡ i) × (c ≡ new))
+  pub cells : (j : ℕ) (c : Cell) → slice_get (all_cells p.body) j ≡ Some c
+      → (((id ≡ holder) × (j ≡ i) → ⊥) × (slice_get (all_cells object.body) j ≡ Some c)) ⊎ ((id ≡ holder) × (j ≡ i) × (c ≡ new))
 
 -- one cell of one object changed, or none did
 pub record IsCellChanged (objects objects' : List Object) (holder i : ℕ) (new : Cell) : Type 0 where
@@ -60,22 +60,22 @@ pub record IsCellChanged (objects objects' : List Object) (holder i : ℕ) (new 
 -- ---- an object is made
 
 -- no block that has moved had this word
-pub record IsClear (s : Setting) (addresses : List (Option Address)) (n : Word) : Type 0 where
+pub record IsUnforwarded (s : Setting) (addresses : List (Option Address)) (n : Word) : Type 0 where
   pub clear : (id : Id) (from to : Address) (o : Object) (q : ℕ) → entry_at s.at_flip id ≡ Some from → entry_at addresses id ≡ Some to
       → from ≢ to → slice_get s.objects id ≡ Some o → q < size_of o → n ≢ word_of from + q
 
 -- the setting and the addresses after an object was made
-abbrev pub made : Setting → Object → List (Option Point) → List PointMemory → Setting
-made s o points memories = with_graph s (s.objects ++ o ∷ []) points memories
+abbrev pub setting_made : Setting → Object → List (Option Point) → List PointMemory → Setting
+setting_made s o points memories = setting_with s (s.objects ++ o ∷ []) points memories
 
-abbrev pub made_at : List (Option Address) → (at : Address) → List (Option Address)
-made_at addresses at = addresses ++ Some at ∷ []
+abbrev pub addresses_made : List (Option Address) → (at : Address) → List (Option Address)
+addresses_made addresses at = addresses ++ Some at ∷ []
 
 -- what the call does, where the object is made at an address
 pub record IsMade (s : Setting) (m m' : Memory) (addresses : List (Option Address)) (k : Colours) (o : Object) (at : Address)
     (points : List (Option Point)) (memories : List PointMemory) : Type 0 where
-  pub placed : ArePlaced (made s o points memories) (made_at addresses at)
-  pub runs : RunsStand (made s o points memories) m' (made_at addresses at)
+  pub placed : LieApart (setting_made s o points memories) (addresses_made addresses at)
+  pub runs : RunsStand (setting_made s o points memories) m' (addresses_made addresses at)
   pub numbered : length addresses ≡ length s.objects
   -- it has no colour, and had no address at a flip
   pub not_white : is_white s.condemned k (length s.objects) ≡ false
@@ -90,16 +90,16 @@ pub record IsMade (s : Setting) (m m' : Memory) (addresses : List (Option Addres
       → LiesReserved s.points s.point_memories i l r n
   -- its words are those of its cells, and no others change
   pub long : length m'.words ≡ length m.words
-  pub words : (i : ℕ) (c : Cell) → slice_get (cells_in o.body) i ≡ Some c
-      → IsFixed s.condemned (made_at addresses at) k (head_of_body o.body) c (slice_index m'.words (word_of at + i))
+  pub words : (i : ℕ) (c : Cell) → slice_get (all_cells o.body) i ≡ Some c
+      → IsFixed s.condemned (addresses_made addresses at) k (head_of_body o.body) c (slice_index m'.words (word_of at + i))
   pub others : (n : Word) → ((i : ℕ) → i < size_of o → n ≢ word_of at + i) → slice_index m'.words n ≡ slice_index m.words n
-  pub clear : (i : ℕ) → i < size_of o → IsClear s addresses (word_of at + i)
+  pub clear : (i : ℕ) → i < size_of o → IsUnforwarded s addresses (word_of at + i)
 
 -- ---- a block goes
 
 -- the memory after a block at an address has gone
-abbrev pub without_block : Memory → (kept grey : Word → Bool) → (from : Address) → Memory
-without_block m kept grey from = record m {
+abbrev pub memory_without_block : Memory → (kept grey : Word → Bool) → (from : Address) → Memory
+memory_without_block m kept grey from = record m {
   kept = kept;
   grey = grey;
   blocks = without_run (word_of from) m.blocks;
@@ -107,28 +107,28 @@ without_block m kept grey from = record m {
 }
 
 -- which block goes: nothing refers to it that is read or fixed, and its marks are cleared
-pub record IsToGo (s : Setting) (m : Memory) (addresses : List (Option Address)) (done : CellSet) (t : Id) (from : Address) (o : Object)
+pub record MayGo (s : Setting) (m : Memory) (addresses : List (Option Address)) (done : CellSet) (t : Id) (from : Address) (o : Object)
     (kept' grey' : Word → Bool) : Type 0 where
   pub there : entry_at addresses t ≡ Some from
   pub object : slice_get s.objects t ≡ Some o
   pub unreferred : (id i : ℕ) (p : Object) (n : Word) (c : Cell) → IsTrue (s.is_read id) ⊎ IsTrue (done id i) → id ≢ t
-      → Lies s.objects addresses id i p n → slice_get (cells_in p.body) i ≡ Some c → target_of_cell c ≡ Some t → ⊥
+      → Lies s.objects addresses id i p n → slice_get (all_cells p.body) i ≡ Some c → target_of_cell c ≡ Some t → ⊥
   pub unreserved : (point i : ℕ) (r : Reservation) (n : Word) (c : Cell) → LiesReserved s.points s.point_memories point i r n
       → slice_get r.cells i ≡ Some c → target_of_cell c ≡ Some t → ⊥
-  pub kept_cleared : IsCleared m.kept kept' (word_of from)
-  pub grey_cleared : IsCleared m.grey grey' (word_of from)
+  pub kept_cleared : IsMarkCleared m.kept kept' (word_of from)
+  pub grey_cleared : IsMarkCleared m.grey grey' (word_of from)
 
 -- ---- reservations change
 
 -- the setting with other reservations
-abbrev pub with_points : Setting → List (Option Point) → List PointMemory → Setting
-with_points s points memories = with_graph s s.objects points memories
+abbrev pub setting_with_points : Setting → List (Option Point) → List PointMemory → Setting
+setting_with_points s points memories = setting_with s s.objects points memories
 
 -- what the call does: the words that it changes are those of live reservations, whose new cells are fixed
 pub record AreReserved (s : Setting) (m m' : Memory) (addresses : List (Option Address)) (k : Colours) (points : List (Option Point))
     (memories : List PointMemory) : Type 0 where
-  pub placed : ArePlaced (with_points s points memories) addresses
-  pub runs : RunsStand (with_points s points memories) m' addresses
+  pub placed : LieApart (setting_with_points s points memories) addresses
+  pub runs : RunsStand (setting_with_points s points memories) m' addresses
   pub kept_same : (n : Word) → m'.kept n ≡ m.kept n
   pub grey_same : (n : Word) → m'.grey n ≡ m.grey n
   pub long : length m'.words ≡ length m.words
@@ -138,4 +138,4 @@ pub record AreReserved (s : Setting) (m m' : Memory) (addresses : List (Option A
       × (slice_index m'.words n ≡ slice_index m.words n)) ⊎ IsFixed s.condemned addresses k r.head c (slice_index m'.words n)
   pub written : (n : Word) → (slice_index m'.words n ≡ slice_index m.words n)
       ⊎ ((point : ℕ) × (i : ℕ) × (r : Reservation) × LiesReserved points memories point i r n)
-  pub clear : (point i : ℕ) (r : Reservation) (n : Word) → LiesReserved points memories point i r n → IsClear s addresses n
+  pub clear : (point i : ℕ) (r : Reservation) (n : Word) → LiesReserved points memories point i r n → IsUnforwarded s addresses n

@@ -31,12 +31,12 @@ pub record AreAtHand (s : Setting) (addresses : List (Option Address)) (to : Add
   pub home : (k : ℕ) → k < size → s.pool_over (word_of to + k) ≡ Some pool
 
 -- the mark at a word is set, and no other changes
-pub record IsMarked (marks marks' : Word → Bool) (word : Word) : Type 0 where
+pub record IsMarkSet (marks marks' : Word → Bool) (word : Word) : Type 0 where
   pub set : marks' word ≡ true
   pub others : (n : Word) → n ≢ word → marks' n ≡ marks n
 
 -- the mark at a word is cleared, and no other changes
-pub record IsCleared (marks marks' : Word → Bool) (word : Word) : Type 0 where
+pub record IsMarkCleared (marks marks' : Word → Bool) (word : Word) : Type 0 where
   pub clear : marks' word ≡ false
   pub others : (n : Word) → n ≢ word → marks' n ≡ marks n
 
@@ -99,8 +99,8 @@ pub data FixAt (s : Setting) (addresses : List (Option Address)) (m : Memory) (a
   is_kept : (pool : ℕ) → s.pool_over (word_of at) ≡ Some pool → IsNotForwarded s m.words at pool → IsTrue (m.kept (word_of at))
       → FixAt s addresses m at at m
   -- it stays, for want of room or in a pool that doesn't move, and is marked
-  stays : (pool : ℕ) (kept' grey' : Word → Bool) → IsToKeep s m at pool → IsMarked m.kept kept' (word_of at)
-      → IsMarked m.grey grey' (word_of at) → FixAt s addresses m at at (marked_in m kept' grey')
+  stays : (pool : ℕ) (kept' grey' : Word → Bool) → IsToKeep s m at pool → IsMarkSet m.kept kept' (word_of at)
+      → IsMarkSet m.grey grey' (word_of at) → FixAt s addresses m at at (marked_in m kept' grey')
   -- it is copied
   copies : (pool to size : ℕ) (words' : List ℕ) (kept' grey' : Word → Bool) → IsToKeep s m at pool
       → size ≡ (s.layout pool).size (slice_index m.words (word_of at)) → AreAtHand s addresses to size pool

@@ -11,7 +11,7 @@ use Rattle.mps_model.specs.Graph.{Cell, HeadCell, NumberCell, ReferenceCell, Obj
 use Rattle.mps_model.specs.Checked.{head_of_body}
 use Rattle.mps_model.specs.World.{extents_of, reserved_extents}
 use Rattle.mps_colours.specs.Colours.{Colours, is_white, is_grey, is_black}
-use Rattle.mps_image.specs.Memory.{Setting, Memory, cells_in, Lies, LiesReserved, Begins, live_reservation}
+use Rattle.mps_image.specs.Memory.{Setting, Memory, all_cells, Lies, LiesReserved, BlockBegins, live_reservation}
 
 -- ---- what a word means
 
@@ -38,16 +38,16 @@ IsCellWord addresses at_flip head (ReferenceCell (Some id) tag) word = Refers ad
 pub record AreShaped (objects : List Object) (layout : (pool : ℕ) → Layout) : Type 0 where
   pub lawful : (pool : ℕ) → IsLawful (layout pool)
   pub tags : (id k : ℕ) (o : Object) (t : Option ℕ) (tag : ℕ) → slice_get objects id ≡ Some o
-      → slice_get (cells_in o.body) k ≡ Some (ReferenceCell t tag) → tag < 8
+      → slice_get (all_cells o.body) k ≡ Some (ReferenceCell t tag) → tag < 8
   pub targets : (id k : ℕ) (o : Object) (t tag : ℕ) → slice_get objects id ≡ Some o
-      → slice_get (cells_in o.body) k ≡ Some (ReferenceCell (Some t) tag)
+      → slice_get (all_cells o.body) k ≡ Some (ReferenceCell (Some t) tag)
       → (p : Object) × (slice_get objects t ≡ Some p) × IsTrue (is_automatic p)
   pub first : (id : Id) (o : Object) → slice_get objects id ≡ Some o → IsTrue (is_automatic o)
-      → slice_get (cells_in o.body) 0 ≡ Some HeadCell
+      → slice_get (all_cells o.body) 0 ≡ Some HeadCell
   pub valid : (id : Id) (o : Object) → slice_get objects id ≡ Some o → IsTrue (is_automatic o)
       → IsTrue ((layout o.pool).is_valid (head_of_body o.body))
   pub kinds : (id k : ℕ) (o : Object) (c : Cell) → slice_get objects id ≡ Some o → IsTrue (is_automatic o)
-      → slice_get (cells_in o.body) k ≡ Some c → is_reference_cell c ≡ (layout o.pool).is_reference (head_of_body o.body) k
+      → slice_get (all_cells o.body) k ≡ Some c → is_reference_cell c ≡ (layout o.pool).is_reference (head_of_body o.body) k
   pub whole : (id : Id) (o : Object) → slice_get objects id ≡ Some o → IsTrue (is_automatic o)
       → (layout o.pool).size (head_of_body o.body) ≡ size_of o
   pub sizes : (id : Id) (o : Object) → slice_get objects id ≡ Some o → IsTrue (is_automatic o) → IsBlockSize (size_of o)
@@ -59,7 +59,7 @@ pub record IsAddress (at : Address) : Type 0 where
   pub small : at + 8 ≤ 2 ^ 64
 
 -- live objects and live reservations lie apart, each in a segment of its pool
-pub record ArePlaced (s : Setting) (addresses : List (Option Address)) : Type 0 where
+pub record LieApart (s : Setting) (addresses : List (Option Address)) : Type 0 where
   pub exists : (id : Id) (at : Address) → entry_at addresses id ≡ Some at → (o : Object) × (slice_get s.objects id ≡ Some o)
   pub positive : (id : Id) (at : Address) (o : Object) → entry_at addresses id ≡ Some at → slice_get s.objects id ≡ Some o → 0 < size_of o
   pub address : (id : Id) (at : Address) → entry_at addresses id ≡ Some at → IsAddress at
@@ -91,7 +91,7 @@ pub record IsForwarded (s : Setting) (words : List ℕ) (addresses : List (Optio
 pub record WordsStand (s : Setting) (words : List ℕ) (addresses : List (Option Address)) : Type 0 where
   pub long : length words ≡ s.size
   pub cells : (id i : ℕ) (o : Object) (n : Word) (c : Cell) → IsTrue (s.is_read id) → Lies s.objects addresses id i o n
-      → slice_get (cells_in o.body) i ≡ Some c → IsCellWord addresses s.at_flip (head_of_body o.body) c (slice_index words n)
+      → slice_get (all_cells o.body) i ≡ Some c → IsCellWord addresses s.at_flip (head_of_body o.body) c (slice_index words n)
   pub forwarded : (id : Id) (from to : Address) (o : Object) → entry_at s.at_flip id ≡ Some from → entry_at addresses id ≡ Some to
       → from ≢ to → slice_get s.objects id ≡ Some o → IsForwarded s words addresses o from to
 
@@ -113,9 +113,9 @@ abbrev pub black_cells : (condemned : List Id) → Colours → CellSet
 black_cells condemned k = λ id cell. is_black condemned k id
 
 -- some cells are fixed, and so are those of live reservations
-pub record AreFixed (s : Setting) (words : List ℕ) (addresses : List (Option Address)) (k : Colours) (done : CellSet) : Type 0 where
+pub record FixedCellsStand (s : Setting) (words : List ℕ) (addresses : List (Option Address)) (k : Colours) (done : CellSet) : Type 0 where
   pub cells : (id i : ℕ) (o : Object) (n : Word) (c : Cell) → IsTrue (done id i) → Lies s.objects addresses id i o n
-      → slice_get (cells_in o.body) i ≡ Some c → IsFixed s.condemned addresses k (head_of_body o.body) c (slice_index words n)
+      → slice_get (all_cells o.body) i ≡ Some c → IsFixed s.condemned addresses k (head_of_body o.body) c (slice_index words n)
   pub reserved : (point i : ℕ) (r : Reservation) (n : Word) (c : Cell) → LiesReserved s.points s.point_memories point i r n
       → slice_get r.cells i ≡ Some c → IsFixed s.condemned addresses k r.head c (slice_index words n)
 
@@ -130,7 +130,7 @@ pub record MarksStand (s : Setting) (kept grey : Word → Bool) (addresses : Lis
   pub white_there : (id : Id) (at : Address) → entry_at addresses id ≡ Some at
       → is_white s.condemned k id ≡ is_white_over s.is_condemned_over kept (word_of at)
   pub grey_there : (id : Id) (at : Address) → entry_at addresses id ≡ Some at → is_grey k id ≡ grey (word_of at)
-  pub marked : (n : Word) → IsTrue (kept n || grey n) → Begins addresses n
+  pub marked : (n : Word) → IsTrue (kept n || grey n) → BlockBegins addresses n
   pub unmoved : (id : Id) (at : Address) → entry_at addresses id ≡ Some at → IsTrue (s.is_read id) → is_white s.condemned k id ≡ true
       → entry_at s.at_flip id ≡ Some at
 
@@ -145,9 +145,9 @@ pub record RunsStand (s : Setting) (m : Memory) (addresses : List (Option Addres
 
 -- the memory of an arena stands for objects with these addresses and colours, of whose cells these are fixed
 pub record ImageStands (s : Setting) (m : Memory) (addresses : List (Option Address)) (k : Colours) (done : CellSet) : Type 0 where
-  pub placed : ArePlaced s addresses
+  pub placed : LieApart s addresses
   pub words : WordsStand s m.words addresses
-  pub fixed : AreFixed s m.words addresses k done
+  pub fixed : FixedCellsStand s m.words addresses k done
   pub marks : MarksStand s m.kept m.grey addresses k
   pub runs : RunsStand s m addresses
 

@@ -5,12 +5,12 @@ use Rattle.mps_model.specs.Graph.{Cell, ReferenceCell, Object, Point, Reservatio
 use Rattle.mps_model.specs.Checked.{head_of_body}
 use Rattle.mps_model.specs.World.{PointMemory}
 use Rattle.mps_colours.specs.Colours.{Colours, is_white, is_grey, is_black, blackened}
-use Rattle.mps_image.specs.Memory.{Setting, Memory, Lies, cells_in, live_reservation}
-use Rattle.mps_image.specs.Image.{AreShaped, ArePlaced, IsFixed, MarksStand, RunsStand, CellSet, with_cell, ImageStands, Stands}
-use Rattle.mps_image.specs.Fixing.{Target, FixAt, FixWord, IsFixedAt, IsFixedCell, IsCleared}
-use Rattle.mps_image.specs.Scanning.{with_pools, IsToScan, Scans, Leaves}
-use Rattle.mps_image.specs.Changes.{with_objects, with_word, IsCellChanged, made, made_at, IsMade, without_block, IsToGo, with_points, AreReserved}
-use Rattle.mps_image.specs.Bands.{flipped, freeing}
+use Rattle.mps_image.specs.Memory.{Setting, Memory, Lies, all_cells, live_reservation}
+use Rattle.mps_image.specs.Image.{AreShaped, LieApart, IsFixed, MarksStand, RunsStand, CellSet, with_cell, ImageStands, Stands}
+use Rattle.mps_image.specs.Fixing.{Target, FixAt, FixWord, IsFixedAt, IsFixedCell, IsMarkCleared}
+use Rattle.mps_image.specs.Scanning.{setting_with_pools, IsToScan, ScansBlock, LeavesOthers}
+use Rattle.mps_image.specs.Changes.{setting_with_objects, memory_with_word, IsCellChanged, setting_made, addresses_made, IsMade, memory_without_block, MayGo, setting_with_points, AreReserved}
+use Rattle.mps_image.specs.Bands.{setting_flipped, setting_freeing}
 
 -- all words are read: blocks aren't freed yet
 abbrev pub AreAllRead : Setting → Type 0
@@ -29,7 +29,7 @@ abbrev pub AWordIsFixed : Type 0
 AWordIsFixed =
     (s : Setting) (m : Memory) (addresses : List (Option Address)) (k : Colours) (done : CellSet) (holder i tag : ℕ) (o : Object) (n : Word)
     (t : Option Id) → AreShaped s.objects s.layout → AreAllRead s → ImageStands s m addresses k done → Lies s.objects addresses holder i o n
-    → is_white s.condemned k holder ≡ false → slice_get (cells_in o.body) i ≡ Some (ReferenceCell t tag)
+    → is_white s.condemned k holder ≡ false → slice_get (all_cells o.body) i ≡ Some (ReferenceCell t tag)
     → ((u : Id) → t ≡ Some u → (now : Address) × (entry_at addresses u ≡ Some now)) → (address : Address) (m' : Memory)
     → (s.layout o.pool).target (slice_index m.words n) ≡ address → FixWord s addresses (s.layout o.pool) m n address m'
     → IsFixedCell s m' addresses k done t holder i
@@ -38,7 +38,7 @@ AWordIsFixed =
 pub record IsScanned (s : Setting) (m : Memory) (addresses : List (Option Address)) (k : Colours) (id : Id) : Type 0 where
   pub addresses_after : List (Option Address)
   pub colours_after : Colours
-  pub leaves : Leaves s.condemned addresses addresses_after k colours_after
+  pub leaves : LeavesOthers s.condemned addresses addresses_after k colours_after
   -- the object is black then, and the words stand for the objects as before
   pub stands : Stands s m addresses_after (blackened colours_after id)
 
@@ -47,8 +47,8 @@ abbrev pub AScanBlackens : Type 0
 AScanBlackens =
     (s : Setting) (pools : Word → Option ℕ) (m m' : Memory) (addresses : List (Option Address)) (k : Colours) (grey' : Word → Bool)
     (id : Id) (at : Address) (o : Object) → AreShaped s.objects s.layout → AreAllRead s → Stands s m addresses k
-    → IsToScan s addresses k id at o → Scans s o at m addresses k pools m' → IsCleared m'.grey grey' (word_of at)
-    → IsScanned (with_pools s pools) (record m' { grey = grey' }) addresses k id
+    → IsToScan s addresses k id at o → ScansBlock s o at m addresses k pools m' → IsMarkCleared m'.grey grey' (word_of at)
+    → IsScanned (setting_with_pools s pools) (record m' { grey = grey' }) addresses k id
 
 -- ---- what a client's call changes
 
@@ -58,28 +58,28 @@ ACellIsWritten =
     (s : Setting) (objects' : List Object) (m : Memory) (addresses : List (Option Address)) (k : Colours) (done : CellSet) (holder i : ℕ)
     (o : Object) (n : Word) (new : Cell) (word : ℕ) → IsCellChanged s.objects objects' holder i new → ImageStands s m addresses k done
     → Lies s.objects addresses holder i o n → IsFixed s.condemned addresses k (head_of_body o.body) new word
-    → ImageStands (with_objects s objects') (with_word m n word) addresses k (with_cell done holder i)
+    → ImageStands (setting_with_objects s objects') (memory_with_word m n word) addresses k (with_cell done holder i)
 
 -- an object is made
 abbrev pub AnObjectIsMade : Type 0
 AnObjectIsMade =
     (s : Setting) (m m' : Memory) (addresses : List (Option Address)) (k : Colours) (done : CellSet) (o : Object) (at : Address)
     (points : List (Option Point)) (memories : List PointMemory) → ImageStands s m addresses k done
-    → IsMade s m m' addresses k o at points memories → ImageStands (made s o points memories) m' (made_at addresses at) k done
+    → IsMade s m m' addresses k o at points memories → ImageStands (setting_made s o points memories) m' (addresses_made addresses at) k done
 
 -- a block goes
 abbrev pub ABlockGoes : Type 0
 ABlockGoes =
     (s : Setting) (m : Memory) (addresses : List (Option Address)) (k : Colours) (done : CellSet) (t : Id) (from : Address) (o : Object)
-    (kept' grey' : Word → Bool) → ImageStands s m addresses k done → IsToGo s m addresses done t from o kept' grey'
-    → ImageStands s (without_block m kept' grey' from) (slice_set addresses t None) k done
+    (kept' grey' : Word → Bool) → ImageStands s m addresses k done → MayGo s m addresses done t from o kept' grey'
+    → ImageStands s (memory_without_block m kept' grey' from) (slice_set addresses t None) k done
 
--- a reservation is made, written, or ends
+-- a reservation is setting_made, written, or ends
 abbrev pub ReservationsChange : Type 0
 ReservationsChange =
     (s : Setting) (m m' : Memory) (addresses : List (Option Address)) (k : Colours) (done : CellSet) (points : List (Option Point))
     (memories : List PointMemory) → ImageStands s m addresses k done → AreReserved s m m' addresses k points memories
-    → ImageStands (with_points s points memories) m' addresses k done
+    → ImageStands (setting_with_points s points memories) m' addresses k done
 
 -- ---- the bands of a collection
 
@@ -90,20 +90,20 @@ AFlipBegins =
     (s : Setting) (m m' : Memory) (addresses : List (Option Address)) (k k' : Colours) (done : CellSet) (points : List (Option Point))
     (memories : List PointMemory) (condemned : List Id) (is_condemned_over : Word → Bool) → s.at_flip ≡ [] → AreAllRead s
     → m'.words ≡ m.words → ImageStands s m addresses k done
-    → ArePlaced (flipped s addresses points memories condemned is_condemned_over) addresses
+    → LieApart (setting_flipped s addresses points memories condemned is_condemned_over) addresses
     → ((id i : ℕ) (o : Object) (c : Cell) (t : Id) → IsTrue (is_black condemned k' id) → slice_get s.objects id ≡ Some o
-    → slice_get (cells_in o.body) i ≡ Some c → target_of_cell c ≡ Some t → is_white condemned k' t ≡ false)
+    → slice_get (all_cells o.body) i ≡ Some c → target_of_cell c ≡ Some t → is_white condemned k' t ≡ false)
     → ((point : ℕ) (r : Reservation) → live_reservation (entry_at points point) ≡ Some r → ⊥)
-    → MarksStand (flipped s addresses points memories condemned is_condemned_over) m'.kept m'.grey addresses k'
-    → RunsStand (flipped s addresses points memories condemned is_condemned_over) m' addresses
-    → Stands (flipped s addresses points memories condemned is_condemned_over) m' addresses k'
+    → MarksStand (setting_flipped s addresses points memories condemned is_condemned_over) m'.kept m'.grey addresses k'
+    → RunsStand (setting_flipped s addresses points memories condemned is_condemned_over) m' addresses
+    → Stands (setting_flipped s addresses points memories condemned is_condemned_over) m' addresses k'
 
 -- once nothing is grey, addresses of the flip count no more, and white objects aren't read any more
 abbrev pub FreeingBegins : Type 0
 FreeingBegins =
     (s : Setting) (m : Memory) (addresses : List (Option Address)) (k : Colours)
     → ((id : Id) (at : Address) → entry_at addresses id ≡ Some at → is_grey k id ≡ false) → Stands s m addresses k
-    → Stands (freeing s k) m addresses k
+    → Stands (setting_freeing s k) m addresses k
 
 -- where no white object is left, the words hold addresses of now alone
 abbrev pub ACollectionEnds : Type 0
@@ -111,7 +111,7 @@ ACollectionEnds =
     (s : Setting) (m m' : Memory) (addresses : List (Option Address)) (k k' : Colours) (is_condemned_over : Word → Bool)
     → ((id : Id) (at : Address) → entry_at addresses id ≡ Some at → is_white s.condemned k id ≡ false)
     → ((id : Id) (at : Address) → entry_at addresses id ≡ Some at → is_grey k id ≡ false) → m'.words ≡ m.words → Stands s m addresses k
-    → ArePlaced (flipped s [] s.points s.point_memories [] is_condemned_over) addresses
-    → MarksStand (flipped s [] s.points s.point_memories [] is_condemned_over) m'.kept m'.grey addresses k'
-    → RunsStand (flipped s [] s.points s.point_memories [] is_condemned_over) m' addresses
-    → Stands (flipped s [] s.points s.point_memories [] is_condemned_over) m' addresses k'
+    → LieApart (setting_flipped s [] s.points s.point_memories [] is_condemned_over) addresses
+    → MarksStand (setting_flipped s [] s.points s.point_memories [] is_condemned_over) m'.kept m'.grey addresses k'
+    → RunsStand (setting_flipped s [] s.points s.point_memories [] is_condemned_over) m' addresses
+    → Stands (setting_flipped s [] s.points s.point_memories [] is_condemned_over) m' addresses k'

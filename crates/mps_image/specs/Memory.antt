@@ -46,8 +46,8 @@ pub record Memory : Type 0 where
 -- ---- as the segments have it
 
 -- what the segments have
-abbrev pub memory_of : SegsState → Memory
-memory_of s = record {
+abbrev pub memory_in : SegsState → Memory
+memory_in s = record {
   words = s.words;
   kept = λ n. bit s.marks.kept n;
   grey = λ n. bit s.marks.exact n || bit s.marks.weak n;
@@ -86,9 +86,9 @@ setting_at_rest s objects points memories layout = record {
 -- ---- cells
 
 -- the cells of a body, where each word of a manual block counts as a number
-abbrev pub cells_in : Body → List Cell
-cells_in (Automatic head cells is_weak) = cells
-cells_in (Manual words) = map NumberCell words
+abbrev pub all_cells : Body → List Cell
+all_cells (Automatic head cells is_weak) = cells
+all_cells (Manual words) = map NumberCell words
 
 -- word n of the arena is word k of the object, which is live
 pub record Lies (objects : List Object) (addresses : List (Option Address)) (id k : ℕ) (o : Object) (n : Word) : Type 0 where
@@ -113,7 +113,7 @@ pub record LiesReserved (points : List (Option Point)) (memories : List PointMem
     pub is : n ≡ word_of memory.reserved_at + k
 
 -- a block begins at a word
-pub record Begins (addresses : List (Option Address)) (n : Word) : Type 0 where
+pub record BlockBegins (addresses : List (Option Address)) (n : Word) : Type 0 where
   pub id : Id
   pub at : Address
   pub address : entry_at addresses id ≡ Some at
@@ -139,11 +139,11 @@ the_last_word_of_a_segment_is_condemned = refl
 pub no_other_word_is : is_condemned_word example 1024 ≡ false
 no_other_word_is = refl
 
-pub a_block_is_marked_where_it_begins : ((memory_of example).kept 514 ≡ true) × ((memory_of example).grey 514 ≡ true)
+pub a_block_is_marked_where_it_begins : ((memory_in example).kept 514 ≡ true) × ((memory_in example).grey 514 ≡ true)
 unfolding bit
 a_block_is_marked_where_it_begins = (refl, refl)
 
-pub no_other_is_marked : ((memory_of example).kept 512 ≡ false) × ((memory_of example).grey 515 ≡ false)
+pub no_other_is_marked : ((memory_in example).kept 512 ≡ false) × ((memory_in example).grey 515 ≡ false)
 unfolding bit
 no_other_is_marked = (refl, refl)
 
@@ -160,5 +160,5 @@ a_doomed_reservation_is_not_live = refl
 pub an_open_one_is : live_reservation (reserved false) ≡ Some (record { head = 0x201; cells = HeadCell ∷ NumberCell 0 ∷ []; is_doomed = false })
 an_open_one_is = refl
 
-pub words_of_a_manual_block_are_numbers : cells_in (Manual (5 ∷ 6 ∷ [])) ≡ NumberCell 5 ∷ NumberCell 6 ∷ []
+pub words_of_a_manual_block_are_numbers : all_cells (Manual (5 ∷ 6 ∷ [])) ≡ NumberCell 5 ∷ NumberCell 6 ∷ []
 words_of_a_manual_block_are_numbers = refl

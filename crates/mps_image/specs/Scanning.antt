@@ -5,12 +5,12 @@ use Rattle.mps_format.specs.Layout.{Layout}
 use Rattle.mps_model.specs.Graph.{ReferenceCell, Object, entry_at, size_of, is_automatic}
 use Rattle.mps_model.specs.Checked.{head_of_body}
 use Rattle.mps_colours.specs.Colours.{Colours, is_white, is_black}
-use Rattle.mps_image.specs.Memory.{Setting, Memory, cells_in}
+use Rattle.mps_image.specs.Memory.{Setting, Memory, all_cells}
 use Rattle.mps_image.specs.Fixing.{FixWord, FixesOne}
 
 -- a setting with other segments
-abbrev pub with_pools : Setting → (Word → Option ℕ) → Setting
-with_pools s pools = record s { pool_over = pools }
+abbrev pub setting_with_pools : Setting → (Word → Option ℕ) → Setting
+setting_with_pools s pools = record s { pool_over = pools }
 
 -- where a segment is held, it still is
 abbrev pub HoldsMore : (pools more : Word → Option ℕ) → Type 0
@@ -31,7 +31,7 @@ pub data ScansFrom (s : Setting) (f : Layout) (head : ℕ) (at : Address) (size 
         → ScansFrom s f head at size i pools m addresses k pools' m'
     fixes : {i : ℕ} {pools pools' : Word → Option ℕ} {m m' : Memory} {addresses : List (Option Address)} {k : Colours} (address : Address)
         (next : Memory) → i < size → IsTrue (f.is_reference head i) → f.target (slice_index m.words (word_of at + i)) ≡ address
-        → FixWord (with_pools s pools) addresses f m (word_of at + i) address next
+        → FixWord (setting_with_pools s pools) addresses f m (word_of at + i) address next
         → ((t : Option Id) (addresses' : List (Option Address)) (k' : Colours) → FixesOne s.condemned addresses k t addresses' k'
         → ScansFrom s f head at size (i + 1) pools next addresses' k' pools' m')
         → ScansFrom s f head at size i pools m addresses k pools' m'
@@ -42,16 +42,16 @@ pub record IsToScan (s : Setting) (addresses : List (Option Address)) (k : Colou
   pub object : slice_get s.objects id ≡ Some o
   pub automatic : IsTrue (is_automatic o)
   pub not_white : is_white s.condemned k id ≡ false
-  pub live : (i t tag : ℕ) → slice_get (cells_in o.body) i ≡ Some (ReferenceCell (Some t) tag) → (to : Address) × (entry_at addresses t ≡ Some to)
+  pub live : (i t tag : ℕ) → slice_get (all_cells o.body) i ≡ Some (ReferenceCell (Some t) tag) → (to : Address) × (entry_at addresses t ≡ Some to)
 
 -- the code's run over all cells of an object
-abbrev pub Scans : Setting → Object → (at : Address) → Memory → List (Option Address) → Colours → (pools : Word → Option ℕ) → Memory → Type 0
-Scans s o at m addresses k pools m' =
+abbrev pub ScansBlock : Setting → Object → (at : Address) → Memory → List (Option Address) → Colours → (pools : Word → Option ℕ) → Memory → Type 0
+ScansBlock s o at m addresses k pools m' =
     ScansFrom s (s.layout o.pool) (head_of_body o.body) at (size_of o) 0 s.pool_over m addresses k pools m'
 
 -- what a run of fixes leaves of objects: what isn't white stays where it is and isn't white, what is live is live, and nothing
 -- is black that wasn't
-pub record Leaves (condemned : List Id) (addresses addresses' : List (Option Address)) (k k' : Colours) : Type 0 where
+pub record LeavesOthers (condemned : List Id) (addresses addresses' : List (Option Address)) (k k' : Colours) : Type 0 where
   pub there : (id : Id) (at : Address) → is_white condemned k id ≡ false → entry_at addresses id ≡ Some at → entry_at addresses' id ≡ Some at
   pub not_white : (id : Id) → is_white condemned k id ≡ false → is_white condemned k' id ≡ false
   pub live : (id : Id) (at : Address) → entry_at addresses id ≡ Some at → (to : Address) × (entry_at addresses' id ≡ Some to)

@@ -46,7 +46,7 @@ pub fn a_block_goes()
     ensures { ABlockGoes }
 {}
 
-/// A reservation is made, a cell of one is written, or reservations end: the words stand for the objects and the reservations then.
+/// A reservation is setting_made, a cell of one is written, or reservations end: the words stand for the objects and the reservations then.
 pub fn reservations_change()
     ensures { ReservationsChange }
 {}
