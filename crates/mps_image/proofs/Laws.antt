@@ -1,5 +1,5 @@
 -- The laws, as they are stated.
-use Rattle.mps_image.specs.Laws.{AnAddressIsFixed, AWordIsFixed, AScanBlackens, ACellIsWritten, AnObjectIsMade, ABlockGoes, ReservationsChange, AFlipBegins, FreeingBegins, ACollectionEnds}
+use Rattle.mps_image.specs.Laws.{AnAddressIsFixed, AWordIsFixed, AScanBlackens, ACellIsWritten, AnObjectIsMade, ABlockGoes, ReservationsChange, AFlipBegins, FreeingBegins, ACollectionEnds, WellFormedIsShaped}
 use Rattle.mps_image.proofs.Fixing.{fix_at, fix_word}
 use Rattle.mps_image.proofs.Scanning.{scan_blackens}
 use Rattle.mps_image.proofs.Written.{cell_written}
@@ -7,6 +7,7 @@ use Rattle.mps_image.proofs.Made.{image_made}
 use Rattle.mps_image.proofs.Gone.{image_gone}
 use Rattle.mps_image.proofs.Reserved.{image_reserved}
 use Rattle.mps_image.proofs.Bands as bands
+use Rattle.mps_image.proofs.Shaped.{are_shaped_objects}
 
 pub address_is_fixed : AnAddressIsFixed
 address_is_fixed s m addresses k done t address now p shaped st x answer m' f =
@@ -45,3 +46,6 @@ freeing_begins s m addresses k none_grey st = bands.freeing_begins s m addresses
 pub collection_ends : ACollectionEnds
 collection_ends s m m' addresses k k' is_condemned_over none_white none_grey same st placed marks runs =
     bands.collection_ends s m m' addresses k k' is_condemned_over none_white none_grey same st placed marks runs
+
+pub well_formed_is_shaped : WellFormedIsShaped
+well_formed_is_shaped w lawful right = are_shaped_objects w lawful right.objects

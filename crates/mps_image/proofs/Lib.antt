@@ -21,6 +21,7 @@ pub mod Reserved
 pub mod Example
 pub mod CellChanged
 pub mod ChangedRuns
-pub mod Laws
 pub mod Steps
 pub mod SegmentMarks
+pub mod Shaped
+pub mod Laws

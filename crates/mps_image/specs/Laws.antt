@@ -1,11 +1,13 @@
 -- What is shown of the image, each law a statement.
 use Rattle.std.specs.Prelude.{◌≡◌, ℕ, ◌<◌, Bool, false, IsTrue, Option, Some, None, List, [], slice_get, slice_set, slice_index}
 use Rattle.mps_base.specs.Address.{Address, Id, Word, word_of}
+use Rattle.mps_format.specs.Layout.{IsLawful}
 use Rattle.mps_model.specs.Graph.{Cell, ReferenceCell, Object, Point, Reservation, entry_at, target_of_cell}
 use Rattle.mps_model.specs.Checked.{head_of_body}
-use Rattle.mps_model.specs.World.{PointMemory}
+use Rattle.mps_model.specs.World.{World, PointMemory}
+use Rattle.mps_model.specs.WellFormed.{IsWellFormed}
 use Rattle.mps_colours.specs.Colours.{Colours, is_white, is_grey, is_black, blackened}
-use Rattle.mps_image.specs.Memory.{Setting, Memory, Lies, all_cells, live_reservation}
+use Rattle.mps_image.specs.Memory.{Setting, Memory, Lies, all_cells, live_reservation, pool_layout}
 use Rattle.mps_image.specs.Image.{AreShaped, LieApart, IsFixed, MarksStand, RunsStand, CellSet, with_cell, ImageStands, Stands}
 use Rattle.mps_image.specs.Fixing.{Target, FixAt, FixWord, IsFixedAt, IsFixedCell, IsMarkCleared}
 use Rattle.mps_image.specs.Scanning.{setting_with_pools, IsToScan, ScansBlock, LeavesOthers}
@@ -115,3 +117,10 @@ ACollectionEnds =
     → MarksStand (setting_flipped s [] s.points s.point_memories [] is_condemned_over) m'.kept m'.grey addresses k'
     → RunsStand (setting_flipped s [] s.points s.point_memories [] is_condemned_over) m' addresses
     → Stands (setting_flipped s [] s.points s.point_memories [] is_condemned_over) m' addresses k'
+
+-- ---- what the model's well-formed worlds give
+
+-- the objects of a well-formed world whose formats are lawful are blocks of their formats
+abbrev pub WellFormedIsShaped : Type 0
+WellFormedIsShaped =
+    (w : World) → ((n : ℕ) → IsLawful (w.formats n)) → IsWellFormed w → AreShaped w.graph.objects (pool_layout w)

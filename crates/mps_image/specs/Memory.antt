@@ -1,5 +1,6 @@
 -- What the words of an arena stand for, and what the arena has of them: its words, its marks by word, and its runs.
 use Rattle.std.specs.Prelude.{◌≡◌, ℕ, ◌+◌, ◌*◌, ◌<◌, Bool, true, false, ◌||◌, if◌then◌else◌, Option, Some, None, option_map, option_and_then, List, [], ◌∷◌, map, length, slice_get, refl}
+use Rattle.std.specs.Option.{option_map_or}
 use Rattle.mps_base.specs.Address.{Address, Id, Word, word_of, address_of_word, words_of_grain}
 use Rattle.mps_base.specs.Run.{Run}
 use Rattle.mps_base.specs.Segment.{segment_over}
@@ -9,7 +10,7 @@ use Rattle.mps_format.specs.Layout.{Layout}
 use Rattle.mps_seg.specs.Segs.{SegsState, new_segments}
 use Rattle.mps_seg.specs.Collecting.{is_condemned_at, condemning, keeping, greying}
 use Rattle.mps_model.specs.Graph.{Cell, HeadCell, NumberCell, Body, Automatic, Manual, Object, Point, Reservation, entry_at, size_of, is_live_reservation}
-use Rattle.mps_model.specs.World.{PointMemory}
+use Rattle.mps_model.specs.World.{World, PointMemory, pool_at}
 
 -- ---- what the words stand for
 
@@ -82,6 +83,10 @@ setting_at_rest s objects points memories layout = record {
   pool_over = pool_over_word s;
   is_condemned_over = is_condemned_word s;
 }
+
+-- the format of a pool's blocks in a world
+abbrev pub pool_layout : World → (pool : ℕ) → Layout
+pool_layout w pool = w.formats (option_map_or (λ p. p.format) (pool_at w pool) 0)
 
 -- ---- cells
 

@@ -4,7 +4,7 @@
 
 ghost use Rattle.mps_image.specs.AtRest.{RestingWordsAreImages};
 ghost use Rattle.mps_image.specs.Steps.{AFixIsAStep};
-ghost use Rattle.mps_image.specs.Laws.{AnAddressIsFixed, AWordIsFixed, AScanBlackens, ACellIsWritten, AnObjectIsMade, ABlockGoes, ReservationsChange, AFlipBegins, FreeingBegins, ACollectionEnds};
+ghost use Rattle.mps_image.specs.Laws.{AnAddressIsFixed, AWordIsFixed, AScanBlackens, ACellIsWritten, AnObjectIsMade, ABlockGoes, ReservationsChange, AFlipBegins, FreeingBegins, ACollectionEnds, WellFormedIsShaped};
 
 /// Where no collection runs, the words of each live block are its image exactly where its cells' words refer to addresses of now.
 pub fn resting_words_are_images()
@@ -64,4 +64,9 @@ pub fn freeing_begins()
 /// Where no white object is left, all words hold addresses of now alone.
 pub fn a_collection_ends()
     ensures { ACollectionEnds }
+{}
+
+/// The objects of a well-formed world are blocks of their formats, where these are lawful.
+pub fn well_formed_is_shaped()
+    ensures { WellFormedIsShaped }
 {}
