@@ -9,9 +9,10 @@ use Rattle.mps_model.specs.Graph.{Cell, HeadCell, NumberCell, ReferenceCell, Bod
 use Rattle.mps_model.specs.Checked.{head_of_body}
 use Rattle.mps_model.specs.World.{World, words_of}
 use Rattle.mps_model.specs.Image.{address_of_target, image_of_cell, image_of_body, image_of}
-use Rattle.mps_image.specs.Memory.{Setting, Memory, Lies, all_cells}
-use Rattle.mps_image.specs.Image.{IsCellWord, ImageStands, CellSet}
-use Rattle.mps_image.specs.AtRest.{CellsHold, HoldsImages, AreSelfContained, RestingWordsAreImages}
+use Rattle.mps_colours.specs.Colours.{Colours}
+use Rattle.mps_image.specs.Memory.{Setting, Memory, Lies, all_cells, memory_in, setting_at_rest, pool_layout}
+use Rattle.mps_image.specs.Image.{IsCellWord, ImageStands, CellSet, black_cells, no_colours}
+use Rattle.mps_image.specs.AtRest.{CellsHold, HoldsImages, AreSelfContained, RestingWordsAreImages, RestingArenaHoldsImages}
 use Rattle.mps_image.proofs.Scanning.{cell_there}
 use Rattle.mps_image.proofs.Bands.{holds_now}
 
@@ -129,7 +130,15 @@ resting_words_are_images w words whole = (forward, backward)
         (ap (slice_index words) l.is ∙ from_image w words whole id l.at o l.address l.object same i c l.within cell)
 
 -- where no addresses of a flip count and all words are read, an image's cells hold addresses of now
-pub cells_hold : (s : Setting) (m : Memory) (addresses : List (Option Address)) (k : Rattle.mps_colours.specs.Colours.Colours) (done : CellSet)
+pub cells_hold : (s : Setting) (m : Memory) (addresses : List (Option Address)) (k : Colours) (done : CellSet)
     → s.at_flip ≡ [] → ((id : Id) → IsTrue (s.is_read id)) → ImageStands s m addresses k done → CellsHold s.objects addresses m.words
 cells_hold s m addresses k done none all_read st id i o n c l cell =
     holds_now s addresses (head_of_body o.body) c (slice_index m.words n) none (st.words.cells id i o n c (all_read id) l cell)
+
+pub resting_arena_holds_images : RestingArenaHoldsImages
+resting_arena_holds_images s w st live =
+    let setting = setting_at_rest s w.graph.objects w.graph.points w.point_memories (pool_layout w) in
+    (resting_words_are_images w s.words (record {
+      within = λ id i o n l. let lt = st.placed.within id i o n l in omega (arith, lt, st.words.long);
+      live = live;
+    })).0 (cells_hold setting (memory_in s) w.addresses no_colours (black_cells [] no_colours) refl (λ id. refl) st)

@@ -6,8 +6,9 @@ use Rattle.mps_model.specs.Graph.{Cell, HeadCell, NumberCell, ReferenceCell, Aut
 use Rattle.mps_model.specs.Checked.{head_of_body}
 use Rattle.mps_model.specs.World.{World, address_of, words_of, empty_world}
 use Rattle.mps_model.specs.Image.{image_of}
-use Rattle.mps_image.specs.Memory.{Lies, all_cells}
-use Rattle.mps_image.specs.Image.{IsCellWord}
+use Rattle.mps_seg.specs.Segs.{SegsState}
+use Rattle.mps_image.specs.Memory.{Lies, all_cells, memory_in, setting_at_rest, pool_layout}
+use Rattle.mps_image.specs.Image.{IsCellWord, Stands, no_colours}
 
 -- each word of a live object is that of its cell, and no address of a flip is left
 abbrev pub CellsHold : List Object → List (Option Address) → List ℕ → Type 0
@@ -20,17 +21,32 @@ abbrev pub HoldsImages : World → List ℕ → Type 0
 HoldsImages w words =
     (id : Id) (at : Address) → address_of w id ≡ Some at → slice_range words (word_of at) (word_of at + words_of w id) ≡ image_of w id
 
+-- what live objects refer to is live
+abbrev pub AreTargetsLive : List Object → List (Option Address) → Type 0
+AreTargetsLive objects addresses =
+    (id i : ℕ) (o : Object) (n : Word) (c : Cell) (t : Id) → Lies objects addresses id i o n → slice_get (all_cells o.body) i ≡ Some c
+    → target_of_cell c ≡ Some t → (to : Address) × (entry_at addresses t ≡ Some to)
+
 -- live objects lie within these words, and what they refer to is live
 pub record AreSelfContained (objects : List Object) (addresses : List (Option Address)) (words : List ℕ) : Type 0 where
   pub within : (id i : ℕ) (o : Object) (n : Word) → Lies objects addresses id i o n → n < length words
-  pub live : (id i : ℕ) (o : Object) (n : Word) (c : Cell) (t : Id) → Lies objects addresses id i o n → slice_get (all_cells o.body) i ≡ Some c
-      → target_of_cell c ≡ Some t → (to : Address) × (entry_at addresses t ≡ Some to)
+  pub live : AreTargetsLive objects addresses
 
 -- where no collection runs, the words of each live object are its image exactly where its cells' words refer to addresses of now
 abbrev pub RestingWordsAreImages : Type 0
 RestingWordsAreImages =
     (w : World) (words : List ℕ) → AreSelfContained w.graph.objects w.addresses words
     → CellsHold w.graph.objects w.addresses words ↔ HoldsImages w words
+
+-- the segments of an arena in which no collection runs stand for a world
+abbrev pub StandsAtRest : SegsState → World → Type 0
+StandsAtRest s w =
+    Stands (setting_at_rest s w.graph.objects w.graph.points w.point_memories (pool_layout w)) (memory_in s) w.addresses no_colours
+
+-- so where no collection runs, the words of each live object are its image
+abbrev pub RestingArenaHoldsImages : Type 0
+RestingArenaHoldsImages =
+    (s : SegsState) (w : World) → StandsAtRest s w → AreTargetsLive w.graph.objects w.addresses → HoldsImages w s.words
 
 -- ---- vectors: object 0 at 0x1000 refers to itself, with the tag 3
 

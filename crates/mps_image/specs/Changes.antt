@@ -1,9 +1,11 @@
 -- What a client's call changes, by what it does: a cell is written, an object is made or goes, or reservations change. The memory
 -- then stands for the objects as before.
 use Rattle.std.specs.Prelude.{◌≡◌, ◌≢◌, ◌⊎◌, ℕ, ◌+◌, ◌<◌, Bool, true, false, IsTrue, Option, Some, None, List, [], ◌∷◌, ◌++◌, length, slice_get, slice_set, slice_index, refl}
+use Rattle.std.proofs.Common.{ap, arith, inl, inr, ◌∙◌}
+use Rattle.std.proofs.lemmas.Option.{same_Some}
 use Rattle.mps_base.specs.Address.{Address, Id, Word, word_of}
 use Rattle.mps_base.specs.Run.{with_run, without_run}
-use Rattle.mps_model.specs.Graph.{Cell, Object, Point, Reservation, entry_at, size_of, target_of_cell}
+use Rattle.mps_model.specs.Graph.{Cell, HeadCell, NumberCell, ReferenceCell, Manual, Object, Point, Reservation, entry_at, size_of, target_of_cell}
 use Rattle.mps_model.specs.Checked.{head_of_body}
 use Rattle.mps_model.specs.World.{PointMemory, extent, extents_of}
 use Rattle.mps_colours.specs.Colours.{Colours, is_white, is_grey}
@@ -139,3 +141,43 @@ pub record AreReserved (s : Setting) (m m' : Memory) (addresses : List (Option A
   pub written : (n : Word) → (slice_index m'.words n ≡ slice_index m.words n)
       ⊎ ((point : ℕ) × (i : ℕ) × (r : Reservation) × LiesReserved points memories point i r n)
   pub clear : (point i : ℕ) (r : Reservation) (n : Word) → LiesReserved points memories point i r n → IsUnforwarded s addresses n
+
+-- ---- vectors
+
+pub a_block_is_covered_too :
+    (memory_with_block (record {
+      words = [];
+      kept = λ n. false;
+      grey = λ n. false;
+      blocks = [];
+      reservations = record { from = 1; count = 2 } ∷ [];
+      covered = record { from = 1; count = 2 } ∷ [];
+    }) 24 2).covered
+    ≡ record { from = 1; count = 2 } ∷ record { from = 3; count = 2 } ∷ []
+a_block_is_covered_too = refl
+
+pub a_new_object_has_the_last_address : addresses_made (Some 8 ∷ None ∷ []) 24 ≡ Some 8 ∷ None ∷ Some 24 ∷ []
+a_new_object_has_the_last_address = refl
+
+abbrev number : (first second : ℕ) → Object
+number first second = record { pool = 0; body = Manual (first ∷ second ∷ []) }
+
+-- word 1 is written, and word 0 changes too
+pub another_cell_that_changes : IsCellChanged (number 5 6 ∷ []) (number 4 7 ∷ []) 0 1 (NumberCell 7) → ⊥
+another_cell_that_changes changed =
+    let was = changed.was 0 (number 4 7) refl in of_cells was.object was.there (was.cells 0 (NumberCell 4) refl)
+  where
+    number_of : Cell → ℕ
+    number_of (NumberCell n) = n
+    number_of HeadCell = 0
+    number_of (ReferenceCell t tag) = 0
+
+    of_cells : (was : Object) → Some (number 5 6) ≡ Some was
+        → ((◌≡◌ {A = ℕ} 0 0 × ◌≡◌ {A = ℕ} 0 1 → ⊥) × (slice_get (all_cells was.body) 0 ≡ Some (NumberCell 4)))
+        ⊎ (◌≡◌ {A = ℕ} 0 0 × ◌≡◌ {A = ℕ} 0 1 × (NumberCell 4 ≡ NumberCell 7)) → ⊥
+    of_cells was there (inr e) = omega (arith, e.1)
+    of_cells was there (inl e) =
+        let same : number 5 6 ≡ was = same_Some (number 5 6) was there in
+        let cell : Some (NumberCell 5) ≡ Some (NumberCell 4) = ap (λ (o : Object). slice_get (all_cells o.body) 0) same ∙ e.1 in
+        let number : 5 ≡ 4 = ap number_of (same_Some (NumberCell 5) (NumberCell 4) cell) in
+        omega (arith, number)

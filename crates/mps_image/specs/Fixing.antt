@@ -1,9 +1,11 @@
 -- What a collector does with one address and with one reference word, in words and in ids.
-use Rattle.std.specs.Prelude.{◌≡◌, ◌≢◌, ℕ, ◌+◌, ◌<◌, ◌≤◌, Bool, true, false, IsTrue, Option, Some, None, List, slice_get, slice_set, slice_index, length, drop}
+use Rattle.std.specs.Prelude.{◌≡◌, ◌≢◌, ℕ, ◌+◌, ◌<◌, ◌≤◌, Bool, true, false, ◌==◌, IsTrue, Option, Some, None, List, [], ◌∷◌, slice_get, slice_set, slice_index, length, drop, refl}
+use Rattle.std.proofs.Common.{arith, lit<}
 use Rattle.mps_base.specs.Address.{Address, Id, Word, word_of}
 use Rattle.mps_base.specs.Run.{Run, with_run, without_run}
 use Rattle.mps_format.specs.Layout.{Layout, IsBlockSize}
 use Rattle.mps_format.specs.Blocks.{BeginsForwarded}
+use Rattle.mps_format.specs.Front.{front_layout}
 use Rattle.mps_model.specs.Graph.{Object, Reservation, entry_at, is_automatic}
 use Rattle.mps_model.specs.World.{extent}
 use Rattle.mps_colours.specs.Colours.{Colours, is_white, keeping}
@@ -148,3 +150,25 @@ pub record IsFixedCell (s : Setting) (m : Memory) (addresses : List (Option Addr
   pub colours_after : Colours
   pub step : FixesOne s.condemned addresses k target addresses_after colours_after
   pub stands : ImageStands s m addresses_after colours_after (with_cell done holder i)
+
+-- ---- vectors: a block of two words at 24 is copied to 40
+
+pub its_run_is_taken_out_and_put_in :
+    run_moved_in (record { from = 1; count = 2 } ∷ record { from = 3; count = 2 } ∷ []) 24 40 2
+    ≡ record { from = 1; count = 2 } ∷ record { from = 5; count = 2 } ∷ []
+its_run_is_taken_out_and_put_in = refl
+
+pub no_other_address_changes : address_moved (Some 8 ∷ Some 24 ∷ []) 1 40 ≡ Some 8 ∷ Some 40 ∷ []
+no_other_address_changes = refl
+
+pub a_mark_that_is_left : AreMarksMoved (λ n. n == 3) (λ n. false) (λ n. n == 3) (λ n. n == 5) 3 5 → ⊥
+a_mark_that_is_left m = let e : true ≡ false = m.kept_clear in absurd cc
+
+pub a_word_that_is_not_copied :
+    AreCopied front_layout (0 ∷ 0 ∷ 0 ∷ 0x201 ∷ 7 ∷ 0 ∷ 0 ∷ []) (0 ∷ 0 ∷ 0 ∷ 0x204 ∷ 40 ∷ 0x201 ∷ 0 ∷ []) 24 40 2 → ⊥
+a_word_that_is_not_copied c = let e : 0 ≡ 7 = c.copied 1 (lit< tt) in omega (arith, e)
+
+-- the forwarding word leads to the old address
+pub a_block_that_leads_nowhere :
+    AreCopied front_layout (0 ∷ 0 ∷ 0 ∷ 0x201 ∷ 7 ∷ 0 ∷ 0 ∷ []) (0 ∷ 0 ∷ 0 ∷ 0x204 ∷ 24 ∷ 0x201 ∷ 7 ∷ []) 24 40 2 → ⊥
+a_block_that_leads_nowhere c = let e : 24 ≡ 40 = c.leads in omega (arith, e)

@@ -69,20 +69,26 @@ pool_over_word s n = option_map (λ t. t.pool) (segment_over s.segments (address
 abbrev pub is_condemned_word : SegsState → Word → Bool
 is_condemned_word s n = is_condemned_at s (address_of_word n)
 
--- a setting where no collection runs, with the segments of an arena
-abbrev pub setting_at_rest : SegsState → List Object → List (Option Point) → List PointMemory → (layout : ℕ → Layout) → Setting
-setting_at_rest s objects points memories layout = record {
+-- the setting of objects, points and pools in an arena, where these are the addresses at the flip, the objects that it condemned, and
+-- those whose words are read
+abbrev pub setting_in : SegsState → List Object → List (Option Point) → List PointMemory → (layout : ℕ → Layout)
+    → (at_flip : List (Option Address)) → (condemned : List Id) → (is_read : Id → Bool) → Setting
+setting_in s objects points memories layout at_flip condemned is_read = record {
   objects = objects;
   points = points;
   point_memories = memories;
   layout = layout;
-  at_flip = [];
-  condemned = [];
-  is_read = λ id. true;
+  at_flip = at_flip;
+  condemned = condemned;
+  is_read = is_read;
   size = words_of_arena s.grains;
   pool_over = pool_over_word s;
   is_condemned_over = is_condemned_word s;
 }
+
+-- the setting where no collection runs
+abbrev pub setting_at_rest : SegsState → List Object → List (Option Point) → List PointMemory → (layout : ℕ → Layout) → Setting
+setting_at_rest s objects points memories layout = setting_in s objects points memories layout [] [] (λ id. true)
 
 -- the format of a pool's blocks in a world
 abbrev pub pool_layout : World → (pool : ℕ) → Layout

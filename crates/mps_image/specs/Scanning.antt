@@ -1,11 +1,14 @@
 -- What a collector does with all references of one block, in words.
-use Rattle.std.specs.Prelude.{◌≡◌, ℕ, ◌+◌, ◌<◌, false, IsTrue, Option, Some, List, slice_get, slice_index}
+use Rattle.std.specs.Prelude.{◌≡◌, ℕ, ◌+◌, ◌<◌, Bool, true, false, ◌==◌, if◌then◌else◌, IsTrue, Option, Some, None, List, [], ◌∷◌, slice_get, slice_index, refl}
+use Rattle.std.proofs.Common.{arith}
+use Rattle.std.proofs.lemmas.Option.{none-some, same_Some}
 use Rattle.mps_base.specs.Address.{Address, Id, Word, word_of}
 use Rattle.mps_format.specs.Layout.{Layout}
 use Rattle.mps_model.specs.Graph.{ReferenceCell, Object, entry_at, size_of, is_automatic}
 use Rattle.mps_model.specs.Checked.{head_of_body}
 use Rattle.mps_colours.specs.Colours.{Colours, is_white, is_black}
 use Rattle.mps_image.specs.Memory.{Setting, Memory, all_cells}
+use Rattle.mps_image.specs.Image.{no_colours}
 use Rattle.mps_image.specs.Fixing.{FixWord, FixesOne}
 
 -- a setting with other segments
@@ -56,3 +59,15 @@ pub record LeavesOthers (condemned : List Id) (addresses addresses' : List (Opti
   pub not_white : (id : Id) → is_white condemned k id ≡ false → is_white condemned k' id ≡ false
   pub live : (id : Id) (at : Address) → entry_at addresses id ≡ Some at → (to : Address) × (entry_at addresses' id ≡ Some to)
   pub black : (id : Id) → IsTrue (is_black condemned k' id) → IsTrue (is_black condemned k id)
+
+-- ---- vectors
+
+pub a_segment_that_is_given_back_is_held_no_more : HoldsMore (λ n. Some 1) (λ n. if n == 512 then None else Some 1) → ⊥
+a_segment_that_is_given_back_is_held_no_more more = none-some 1 (more 512 1 refl)
+
+-- object 0 isn't white, and has moved
+pub what_is_black_stays : LeavesOthers [] (Some 8 ∷ []) (Some 24 ∷ []) no_colours no_colours → ⊥
+what_is_black_stays l = let e : 24 ≡ 8 = same_Some 24 8 (l.there 0 8 refl refl) in omega (arith, e)
+
+pub what_is_live_stays_live : LeavesOthers [] (Some 8 ∷ []) (None ∷ []) no_colours no_colours → ⊥
+what_is_live_stays_live l = let e = l.live 0 8 refl in none-some e.0 e.1

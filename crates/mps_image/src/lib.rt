@@ -2,13 +2,18 @@
 //! Each function does nothing; what it shows is its contract.
 #![tactic(auto)]
 
-ghost use Rattle.mps_image.specs.AtRest.{RestingWordsAreImages};
+ghost use Rattle.mps_image.specs.AtRest.{RestingWordsAreImages, RestingArenaHoldsImages};
 ghost use Rattle.mps_image.specs.Steps.{AFixIsAStep};
 ghost use Rattle.mps_image.specs.Laws.{AnAddressIsFixed, AWordIsFixed, AScanBlackens, ACellIsWritten, AnObjectIsMade, ABlockGoes, ReservationsChange, AFlipBegins, FreeingBegins, ACollectionEnds, WellFormedIsShaped};
 
 /// Where no collection runs, the words of each live block are its image exactly where its cells' words refer to addresses of now.
 pub fn resting_words_are_images()
     ensures { RestingWordsAreImages }
+{}
+
+/// Where no collection runs, the words of each live block are its image.
+pub fn a_resting_arena_holds_images()
+    ensures { RestingArenaHoldsImages }
 {}
 
 /// A fix of an address is one fix of the object that the address means, and the words stand for the objects as before.
