@@ -9,7 +9,8 @@ use Rattle.mps_image.specs.Fixing.{AreAtHand, address_moved}
 use Rattle.mps_image.specs.AtHand.{Hand, HandsStand, AreTaken}
 use Rattle.mps_image.proofs.Copied.{IsMove, lies_moved}
 
-pub at_hand : (s : Setting) (hand : Word → Option Hand) (addresses : List (Option Address)) (to size : ℕ) (p : Hand) → HandsStand s hand addresses
+pub at_hand : (s : Setting) (hand : Word → Option Hand) (addresses : List (Option Address)) (to size : ℕ) (p : Hand)
+    → HandsStand s hand addresses
     → IsAddress to → 0 < size → ((k : ℕ) → k < size → hand (word_of to + k) ≡ Some p) → AreAtHand s addresses to size p.pool
 at_hand s hand addresses to size p h address positive all = record {
   address = address;
@@ -21,7 +22,8 @@ at_hand s hand addresses to size p h address positive all = record {
   home = λ k lt. h.home (word_of to + k) p (all k lt);
 }
 
-pub hands_moved : (s : Setting) (hand hand' : Word → Option Hand) (addresses : List (Option Address)) (k : Colours) (t : Id) (from to : Address)
+pub hands_moved : (s : Setting) (hand hand' : Word → Option Hand) (addresses : List (Option Address)) (k : Colours) (t : Id)
+    (from to : Address)
     (o : Object) → LieApart s addresses → IsMove s addresses k t from to o → AreTaken hand hand' (word_of to) (size_of o)
     → HandsStand s hand addresses → HandsStand s hand' (address_moved addresses t to)
 hands_moved s hand hand' addresses k t from to o placed v taken h = record {

@@ -1,7 +1,7 @@
 -- Where no collection runs, the words of each live object are its image.
 use Rattle.std.proofs.Common.{◌≡◌, ◌∙◌, ℕ, zero, suc, ◌+◌, ◌-◌, ◌<◌, refl, sym, ap, List, [], ◌∷◌, length, Option, Some, None, inl, inr, arith, slice_index}
 use Rattle.std.proofs.lemmas.Option.{none-some, same_Some, slice_get-map, get_or_from_slice_get}
-use Rattle.std.proofs.lemmas.List.{ext_get_or, get_or-drop, get_or-take, length-map, length-drop}
+use Rattle.std.proofs.lemmas.List.{ext_get_or, get_or-drop, get_or-take, length-map, length-drop, length-take}
 use Rattle.std.specs.Prelude.{slice_get, slice_range, get_or, take, drop, map, option_map, IsTrue}
 use Rattle.std.specs.Option.{option_map_or}
 use Rattle.mps_base.specs.Address.{Address, Id, word_of}
@@ -93,13 +93,14 @@ module _ (w : World) where
         ∙ sym (word_in_image i c.0 c.1))
       where
         length_is : length (slice_range words (word_of at) (word_of at + size_of o)) ≡ size_of o
-        length_is = fits (size_of o) (λ lt. whole.within id (size_of o - 1) o (word_of at + (size_of o - 1)) (lies (size_of o - 1) (omega (arith, lt))))
+        length_is = fits (size_of o) (λ lt. whole.within id (size_of o - 1) o (word_of at + (size_of o - 1))
+            (lies (size_of o - 1) (omega (arith, lt))))
           where
             fits : (size : ℕ) → (0 < size → word_of at + (size - 1) < length words)
                 → length (slice_range words (word_of at) (word_of at + size)) ≡ size
             fits zero f = ap (λ n. length (take n (drop (word_of at) words))) (let e : word_of at + 0 - word_of at ≡ 0 = omega arith in e)
             fits (suc n) f =
-                Rattle.std.proofs.lemmas.List.length-take (word_of at + suc n - word_of at) (drop (word_of at) words)
+                length-take (word_of at + suc n - word_of at) (drop (word_of at) words)
                 ∙ omega (arith, f (omega arith), length-drop (word_of at) words)
 
     from_image : slice_range words (word_of at) (word_of at + size_of o) ≡ image_of_body w o.body → (i : ℕ) (c : Cell) → i < size_of o

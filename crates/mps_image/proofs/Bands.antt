@@ -36,7 +36,8 @@ module _ (s : Setting) (m m' : Memory) (addresses : List (Option Address)) (k k'
     placed = placed;
     words = record {
       long = ap length same ∙ st.words.long;
-      cells = λ id i o n c read l cell. holds_still addresses addresses (head_of_body o.body) c (slice_index m'.words n) (word id i o n c l cell);
+      cells = λ id i o n c read l cell. holds_still addresses addresses (head_of_body o.body) c (slice_index m'.words n)
+          (word id i o n c l cell);
       forwarded = λ id from to o was now x object. absurd (x (same_Some from to (sym was ∙ now)));
     };
     fixed = record {
@@ -112,7 +113,8 @@ collection_ends s m m' addresses k k' is_condemned_over none_white none_grey sam
     cells = λ id i o n c d l cell. record { holds = (fixed id i o n c l cell).holds; not_white = λ t x. refl };
     reserved = λ point i r n c l cell.
         record {
-          holds = subst (λ ws. IsCellWord addresses [] r.head c (slice_index ws n)) (sym same) (st.fixed.reserved point i r n c l cell).holds;
+          holds = subst (λ ws. IsCellWord addresses [] r.head c (slice_index ws n)) (sym same)
+              (st.fixed.reserved point i r n c l cell).holds;
           not_white = λ t x. refl;
         };
   };

@@ -1,10 +1,10 @@
 -- One cell of one object is changed: a number or a reference of an automatic object, or a word of a manual one.
-use Rattle.std.proofs.Common.{◌≡◌, ◌∙◌, ◌⊎◌, ℕ, zero, suc, ◌+◌, ◌<◌, Bool, refl, sym, ap, List, [], ◌∷◌, length, map, Option, Some, None, subst, inl, inr, arith}
+use Rattle.std.proofs.Common.{◌≡◌, ◌∙◌, ◌⊎◌, ℕ, zero, suc, Bool, refl, sym, ap, List, [], ◌∷◌, map, Option, Some, None, subst, inl, inr, arith}
 use Rattle.std.proofs.lemmas.Bool.{cases_eq}
 use Rattle.std.proofs.lemmas.Option.{none-some, same_Some}
 use Rattle.std.proofs.lemmas.List.{length-set}
 use Rattle.std.specs.Prelude.{slice_get, slice_set, ◌≢◌, IsTrue}
-use Rattle.mps_base.specs.Address.{Address, Id, word_of}
+use Rattle.mps_base.specs.Address.{Address, Id}
 use Rattle.std.specs.Option.{option_map_or}
 use Rattle.mps_model.specs.Graph.{Cell, NumberCell, ReferenceCell, Body, Automatic, Manual, Object, retargeted, with_target_cell, size_of, size_of_body}
 use Rattle.mps_model.specs.Checked.{head_of_body}
@@ -19,7 +19,8 @@ use Rattle.mps_image.proofs.Entries.{slice_get-set_same, slice_get-set_other}
 pub record IsBodyChanged (b b' : Body) (i : ℕ) (new : Cell) : Type 0 where
   pub size : size_of_body b ≡ size_of_body b'
   pub head : head_of_body b ≡ head_of_body b'
-  pub cells : (j : ℕ) (c : Cell) → slice_get (all_cells b') j ≡ Some c → ((j ≢ i) × (slice_get (all_cells b) j ≡ Some c)) ⊎ ((j ≡ i) × (c ≡ new))
+  pub cells : (j : ℕ) (c : Cell) → slice_get (all_cells b') j ≡ Some c
+      → ((j ≢ i) × (slice_get (all_cells b) j ≡ Some c)) ⊎ ((j ≡ i) × (c ≡ new))
 
 set_cases : {X : Type 0} (xs : List X) (i : ℕ) (new : X) (j : ℕ) (x : X) → slice_get (slice_set xs i new) j ≡ Some x
     → ((j ≢ i) × (slice_get xs j ≡ Some x)) ⊎ ((j ≡ i) × (x ≡ new))
@@ -54,7 +55,8 @@ manual_changed words i word = record {
 }
 
 -- a reference with another target is one cell changed
-pub target_changed : (cells : List Cell) (i tag : ℕ) (was : Option Id) (target : Option Id) → slice_get cells i ≡ Some (ReferenceCell was tag)
+pub target_changed : (cells : List Cell) (i tag : ℕ) (was : Option Id) (target : Option Id)
+    → slice_get cells i ≡ Some (ReferenceCell was tag)
     → with_target_cell cells i target ≡ slice_set cells i (ReferenceCell target tag)
 target_changed cells i tag was target e =
     ap (λ found. option_map_or (λ cell. slice_set cells i (retargeted cell target)) found cells) e
@@ -86,6 +88,7 @@ cell_changed objects id o body i new object changed = record {
   where
     o' : Object
     o' = record o { body = body }
+
     which : (j : Id) (p : Object) → slice_get (slice_set objects id (record o { body = body })) j ≡ Some p → (j ≡ id) ⊎ (j ≢ id)
         → Was objects j p id i new
     which j p there (inr n) = record {

@@ -1,13 +1,13 @@
 -- The runs of blocks, of reservations and of both, after a block was committed or allocated, and after a reservation was made or ended.
-use Rattle.std.proofs.Common.{◌≡◌, ◌∙◌, ℕ, zero, suc, ◌+◌, refl, sym, ap, List, [], ◌∷◌, ◌++◌, length, Option, Some, None, subst, arith, append-nil}
+use Rattle.std.proofs.Common.{◌≡◌, ◌∙◌, ℕ, zero, suc, refl, sym, ap, List, [], ◌∷◌, ◌++◌, length, Option, Some, None, subst, append-nil}
 use Rattle.std.proofs.lemmas.Option.{none-some, same_Some}
 use Rattle.std.proofs.lemmas.List.{append_assoc}
 use Rattle.std.specs.Prelude.{slice_get, slice_set, option_and_then, Bool, true, false, if◌then◌else◌, ◌≢◌}
-use Rattle.mps_base.specs.Address.{Address, Id, Word, word_of}
+use Rattle.mps_base.specs.Address.{Address, Word, word_of}
 use Rattle.mps_base.specs.Run.{Run, in_order, with_run, without_run}
 use Rattle.mps_model.specs.Graph.{Object, Point, Reservation, entry_at, size_of, is_live_reservation}
 use Rattle.mps_model.specs.World.{PointMemory, extent, extents_of, extent_of_reservation, reserved_extents}
-use Rattle.mps_image.specs.Memory.{Setting, Memory, Lies, LiesReserved, live_reservation}
+use Rattle.mps_image.specs.Memory.{Setting, Memory, Lies, live_reservation}
 use Rattle.mps_image.specs.Image.{LieApart, RunsStand}
 use Rattle.mps_image.specs.Changes.{setting_made, addresses_made, setting_with_points, memory_with_block, memory_with_reservation, memory_without_reservation}
 use Rattle.mps_image.proofs.InOrder.{BeginElsewhere, all_append, in_order-with, in_order-without}
@@ -23,7 +23,8 @@ blocks_elsewhere s addresses n placed free =
 
 -- ---- a block
 
-pub runs_made : (s : Setting) (m : Memory) (addresses : List (Option Address)) (o : Object) (at : Address) → length addresses ≡ length s.objects
+pub runs_made : (s : Setting) (m : Memory) (addresses : List (Option Address)) (o : Object) (at : Address)
+    → length addresses ≡ length s.objects
     → LieApart s addresses → ((id i : ℕ) (p : Object) → Lies s.objects addresses id i p (word_of at) → ⊥) → RunsStand s m addresses
     → RunsStand (setting_made s o s.points s.point_memories) (memory_with_block m at (size_of o)) (addresses_made addresses at)
 runs_made s m addresses o at numbered placed free r =
@@ -95,7 +96,7 @@ module _ (s : Setting) (m : Memory) (addresses : List (Option Address)) (i : ℕ
       → ((j : ℕ) (r : Reservation) (n : PointMemory) → j ≢ i → live_reservation (entry_at s.points j) ≡ Some r
       → slice_get s.point_memories j ≡ Some n → word_of n.reserved_at ≢ word_of there.reserved_at)
       → RunsStand (setting_with_points s (slice_set s.points i (Some p')) (slice_set s.point_memories i there))
-        (memory_with_reservation m there.reserved_at (length q.cells)) addresses
+      (memory_with_reservation m there.reserved_at (length q.cells)) addresses
   runs_reserved p' q there none live elsewhere apart =
       let d = parted_points s.points s.point_memories i p memory point has in
       let new = extent there.reserved_at (length q.cells) in
@@ -112,10 +113,11 @@ module _ (s : Setting) (m : Memory) (addresses : List (Option Address)) (i : ℕ
             ap (with_run new) (r.reservations ∙ ap in_order was)
             ∙ sym (ap in_order is ∙ in_order-with d.before new d.after others.0);
         covered =
-            ap (with_run new) (r.covered ∙ ap (λ rs. in_order (blocks ++ rs)) was ∙ ap in_order (sym (append_assoc blocks d.before d.after)))
+            ap (with_run new) (r.covered ∙ ap (λ rs. in_order (blocks ++ rs)) was
+            ∙ ap in_order (sym (append_assoc blocks d.before d.after)))
             ∙ sym (ap (λ rs. in_order (blocks ++ rs)) is ∙ ap in_order (sym (append_assoc blocks d.before (new ∷ d.after)))
             ∙ in_order-with (blocks ++ d.before) new d.after
-              (all_append (λ (x : Run). x.from ≢ word_of there.reserved_at) blocks d.before elsewhere others.0));
+            (all_append (λ (x : Run). x.from ≢ word_of there.reserved_at) blocks d.before elsewhere others.0));
       }
 
   -- a live reservation ends: it is abandoned, or committed
@@ -123,7 +125,8 @@ module _ (s : Setting) (m : Memory) (addresses : List (Option Address)) (i : ℕ
       → BeginElsewhere (word_of memory.reserved_at) blocks
       → ((j : ℕ) (r : Reservation) (n : PointMemory) → j ≢ i → live_reservation (entry_at s.points j) ≡ Some r
       → slice_get s.point_memories j ≡ Some n → word_of n.reserved_at ≢ word_of memory.reserved_at)
-      → RunsStand (setting_with_points s (slice_set s.points i (Some p')) s.point_memories) (memory_without_reservation m memory.reserved_at) addresses
+      → RunsStand (setting_with_points s (slice_set s.points i (Some p')) s.point_memories)
+      (memory_without_reservation m memory.reserved_at) addresses
   runs_ended p' q live none elsewhere apart =
       let d = parted_points s.points s.point_memories i p memory point has in
       let old = extent memory.reserved_at (length q.cells) in
@@ -145,7 +148,7 @@ module _ (s : Setting) (m : Memory) (addresses : List (Option Address)) (i : ℕ
             (r.covered ∙ ap (λ rs. in_order (blocks ++ rs)) was ∙ ap in_order (sym (append_assoc blocks d.before (old ∷ d.after))))
             ∙ sym (ap (λ rs. in_order (blocks ++ rs)) is ∙ ap in_order (sym (append_assoc blocks d.before d.after))
             ∙ in_order-without (blocks ++ d.before) old d.after
-              (all_append (λ (x : Run). x.from ≢ word_of memory.reserved_at) blocks d.before elsewhere others.0) others.1);
+            (all_append (λ (x : Run). x.from ≢ word_of memory.reserved_at) blocks d.before elsewhere others.0) others.1);
       }
 
   -- the cells of a live reservation are written: it has as many as before

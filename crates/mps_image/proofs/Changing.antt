@@ -2,7 +2,7 @@
 use Rattle.std.proofs.Common.{◌≡◌, ◌∙◌, ◌⊎◌, ℕ, ◌+◌, ◌<◌, refl, sym, ap, List, [], length, Option, Some, None, subst, inl, inr, slice_index}
 use Rattle.std.proofs.lemmas.Bool.{false≢true}
 use Rattle.std.proofs.lemmas.Option.{none-some, same_Some}
-use Rattle.std.specs.Prelude.{slice_get, drop, ◌≢◌, IsTrue, Bool, false, true}
+use Rattle.std.specs.Prelude.{slice_get, drop, ◌≢◌, IsTrue, false}
 use Rattle.mps_base.specs.Address.{Address, Id, Word, word_of}
 use Rattle.mps_format.specs.Blocks.{BeginsForwarded}
 use Rattle.mps_model.specs.Graph.{Cell, HeadCell, NumberCell, ReferenceCell, Object, Point, Reservation, entry_at, size_of, target_of_cell}
@@ -10,7 +10,7 @@ use Rattle.mps_model.specs.Checked.{head_of_body}
 use Rattle.mps_model.specs.World.{PointMemory}
 use Rattle.mps_colours.specs.Colours.{Colours}
 use Rattle.mps_image.specs.Memory.{Setting, Lies, LiesReserved, all_cells}
-use Rattle.mps_image.specs.Image.{MeansAt, IsCellWord, IsForwarded, WordsStand, IsFixed, CellSet, FixedCellsStand}
+use Rattle.mps_image.specs.Image.{IsCellWord, IsForwarded, WordsStand, IsFixed, CellSet, FixedCellsStand}
 use Rattle.mps_image.specs.Changes.{setting_with, IsUnforwarded}
 use Rattle.mps_image.proofs.Forwarded.{forwarded_still}
 use Rattle.mps_image.proofs.Written.{holds_still}

@@ -48,7 +48,8 @@ module _ (s : Setting) (addresses : List (Option Address)) (k : Colours) (t : Id
   was_there i lt = record { at = from; address = v.there; object = v.object; within = lt; is = refl }
 
   -- the words of others are neither where it was nor where it comes
-  not_from : (id i : ℕ) (p : Object) (n : Word) → id ≢ t → Lies s.objects addresses id i p n → (q : ℕ) → q < size_of o → n ≢ word_of from + q
+  not_from : (id i : ℕ) (p : Object) (n : Word) → id ≢ t → Lies s.objects addresses id i p n → (q : ℕ) → q < size_of o
+      → n ≢ word_of from + q
   not_from id i p n x l q lt e =
       x (placed.apart id t i q p o (word_of from + q) (subst (λ y. Lies s.objects addresses id i p y) e l) (was_there q lt))
 
@@ -129,7 +130,8 @@ module _ (s : Setting) (addresses : List (Option Address)) (k : Colours) (t : Id
         | inr n ↦ inl (entry_at-set_other addresses t id (Some to) n ∙ e)
       ]
 
-  cell_moved : (head : ℕ) (c : Cell) (word : ℕ) → IsCellWord addresses s.at_flip head c word → IsCellWord addresses_after s.at_flip head c word
+  cell_moved : (head : ℕ) (c : Cell) (word : ℕ) → IsCellWord addresses s.at_flip head c word
+      → IsCellWord addresses_after s.at_flip head c word
   cell_moved head HeadCell word h = h
   cell_moved head (NumberCell number) word h = h
   cell_moved head (ReferenceCell None tag) word h = h
@@ -236,7 +238,8 @@ module _ (s : Setting) (addresses : List (Option Address)) (k : Colours) (t : Id
       ];
     }
 
-    pub fixed_copied : (done : CellSet) → FixedCellsStand s words addresses k done → FixedCellsStand s words' addresses_after (keeping k t) done
+    pub fixed_copied : (done : CellSet) → FixedCellsStand s words addresses k done
+        → FixedCellsStand s words' addresses_after (keeping k t) done
     fixed_copied done f = record {
       cells = λ id i p n c d l cell.
           let was = came_from id i p n l in

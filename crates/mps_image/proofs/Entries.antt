@@ -1,11 +1,12 @@
 -- What stands in a list after a write, and what the entries of a list of options are then.
-use Rattle.std.proofs.Common.{◌≡◌, ◌∙◌, ◌⊎◌, ℕ, zero, suc, ◌<◌, refl, sym, ap, List, [], ◌∷◌, ◌++◌, length, Option, Some, None, inl, inr, arith}
+use Rattle.std.proofs.Common.{◌≡◌, ◌∙◌, ◌⊎◌, ℕ, zero, suc, ◌<◌, refl, sym, ap, List, [], ◌∷◌, ◌++◌, length, Option, Some, None, inl, inr}
 use Rattle.std.proofs.lemmas.Bool.{cases_eq}
 use Rattle.std.proofs.lemmas.Option.{none-some, same_Some, slice_get_within}
 use Rattle.std.specs.Prelude.{slice_get, slice_set, option_and_then, ◌≢◌}
 use Rattle.mps_model.specs.Graph.{entry_at}
 
-pub slice_get-set_same : {X : Type 0} (xs : List X) (i : ℕ) (old new : X) → slice_get xs i ≡ Some old → slice_get (slice_set xs i new) i ≡ Some new
+pub slice_get-set_same : {X : Type 0} (xs : List X) (i : ℕ) (old new : X) → slice_get xs i ≡ Some old
+    → slice_get (slice_set xs i new) i ≡ Some new
 slice_get-set_same [] i old new is = absurd (none-some old is)
 slice_get-set_same (x ∷ xs) zero old new is = refl
 slice_get-set_same (x ∷ xs) (suc i) old new is = slice_get-set_same xs i old new is

@@ -68,7 +68,8 @@ parted_here o os (Some q) ps at e = record {
   others = λ P f. (tt, all_extents P os ps (λ j bt p e' h. f (suc j) bt p (λ x. omega (arith, x)) e' h));
 }
 
-pub parted : (objects : List Object) (addresses : List (Option Address)) (id : Id) (at : Address) (o : Object) → slice_get objects id ≡ Some o
+pub parted : (objects : List Object) (addresses : List (Option Address)) (id : Id) (at : Address) (o : Object)
+    → slice_get objects id ≡ Some o
     → entry_at addresses id ≡ Some at → Parted objects addresses id at (size_of o)
 parted [] addresses id at o e p = absurd (none-some o e)
 parted (q ∷ os) [] id at o e p = absurd (none-some at p)
@@ -77,7 +78,8 @@ parted (q ∷ os) (r ∷ ps) zero at o e p =
 parted (q ∷ os) (r ∷ ps) (suc id) at o e p = parted_later q os r ps id at (size_of o) (parted os ps id at o e p)
 
 -- one object more
-pub extents_made : (objects : List Object) (addresses : List (Option Address)) (o : Object) (at : Address) → length addresses ≡ length objects
+pub extents_made : (objects : List Object) (addresses : List (Option Address)) (o : Object) (at : Address)
+    → length addresses ≡ length objects
     → extents_of (objects ++ o ∷ []) (addresses ++ Some at ∷ []) ≡ extents_of objects addresses ++ extent at (size_of o) ∷ []
 extents_made [] [] o at long = refl
 extents_made [] (p ∷ ps) o at long = absurd (omega (arith, long))

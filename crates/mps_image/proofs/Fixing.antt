@@ -33,7 +33,8 @@ image_copied s m addresses k done t from to o words' kept' grey' st v copy b = r
 
 -- ---- an address is fixed
 
-module _ (s : Setting) (m : Memory) (addresses : List (Option Address)) (k : Colours) (done : CellSet) (shaped : AreShaped s.objects s.layout)
+module _ (s : Setting) (m : Memory) (addresses : List (Option Address)) (k : Colours) (done : CellSet)
+    (shaped : AreShaped s.objects s.layout)
     (st : ImageStands s m addresses k done) (t address now : ℕ) (p : Object) (x : Target s addresses t address now p) where
   at_there : address ≡ now → is_white s.condemned k t ≡ false → IsFixedAt s m addresses k done t address
   at_there e w = record {
@@ -157,7 +158,8 @@ holder_stays s addresses addresses' k k' t holder i o n (moved u from to w' e) w
   is = l.is;
 }
 
-module _ (s : Setting) (m : Memory) (addresses : List (Option Address)) (k : Colours) (done : CellSet) (shaped : AreShaped s.objects s.layout)
+module _ (s : Setting) (m : Memory) (addresses : List (Option Address)) (k : Colours) (done : CellSet)
+    (shaped : AreShaped s.objects s.layout)
     (all_read : (id : Id) → IsTrue (s.is_read id)) (st : ImageStands s m addresses k done) (holder i : ℕ) (o : Object) (n : Word) (tag : ℕ)
     (lies : Lies s.objects addresses holder i o n) where
   -- a null reference
@@ -218,7 +220,8 @@ module _ (s : Setting) (m : Memory) (addresses : List (Option Address)) (k : Col
         let found = references.found s m.words addresses shaped st.placed st.words all_read holder i o n tag lies t now cell there in
         let e : found.address ≡ address = sym found.read.target ∙ read in
         fix_object address found.object m' (subst (λ y. Target s addresses t y now found.object) e found.target)
-        (subst (λ y. references.ReadsAddress (s.layout o.pool) (slice_index m.words n) y tag) e found.read) (subst (λ y. 0 < y) e found.not_null) f
+        (subst (λ y. references.ReadsAddress (s.layout o.pool) (slice_index m.words n) y tag) e found.read)
+        (subst (λ y. 0 < y) e found.not_null) f
 
 -- a word is fixed, whatever it refers to
 pub fix_word : (s : Setting) (m : Memory) (addresses : List (Option Address)) (k : Colours) (done : CellSet) (holder i tag : ℕ) (o : Object)

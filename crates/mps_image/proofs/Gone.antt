@@ -1,18 +1,16 @@
 -- A block goes to which nothing refers that is read: a client frees a manual one, or a collection a white one.
-use Rattle.std.proofs.Common.{◌≡◌, ◌∙◌, ◌⊎◌, ℕ, ◌+◌, ◌<◌, Bool, true, false, refl, sym, ap, List, [], ◌∷◌, ◌++◌, length, Option, Some, None, subst, inl, inr, arith, slice_index}
-use Rattle.std.proofs.lemmas.Bool.{false≢true, true≢false, cases_eq, or_cases, or_left, or_right}
-use Rattle.std.proofs.lemmas.Option.{none-some, same_Some}
+use Rattle.std.proofs.Common.{◌≡◌, ◌∙◌, ℕ, ◌+◌, Bool, refl, sym, ap, List, ◌∷◌, ◌++◌, Option, Some, None, inl, inr}
+use Rattle.std.proofs.lemmas.Bool.{false≢true, cases_eq, or_cases, or_left, or_right}
+use Rattle.std.proofs.lemmas.Option.{same_Some}
 use Rattle.std.proofs.lemmas.List.{append_assoc}
-use Rattle.std.specs.Prelude.{slice_get, slice_set, not, ◌&&◌, ◌||◌, ◌≢◌, IsTrue}
+use Rattle.std.specs.Prelude.{slice_set, not, ◌&&◌, ◌||◌, ◌≢◌, IsTrue}
 use Rattle.mps_base.specs.Address.{Address, Id, Word, word_of}
 use Rattle.mps_base.specs.Run.{Run, in_order, without_run}
-use Rattle.mps_model.specs.Graph.{Cell, Object, Point, Reservation, entry_at, size_of, is_automatic, target_of_cell}
-use Rattle.mps_model.specs.Checked.{head_of_body}
+use Rattle.mps_model.specs.Graph.{Object, entry_at, size_of}
 use Rattle.mps_model.specs.World.{extent, extents_of, reserved_extents}
-use Rattle.mps_colours.specs.Colours.{Colours, is_white}
-use Rattle.mps_image.specs.Memory.{Setting, Memory, Lies, LiesReserved, BlockBegins, all_cells}
+use Rattle.mps_colours.specs.Colours.{Colours}
+use Rattle.mps_image.specs.Memory.{Setting, Memory, Lies, BlockBegins}
 use Rattle.mps_image.specs.Image.{LieApart, CellSet, MarksStand, RunsStand, ImageStands}
-use Rattle.mps_image.specs.Fixing.{IsMarkCleared}
 use Rattle.mps_image.specs.Changes.{memory_without_block, MayGo}
 use Rattle.mps_image.proofs.Entries.{entry_left, entry_at-set_other}
 use Rattle.mps_image.proofs.InOrder.{all_append, in_order-without}
@@ -21,7 +19,8 @@ use Rattle.mps_image.proofs.Marked.{begins_there, begins_apart}
 use Rattle.mps_image.proofs.Runs.{reserved_elsewhere}
 use Rattle.mps_image.proofs.Changing.{Change, CallChanges, words_changed, fixed_changed}
 
-module _ (s : Setting) (m : Memory) (addresses : List (Option Address)) (k : Colours) (done : CellSet) (t : Id) (from : Address) (o : Object)
+module _ (s : Setting) (m : Memory) (addresses : List (Option Address)) (k : Colours) (done : CellSet) (t : Id) (from : Address)
+    (o : Object)
     (kept' grey' : Word → Bool) (st : ImageStands s m addresses k done) (v : MayGo s m addresses done t from o kept' grey') where
   abbrev left : List (Option Address)
   left = slice_set addresses t None
@@ -167,7 +166,7 @@ module _ (s : Setting) (m : Memory) (addresses : List (Option Address)) (k : Col
             ap (without_run (word_of from)) (st.runs.covered ∙ ap in_order old)
             ∙ sym (ap in_order new
             ∙ in_order-without d.before (extent from (size_of o)) (d.after ++ reserved) others.0
-              (all_append (λ (x : Run). x.from ≢ word_of from) d.after reserved others.1 free));
+            (all_append (λ (x : Run). x.from ≢ word_of from) d.after reserved others.1 free));
       }
 
   pub image_gone : ImageStands s (memory_without_block m kept' grey' from) left k done

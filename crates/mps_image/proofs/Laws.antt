@@ -37,7 +37,8 @@ reservations_change s m m' addresses k done points memories st v = image_reserve
 
 pub flip_begins : AFlipBegins
 flip_begins s m m' addresses k k' done points memories condemned is_condemned_over none all_read same st placed targets doomed marks runs =
-    bands.flip_stands s m m' addresses k k' done points memories condemned is_condemned_over none all_read same st placed targets doomed marks
+    bands.flip_stands s m m' addresses k k' done points memories condemned is_condemned_over none all_read same st placed targets doomed
+    marks
     runs
 
 pub freeing_begins : FreeingBegins

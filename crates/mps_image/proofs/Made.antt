@@ -1,18 +1,18 @@
 -- An object is made: a block is committed in the place of a reservation, or allocated.
-use Rattle.std.proofs.Common.{◌≡◌, ◌∙◌, ◌⊎◌, ℕ, ◌+◌, ◌<◌, Bool, true, false, refl, sym, ap, List, [], ◌∷◌, ◌++◌, length, Option, Some, None, subst, inl, inr, arith, slice_index}
-use Rattle.std.proofs.lemmas.Bool.{false≢true, true≢false, cases_eq, cases_Bool, or_cases, or_left, or_right}
-use Rattle.std.proofs.lemmas.Option.{none-some, same_Some, slice_get_within}
-use Rattle.std.specs.Prelude.{slice_get, not, ◌&&◌, ◌||◌, ◌≢◌, IsTrue}
+use Rattle.std.proofs.Common.{◌≡◌, ◌∙◌, ◌⊎◌, ℕ, ◌+◌, ◌<◌, false, refl, sym, ap, List, [], ◌∷◌, ◌++◌, length, Option, Some, subst, inl, inr, arith, slice_index}
+use Rattle.std.proofs.lemmas.Bool.{true≢false, cases_eq, cases_Bool, or_cases, or_left, or_right}
+use Rattle.std.proofs.lemmas.Option.{none-some, slice_get_within}
+use Rattle.std.specs.Prelude.{slice_get, not, ◌&&◌, ◌≢◌}
 use Rattle.mps_base.specs.Address.{Address, Id, Word, word_of}
-use Rattle.mps_model.specs.Graph.{Cell, Object, Point, Reservation, entry_at, size_of, target_of_cell}
+use Rattle.mps_model.specs.Graph.{Object, Point, entry_at, size_of}
 use Rattle.mps_model.specs.Checked.{head_of_body}
 use Rattle.mps_model.specs.World.{PointMemory}
 use Rattle.mps_colours.specs.Colours.{Colours, is_white, is_grey}
 use Rattle.mps_image.specs.Memory.{Setting, Memory, Lies, LiesReserved, BlockBegins, all_cells}
-use Rattle.mps_image.specs.Image.{LieApart, IsFixed, CellSet, MarksStand, RunsStand, ImageStands, is_white_over}
-use Rattle.mps_image.specs.Changes.{setting_made, addresses_made, IsMade, IsUnforwarded}
-use Rattle.mps_image.proofs.Entries.{slice_get-last, entry_last, slice_get-pushed, slice_get-still, entry_pushed, entry_still, entry_within}
-use Rattle.mps_image.proofs.Marked.{begins_there, begins_apart}
+use Rattle.mps_image.specs.Image.{IsFixed, CellSet, MarksStand, ImageStands, is_white_over}
+use Rattle.mps_image.specs.Changes.{setting_made, addresses_made, IsMade}
+use Rattle.mps_image.proofs.Entries.{slice_get-last, entry_last, slice_get-pushed, entry_pushed, entry_still, entry_within}
+use Rattle.mps_image.proofs.Marked.{begins_apart}
 use Rattle.mps_image.proofs.Changing.{Change, CallChanges, words_changed, fixed_changed}
 
 module _ (s : Setting) (m m' : Memory) (addresses : List (Option Address)) (k : Colours) (done : CellSet) (o : Object) (at : Address)
@@ -93,7 +93,8 @@ module _ (s : Setting) (m m' : Memory) (addresses : List (Option Address)) (k : 
       | inl e ↦
           let cell' : slice_get (all_cells o.body) i ≡ Some c = subst (λ (q : Object). slice_get (all_cells q.body) i ≡ Some c) e.1 cell in
           inr (subst (λ y. IsFixed s.condemned (addresses_made addresses at) k (head_of_body p.body) c (slice_index m'.words y)) (sym e.3)
-          (subst (λ (q : Object). IsFixed s.condemned (addresses_made addresses at) k (head_of_body q.body) c (slice_index m'.words (word_of at + i)))
+          (subst (λ (q : Object). IsFixed s.condemned (addresses_made addresses at) k (head_of_body q.body) c
+          (slice_index m'.words (word_of at + i)))
           (sym e.1) (v.words i c cell')))
       | inr l ↦
           inl (record {
@@ -109,7 +110,7 @@ module _ (s : Setting) (m m' : Memory) (addresses : List (Option Address)) (k : 
         let l = v.reserved point i r n there in
         let apart : (q : ℕ) → q < size_of o → n ≢ word_of at + q =
         λ q lt e. v.placed.reserved_apart new point q i o r (word_of at + q) (new_there q lt)
-          (subst (λ y. LiesReserved points memories point i r y) e there)
+        (subst (λ y. LiesReserved points memories point i r y) e there)
         in
         inl (record {
           point = point;
@@ -156,7 +157,8 @@ module _ (s : Setting) (m m' : Memory) (addresses : List (Option Address)) (k : 
   -- no block began where the new one begins
   unoccupied : BlockBegins addresses (word_of at) → ⊥
   unoccupied x =
-      begins_apart (setting_made s o points memories) (addresses_made addresses at) v.placed x.id new x.at at (still x.id x.at x.address) new_address
+      begins_apart (setting_made s o points memories) (addresses_made addresses at) v.placed x.id new x.at at
+      (still x.id x.at x.address) new_address
       (λ e. omega (arith, old_below x.id x.at x.address, e)) (sym x.is)
 
   not_marked : m.grey (word_of at) ≡ false

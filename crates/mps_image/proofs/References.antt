@@ -13,7 +13,8 @@ pub record ReadsAddress (f : Layout) (word : ℕ) (address : Address) (tag : ℕ
   pub target : f.target word ≡ address
   pub retarget : (to : Address) → IsAddress to → f.retarget word to ≡ to + tag
 
-pub reads : (f : Layout) (word address tag : ℕ) → IsLawful f → IsAddress address → tag < 8 → word ≡ address + tag → ReadsAddress f word address tag
+pub reads : (f : Layout) (word address tag : ℕ) → IsLawful f → IsAddress address → tag < 8 → word ≡ address + tag
+    → ReadsAddress f word address tag
 reads f word address tag lawful a low is =
     let small : word < 2 ^ 64 = omega (arith, is, a.small, low) in
     let rest : word % 8 ≡ tag = omega (arith, is, a.aligned, low) in

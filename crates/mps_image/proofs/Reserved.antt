@@ -1,17 +1,13 @@
 -- A reservation is setting_made, a cell of one is written, or reservations end.
-use Rattle.std.proofs.Common.{◌≡◌, ◌∙◌, ◌⊎◌, ℕ, ◌+◌, ◌<◌, Bool, true, false, refl, sym, ap, List, [], length, Option, Some, None, subst, inl, inr, arith, slice_index}
-use Rattle.std.proofs.lemmas.Bool.{cases_eq}
-use Rattle.std.proofs.lemmas.Option.{none-some, same_Some}
-use Rattle.std.proofs.lemmas.List.{get_or-set_same, get_or-set_other, length-set}
-use Rattle.std.specs.Prelude.{slice_get, slice_set, ◌≢◌, ◌||◌, IsTrue}
-use Rattle.mps_base.specs.Address.{Address, Id, Word, word_of}
-use Rattle.mps_model.specs.Graph.{Cell, Object, Point, Reservation, entry_at, size_of, target_of_cell}
-use Rattle.mps_model.specs.Checked.{head_of_body}
+use Rattle.std.proofs.Common.{◌∙◌, ℕ, ◌+◌, ◌<◌, refl, sym, ap, List, Option, subst, inl, inr}
+use Rattle.std.specs.Prelude.{◌||◌, IsTrue}
+use Rattle.mps_base.specs.Address.{Address, word_of}
+use Rattle.mps_model.specs.Graph.{Point, Reservation, size_of}
 use Rattle.mps_model.specs.World.{PointMemory}
 use Rattle.mps_colours.specs.Colours.{Colours}
-use Rattle.mps_image.specs.Memory.{Setting, Memory, Lies, LiesReserved, all_cells}
-use Rattle.mps_image.specs.Image.{LieApart, IsFixed, CellSet, RunsStand, ImageStands, is_white_over}
-use Rattle.mps_image.specs.Changes.{setting_with_points, AreReserved, IsUnforwarded}
+use Rattle.mps_image.specs.Memory.{Setting, Memory, LiesReserved}
+use Rattle.mps_image.specs.Image.{CellSet, ImageStands, is_white_over}
+use Rattle.mps_image.specs.Changes.{setting_with_points, AreReserved}
 use Rattle.mps_image.proofs.Changing.{Change, CallChanges, words_changed, fixed_changed}
 
 module _ (s : Setting) (m m' : Memory) (addresses : List (Option Address)) (k : Colours) (done : CellSet) (points : List (Option Point))

@@ -1,5 +1,5 @@
 -- The runs of blocks and of all that is covered, after a block has moved.
-use Rattle.std.proofs.Common.{◌≡◌, ◌∙◌, ℕ, ◌+◌, ◌<◌, sym, ap, List, [], ◌∷◌, ◌++◌, length, Option, Some, subst, arith}
+use Rattle.std.proofs.Common.{Bool, ◌≡◌, ◌∙◌, ℕ, sym, ap, List, ◌∷◌, ◌++◌, Option, arith}
 use Rattle.std.proofs.lemmas.List.{append_assoc}
 use Rattle.std.specs.Prelude.{◌≢◌}
 use Rattle.mps_base.specs.Address.{Address, Id, Word, word_of}
@@ -30,7 +30,8 @@ reserved_elsewhere s addresses n placed free =
     }))
 
 module _ (s : Setting) (m : Memory) (addresses : List (Option Address)) (k : Colours) (t : Id) (from to : Address) (o : Object)
-    (words : List ℕ) (kept grey : Word → Rattle.std.proofs.Common.Bool) (placed : LieApart s addresses) (v : IsMove s addresses k t from to o) where
+    (words : List ℕ) (kept grey : Word → Bool) (placed : LieApart s addresses)
+    (v : IsMove s addresses k t from to o) where
   pub runs_moved : RunsStand s m addresses → RunsStand s (copied_in m words kept grey from to (size_of o)) (address_moved addresses t to)
   runs_moved r =
       let d = parted s.objects addresses t from o v.object v.there in

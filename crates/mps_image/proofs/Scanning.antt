@@ -73,7 +73,8 @@ module _ (condemned : List Id) where
 -- ---- a run over cells
 
 -- after the cells from i on were scanned
-pub record Scanned (s : Setting) (pools : Word → Option ℕ) (m' : Memory) (addresses : List (Option Address)) (k : Colours) (done : CellSet) (id i size : ℕ) : Type 0
+pub record Scanned (s : Setting) (pools : Word → Option ℕ) (m' : Memory) (addresses : List (Option Address)) (k : Colours)
+    (done : CellSet) (id i size : ℕ) : Type 0
   where
     pub addresses_after : List (Option Address)
     pub colours_after : Colours
@@ -97,7 +98,8 @@ now_done : (done : CellSet) (id i : ℕ) → with_cell done id i id i ≡ true
 now_done done id i = rw (eq-eqb id id refl, eq-eqb i i refl) refl
 
 -- one cell more
-one_more : (s : Setting) (pools : Word → Option ℕ) (m' : Memory) (addresses addresses' : List (Option Address)) (k k' : Colours) (done : CellSet) (id i size : ℕ)
+one_more : (s : Setting) (pools : Word → Option ℕ) (m' : Memory) (addresses addresses' : List (Option Address)) (k k' : Colours)
+    (done : CellSet) (id i size : ℕ)
     → LeavesOthers s.condemned addresses addresses' k k' → Scanned s pools m' addresses' k' (with_cell done id i) id (i + 1) size
     → Scanned s pools m' addresses k done id i size
 one_more s pools m' addresses addresses' k k' done id i size l x = record {
@@ -158,7 +160,8 @@ module _ (s : Setting) (shaped : AreShaped s.objects s.layout) (all_read : (id :
       let l = word_there addresses k i x lt in
       let to = x.live i t tag cell in (
         Some t,
-        fix_keeps (setting_with_pools s pools) m addresses k done shaped all_read st id i o (word_of at + i) tag l t to.0 x.not_white cell to.1
+        fix_keeps (setting_with_pools s pools) m addresses k done shaped all_read st id i o
+            (word_of at + i) tag l t to.0 x.not_white cell to.1
             address next read f,
       )
 
@@ -228,7 +231,8 @@ module _ (s : Setting) (m : Memory) (addresses : List (Option Address)) (k₀ k 
     (grey' : Word → Bool) (st : ImageStands s m addresses k done) (there : entry_at addresses id ≡ Some at)
     (object : slice_get s.objects id ≡ Some o) (more : (j i : ℕ) → IsTrue (black_cells s.condemned k₀ j i) → IsTrue (done j i))
     (all : (i : ℕ) → i < size_of o → IsTrue (done id i))
-    (black : (j : Id) → IsTrue (is_black s.condemned k j) → IsTrue (is_black s.condemned k₀ j)) (off : IsMarkCleared m.grey grey' (word_of at))
+    (black : (j : Id) → IsTrue (is_black s.condemned k j) → IsTrue (is_black s.condemned k₀ j))
+    (off : IsMarkCleared m.grey grey' (word_of at))
   where
     is_done : (j i : ℕ) (p : Object) (n : Word) → IsTrue (black_cells s.condemned (blackened k id) j i) → Lies s.objects addresses j i p n
         → IsTrue (done j i)

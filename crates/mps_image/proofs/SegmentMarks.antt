@@ -1,5 +1,5 @@
 -- The calls of segments that change marks, by word.
-use Rattle.std.proofs.Common.{◌≡◌, ◌∙◌, ℕ, ◌<◌, Bool, true, false, refl, ap, inl, inr, List, length, arith}
+use Rattle.std.proofs.Common.{◌≡◌, ◌∙◌, ◌<◌, Bool, true, false, refl, ap, inl, inr, List, length, arith}
 use Rattle.std.proofs.lemmas.List.{get_or-set_same, get_or-set_other, get_or_past, length-set}
 use Rattle.std.proofs.lemmas.Bool.{cases_lt, or_left, or_right}
 use Rattle.std.specs.Prelude.{slice_set, ◌||◌, ◌≢◌}
@@ -7,10 +7,10 @@ use Rattle.mps_base.specs.Address.{Address, Word, word_of}
 use Rattle.mps_base.specs.declared.names.Rank.{Rank}
 use Rattle.mps_base.specs.declared.names.Rank.TheVariants.{Exact, Weak}
 use Rattle.mps_bits.specs.Table.{bit}
-use Rattle.mps_marks.specs.Marks.{MarkTables, with_grey, blackened, without_marks}
+use Rattle.mps_marks.specs.Marks.{MarkTables, with_grey, without_marks}
 use Rattle.mps_seg.specs.Segs.{SegsState}
 use Rattle.mps_seg.specs.Collecting.{keeping, greying, blackening, rank_at}
-use Rattle.mps_image.specs.Memory.{Memory, memory_in}
+use Rattle.mps_image.specs.Memory.{memory_in}
 use Rattle.mps_image.specs.Fixing.{IsMarkSet, IsMarkCleared, AreMarksMoved}
 
 -- ---- one bit
@@ -92,14 +92,14 @@ removing_clears s at = (
     clear = clear_bit s.marks.kept (word_of at);
     others = λ n other. other_bit s.marks.kept (word_of at) n false other;
   },
-  record { clear = (blackening_clears s at).clear; others = λ n other. (blackening_clears s at).others n other }
+  record { clear = (blackening_clears s at).clear; others = λ n other. (blackening_clears s at).others n other },
 )
 
 -- a block goes in one place, and becomes grey in another
 pub moving_marks : (s : SegsState) (from to : Address) → word_of from ≢ word_of to → HasMarks s.marks (word_of to)
     → AreMarksMoved (memory_in s).kept (memory_in s).grey
-      (memory_in (greying (record s { marks = without_marks (word_of from) s.marks }) to)).kept
-      (memory_in (greying (record s { marks = without_marks (word_of from) s.marks }) to)).grey (word_of from) (word_of to)
+    (memory_in (greying (record s { marks = without_marks (word_of from) s.marks }) to)).kept
+    (memory_in (greying (record s { marks = without_marks (word_of from) s.marks }) to)).grey (word_of from) (word_of to)
 moving_marks s from to apart has =
     let gone : SegsState = record s { marks = without_marks (word_of from) s.marks } in
     let clears = removing_clears s from in

@@ -1,13 +1,13 @@
 -- The objects of a well-formed world are blocks of their formats.
-use Rattle.std.proofs.Common.{◌≡◌, ◌∙◌, ◌⊎◌, ℕ, zero, suc, ◌+◌, ◌-◌, ◌<◌, ◌≤◌, Bool, true, false, refl, sym, ap, List, [], ◌∷◌, length, map, Option, Some, None, subst, inl, inr, arith}
-use Rattle.std.proofs.lemmas.Bool.{false≢true, true≢false, and_parts, cases_Bool, ltb-true}
+use Rattle.std.proofs.Common.{◌≡◌, ◌∙◌, ℕ, zero, suc, ◌+◌, ◌-◌, ◌<◌, Bool, true, false, refl, sym, ap, List, [], ◌∷◌, length, map, Option, Some, None, subst, inl, inr, arith}
+use Rattle.std.proofs.lemmas.Bool.{false≢true, and_parts, cases_Bool, ltb-true}
 use Rattle.std.proofs.lemmas.Option.{none-some, same_Some}
-use Rattle.std.specs.Prelude.{slice_get, not, ◌&&◌, ◌||◌, nat_lt, if◌then◌else◌, IsTrue}
+use Rattle.std.specs.Prelude.{slice_get, not, ◌&&◌, ◌||◌, if◌then◌else◌, IsTrue}
 use Rattle.std.specs.List.{list_all}
 use Rattle.std.specs.Option.{option_map_or}
 use Rattle.mps_base.specs.Address.{Id}
 use Rattle.mps_format.specs.Layout.{Layout, IsLawful, IsBlockSize}
-use Rattle.mps_model.specs.Graph.{Cell, HeadCell, NumberCell, ReferenceCell, Body, Automatic, Manual, Object, entries, target_of_cell, targets_of_cells, new_cells, new_cells_from, is_automatic, is_automatic_body, is_reference_cell, size_of, size_of_body}
+use Rattle.mps_model.specs.Graph.{Cell, HeadCell, NumberCell, ReferenceCell, Body, Automatic, Manual, Object, entries, target_of_cell, targets_of_cells, new_cells, new_cells_from, is_automatic, is_automatic_body, is_reference_cell, size_of_body}
 use Rattle.mps_model.specs.Checked.{head_of_body}
 use Rattle.mps_model.specs.World.{World, Pool, is_automatic_kind, is_weak_kind, pool_at, object_is}
 use Rattle.mps_model.specs.WellFormed.{is_shaped, are_shaped, are_right_cells, is_right_body, is_right_object}
@@ -116,7 +116,8 @@ module _ (w : World) (lawful : (n : ℕ) → IsLawful (w.formats n)) where
         targets = two.1;
       }
 
-  format_of_pool : (o : Object) (found : Option Pool) → pool_at w o.pool ≡ found → option_map_or (λ p. is_right_body w p o.body) found false ≡ true
+  format_of_pool : (o : Object) (found : Option Pool) → pool_at w o.pool ≡ found
+      → option_map_or (λ p. is_right_body w p o.body) found false ≡ true
       → (p : Pool) × (pool_layout w o.pool ≡ w.formats p.format) × (is_right_body w p o.body ≡ true)
   format_of_pool o None e h = absurd (false≢true h)
   format_of_pool o (Some p) e h = (p, ap (λ found. w.formats (option_map_or (λ (x : Pool). x.format) found 0)) e, h)
@@ -180,7 +181,8 @@ module _ (w : World) (lawful : (n : ℕ) → IsLawful (w.formats n)) where
           object_there t (slice_get w.graph.objects t)
           (all_targets (object_is is_automatic w) x.cells k t tag x.right.targets (ap (λ cs. slice_get cs k) (sym (cells_of o x)) ∙ cell));
       first = λ id o e automatic.
-          let x = block id o e automatic in ap (λ cs. slice_get cs 0) (cells_of o x) ∙ first_cell (pool_layout w o.pool) x.head x.cells x.right.shaped;
+          let x = block id o e automatic in ap (λ cs. slice_get cs 0) (cells_of o x)
+          ∙ first_cell (pool_layout w o.pool) x.head x.cells x.right.shaped;
       valid = λ id o e automatic.
           let x = block id o e automatic in
           subst (λ b. IsTrue ((pool_layout w o.pool).is_valid (head_of_body b))) (sym x.body) x.right.valid;
@@ -201,7 +203,8 @@ module _ (w : World) (lawful : (n : ℕ) → IsLawful (w.formats n)) where
           (subst IsBlockSize (size f laws x.head x.cells x.right) (laws.sizes x.head x.right.valid));
     }
       where
-        first_cell : (f : Layout) (head : ℕ) (cells : List Cell) → are_shaped (new_cells f head) cells ≡ true → slice_get cells 0 ≡ Some HeadCell
+        first_cell : (f : Layout) (head : ℕ) (cells : List Cell) → are_shaped (new_cells f head) cells ≡ true
+            → slice_get cells 0 ≡ Some HeadCell
         first_cell f head [] e = absurd (false≢true e)
         first_cell f head (c ∷ cs) e =
             ap Some (head_like c (and_parts (is_shaped HeadCell c) (are_shaped (new_cells_from f head 1 (f.size head - 1)) cs) e).0)
@@ -228,6 +231,7 @@ module _ (w : World) (lawful : (n : ℕ) → IsLawful (w.formats n)) where
                   | inl is ↦ absurd (omega (arith, (laws.references head 0 right.valid is).0))
                   | inr isnt ↦ isnt
                 ]
+
             of_new : (j : ℕ) (like : Cell) → slice_get (new_cells f head) j ≡ Some like → is_reference_cell like ≡ f.is_reference head j
             of_new zero like e' = ap is_reference_cell (sym (same_Some HeadCell like e')) ∙ sym not_first
             of_new (suc j) like e' =

@@ -1,17 +1,17 @@
 -- A fix in words is a step of the abstract collector.
-use Rattle.std.proofs.Common.{◌≡◌, ◌∙◌, ℕ, Bool, true, false, refl, sym, ap, List, [], ◌∷◌, ◌++◌, Option, Some, subst}
+use Rattle.std.proofs.Common.{◌≡◌, ◌∙◌, ℕ, true, false, refl, sym, ap, List, [], ◌∷◌, Option, Some, subst}
 use Rattle.std.specs.Prelude.{IsTrue, if◌then◌else◌}
 use Rattle.mps_base.specs.Address.{Address, Id, address_of_word, address_of_grain}
 use Rattle.mps_base.specs.Segment.{Segment, words_of_segment}
 use Rattle.mps_base.specs.declared.moves.Move.{Move}
 use Rattle.mps_model.specs.Collection.{Collection}
-use Rattle.mps_model.specs.World.{World, is_live, is_copying_pool, id_at, is_at, numbers_of, first_id, with_tail}
+use Rattle.mps_model.specs.World.{pool_of, target_generation_for, World, is_live, is_copying_pool, id_at, is_at, numbers_of, first_id, with_tail}
 use Rattle.mps_model.specs.Accessing.{address_or_null}
-use Rattle.mps_model.specs.Effect.{placing, holding, after_segment, after_moved, where_one, with_collection, world_after_moves}
+use Rattle.mps_model.specs.Effect.{segment_of_move, placing, holding, after_segment, after_moved, where_one, with_collection, world_after_moves}
 use Rattle.mps_model.specs.Flip.{segment_for_move}
 use Rattle.mps_colours.specs.Colours.{Colours, keeping, AreDifferent}
 use Rattle.mps_colours.specs.Collecting.{Collecting, is_white_in}
-use Rattle.mps_colours.specs.Fixing.{Fixes, passes, keeps, Keeps, marks, moves_to_place, moves_to_segment, stays, moved_to, stays_at, new_segment, kept_by}
+use Rattle.mps_colours.specs.Fixing.{passes, keeps, Keeps, marks, moves_to_place, moves_to_segment, stays, moved_to, stays_at, kept_by}
 use Rattle.mps_colours.proofs.Addresses.{id_at-live}
 use Rattle.mps_image.specs.Fixing.{address_moved, FixesOne, passed, kept, moved}
 use Rattle.mps_image.specs.Steps.{MayKeep, may_mark, may_stay, may_move, may_move_into, IsStep, AFixIsAStep}
@@ -38,7 +38,7 @@ module _ (w : World) (t : Id) (there : id_at w (address_or_null w t) ≡ Some t)
   segment_leads : (s : Segment) → Leads w (after_segment w s) w.addresses
   segment_leads s =
       elim (is_copying_pool w s.pool)
-          as (λ b. Leads w (if b then with_tail (holding w s) s.pool s.generation (words_of_segment s) else holding w s) w.addresses) [
+      as (λ b. Leads w (if b then with_tail (holding w s) s.pool s.generation (words_of_segment s) else holding w s) w.addresses) [
         | true ↦ record { addresses_are = refl; graph_same = refl }
         | false ↦ record { addresses_are = refl; graph_same = refl }
       ]
@@ -48,16 +48,19 @@ module _ (w : World) (t : Id) (there : id_at w (address_or_null w t) ≡ Some t)
   move_into_leads grain grains to = go (segment_leads s)
     where
       s : Segment
-      s = Rattle.mps_model.specs.Effect.segment_of_move to grains (Rattle.mps_model.specs.World.pool_of w t)
-          (Rattle.mps_model.specs.World.target_generation_for w t)
+      s = segment_of_move to grains (pool_of w t)
+          (target_generation_for w t)
+
       go : Leads w (after_segment w s) w.addresses
-          → Leads w (where_one (after_segment w s) (id_at (after_segment w s) (address_or_null w t)) (λ n. after_moved (after_segment w s) n to))
-            (address_moved w.addresses t to)
+          → Leads w (where_one (after_segment w s) (id_at (after_segment w s) (address_or_null w t))
+          (λ n. after_moved (after_segment w s) n to))
+          (address_moved w.addresses t to)
       go l =
           let found : id_at (after_segment w s) (address_or_null w t) ≡ Some t =
           ap (λ addresses. first_id (numbers_of (is_at (address_or_null w t)) 0 addresses)) l.addresses_are ∙ there
           in
-          subst (λ f. Leads w (where_one (after_segment w s) f (λ n. after_moved (after_segment w s) n to)) (address_moved w.addresses t to))
+          subst (λ f. Leads w (where_one (after_segment w s) f (λ n. after_moved (after_segment w s) n to))
+          (address_moved w.addresses t to))
           (sym found)
           (record { addresses_are = ap (λ addresses. address_moved addresses t to) l.addresses_are; graph_same = l.graph_same })
 

@@ -25,7 +25,8 @@ same_word {i = i} {j = j} {o = o} {p = p} a b e =
 -- ---- one fixed cell more
 
 -- a cell of one set and one more
-pub cell_cases : (done : CellSet) (holder i id j : ℕ) → IsTrue (with_cell done holder i id j) → ((id ≡ holder) × (j ≡ i)) ⊎ IsTrue (done id j)
+pub cell_cases : (done : CellSet) (holder i id j : ℕ) → IsTrue (with_cell done holder i id j)
+    → ((id ≡ holder) × (j ≡ i)) ⊎ IsTrue (done id j)
 cell_cases done holder i id j d =
     elim (or_cases (id == holder && j == i) (done id j) d) [
       | inl e ↦ let p = and_parts (id == holder) (j == i) e in inl (eqb-true id holder p.0, eqb-true j i p.1)
@@ -56,7 +57,8 @@ module _ (s : Setting) (addresses : List (Option Address)) (k : Colours) (done :
   }
 
   -- nothing is written where the word is right already
-  pub passed : (m : Memory) → IsFixed s.condemned addresses k (head_of_body o.body) c (slice_index m.words n) → ImageStands s m addresses k done
+  pub passed : (m : Memory) → IsFixed s.condemned addresses k (head_of_body o.body) c (slice_index m.words n)
+      → ImageStands s m addresses k done
       → ImageStands s m addresses k (with_cell done holder i)
   passed m fixed st = record {
     placed = st.placed;
@@ -68,7 +70,8 @@ module _ (s : Setting) (addresses : List (Option Address)) (k : Colours) (done :
 
 -- ---- what code finds at an address
 
-module _ (s : Setting) (m : Memory) (addresses : List (Option Address)) (k : Colours) (done : CellSet) (shaped : AreShaped s.objects s.layout)
+module _ (s : Setting) (m : Memory) (addresses : List (Option Address)) (k : Colours) (done : CellSet)
+    (shaped : AreShaped s.objects s.layout)
     (st : ImageStands s m addresses k done) (t address now : ℕ) (p : Object) (x : Target s addresses t address now p) where
   -- it is there, or it was there and has moved
   there_or_moved : (address ≡ now)
@@ -113,7 +116,8 @@ module _ (s : Setting) (m : Memory) (addresses : List (Option Address)) (k : Col
   head_there : slice_index m.words (word_of now) ≡ head_of_body p.body
   head_there =
       st.words.cells t 0 p (word_of now) HeadCell x.read
-      (record { at = now; address = x.there; object = x.object; within = positive; is = omega arith }) (shaped.first t p x.object x.automatic)
+      (record { at = now; address = x.there; object = x.object; within = positive; is = omega arith })
+      (shaped.first t p x.object x.automatic)
 
   not_forwarded_there : IsNotForwarded s m.words now p.pool
   not_forwarded_there size sizes e =

@@ -1,6 +1,6 @@
 -- A word is written that is that of one cell: by a client, where the cell changes too, or by a collector, where it doesn't. The
 -- word then holds the address of what the cell refers to, which isn't white.
-use Rattle.std.proofs.Common.{◌≡◌, ◌∙◌, ◌⊎◌, ℕ, ◌+◌, ◌<◌, sym, ap, List, [], ◌++◌, length, Option, Some, None, subst, inl, inr, arith, slice_index}
+use Rattle.std.proofs.Common.{refl, ◌≡◌, ◌∙◌, ◌⊎◌, ℕ, ◌+◌, ◌<◌, sym, ap, List, [], ◌++◌, Option, Some, None, subst, inl, inr, arith, slice_index}
 use Rattle.std.proofs.lemmas.Bool.{cases_eq}
 use Rattle.std.proofs.lemmas.Option.{none-some, same_Some}
 use Rattle.std.proofs.lemmas.List.{get_or-set_same, get_or-set_other, length-set}
@@ -10,11 +10,11 @@ use Rattle.mps_base.specs.Run.{in_order}
 use Rattle.mps_format.specs.Blocks.{BeginsForwarded}
 use Rattle.mps_model.specs.Graph.{Cell, HeadCell, NumberCell, ReferenceCell, Object, entry_at, size_of}
 use Rattle.mps_model.specs.Checked.{head_of_body}
-use Rattle.mps_model.specs.World.{extents_of, reserved_extents}
+use Rattle.mps_model.specs.World.{reserved_extents}
 use Rattle.mps_colours.specs.Colours.{Colours}
 use Rattle.mps_image.specs.Memory.{Setting, Memory, Lies, LiesReserved, all_cells}
 use Rattle.mps_image.specs.Image.{IsCellWord, LieApart, IsForwarded, WordsStand, IsFixed, CellSet, with_cell, FixedCellsStand, ImageStands}
-use Rattle.mps_image.specs.Changes.{setting_with_objects, memory_with_word, Was, IsCellChanged}
+use Rattle.mps_image.specs.Changes.{setting_with_objects, memory_with_word, IsCellChanged}
 use Rattle.mps_image.proofs.Targets.{cell_cases}
 use Rattle.mps_image.proofs.Forwarded.{forwarded_still}
 
@@ -35,7 +35,14 @@ module _ (s : Setting) (objects' : List Object) (m : Memory) (addresses : List (
       → Lies s.objects addresses id j (changed.was id p there.object).object l
   lay id j p l there =
       let w = changed.was id p there.object in
-      record { at = there.at; address = there.address; object = w.there; within = subst (λ x. j < x) (sym w.size) there.within; is = there.is }
+      record {
+        at = there.at;
+        address = there.address;
+        object = w.there;
+        within = subst (λ x. j < x)
+            (sym w.size) there.within;
+        is = there.is;
+      }
 
   -- another cell has another word
   other_word : (id j : ℕ) (p : Object) (l : Word) → Lies objects' addresses id j p l → ((id ≡ holder) × (j ≡ i) → ⊥) → l ≢ n
@@ -121,7 +128,8 @@ module _ (s : Setting) (objects' : List Object) (m : Memory) (addresses : List (
         elim (w.cells j c cell) [
           | inl x ↦
               subst (λ y. IsCellWord addresses s.at_flip y c (slice_index words_after l)) w.head
-              (subst (λ y. IsCellWord addresses s.at_flip (head_of_body w.object.body) c y) (sym (elsewhere l (other_word id j p l there x.0)))
+              (subst (λ y. IsCellWord addresses s.at_flip (head_of_body w.object.body) c y)
+              (sym (elsewhere l (other_word id j p l there x.0)))
               (st.words.cells id j w.object l c read (lay id j p l there) x.1))
           | inr x ↦
               holds_still addresses s.at_flip (head_of_body p.body) c (slice_index words_after l) (new_word id j p l c there x).holds
@@ -179,13 +187,13 @@ no_cell_changed objects holder i o c object cell = record {
   was = λ id p there. record {
     object = p;
     there = there;
-    pool = Rattle.std.proofs.Common.refl;
-    size = Rattle.std.proofs.Common.refl;
-    head = Rattle.std.proofs.Common.refl;
+    pool = refl;
+    size = refl;
+    head = refl;
     cells = λ j d is. which id p there j d is (cases_eq id holder) (cases_eq j i);
   };
   still = λ id p there. (p, there);
-  extents = λ addresses. Rattle.std.proofs.Common.refl;
+  extents = λ addresses. refl;
 }
   where
     which : (id : Id) (p : Object) → slice_get objects id ≡ Some p → (j : ℕ) (d : Cell) → slice_get (all_cells p.body) j ≡ Some d

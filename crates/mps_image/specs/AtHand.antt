@@ -15,7 +15,8 @@ pub record Hand : Type 0 where
 abbrev pub hand_in_tails : List Tail → Word → Option Hand
 hand_in_tails [] n = None
 hand_in_tails (t ∷ ts) n =
-    if nat_le t.words.from n && nat_lt n (end_of t.words) then Some (record { pool = t.pool; number = t.generation }) else hand_in_tails ts n
+    if nat_le t.words.from n && nat_lt n (end_of t.words) then Some
+    (record { pool = t.pool; number = t.generation }) else hand_in_tails ts n
 
 -- words at hand lie in segments of their pool that aren't condemned, and nothing lies there. Else a copy could be put where a
 -- block was that has moved, which nothing covers

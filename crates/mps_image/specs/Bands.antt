@@ -29,7 +29,8 @@ setting_freeing s k = record s { at_flip = []; is_read = λ id. not (is_white s.
 
 abbrev example : Setting
 example =
-    setting_flipped (setting_at_rest (new_segments 2 2) [] [] [] numbered_layout) (Some 0x1000 ∷ Some 0x1020 ∷ []) [] [] (0 ∷ 1 ∷ []) (λ n. true)
+    setting_flipped (setting_at_rest (new_segments 2 2) [] [] [] numbered_layout) (Some 0x1000 ∷ Some 0x1020 ∷ []) [] [] (0 ∷ 1 ∷ [])
+    (λ n. true)
 
 abbrev one_kept : Colours
 one_kept = record { kept = 0 ∷ []; grey = [] }

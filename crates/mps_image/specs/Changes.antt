@@ -1,6 +1,6 @@
 -- What a client's call changes, by what it does: a cell is written, an object is made or goes, or reservations change. The memory
 -- then stands for the objects as before.
-use Rattle.std.specs.Prelude.{◌≡◌, ◌≢◌, ◌⊎◌, ℕ, ◌+◌, ◌<◌, Bool, true, false, IsTrue, Option, Some, None, List, [], ◌∷◌, ◌++◌, length, slice_get, slice_set, slice_index, refl}
+use Rattle.std.specs.Prelude.{◌≡◌, ◌≢◌, ◌⊎◌, ℕ, ◌+◌, ◌<◌, Bool, false, IsTrue, Option, Some, None, List, [], ◌∷◌, ◌++◌, length, slice_get, slice_set, slice_index, refl}
 use Rattle.std.proofs.Common.{ap, arith, inl, inr, ◌∙◌}
 use Rattle.std.proofs.lemmas.Option.{same_Some}
 use Rattle.mps_base.specs.Address.{Address, Id, Word, word_of}
@@ -135,7 +135,8 @@ pub record AreReserved (s : Setting) (m m' : Memory) (addresses : List (Option A
   pub grey_same : (n : Word) → m'.grey n ≡ m.grey n
   pub long : length m'.words ≡ length m.words
   -- each cell was reserved with the same word, or is new
-  pub cells : (point i : ℕ) (r : Reservation) (n : Word) (c : Cell) → LiesReserved points memories point i r n → slice_get r.cells i ≡ Some c
+  pub cells : (point i : ℕ) (r : Reservation) (n : Word) (c : Cell) → LiesReserved points memories point i r n
+      → slice_get r.cells i ≡ Some c
       → ((q : Reservation) × LiesReserved s.points s.point_memories point i q n × (slice_get q.cells i ≡ Some c) × (q.head ≡ r.head)
       × (slice_index m'.words n ≡ slice_index m.words n)) ⊎ IsFixed s.condemned addresses k r.head c (slice_index m'.words n)
   pub written : (n : Word) → (slice_index m'.words n ≡ slice_index m.words n)

@@ -110,7 +110,8 @@ pub data FixAt (s : Setting) (addresses : List (Option Address)) (m : Memory) (a
       → FixAt s addresses m at to (copied_in m words' kept' grey' at to size)
 
 -- what code does with the reference in word n, in which it reads an address, of a block with the layout f
-pub data FixWord (s : Setting) (addresses : List (Option Address)) (f : Layout) (m : Memory) (n : Word) (address : Address) : Memory → Type 0
+pub data FixWord (s : Setting) (addresses : List (Option Address)) (f : Layout) (m : Memory) (n : Word) (address : Address) : Memory
+    → Type 0
   where
     null : address ≡ 0 → FixWord s addresses f m n address m
     writes : {m' : Memory} (answer : Address) → 0 < address → FixAt s addresses m address answer m'
@@ -123,7 +124,8 @@ abbrev pub address_moved : List (Option Address) → Id → (to : Address) → L
 address_moved addresses id to = slice_set addresses id (Some to)
 
 -- what happens to addresses and colours where a reference to null or to an object is fixed
-pub data FixesOne (condemned : List Id) (addresses : List (Option Address)) (k : Colours) : Option Id → List (Option Address) → Colours → Type 0
+pub data FixesOne (condemned : List Id) (addresses : List (Option Address)) (k : Colours) : Option Id → List (Option Address) → Colours
+    → Type 0
   where
     nothing : FixesOne condemned addresses k None addresses k
     passed : (t : Id) → is_white condemned k t ≡ false → FixesOne condemned addresses k (Some t) addresses k
@@ -133,7 +135,8 @@ pub data FixesOne (condemned : List Id) (addresses : List (Option Address)) (k :
         → FixesOne condemned addresses k (Some t) (address_moved addresses t to) (keeping k t)
 
 -- the image after an address that means an object was fixed
-pub record IsFixedAt (s : Setting) (m : Memory) (addresses : List (Option Address)) (k : Colours) (done : CellSet) (t : Id) (answer : Address)
+pub record IsFixedAt (s : Setting) (m : Memory) (addresses : List (Option Address)) (k : Colours) (done : CellSet) (t : Id)
+    (answer : Address)
     : Type 0 where
   pub addresses_after : List (Option Address)
   pub colours_after : Colours

@@ -85,7 +85,8 @@ pub record IsForwarded (s : Setting) (words : List ℕ) (addresses : List (Optio
   pub condemned : (k : ℕ) → k < size_of o → IsTrue (s.is_condemned_over (word_of from + k))
   pub home : (k : ℕ) → k < size_of o → s.pool_over (word_of from + k) ≡ Some o.pool
   pub free : (k j l : ℕ) (p : Object) → k < size_of o → Lies s.objects addresses j l p (word_of from + k) → ⊥
-  pub unreserved : (k point l : ℕ) (r : Reservation) → k < size_of o → LiesReserved s.points s.point_memories point l r (word_of from + k) → ⊥
+  pub unreserved : (k point l : ℕ) (r : Reservation) → k < size_of o
+      → LiesReserved s.points s.point_memories point l r (word_of from + k) → ⊥
 
 -- the words of cells, and of blocks that have moved
 pub record WordsStand (s : Setting) (words : List ℕ) (addresses : List (Option Address)) : Type 0 where

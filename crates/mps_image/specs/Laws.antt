@@ -1,5 +1,5 @@
 -- What is shown of the image, each law a statement.
-use Rattle.std.specs.Prelude.{◌≡◌, ℕ, ◌<◌, Bool, false, IsTrue, Option, Some, None, List, [], slice_get, slice_set, slice_index}
+use Rattle.std.specs.Prelude.{◌≡◌, ℕ, Bool, false, IsTrue, Option, Some, None, List, [], slice_get, slice_set, slice_index}
 use Rattle.mps_base.specs.Address.{Address, Id, Word, word_of}
 use Rattle.mps_format.specs.Layout.{IsLawful}
 use Rattle.mps_model.specs.Graph.{Cell, ReferenceCell, Object, Point, Reservation, entry_at, target_of_cell}
@@ -23,7 +23,8 @@ AreAllRead s = (id : Id) → IsTrue (s.is_read id)
 abbrev pub AnAddressIsFixed : Type 0
 AnAddressIsFixed =
     (s : Setting) (m : Memory) (addresses : List (Option Address)) (k : Colours) (done : CellSet) (t address now : ℕ) (p : Object)
-    → AreShaped s.objects s.layout → ImageStands s m addresses k done → Target s addresses t address now p → (answer : Address) (m' : Memory)
+    → AreShaped s.objects s.layout → ImageStands s m addresses k done → Target s addresses t address now p
+    → (answer : Address) (m' : Memory)
     → FixAt s addresses m address answer m' → IsFixedAt s m' addresses k done t answer
 
 -- a reference word of an object that isn't white is fixed: it is one fix of what the cell refers to, and the cell is fixed then
@@ -67,7 +68,8 @@ abbrev pub AnObjectIsMade : Type 0
 AnObjectIsMade =
     (s : Setting) (m m' : Memory) (addresses : List (Option Address)) (k : Colours) (done : CellSet) (o : Object) (at : Address)
     (points : List (Option Point)) (memories : List PointMemory) → ImageStands s m addresses k done
-    → IsMade s m m' addresses k o at points memories → ImageStands (setting_made s o points memories) m' (addresses_made addresses at) k done
+    → IsMade s m m' addresses k o at points memories
+    → ImageStands (setting_made s o points memories) m' (addresses_made addresses at) k done
 
 -- a block goes
 abbrev pub ABlockGoes : Type 0

@@ -168,7 +168,8 @@ reserved is_doomed = Some (record {
 pub a_doomed_reservation_is_not_live : live_reservation (reserved true) ≡ None
 a_doomed_reservation_is_not_live = refl
 
-pub an_open_one_is : live_reservation (reserved false) ≡ Some (record { head = 0x201; cells = HeadCell ∷ NumberCell 0 ∷ []; is_doomed = false })
+pub an_open_one_is : live_reservation (reserved false) ≡ Some
+    (record { head = 0x201; cells = HeadCell ∷ NumberCell 0 ∷ []; is_doomed = false })
 an_open_one_is = refl
 
 pub words_of_a_manual_block_are_numbers : all_cells (Manual (5 ∷ 6 ∷ [])) ≡ NumberCell 5 ∷ NumberCell 6 ∷ []

@@ -1,5 +1,5 @@
 -- What a collector does with all references of one block, in words.
-use Rattle.std.specs.Prelude.{◌≡◌, ℕ, ◌+◌, ◌<◌, Bool, true, false, ◌==◌, if◌then◌else◌, IsTrue, Option, Some, None, List, [], ◌∷◌, slice_get, slice_index, refl}
+use Rattle.std.specs.Prelude.{◌≡◌, ℕ, ◌+◌, ◌<◌, false, ◌==◌, if◌then◌else◌, IsTrue, Option, Some, None, List, [], ◌∷◌, slice_get, slice_index, refl}
 use Rattle.std.proofs.Common.{arith}
 use Rattle.std.proofs.lemmas.Option.{none-some, same_Some}
 use Rattle.mps_base.specs.Address.{Address, Id, Word, word_of}
@@ -45,17 +45,20 @@ pub record IsToScan (s : Setting) (addresses : List (Option Address)) (k : Colou
   pub object : slice_get s.objects id ≡ Some o
   pub automatic : IsTrue (is_automatic o)
   pub not_white : is_white s.condemned k id ≡ false
-  pub live : (i t tag : ℕ) → slice_get (all_cells o.body) i ≡ Some (ReferenceCell (Some t) tag) → (to : Address) × (entry_at addresses t ≡ Some to)
+  pub live : (i t tag : ℕ) → slice_get (all_cells o.body) i ≡ Some (ReferenceCell (Some t) tag)
+      → (to : Address) × (entry_at addresses t ≡ Some to)
 
 -- the code's run over all cells of an object
-abbrev pub ScansBlock : Setting → Object → (at : Address) → Memory → List (Option Address) → Colours → (pools : Word → Option ℕ) → Memory → Type 0
+abbrev pub ScansBlock : Setting → Object → (at : Address) → Memory → List (Option Address) → Colours → (pools : Word → Option ℕ) → Memory
+    → Type 0
 ScansBlock s o at m addresses k pools m' =
     ScansFrom s (s.layout o.pool) (head_of_body o.body) at (size_of o) 0 s.pool_over m addresses k pools m'
 
 -- what a run of fixes leaves of objects: what isn't white stays where it is and isn't white, what is live is live, and nothing
 -- is black that wasn't
 pub record LeavesOthers (condemned : List Id) (addresses addresses' : List (Option Address)) (k k' : Colours) : Type 0 where
-  pub there : (id : Id) (at : Address) → is_white condemned k id ≡ false → entry_at addresses id ≡ Some at → entry_at addresses' id ≡ Some at
+  pub there : (id : Id) (at : Address) → is_white condemned k id ≡ false → entry_at addresses id ≡ Some at
+      → entry_at addresses' id ≡ Some at
   pub not_white : (id : Id) → is_white condemned k id ≡ false → is_white condemned k' id ≡ false
   pub live : (id : Id) (at : Address) → entry_at addresses id ≡ Some at → (to : Address) × (entry_at addresses' id ≡ Some to)
   pub black : (id : Id) → IsTrue (is_black condemned k' id) → IsTrue (is_black condemned k id)

@@ -1,5 +1,5 @@
 -- What a fix in words is to the abstract collector: a step of it.
-use Rattle.std.specs.Prelude.{◌≡◌, ℕ, Bool, false, IsTrue, Option, Some, None, List, [], ◌∷◌, ◌++◌}
+use Rattle.std.specs.Prelude.{◌≡◌, ℕ, false, IsTrue, Option, Some, List, ◌∷◌, ◌++◌}
 use Rattle.mps_base.specs.Address.{Address, Id, address_of_word, address_of_grain}
 use Rattle.mps_base.specs.Placement.{Place, NewSegment}
 use Rattle.mps_base.specs.declared.moves.Move.{Move}
