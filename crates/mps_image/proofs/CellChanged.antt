@@ -22,7 +22,7 @@ pub record IsBodyChanged (b b' : Body) (i : ℕ) (new : Cell) : Type 0 where
   pub cells : (j : ℕ) (c : Cell) → slice_get (all_cells b') j ≡ Some c
       → ((j ≢ i) × (slice_get (all_cells b) j ≡ Some c)) ⊎ ((j ≡ i) × (c ≡ new))
 
-set_cases : {X : Type 0} (xs : List X) (i : ℕ) (new : X) (j : ℕ) (x : X) → slice_get (slice_set xs i new) j ≡ Some x
+pub set_cases : {X : Type 0} (xs : List X) (i : ℕ) (new : X) (j : ℕ) (x : X) → slice_get (slice_set xs i new) j ≡ Some x
     → ((j ≢ i) × (slice_get xs j ≡ Some x)) ⊎ ((j ≡ i) × (x ≡ new))
 set_cases [] i new j x e = absurd (none-some x e)
 set_cases (y ∷ ys) zero new zero x e = inr (refl, sym (same_Some new x e))

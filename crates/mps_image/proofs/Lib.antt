@@ -24,4 +24,5 @@ pub mod ChangedRuns
 pub mod Steps
 pub mod SegmentMarks
 pub mod Shaped
+pub mod Reservations
 pub mod Laws
