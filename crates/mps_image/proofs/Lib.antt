@@ -15,6 +15,7 @@ pub mod AtHand
 pub mod Bands
 pub mod AtRest
 pub mod Changing
+pub mod LastObject
 pub mod Made
 pub mod Gone
 pub mod Reserved
@@ -25,4 +26,5 @@ pub mod Steps
 pub mod SegmentMarks
 pub mod Shaped
 pub mod Reservations
+pub mod Allocated
 pub mod Laws

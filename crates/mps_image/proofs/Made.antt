@@ -11,7 +11,8 @@ use Rattle.mps_colours.specs.Colours.{Colours, is_white, is_grey}
 use Rattle.mps_image.specs.Memory.{Setting, Memory, Lies, LiesReserved, BlockBegins, all_cells}
 use Rattle.mps_image.specs.Image.{IsFixed, CellSet, MarksStand, ImageStands, is_white_over}
 use Rattle.mps_image.specs.Changes.{setting_made, addresses_made, IsMade}
-use Rattle.mps_image.proofs.Entries.{slice_get-last, entry_last, slice_get-pushed, entry_pushed, entry_still, entry_within}
+use Rattle.mps_image.proofs.Entries.{slice_get-last, entry_pushed, entry_still}
+use Rattle.mps_image.proofs.LastObject.{old_below, old_object, lies_made, new_address, new_there}
 use Rattle.mps_image.proofs.Marked.{begins_apart}
 use Rattle.mps_image.proofs.Changing.{Change, CallChanges, words_changed, fixed_changed}
 
@@ -33,63 +34,20 @@ module _ (s : Setting) (m m' : Memory) (addresses : List (Option Address)) (k : 
     addresses_after = addresses_made addresses at;
   }
 
-  old_below : (id : Id) (a : Address) → entry_at addresses id ≡ Some a → id < new
-  old_below id a e = omega (arith, entry_within addresses id a e, v.numbered)
-
-  old_object : (id : Id) (p : Object) → id < new → slice_get (s.objects ++ o ∷ []) id ≡ Some p → slice_get s.objects id ≡ Some p
-  old_object id p lt e =
-      elim (slice_get-pushed s.objects o id p e) [
-        | inl x ↦ absurd (omega (arith, lt, x.0))
-        | inr x ↦ x
-      ]
-
-  lies_made : (id i : ℕ) (p : Object) (n : Word) → Lies (s.objects ++ o ∷ []) (addresses_made addresses at) id i p n
-      → ((id ≡ new) × (p ≡ o) × (i < size_of o) × (n ≡ word_of at + i)) ⊎ Lies s.objects addresses id i p n
-  lies_made id i p n l =
-      elim (entry_pushed addresses at id l.at l.address) [
-        | inl e ↦
-            let here : id ≡ new = e.0 ∙ v.numbered in
-            elim (slice_get-pushed s.objects o id p l.object) [
-              | inl x ↦
-                  inl (here, x.1, subst (λ (q : Object). i < size_of q) x.1 l.within, l.is ∙ ap (λ y. word_of y + i) e.1)
-              | inr x ↦ absurd (omega (arith, slice_get_within s.objects id p x, here))
-            ]
-        | inr e ↦
-            inr (record {
-              at = l.at;
-              address = e;
-              object = old_object id p (old_below id l.at e) l.object;
-              within = l.within;
-              is = l.is;
-            })
-      ]
-
-  new_address : entry_at (addresses_made addresses at) new ≡ Some at
-  new_address = subst (λ y. entry_at (addresses_made addresses at) y ≡ Some at) v.numbered (entry_last addresses at)
-
-  new_there : (i : ℕ) → i < size_of o → Lies (s.objects ++ o ∷ []) (addresses_made addresses at) new i o (word_of at + i)
-  new_there i lt = record {
-    at = at;
-    address = new_address;
-    object = slice_get-last s.objects o;
-    within = lt;
-    is = refl;
-  }
-
   -- the words of others aren't the new ones
   not_new : (id i : ℕ) (p : Object) (n : Word) → Lies s.objects addresses id i p n
       → Lies (s.objects ++ o ∷ []) (addresses_made addresses at) id i p n → (q : ℕ) → q < size_of o → n ≢ word_of at + q
   not_new id i p n l there q lt e =
       let same : id ≡ new =
       v.placed.apart id new i q p o (word_of at + q)
-      (subst (λ y. Lies (s.objects ++ o ∷ []) (addresses_made addresses at) id i p y) e there) (new_there q lt)
+      (subst (λ y. Lies (s.objects ++ o ∷ []) (addresses_made addresses at) id i p y) e there) (new_there s.objects addresses o at v.numbered q lt)
       in
-      absurd (omega (arith, old_below id l.at l.address, same))
+      absurd (omega (arith, old_below s.objects addresses o at v.numbered id l.at l.address, same))
 
   changes : CallChanges change k done
   changes = record {
     long = v.long;
-    cells = λ id i p n c there cell. elim (lies_made id i p n there) [
+    cells = λ id i p n c there cell. elim (lies_made s.objects addresses o at v.numbered id i p n there) [
       | inl e ↦
           let cell' : slice_get (all_cells o.body) i ≡ Some c = subst (λ (q : Object). slice_get (all_cells q.body) i ≡ Some c) e.1 cell in
           inr (subst (λ y. IsFixed s.condemned (addresses_made addresses at) k (head_of_body p.body) c (slice_index m'.words y)) (sym e.3)
@@ -109,7 +67,7 @@ module _ (s : Setting) (m m' : Memory) (addresses : List (Option Address)) (k : 
     reserved = λ point i r n c there cell.
         let l = v.reserved point i r n there in
         let apart : (q : ℕ) → q < size_of o → n ≢ word_of at + q =
-        λ q lt e. v.placed.reserved_apart new point q i o r (word_of at + q) (new_there q lt)
+        λ q lt e. v.placed.reserved_apart new point q i o r (word_of at + q) (new_there s.objects addresses o at v.numbered q lt)
         (subst (λ y. LiesReserved points memories point i r y) e there)
         in
         inl (record {
@@ -127,7 +85,7 @@ module _ (s : Setting) (m m' : Memory) (addresses : List (Option Address)) (k : 
           | inl e ↦
               absurd (none-some from (sym v.fresh ∙ ap (entry_at s.at_flip) (sym (e.0 ∙ v.numbered)) ∙ was))
           | inr e ↦
-              let was_object = old_object id p (old_below id to e) object in
+              let was_object = old_object s.objects addresses o at v.numbered id p (old_below s.objects addresses o at v.numbered id to e) object in
               let f = st.words.forwarded id from to p was e apart was_object in
               let not_there : (q i : ℕ) → q < size_of p → i < size_of o → word_of from + q ≢ word_of at + i =
               λ q i lq li x. (v.clear i li).clear id from to p q was e apart was_object lq (sym x)
@@ -139,7 +97,7 @@ module _ (s : Setting) (m m' : Memory) (addresses : List (Option Address)) (k : 
                 pool = refl;
                 size = refl;
                 words = λ q lt. v.others (word_of from + q) (λ i li. not_there q i lt li);
-                free = λ q j l p' lt there. elim (lies_made j l p' (word_of from + q) there) [
+                free = λ q j l p' lt there. elim (lies_made s.objects addresses o at v.numbered j l p' (word_of from + q) there) [
                   | inl x ↦ not_there q l lt x.2 x.3
                   | inr x ↦ f.free q j l p' lt x
                 ];
@@ -152,14 +110,14 @@ module _ (s : Setting) (m m' : Memory) (addresses : List (Option Address)) (k : 
   still id a e = entry_still addresses (Some at) id a e
 
   positive : 0 < size_of o
-  positive = v.placed.positive new at o new_address (slice_get-last s.objects o)
+  positive = v.placed.positive new at o (new_address s.objects addresses o at v.numbered) (slice_get-last s.objects o)
 
   -- no block began where the new one begins
   unoccupied : BlockBegins addresses (word_of at) → ⊥
   unoccupied x =
       begins_apart (setting_made s o points memories) (addresses_made addresses at) v.placed x.id new x.at at
-      (still x.id x.at x.address) new_address
-      (λ e. omega (arith, old_below x.id x.at x.address, e)) (sym x.is)
+      (still x.id x.at x.address) (new_address s.objects addresses o at v.numbered)
+      (λ e. omega (arith, old_below s.objects addresses o at v.numbered x.id x.at x.address, e)) (sym x.is)
 
   not_marked : m.grey (word_of at) ≡ false
   not_marked =
@@ -188,7 +146,7 @@ module _ (s : Setting) (m m' : Memory) (addresses : List (Option Address)) (k : 
       | inr x ↦ st.marks.grey_there id a x ∙ sym (v.grey_same (word_of a))
     ];
     marked = λ n is. elim (cases_eq n (word_of at)) [
-      | inl same ↦ record { id = new; at = at; address = new_address; is = same }
+      | inl same ↦ record { id = new; at = at; address = (new_address s.objects addresses o at v.numbered); is = same }
       | inr other ↦
           let x =
           st.marks.marked n (elim (or_cases (m'.kept n) (m'.grey n) is) [

@@ -10,7 +10,7 @@ use Rattle.mps_model.specs.Checked.{head_of_body}
 use Rattle.mps_model.specs.World.{PointMemory, extent, extents_of}
 use Rattle.mps_colours.specs.Colours.{Colours, is_white, is_grey}
 use Rattle.mps_image.specs.Memory.{Setting, Memory, Lies, LiesReserved, all_cells}
-use Rattle.mps_image.specs.Image.{LieApart, IsFixed, CellSet, RunsStand, is_white_over}
+use Rattle.mps_image.specs.Image.{IsAddress, LieApart, IsFixed, CellSet, RunsStand, is_white_over}
 use Rattle.mps_image.specs.Fixing.{IsMarkCleared}
 
 -- the setting after a client's call, with these objects, points and what points have in the arena
@@ -59,12 +59,27 @@ pub record IsCellChanged (objects objects' : List Object) (holder i : ℕ) (new 
   pub still : (id : Id) (p : Object) → slice_get objects id ≡ Some p → (q : Object) × (slice_get objects' id ≡ Some q)
   pub extents : (addresses : List (Option Address)) → extents_of objects' addresses ≡ extents_of objects addresses
 
--- ---- an object is made
+-- ---- n words where nothing is
 
 -- no block that has moved had this word
 pub record IsUnforwarded (s : Setting) (addresses : List (Option Address)) (n : Word) : Type 0 where
   pub clear : (id : Id) (from to : Address) (o : Object) (q : ℕ) → entry_at s.at_flip id ≡ Some from → entry_at addresses id ≡ Some to
       → from ≢ to → slice_get s.objects id ≡ Some o → q < size_of o → n ≢ word_of from + q
+
+-- n words from an address on lie in the arena, no object and no live reservation has one, and no block that has moved had one
+pub record AreFree (s : Setting) (addresses : List (Option Address)) (at : Address) (size : ℕ) : Type 0 where
+  pub within : (k : ℕ) → k < size → word_of at + k < s.size
+  pub unoccupied : (k id i : ℕ) (o : Object) → k < size → Lies s.objects addresses id i o (word_of at + k) → ⊥
+  pub unreserved : (k point i : ℕ) (r : Reservation) → k < size → LiesReserved s.points s.point_memories point i r (word_of at + k) → ⊥
+  pub unforwarded : (k : ℕ) → k < size → IsUnforwarded s addresses (word_of at + k)
+
+-- n words from an address on lie in a segment of a pool
+pub record AreHome (s : Setting) (at : Address) (size pool : ℕ) : Type 0 where
+  pub address : IsAddress at
+  pub over : (k : ℕ) → k < size → s.pool_over (word_of at + k) ≡ Some pool
+  pub whole : (k : ℕ) → k < size → s.is_condemned_over (word_of at + k) ≡ s.is_condemned_over (word_of at)
+
+-- ---- an object is made
 
 -- the setting and the addresses after an object was made
 abbrev pub setting_made : Setting → Object → List (Option Point) → List PointMemory → Setting
