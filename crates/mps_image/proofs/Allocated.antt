@@ -1,19 +1,18 @@
 -- A block is put where nothing is: allocated, or committed in the place of a reservation. And a reservation is made there.
-use Rattle.std.proofs.Common.{◌≡◌, ◌∙◌, ◌⊎◌, ℕ, ◌+◌, ◌<◌, Bool, true, false, refl, sym, ap, List, [], ◌∷◌, ◌++◌, length, Option, Some, None, subst, inl, inr, arith, slice_index}
-use Rattle.std.proofs.lemmas.Bool.{cases_eq}
+use Rattle.std.proofs.Common.{◌≡◌, ◌∙◌, ◌⊎◌, ℕ, ◌+◌, ◌-◌, ◌<◌, Bool, refl, sym, ap, List, [], ◌∷◌, ◌++◌, length, Option, Some, None, subst, inl, inr, arith, slice_index}
+use Rattle.std.proofs.lemmas.Bool.{cases_eq, cases_lt}
 use Rattle.std.proofs.lemmas.Option.{none-some, same_Some, slice_get_within}
 use Rattle.std.specs.Prelude.{slice_get, slice_set, option_and_then, ◌≢◌}
 use Rattle.mps_base.specs.Address.{Address, Id, Word, word_of}
 use Rattle.mps_model.specs.Graph.{Cell, HeadCell, NumberCell, ReferenceCell, Automatic, Object, Point, Reservation, entry_at, size_of}
-use Rattle.mps_model.specs.Checked.{head_of_body}
 use Rattle.mps_model.specs.World.{PointMemory, extents_of}
-use Rattle.mps_colours.specs.Colours.{Colours, is_white, is_grey}
-use Rattle.mps_image.specs.Memory.{Setting, Memory, Lies, LiesReserved, all_cells, live_reservation}
-use Rattle.mps_image.specs.Image.{IsCellWord, IsAddress, LieApart, IsFixed, CellSet, ImageStands, is_white_over}
-use Rattle.mps_image.specs.Changes.{setting_made, addresses_made, setting_with_points, memory_with_block, memory_with_reservation, memory_without_reservation, IsUnforwarded, AreFree, AreHome, IsMade, AreReserved}
+use Rattle.mps_colours.specs.Colours.{Colours}
+use Rattle.mps_image.specs.Memory.{Setting, Memory, Lies, LiesReserved, live_reservation}
+use Rattle.mps_image.specs.Image.{IsCellWord, IsAddress, LieApart, IsFixed, CellSet, ImageStands}
+use Rattle.mps_image.specs.Changes.{setting_made, addresses_made, setting_with_points, memory_with_reservation, memory_without_reservation, IsUnforwarded, AreFree, AreHome, memory_allocated, IsAllocated}
 use Rattle.mps_image.proofs.Entries.{slice_get-last, slice_get-still, slice_get-pushed, slice_get-set_same, slice_get-set_other, entry_pushed, entry_still}
 use Rattle.mps_image.proofs.InOrder.{BeginElsewhere}
-use Rattle.mps_image.proofs.LastObject.{old_below, old_object, lies_made, new_there}
+use Rattle.mps_image.proofs.LastObject.{old_below, lies_made}
 use Rattle.mps_image.proofs.ChangedRuns.{blocks_elsewhere, runs_made, runs_reserved}
 use Rattle.mps_image.proofs.Made.{image_made}
 use Rattle.mps_image.proofs.Reserved.{image_reserved}
@@ -43,7 +42,8 @@ module _ (s : Setting) (addresses : List (Option Address)) (o : Object) (at : Ad
         | inr e ↦ others id i p n e
       ]
 
-  object_of : (id : Id) (p : Object) → slice_get objects id ≡ Some p → ((id ≡ length s.objects) × (p ≡ o)) ⊎ (slice_get s.objects id ≡ Some p)
+  object_of : (id : Id) (p : Object) → slice_get objects id ≡ Some p
+      → ((id ≡ length s.objects) × (p ≡ o)) ⊎ (slice_get s.objects id ≡ Some p)
   object_of id p e = slice_get-pushed s.objects o id p e
 
   pub placed_made : LieApart (setting_made s o s.points s.point_memories) after
@@ -100,33 +100,17 @@ module _ (s : Setting) (addresses : List (Option Address)) (o : Object) (at : Ad
     ];
   }
 
--- the memory after a block was put there
-abbrev pub memory_allocated : Memory → (words : List ℕ) → (kept : Word → Bool) → (at : Address) → (size : ℕ) → Memory
-memory_allocated m words kept at size = memory_with_block (record m { words = words; kept = kept }) at size
-
--- what a call that puts a block there writes
-pub record IsAllocated (s : Setting) (m : Memory) (addresses : List (Option Address)) (k : Colours) (o : Object) (at : Address)
-    (words : List ℕ) (kept : Word → Bool) : Type 0 where
-  pub numbered : length addresses ≡ length s.objects
-  pub positive : 0 < size_of o
-  pub not_white : is_white s.condemned k (length s.objects) ≡ false
-  pub not_grey : is_grey k (length s.objects) ≡ false
-  pub fresh : entry_at s.at_flip (length s.objects) ≡ None
-  pub mark : is_white_over s.is_condemned_over kept (word_of at) ≡ false
-  pub kept_others : (n : Word) → n ≢ word_of at → kept n ≡ m.kept n
-  pub long : length words ≡ length m.words
-  pub cells : (i : ℕ) (c : Cell) → slice_get (all_cells o.body) i ≡ Some c
-      → IsFixed s.condemned (addresses_made addresses at) k (head_of_body o.body) c (slice_index words (word_of at + i))
-  pub others : (n : Word) → ((i : ℕ) → i < size_of o → n ≢ word_of at + i) → slice_index words n ≡ slice_index m.words n
-
-pub block_allocated : (s : Setting) (m : Memory) (addresses : List (Option Address)) (k : Colours) (done : CellSet) (o : Object) (at : Address)
+pub block_allocated : (s : Setting) (m : Memory) (addresses : List (Option Address)) (k : Colours) (done : CellSet) (o : Object)
+    (at : Address)
     (words : List ℕ) (kept : Word → Bool) → ImageStands s m addresses k done → IsAllocated s m addresses k o at words kept
     → AreFree s addresses at (size_of o) → AreHome s at (size_of o) o.pool
-    → ImageStands (setting_made s o s.points s.point_memories) (memory_allocated m words kept at (size_of o)) (addresses_made addresses at) k done
+    → ImageStands (setting_made s o s.points s.point_memories) (memory_allocated m words kept at (size_of o))
+    (addresses_made addresses at) k done
 block_allocated s m addresses k done o at words kept st v free home =
     let runs =
     runs_made s m addresses o at v.numbered st.placed
-    (λ id i p l. free.unoccupied 0 id i p v.positive (subst (λ y. Lies s.objects addresses id i p y) (let e : word_of at ≡ word_of at + 0 = omega arith in e) l))
+    (λ id i p l. free.unoccupied 0 id i p v.positive
+    (subst (λ y. Lies s.objects addresses id i p y) (let e : word_of at ≡ word_of at + 0 = omega arith in e) l))
     st.runs
     in
     image_made s m (memory_allocated m words kept at (size_of o)) addresses k done o at s.points s.point_memories st (record {
@@ -166,24 +150,27 @@ fixed_still condemned addresses at k head c word f = record { holds = go c f.hol
 
 -- ---- a reservation
 
-module _ (s : Setting) (m : Memory) (addresses : List (Option Address)) (k : Colours) (done : CellSet) (st : ImageStands s m addresses k done)
-    (i : ℕ) (p : Option Point) (memory : PointMemory) (point : slice_get s.points i ≡ Some p) (has : slice_get s.point_memories i ≡ Some memory)
+module _ (s : Setting) (m : Memory) (addresses : List (Option Address)) (k : Colours) (done : CellSet)
+    (st : ImageStands s m addresses k done)
+    (i : ℕ) (p : Option Point) (memory : PointMemory) (point : slice_get s.points i ≡ Some p)
+    (has : slice_get s.point_memories i ≡ Some memory)
   where
     -- a live reservation is committed: it ends, and an object with its cells is where it was
     pub block_committed : (q : Reservation) → live_reservation p ≡ Some q → (p' : Point) → live_reservation (Some p') ≡ None
         → (pool : ℕ) (is_weak : Bool) (kept : Word → Bool)
         → IsAllocated (setting_with_points s (slice_set s.points i (Some p')) s.point_memories)
-          (memory_without_reservation m memory.reserved_at) addresses k (record { pool = pool; body = Automatic q.head q.cells is_weak })
-          memory.reserved_at m.words kept
+        (memory_without_reservation m memory.reserved_at) addresses k (record { pool = pool; body = Automatic q.head q.cells is_weak })
+        memory.reserved_at m.words kept
         → AreHome s memory.reserved_at (length q.cells) pool
         → ImageStands
-          (setting_made (setting_with_points s (slice_set s.points i (Some p')) s.point_memories)
-          (record { pool = pool; body = Automatic q.head q.cells is_weak }) (slice_set s.points i (Some p')) s.point_memories)
-          (memory_allocated (memory_without_reservation m memory.reserved_at) m.words kept memory.reserved_at (length q.cells))
-          (addresses_made addresses memory.reserved_at) k done
+        (setting_made (setting_with_points s (slice_set s.points i (Some p')) s.point_memories)
+        (record { pool = pool; body = Automatic q.head q.cells is_weak }) (slice_set s.points i (Some p')) s.point_memories)
+        (memory_allocated (memory_without_reservation m memory.reserved_at) m.words kept memory.reserved_at (length q.cells))
+        (addresses_made addresses memory.reserved_at) k done
     block_committed q live p' none pool is_weak kept v home =
         let points = slice_set s.points i (Some p') in
-        let there : live_reservation (entry_at s.points i) ≡ Some q = ap (λ e. live_reservation (option_and_then (λ o. o) e)) point ∙ live in
+        let there : live_reservation (entry_at s.points i) ≡ Some q = ap (λ e. live_reservation (option_and_then (λ o. o) e)) point
+        ∙ live in
         let its_word : (l : ℕ) → l < length q.cells → LiesReserved s.points s.point_memories i l q (word_of memory.reserved_at + l) =
         λ l lt. record { memory = memory; reserved = there; has = has; within = lt; is = refl }
         in
@@ -199,12 +186,16 @@ module _ (s : Setting) (m : Memory) (addresses : List (Option Address)) (k : Col
                 | inr e ↦ e.0 (st.placed.reserved_alone j i l' l r q (word_of memory.reserved_at + l) e.1 (its_word l lt))
               ];
           unforwarded = λ l lt.
-              record { clear = (reserved_unforwarded s m addresses k done st i l q (word_of memory.reserved_at + l) (its_word l lt)).clear };
+              record {
+                clear = (reserved_unforwarded s m addresses k done st i l q (word_of memory.reserved_at + l)
+                    (its_word l lt)).clear;
+              };
         }) (record { address = home.address; over = home.over; whole = home.whole })
 
     -- the cells of a committed block are fixed, as those of its reservation were
     pub committed_cells : (q : Reservation) → live_reservation p ≡ Some q → (l : ℕ) (c : Cell) → slice_get q.cells l ≡ Some c
-        → IsFixed s.condemned (addresses_made addresses memory.reserved_at) k q.head c (slice_index m.words (word_of memory.reserved_at + l))
+        → IsFixed s.condemned (addresses_made addresses memory.reserved_at) k q.head c
+        (slice_index m.words (word_of memory.reserved_at + l))
     committed_cells q live l c cell =
         fixed_still s.condemned addresses memory.reserved_at k q.head c (slice_index m.words (word_of memory.reserved_at + l))
         (st.fixed.reserved i l q (word_of memory.reserved_at + l) c (record {
@@ -221,12 +212,10 @@ module _ (s : Setting) (m : Memory) (addresses : List (Option Address)) (k : Col
         → length words ≡ length m.words
         → ((l : ℕ) (c : Cell) → slice_get q.cells l ≡ Some c
         → IsFixed s.condemned addresses k q.head c (slice_index words (word_of there.reserved_at + l)))
-        → ((n : Word) → (slice_index words n ≡ slice_index m.words n)
-        ⊎ ((l : ℕ) × (l < length q.cells) × (n ≡ word_of there.reserved_at + l)))
         → ((n : Word) → ((l : ℕ) → l < length q.cells → n ≢ word_of there.reserved_at + l) → slice_index words n ≡ slice_index m.words n)
         → ImageStands (setting_with_points s (slice_set s.points i (Some p')) (slice_set s.point_memories i there))
-          (memory_with_reservation (record m { words = words }) there.reserved_at (length q.cells)) addresses k done
-    reservation_made none p' q there words live positive free long fixed written others =
+        (memory_with_reservation (record m { words = words }) there.reserved_at (length q.cells)) addresses k done
+    reservation_made none p' q there words live positive free long fixed others =
         image_reserved s m (memory_with_reservation (record m { words = words }) there.reserved_at (length q.cells)) addresses k done points
         memories st (record {
           placed = placed;
@@ -248,11 +237,18 @@ module _ (s : Setting) (m : Memory) (addresses : List (Option Address)) (k : Col
           cells = λ j l r n c x cell. elim (cases j l r n x) [
             | inl e ↦
                 inr (subst (λ y. IsFixed s.condemned addresses k r.head c (slice_index words y)) (sym e.3)
-                (subst (λ (y : Reservation). IsFixed s.condemned addresses k y.head c (slice_index words (word_of there.reserved_at + l))) (sym e.1)
+                (subst (λ (y : Reservation). IsFixed s.condemned addresses k y.head c
+                (slice_index words (word_of there.reserved_at + l))) (sym e.1)
                 (fixed l c (subst (λ (y : Reservation). slice_get y.cells l ≡ Some c) e.1 cell))))
             | inr y ↦
-                inl (r, y, cell, refl, others n (λ l' lt e. free.unreserved l' j l r lt
-                (subst (λ z. LiesReserved s.points s.point_memories j l r z) e y)))
+                inl (
+                  r,
+                  y,
+                  cell,
+                  refl,
+                  others n (λ l' lt e. free.unreserved l' j l r lt
+                      (subst (λ z. LiesReserved s.points s.point_memories j l r z) e y)),
+                )
           ];
           written = λ n. elim (written n) [
             | inl e ↦ inl e
@@ -266,8 +262,22 @@ module _ (s : Setting) (m : Memory) (addresses : List (Option Address)) (k : Col
       where
         points : List (Option Point)
         points = slice_set s.points i (Some p')
+
         memories : List PointMemory
         memories = slice_set s.point_memories i there
+
+        -- a word is as it was, or is one of the reservation
+        written : (n : Word) → (slice_index words n ≡ slice_index m.words n)
+            ⊎ ((l : ℕ) × (l < length q.cells) × (n ≡ word_of there.reserved_at + l))
+        written n =
+            elim (cases_lt n (word_of there.reserved_at)) [
+              | inl below ↦ inl (others n (λ l lt e. omega (arith, below, e)))
+              | inr above ↦
+                  elim (cases_lt n (word_of there.reserved_at + length q.cells)) [
+                    | inl inside ↦ inr (n - word_of there.reserved_at, omega (arith, above, inside), omega (arith, above))
+                    | inr past ↦ inl (others n (λ l lt e. omega (arith, past, lt, e)))
+                  ]
+            ]
 
         there_is : entry_at (slice_set s.points i (Some p')) i ≡ Some p'
         there_is = ap (option_and_then (λ e. e)) (slice_get-set_same s.points i p (Some p') point)
@@ -282,7 +292,8 @@ module _ (s : Setting) (m : Memory) (addresses : List (Option Address)) (k : Col
             → LiesReserved (slice_set s.points i (Some p')) (slice_set s.point_memories i there) i l q n
         new_word l n lt e = record { memory = there; reserved = ap live_reservation there_is ∙ live; has = new_memory; within = lt; is = e }
 
-        cases : (j l : ℕ) (r : Reservation) (n : Word) → LiesReserved (slice_set s.points i (Some p')) (slice_set s.point_memories i there) j l r n
+        cases : (j l : ℕ) (r : Reservation) (n : Word)
+            → LiesReserved (slice_set s.points i (Some p')) (slice_set s.point_memories i there) j l r n
             → ((j ≡ i) × (r ≡ q) × (l < length q.cells) × (n ≡ word_of there.reserved_at + l))
             ⊎ LiesReserved s.points s.point_memories j l r n
         cases j l r n x =
@@ -296,7 +307,7 @@ module _ (s : Setting) (m : Memory) (addresses : List (Option Address)) (k : Col
                     e.0,
                     same,
                     subst (λ (y : Reservation). l < length y.cells) same x.within,
-                    x.is ∙ ap (λ (y : PointMemory). word_of y.reserved_at + l) at_there
+                    x.is ∙ ap (λ (y : PointMemory). word_of y.reserved_at + l) at_there,
                   )
               | inr e ↦ inr e.1
             ]
@@ -306,7 +317,8 @@ module _ (s : Setting) (m : Memory) (addresses : List (Option Address)) (k : Col
         no_block_begins =
             blocks_elsewhere s addresses (word_of there.reserved_at) st.placed (λ id l o x.
             free.unoccupied 0 id l o positive
-            (subst (λ y. Lies s.objects addresses id l o y) (let e : word_of there.reserved_at ≡ word_of there.reserved_at + 0 = omega arith in e) x))
+            (subst (λ y. Lies s.objects addresses id l o y)
+            (let e : word_of there.reserved_at ≡ word_of there.reserved_at + 0 = omega arith in e) x))
 
         placed : LieApart (setting_with_points s (slice_set s.points i (Some p')) (slice_set s.point_memories i there)) addresses
         placed = record {

@@ -6,7 +6,7 @@ use Rattle.std.proofs.lemmas.List.{length-set}
 use Rattle.std.specs.Prelude.{slice_get, slice_set, ◌≢◌, IsTrue}
 use Rattle.mps_base.specs.Address.{Address, Id}
 use Rattle.std.specs.Option.{option_map_or}
-use Rattle.mps_model.specs.Graph.{Cell, NumberCell, ReferenceCell, Body, Automatic, Manual, Object, retargeted, with_target_cell, size_of, size_of_body}
+use Rattle.mps_model.specs.Graph.{Cell, NumberCell, ReferenceCell, Body, Automatic, Manual, Object, Graph, object_at, object_with_cells, body_with_cells, graph_with_cells, retargeted, with_target_cell, size_of, size_of_body}
 use Rattle.mps_model.specs.Checked.{head_of_body}
 use Rattle.mps_model.specs.World.{extent, extents_of}
 use Rattle.mps_colours.specs.Colours.{Colours}
@@ -130,3 +130,23 @@ fewer_fixed s m addresses k done done' fewer st = record {
   marks = st.marks;
   runs = st.runs;
 }
+
+-- ---- as the model changes a graph
+
+-- a cell of an automatic object, where the change is one of a cell
+pub graph_cell_changed : (g : Graph) (id : Id) (o : Object) (head : ℕ) (cells : List Cell) (is_weak : Bool) (i : ℕ) (new : Cell)
+    (change : List Cell → List Cell) → object_at g id ≡ Some o → o.body ≡ Automatic head cells is_weak
+    → change cells ≡ slice_set cells i new
+    → IsCellChanged g.objects (graph_with_cells g id change).objects id i new
+graph_cell_changed g id o head cells is_weak i new change object body is =
+    subst (λ objects. IsCellChanged g.objects objects id i new) (sym objects_are)
+    (cell_changed g.objects id o (Automatic head (slice_set cells i new) is_weak) i new object
+    (subst (λ b. IsBodyChanged b (Automatic head (slice_set cells i new) is_weak) i new) (sym body)
+    (automatic_changed head cells is_weak i new)))
+  where
+    objects_are : (graph_with_cells g id change).objects
+        ≡ slice_set g.objects id (record o { body = Automatic head (slice_set cells i new) is_weak })
+    objects_are =
+        ap (λ found. option_map_or (λ (q : Object). slice_set g.objects id (object_with_cells q change)) found g.objects) object
+        ∙ ap (λ b. slice_set g.objects id (record o { body = body_with_cells b change })) body
+        ∙ ap (λ cs. slice_set g.objects id (record o { body = Automatic head cs is_weak })) is

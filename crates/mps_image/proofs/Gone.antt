@@ -1,16 +1,17 @@
 -- A block goes to which nothing refers that is read: a client frees a manual one, or a collection a white one.
-use Rattle.std.proofs.Common.{◌≡◌, ◌∙◌, ℕ, ◌+◌, Bool, refl, sym, ap, List, ◌∷◌, ◌++◌, Option, Some, None, inl, inr}
-use Rattle.std.proofs.lemmas.Bool.{false≢true, cases_eq, or_cases, or_left, or_right}
-use Rattle.std.proofs.lemmas.Option.{same_Some}
+use Rattle.std.proofs.Common.{◌≡◌, ◌∙◌, ℕ, ◌+◌, Bool, true, false, refl, sym, ap, List, ◌∷◌, ◌++◌, Option, Some, None, inl, inr}
+use Rattle.std.proofs.lemmas.Bool.{false≢true, and_from, cases_eq, or_cases, or_left, or_right}
+use Rattle.std.proofs.lemmas.Option.{none-some, same_Some}
 use Rattle.std.proofs.lemmas.List.{append_assoc}
-use Rattle.std.specs.Prelude.{slice_set, not, ◌&&◌, ◌||◌, ◌≢◌, IsTrue}
+use Rattle.std.specs.Prelude.{slice_get, slice_set, not, ◌&&◌, ◌||◌, ◌≢◌, IsTrue}
 use Rattle.mps_base.specs.Address.{Address, Id, Word, word_of}
 use Rattle.mps_base.specs.Run.{Run, in_order, without_run}
-use Rattle.mps_model.specs.Graph.{Object, entry_at, size_of}
+use Rattle.mps_model.specs.Graph.{Cell, HeadCell, NumberCell, ReferenceCell, Object, Reservation, entry_at, size_of, is_automatic, target_of_cell}
 use Rattle.mps_model.specs.World.{extent, extents_of, reserved_extents}
-use Rattle.mps_colours.specs.Colours.{Colours}
-use Rattle.mps_image.specs.Memory.{Setting, Memory, Lies, BlockBegins}
-use Rattle.mps_image.specs.Image.{LieApart, CellSet, MarksStand, RunsStand, ImageStands}
+use Rattle.mps_colours.specs.Colours.{Colours, is_white, is_grey, is_black}
+use Rattle.mps_image.specs.Memory.{Setting, Memory, Lies, BlockBegins, all_cells, live_reservation}
+use Rattle.mps_image.specs.Image.{LieApart, CellSet, MarksStand, RunsStand, ImageStands, black_cells, Stands}
+use Rattle.mps_image.specs.Fixing.{IsMarkCleared}
 use Rattle.mps_image.specs.Changes.{memory_without_block, MayGo}
 use Rattle.mps_image.proofs.Entries.{entry_left, entry_at-set_other}
 use Rattle.mps_image.proofs.InOrder.{all_append, in_order-without}
@@ -177,3 +178,60 @@ module _ (s : Setting) (m : Memory) (addresses : List (Option Address)) (k : Col
     marks = marks_left;
     runs = runs_left;
   }
+
+-- ---- which block may go
+
+module _ (s : Setting) (m : Memory) (addresses : List (Option Address)) (k : Colours) (t : Id) (from : Address) (o : Object)
+    (kept' grey' : Word → Bool) (st : Stands s m addresses k) (there : entry_at addresses t ≡ Some from)
+    (object : slice_get s.objects t ≡ Some o) (kept_cleared : IsMarkCleared m.kept kept' (word_of from))
+    (grey_cleared : IsMarkCleared m.grey grey' (word_of from)) where
+  -- a white one, once nothing is grey and white objects aren't read: what isn't white refers to nothing white
+  pub white_may_go : is_white s.condemned k t ≡ true
+      → ((id : Id) → IsTrue (s.is_read id) → is_white s.condemned k id ≡ false)
+      → ((id : Id) (at : Address) → entry_at addresses id ≡ Some at → is_grey k id ≡ false)
+      → MayGo s m addresses (black_cells s.condemned k) t from o kept' grey'
+  white_may_go white read none_grey = record {
+    there = there;
+    object = object;
+    unreferred = λ id i p n c any other l cell target.
+        let black : IsTrue (is_black s.condemned k id) =
+        elim any [
+          | inl r ↦
+              and_from (not (is_white s.condemned k id)) (not (is_grey k id)) (ap not (read id r)) (ap not (none_grey id l.at l.address))
+          | inr d ↦ d
+        ]
+        in
+        false≢true (sym ((st.fixed.cells id i p n c black l cell).not_white t target) ∙ white);
+    unreserved = λ point i r n c l cell target.
+        false≢true (sym ((st.fixed.reserved point i r n c l cell).not_white t target) ∙ white);
+    kept_cleared = kept_cleared;
+    grey_cleared = grey_cleared;
+  }
+
+  -- a manual one, at any time: references lead to automatic objects
+  pub manual_may_go : is_automatic o ≡ false
+      → ((id i u tag : ℕ) (p : Object) → slice_get s.objects id ≡ Some p
+      → slice_get (all_cells p.body) i ≡ Some (ReferenceCell (Some u) tag)
+      → (q : Object) × (slice_get s.objects u ≡ Some q) × IsTrue (is_automatic q))
+      → ((point i : ℕ) (r : Reservation) (u tag : ℕ) → live_reservation (entry_at s.points point) ≡ Some r
+      → slice_get r.cells i ≡ Some (ReferenceCell (Some u) tag) → (q : Object) × (slice_get s.objects u ≡ Some q) × IsTrue (is_automatic q))
+      → MayGo s m addresses (black_cells s.condemned k) t from o kept' grey'
+  manual_may_go manual targets reserved = record {
+    there = there;
+    object = object;
+    unreferred = λ id i p n c any other l cell target. of_cell c target (λ u tag e. targets id i u tag p l.object (cell ∙ ap Some e));
+    unreserved = λ point i r n c l cell target. of_cell c target (λ u tag e. reserved point i r u tag l.reserved (cell ∙ ap Some e));
+    kept_cleared = kept_cleared;
+    grey_cleared = grey_cleared;
+  }
+    where
+      never : (q : Object) → slice_get s.objects t ≡ Some q → IsTrue (is_automatic q) → ⊥
+      never q e automatic = false≢true (sym manual ∙ ap (λ (x : Object). is_automatic x) (same_Some o q (sym object ∙ e)) ∙ automatic)
+
+      of_cell : (c : Cell) → target_of_cell c ≡ Some t
+          → ((u tag : ℕ) → c ≡ ReferenceCell (Some u) tag → (q : Object) × (slice_get s.objects u ≡ Some q) × IsTrue (is_automatic q)) → ⊥
+      of_cell HeadCell e f = none-some t e
+      of_cell (NumberCell n) e f = none-some t e
+      of_cell (ReferenceCell None tag) e f = none-some t e
+      of_cell (ReferenceCell (Some u) tag) e f =
+          let q = f u tag refl in never q.0 (ap (slice_get s.objects) (sym (same_Some u t e)) ∙ q.1) q.2

@@ -8,7 +8,8 @@ use Rattle.mps_image.specs.Memory.{Lies}
 use Rattle.mps_image.specs.Changes.{addresses_made}
 use Rattle.mps_image.proofs.Entries.{slice_get-last, entry_last, slice_get-pushed, entry_pushed, entry_within}
 
-module _ (objects : List Object) (addresses : List (Option Address)) (o : Object) (at : Address) (numbered : length addresses ≡ length objects)
+module _ (objects : List Object) (addresses : List (Option Address)) (o : Object) (at : Address)
+    (numbered : length addresses ≡ length objects)
   where
     abbrev new : Id
     new = length objects

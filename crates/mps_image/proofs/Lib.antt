@@ -28,3 +28,4 @@ pub mod Shaped
 pub mod Reservations
 pub mod Allocated
 pub mod Laws
+pub mod ClientLaws

@@ -1,7 +1,7 @@
 -- An object is made: a block is committed in the place of a reservation, or allocated.
-use Rattle.std.proofs.Common.{◌≡◌, ◌∙◌, ◌⊎◌, ℕ, ◌+◌, ◌<◌, false, refl, sym, ap, List, [], ◌∷◌, ◌++◌, length, Option, Some, subst, inl, inr, arith, slice_index}
+use Rattle.std.proofs.Common.{◌≡◌, ◌∙◌, ℕ, ◌+◌, ◌<◌, false, refl, sym, ap, List, [], ◌∷◌, ◌++◌, length, Option, Some, subst, inl, inr, arith, slice_index}
 use Rattle.std.proofs.lemmas.Bool.{true≢false, cases_eq, cases_Bool, or_cases, or_left, or_right}
-use Rattle.std.proofs.lemmas.Option.{none-some, slice_get_within}
+use Rattle.std.proofs.lemmas.Option.{none-some}
 use Rattle.std.specs.Prelude.{slice_get, not, ◌&&◌, ◌≢◌}
 use Rattle.mps_base.specs.Address.{Address, Id, Word, word_of}
 use Rattle.mps_model.specs.Graph.{Object, Point, entry_at, size_of}
@@ -40,7 +40,8 @@ module _ (s : Setting) (m m' : Memory) (addresses : List (Option Address)) (k : 
   not_new id i p n l there q lt e =
       let same : id ≡ new =
       v.placed.apart id new i q p o (word_of at + q)
-      (subst (λ y. Lies (s.objects ++ o ∷ []) (addresses_made addresses at) id i p y) e there) (new_there s.objects addresses o at v.numbered q lt)
+      (subst (λ y. Lies (s.objects ++ o ∷ []) (addresses_made addresses at) id i p y) e there)
+      (new_there s.objects addresses o at v.numbered q lt)
       in
       absurd (omega (arith, old_below s.objects addresses o at v.numbered id l.at l.address, same))
 
@@ -85,7 +86,8 @@ module _ (s : Setting) (m m' : Memory) (addresses : List (Option Address)) (k : 
           | inl e ↦
               absurd (none-some from (sym v.fresh ∙ ap (entry_at s.at_flip) (sym (e.0 ∙ v.numbered)) ∙ was))
           | inr e ↦
-              let was_object = old_object s.objects addresses o at v.numbered id p (old_below s.objects addresses o at v.numbered id to e) object in
+              let was_object = old_object s.objects addresses o at v.numbered id p
+              (old_below s.objects addresses o at v.numbered id to e) object in
               let f = st.words.forwarded id from to p was e apart was_object in
               let not_there : (q i : ℕ) → q < size_of p → i < size_of o → word_of from + q ≢ word_of at + i =
               λ q i lq li x. (v.clear i li).clear id from to p q was e apart was_object lq (sym x)

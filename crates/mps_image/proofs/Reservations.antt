@@ -1,20 +1,20 @@
 -- A reservation of one point is made, written, or ends: the image then, from what the call writes and where nothing lay.
-use Rattle.std.proofs.Common.{◌≡◌, ◌∙◌, ◌⊎◌, ℕ, ◌+◌, ◌<◌, refl, sym, ap, List, [], length, Option, Some, None, subst, inl, inr, arith, slice_index}
+use Rattle.std.proofs.Common.{◌≡◌, ◌∙◌, ◌⊎◌, ℕ, ◌+◌, ◌<◌, refl, sym, ap, List, length, Option, Some, None, subst, inl, inr, arith, slice_index}
 use Rattle.std.proofs.lemmas.Bool.{cases_eq}
 use Rattle.std.proofs.lemmas.Option.{none-some, same_Some, slice_get_within}
 use Rattle.std.proofs.lemmas.List.{get_or-set_same, get_or-set_other, length-set}
 use Rattle.std.specs.Prelude.{slice_get, slice_set, option_and_then, ◌≢◌}
-use Rattle.mps_base.specs.Address.{Address, Id, Word, word_of}
-use Rattle.mps_model.specs.Graph.{Cell, Object, Point, Reservation, entry_at, size_of}
+use Rattle.mps_base.specs.Address.{Address, Word, word_of}
+use Rattle.mps_model.specs.Graph.{Cell, Point, Reservation, entry_at}
 use Rattle.mps_model.specs.World.{PointMemory, extents_of}
 use Rattle.mps_colours.specs.Colours.{Colours}
-use Rattle.mps_image.specs.Memory.{Setting, Memory, Lies, LiesReserved, live_reservation}
+use Rattle.mps_image.specs.Memory.{Setting, Memory, LiesReserved, live_reservation}
 use Rattle.mps_image.specs.Image.{LieApart, IsFixed, CellSet, ImageStands}
-use Rattle.mps_image.specs.Changes.{setting_with_points, memory_with_word, memory_with_reservation, memory_without_reservation, IsUnforwarded, AreReserved}
+use Rattle.mps_image.specs.Changes.{setting_with_points, memory_with_word, memory_without_reservation, IsUnforwarded}
 use Rattle.mps_image.proofs.Entries.{slice_get-set_same, slice_get-set_other}
 use Rattle.mps_image.proofs.InOrder.{BeginElsewhere}
 use Rattle.mps_image.proofs.CellChanged.{set_cases}
-use Rattle.mps_image.proofs.ChangedRuns.{blocks_elsewhere, runs_reserved, runs_ended, runs_written}
+use Rattle.mps_image.proofs.ChangedRuns.{blocks_elsewhere, runs_ended, runs_written}
 use Rattle.mps_image.proofs.Reserved.{image_reserved}
 
 -- ---- one point among others
@@ -34,14 +34,18 @@ module _ (s : Setting) (i : ℕ) (p : Option Point) (point : slice_get s.points 
       elim (cases_eq j i) [
         | inl same ↦ inl (same, sym (ap live_reservation (ap (entry_at points') same ∙ there)) ∙ x.reserved)
         | inr other ↦
-            inr (other, record {
-              memory = x.memory;
-              reserved =
-                  ap (λ e. live_reservation (option_and_then (λ o. o) e)) (sym (slice_get-set_other s.points i j (Some p') other)) ∙ x.reserved;
-              has = sym (others j other) ∙ x.has;
-              within = x.within;
-              is = x.is;
-            })
+            inr (
+              other,
+              record {
+                memory = x.memory;
+                reserved =
+                    ap (λ e. live_reservation (option_and_then (λ o. o) e)) (sym (slice_get-set_other s.points i j (Some p') other))
+                    ∙ x.reserved;
+                has = sym (others j other) ∙ x.has;
+                within = x.within;
+                is = x.is;
+              },
+            )
       ]
 
 -- where each word of a reservation was one of a reservation of the same point, all lies apart as before
@@ -78,8 +82,10 @@ reserved_unforwarded s m addresses k done st j l r n x = record {
       f.unreserved q j l r lt (subst (λ y. LiesReserved s.points s.point_memories j l r y) e x);
 }
 
-module _ (s : Setting) (m : Memory) (addresses : List (Option Address)) (k : Colours) (done : CellSet) (st : ImageStands s m addresses k done)
-    (i : ℕ) (p : Option Point) (memory : PointMemory) (point : slice_get s.points i ≡ Some p) (has : slice_get s.point_memories i ≡ Some memory)
+module _ (s : Setting) (m : Memory) (addresses : List (Option Address)) (k : Colours) (done : CellSet)
+    (st : ImageStands s m addresses k done)
+    (i : ℕ) (p : Option Point) (memory : PointMemory) (point : slice_get s.points i ≡ Some p)
+    (has : slice_get s.point_memories i ≡ Some memory)
     (q : Reservation) (live : live_reservation p ≡ Some q) where
   live_there : live_reservation (entry_at s.points i) ≡ Some q
   live_there = ap (λ e. live_reservation (option_and_then (λ o. o) e)) point ∙ live
@@ -116,9 +122,10 @@ module _ (s : Setting) (m : Memory) (addresses : List (Option Address)) (k : Col
 
   pub reservation_ended : (p' : Point) → live_reservation (Some p') ≡ None
       → ImageStands (setting_with_points s (slice_set s.points i (Some p')) s.point_memories)
-        (memory_without_reservation m memory.reserved_at) addresses k done
+      (memory_without_reservation m memory.reserved_at) addresses k done
   reservation_ended p' none =
-      image_reserved s m (memory_without_reservation m memory.reserved_at) addresses k done (slice_set s.points i (Some p')) s.point_memories
+      image_reserved s m (memory_without_reservation m memory.reserved_at) addresses k done
+      (slice_set s.points i (Some p')) s.point_memories
       st (record {
         placed =
             apart_still s addresses (slice_set s.points i (Some p')) s.point_memories st.placed still_positive
@@ -139,13 +146,15 @@ module _ (s : Setting) (m : Memory) (addresses : List (Option Address)) (k : Col
             | inl e ↦ absurd (none-some r (sym none ∙ e.1))
             | inr e ↦ e.1
           ]
+
       still_positive : (j : ℕ) (r : Reservation) → live_reservation (entry_at (slice_set s.points i (Some p')) j) ≡ Some r
           → 0 < length r.cells
       still_positive j r e =
           elim (cases_eq j i) [
             | inl same ↦
                 absurd (none-some r (sym none
-                ∙ sym (ap live_reservation (ap (entry_at (slice_set s.points i (Some p'))) same ∙ there s i p point p' s.point_memories (λ j' other. refl)))
+                ∙ sym (ap live_reservation (ap (entry_at (slice_set s.points i (Some p'))) same
+                ∙ there s i p point p' s.point_memories (λ j' other. refl)))
                 ∙ e))
             | inr other ↦
                 st.placed.reserved_positive j r
@@ -158,7 +167,7 @@ module _ (s : Setting) (m : Memory) (addresses : List (Option Address)) (k : Col
       → live_reservation (Some p') ≡ Some (record q { cells = slice_set q.cells l new })
       → IsFixed s.condemned addresses k q.head new word
       → ImageStands (setting_with_points s (slice_set s.points i (Some p')) s.point_memories)
-        (memory_with_word m (word_of memory.reserved_at + l) word) addresses k done
+      (memory_with_word m (word_of memory.reserved_at + l) word) addresses k done
   reservation_written p' l new word within live' fixed =
       image_reserved s m (memory_with_word m w word) addresses k done (slice_set s.points i (Some p')) s.point_memories st (record {
         placed = apart_still s addresses (slice_set s.points i (Some p')) s.point_memories st.placed still_positive back;
@@ -178,8 +187,10 @@ module _ (s : Setting) (m : Memory) (addresses : List (Option Address)) (k : Col
     where
       w : Word
       w = word_of memory.reserved_at + l
+
       q' : Reservation
       q' = record q { cells = slice_set q.cells l new }
+
       points : List (Option Point)
       points = slice_set s.points i (Some p')
 
@@ -188,16 +199,19 @@ module _ (s : Setting) (m : Memory) (addresses : List (Option Address)) (k : Col
       back j l' r n x =
           elim (reserved_cases s i p point p' s.point_memories (λ j' other. refl) j l' r n x) [
             | inl e ↦
-                let same : record q { cells = slice_set q.cells l new } ≡ r = same_Some (record q { cells = slice_set q.cells l new }) r (sym live' ∙ e.1) in
-                (q, record {
-                  memory = x.memory;
-                  reserved = ap (λ y. live_reservation (entry_at s.points y)) e.0 ∙ live_there;
-                  has = x.has;
-                  within =
-                      let size : length (slice_set q.cells l new) ≡ length r.cells = ap (λ (y : Reservation). length y.cells) same in
-                      omega (arith, x.within, size, length-set q.cells l new);
-                  is = x.is;
-                })
+                let same : record q { cells = slice_set q.cells l new } ≡ r = same_Some (record q { cells = slice_set q.cells l new }) r
+                (sym live' ∙ e.1) in (
+                  q,
+                  record {
+                    memory = x.memory;
+                    reserved = ap (λ y. live_reservation (entry_at s.points y)) e.0 ∙ live_there;
+                    has = x.has;
+                    within =
+                        let size : length (slice_set q.cells l new) ≡ length r.cells = ap (λ (y : Reservation). length y.cells) same in
+                        omega (arith, x.within, size, length-set q.cells l new);
+                    is = x.is;
+                  },
+                )
             | inr e ↦ (r, e.1)
           ]
 
@@ -209,7 +223,8 @@ module _ (s : Setting) (m : Memory) (addresses : List (Option Address)) (k : Col
                 let is_r : record q { cells = slice_set q.cells l new } ≡ r =
                 same_Some (record q { cells = slice_set q.cells l new }) r
                 (sym live'
-                ∙ sym (ap live_reservation (ap (entry_at (slice_set s.points i (Some p'))) same ∙ there s i p point p' s.point_memories (λ j' other. refl)))
+                ∙ sym (ap live_reservation (ap (entry_at (slice_set s.points i (Some p'))) same
+                ∙ there s i p point p' s.point_memories (λ j' other. refl)))
                 ∙ e)
                 in
                 let size : length (slice_set q.cells l new) ≡ length r.cells = ap (λ (y : Reservation). length y.cells) is_r in
@@ -264,7 +279,7 @@ module _ (s : Setting) (m : Memory) (addresses : List (Option Address)) (k : Col
                         }),
                         old.1,
                         ap (λ (y : Reservation). y.head) same,
-                        get_or-set_other m.words (word_of memory.reserved_at + l) n word 0 not_w
+                        get_or-set_other m.words (word_of memory.reserved_at + l) n word 0 not_w,
                       )
                   | inr z ↦
                       let n_w : n ≡ word_of memory.reserved_at + l = n_is ∙ ap (λ y. word_of memory.reserved_at + y) z.0 in
@@ -279,7 +294,7 @@ module _ (s : Setting) (m : Memory) (addresses : List (Option Address)) (k : Col
             | inr e ↦
                 let not_w : n ≢ word_of memory.reserved_at + l =
                 λ z. e.0 (st.placed.reserved_alone j i l' l r q (word_of memory.reserved_at + l)
-                  (subst (λ y. LiesReserved s.points s.point_memories j l' r y) z e.1) (its_word l within))
+                (subst (λ y. LiesReserved s.points s.point_memories j l' r y) z e.1) (its_word l within))
                 in
                 inl (r, e.1, cell, refl, get_or-set_other m.words (word_of memory.reserved_at + l) n word 0 not_w)
           ]

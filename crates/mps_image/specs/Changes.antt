@@ -112,6 +112,25 @@ pub record IsMade (s : Setting) (m m' : Memory) (addresses : List (Option Addres
   pub others : (n : Word) → ((i : ℕ) → i < size_of o → n ≢ word_of at + i) → slice_index m'.words n ≡ slice_index m.words n
   pub clear : (i : ℕ) → i < size_of o → IsUnforwarded s addresses (word_of at + i)
 
+-- the memory after a block was put there
+abbrev pub memory_allocated : Memory → (words : List ℕ) → (kept : Word → Bool) → (at : Address) → (size : ℕ) → Memory
+memory_allocated m words kept at size = memory_with_block (record m { words = words; kept = kept }) at size
+
+-- what a call that puts a block there writes
+pub record IsAllocated (s : Setting) (m : Memory) (addresses : List (Option Address)) (k : Colours) (o : Object) (at : Address)
+    (words : List ℕ) (kept : Word → Bool) : Type 0 where
+  pub numbered : length addresses ≡ length s.objects
+  pub positive : 0 < size_of o
+  pub not_white : is_white s.condemned k (length s.objects) ≡ false
+  pub not_grey : is_grey k (length s.objects) ≡ false
+  pub fresh : entry_at s.at_flip (length s.objects) ≡ None
+  pub mark : is_white_over s.is_condemned_over kept (word_of at) ≡ false
+  pub kept_others : (n : Word) → n ≢ word_of at → kept n ≡ m.kept n
+  pub long : length words ≡ length m.words
+  pub cells : (i : ℕ) (c : Cell) → slice_get (all_cells o.body) i ≡ Some c
+      → IsFixed s.condemned (addresses_made addresses at) k (head_of_body o.body) c (slice_index words (word_of at + i))
+  pub others : (n : Word) → ((i : ℕ) → i < size_of o → n ≢ word_of at + i) → slice_index words n ≡ slice_index m.words n
+
 -- ---- a block goes
 
 -- the memory after a block at an address has gone

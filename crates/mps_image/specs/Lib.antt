@@ -8,3 +8,4 @@ pub mod AtRest
 pub mod Changes
 pub mod Steps
 pub mod Laws
+pub mod ClientLaws

@@ -4,6 +4,7 @@
 
 ghost use Rattle.mps_image.specs.AtRest.{RestingWordsAreImages, RestingArenaHoldsImages};
 ghost use Rattle.mps_image.specs.Steps.{AFixIsAStep};
+ghost use Rattle.mps_image.specs.ClientLaws.{ACellOfAnObjectIsWritten, AReservationIsMade, AReservationIsWritten, AReservationEnds, ABlockIsCommitted, CommittedCellsAreFixed, ABlockIsAllocated, AManualBlockIsFreed, AWhiteBlockIsFreed};
 ghost use Rattle.mps_image.specs.Laws.{AnAddressIsFixed, AWordIsFixed, AScanBlackens, ACellIsWritten, AnObjectIsMade, ABlockGoes, ReservationsChange, AFlipBegins, FreeingBegins, ACollectionEnds, WellFormedIsShaped};
 
 /// Where no collection runs, the words of each live block are its image exactly where its cells' words refer to addresses of now.
@@ -74,4 +75,49 @@ pub fn a_collection_ends()
 /// The objects of a well-formed world are blocks of their formats, where these are lawful.
 pub fn well_formed_is_shaped()
     ensures { WellFormedIsShaped }
+{}
+
+/// A cell of a live automatic object is written, with a number or with a reference to what isn't white.
+pub fn a_cell_of_an_object_is_written()
+    ensures { ACellOfAnObjectIsWritten }
+{}
+
+/// A reservation is made where nothing is.
+pub fn a_reservation_is_made()
+    ensures { AReservationIsMade }
+{}
+
+/// A cell of a live reservation is written.
+pub fn a_reservation_is_written()
+    ensures { AReservationIsWritten }
+{}
+
+/// A live reservation ends.
+pub fn a_reservation_ends()
+    ensures { AReservationEnds }
+{}
+
+/// A live reservation is committed: an object with its cells is where it was.
+pub fn a_block_is_committed()
+    ensures { ABlockIsCommitted }
+{}
+
+/// The cells of a committed block are fixed, as those of its reservation were.
+pub fn committed_cells_are_fixed()
+    ensures { CommittedCellsAreFixed }
+{}
+
+/// A block is put where nothing is.
+pub fn a_block_is_allocated()
+    ensures { ABlockIsAllocated }
+{}
+
+/// A client frees a manual block, at any time.
+pub fn a_manual_block_is_freed()
+    ensures { AManualBlockIsFreed }
+{}
+
+/// A collection frees a white block, once nothing is grey.
+pub fn a_white_block_is_freed()
+    ensures { AWhiteBlockIsFreed }
 {}
