@@ -283,46 +283,65 @@ fn words_of_forwarded_blocks_pads_and_references(rt: HostRuntime) {
     assert_eq!(rt; Mapped.retarget(0x2005, Addr(0)), 5);
 }
 
+/// A text, and the word that it stands for.
+const HEAD_TEXTS: [(&[u8], u64); 9] = [
+    (b"f:3:1", 4_294_968_065),
+    (b"f:2:0", 0x201),
+    (b"m:3:6", 0x6_0000_0302),
+    (b"l:2", 0x203),
+    (b"l:65536", 0x100_0003),
+    (b"l:65537", 0),
+    (b"f:3:3", 0),
+    (b"m:16777218:0", 0),
+    (b"f:18446744073709551615:18446744073709551615", 0),
+];
+
+/// Texts of no head.
+const OTHER_TEXTS: [&[u8]; 12] = [
+    b"",
+    b"f",
+    b"f:3",
+    b"f:3:",
+    b"f:03:1",
+    b"f:3:1:",
+    b"f:+3:1",
+    b"x:3",
+    b"l:2:0",
+    b"l:",
+    b"l: 2",
+    b"l:18446744073709551616",
+];
+
+/// A head has this text.
+fn check_text(rt: &impl Abort, head: &Head, text: &[u8]) {
+    let mut out = [0; Head::MAX_TEXT_BYTES];
+    let length = head.put_text(&mut out);
+    assert_eq!(rt; out.get(..length), Some(text));
+}
+
+/// The word of a head has this text, where it is one.
+fn check_text_of_word(rt: &impl Abort, word: u64, text: &[u8]) {
+    let mut out = [0; Head::MAX_TEXT_BYTES];
+    if word != 0 {
+        let length = put_head_text(word, &mut out);
+        assert_eq!(rt; out.get(..length), Some(text));
+    }
+}
+
+/// A text is read as a head that stands for this word, and printed again.
+fn check_head_text(rt: &impl Abort, text: &[u8], word: u64) {
+    let head = Head::parse(text).expect(rt, "a head text");
+    assert_eq!(rt; head.word(), word);
+    check_text(rt, &head, text);
+    check_text_of_word(rt, word, text);
+}
+
 #[test]
 fn head_texts(rt: HostRuntime) {
-    // A text, and the word that it stands for.
-    let heads: [(&[u8], u64); 9] = [
-        (b"f:3:1", 4_294_968_065),
-        (b"f:2:0", 0x201),
-        (b"m:3:6", 0x6_0000_0302),
-        (b"l:2", 0x203),
-        (b"l:65536", 0x100_0003),
-        (b"l:65537", 0),
-        (b"f:3:3", 0),
-        (b"m:16777218:0", 0),
-        (b"f:18446744073709551615:18446744073709551615", 0),
-    ];
-    for (text, word) in heads {
-        let mut out = [0; Head::MAX_TEXT_BYTES];
-        let head = Head::parse(text).expect(&rt, "a head text");
-        let length = head.put_text(&mut out);
-        assert_eq!(rt; out.get(..length), Some(text));
-        assert_eq!(rt; head.word(), word);
-        if word != 0 {
-            let length = put_head_text(word, &mut out);
-            assert_eq!(rt; out.get(..length), Some(text));
-        }
+    for (text, word) in HEAD_TEXTS {
+        check_head_text(&rt, text, word);
     }
-    let others: [&[u8]; 12] = [
-        b"",
-        b"f",
-        b"f:3",
-        b"f:3:",
-        b"f:03:1",
-        b"f:3:1:",
-        b"f:+3:1",
-        b"x:3",
-        b"l:2:0",
-        b"l:",
-        b"l: 2",
-        b"l:18446744073709551616",
-    ];
-    for text in others {
+    for text in OTHER_TEXTS {
         assert_eq!(rt; Head::parse(text), None);
     }
 }
