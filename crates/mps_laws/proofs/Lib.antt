@@ -50,3 +50,5 @@ pub mod Homes
 pub mod Naming
 pub mod SoundEffects
 pub mod SoundChanges
+pub mod SoundGraph
+pub mod SoundActs

@@ -1,0 +1,290 @@
+-- What calls leave of a sound graph, but for those that make objects or reserve: a sound graph.
+use Rattle.std.proofs.Common.{◌≡◌, ◌∙◌, ◌⊎◌, ℕ, zero, suc, ◌+◌, ◌-◌, ◌*◌, ◌<◌, ◌≤◌, Bool, true, false, refl, sym, ap, List, [], ◌∷◌, ◌++◌, length, Option, Some, None, Ok, Err, subst, inl, inr, arith}
+use Rattle.std.proofs.lemmas.Bool.{false≢true, true≢false, and_parts, and_from, cases_Bool, cases_eq, leb-true, ltb-true, lt-ltb, le-leb, eqb-true, eq-eqb}
+use Rattle.std.proofs.lemmas.Option.{none-some, same_Some, slice_get-map}
+use Rattle.std.specs.Prelude.{map, slice_get, slice_set, option_map, option_and_then, not, ◌&&◌, ◌||◌, ◌==◌, nat_lt, nat_le, if◌then◌else◌, is_some, find, replicate}
+use Rattle.std.specs.Option.{option_map_or}
+use Rattle.std.specs.List.{list_all, flat_map}
+use Rattle.mps_base.specs.declared.names.Name.{Name}
+use Rattle.mps_base.specs.declared.names.Slot.{Slot}
+use Rattle.mps_base.specs.declared.refusal.Refusal.TheVariants as refusal
+use Rattle.mps_model.specs.Graph.{Graph, Object, Body, Automatic, Manual, Cell, HeadCell, NumberCell, ReferenceCell, Point, Reservation, AreaWord, PlainWord, Hold, Slots, Thing, ChainThing, PoolThing, TableThing, AreaThing, BlocksThing, PointThing, DependencyThing, TransformThing, CacheThing, entries, entry_at, object_at, size_of, size_of_body, is_automatic, target_of_cell, targets_of_cells, slots_of, ids_in_slots, ids_in_blocks, with_last, without_first, body_with_cells, object_with_cells, graph_with_cells, with_target_cell, new_cells}
+use Rattle.mps_model.specs.World.{World, Pool, object_is, is_live, is_live_and, words_of, is_copying_object, is_word_in, lies_in, live_ids, block_of_word, pool_at, is_automatic_kind, is_weak_kind}
+use Rattle.mps_model.specs.WellFormed.{are_shaped, are_right_cells, is_right_body, is_right_object, is_live_automatic}
+use Rattle.mps_model.specs.Checked.{Checked, Found, Numbered, ◌>>=◌, required, numbered, number_named, as_table, as_area, entry_in, slot_in, word_in, object_in, cells_of_body, cell_of, number_of_cell, reference_in, number_at, reference_at, with_graph}
+use Rattle.mps_model.specs.Allocating.{with_slot, with_block_place, with_reservation, graph_with_word, body_with_word}
+use Rattle.mps_model.specs.Accessing.{with_word, hold_of, address_or_null}
+use Rattle.mps_model.specs.Making.{is_block_size, graph_without_root}
+use Rattle.mps_laws.proofs.Lookups.{slice_get-set_same, slice_get-set_other, length-slice_set, entry_is_there, entry_within_set, entry_at-last, entry_within}
+use Rattle.mps_laws.proofs.LegalMoves.{length-with_target_cell}
+use Rattle.mps_laws.proofs.SoundGraph.{All, PassesOrNull, AreRight, IsSoundGraph, IsAlike, Grows, IsEdited, auto, manual, is_sound_word, is_sound_reservation, all-weaker, all-at, all-written, all-last, all-contains, entries-written, entry-passes, entries-none, each-written, each-at, each-replicated, edited, grows_alike, untouched}
+
+-- ---- what is found
+
+pub found_by : {A : Type 0} (o : Option ℕ) (look : ℕ → Option (List A)) (index : ℕ) (found : Found A)
+    → (required o refusal.BadName >>= (λ number. numbered number (look number) >>= (λ t. entry_in t index))) ≡ Ok found
+    → (look found.number ≡ Some found.list) × (slice_get found.list found.index ≡ Some found.value)
+found_by None look index found e = absurd (cc)
+found_by {A} (Some n) look index found e = of_list (look n) refl e
+  where
+    of_entry : (xs : List A) (x : Option A) → slice_get xs index ≡ x → look n ≡ Some xs
+        → (required x refusal.BadIndex >>= (λ value. Ok (record { number = n; list = xs; index = index; value = value }))) ≡ Ok found
+        → (look found.number ≡ Some found.list) × (slice_get found.list found.index ≡ Some found.value)
+    of_entry xs None f l h = absurd (cc)
+    of_entry xs (Some value) f l h =
+        let same : record { number = n; list = xs; index = index; value = value } ≡ found = cc in
+        subst (λ (y : Found A). (look y.number ≡ Some y.list) × (slice_get y.list y.index ≡ Some y.value)) same (l, f)
+
+    of_list : (x : Option (List A)) → look n ≡ x → (numbered n x >>= (λ t. entry_in t index)) ≡ Ok found
+        → (look found.number ≡ Some found.list) × (slice_get found.list found.index ≡ Some found.value)
+    of_list None l h = absurd (cc)
+    of_list (Some xs) l h = of_entry xs (slice_get xs index) refl l h
+
+pub slot_found : (w : World) (slot : Slot) (found : Found (Option ℕ)) → slot_in w slot ≡ Ok found
+    → (entry_at w.graph.tables found.number ≡ Some found.list) × (slice_get found.list found.index ≡ Some found.value)
+slot_found w slot found e = found_by (number_named w slot.name as_table) (λ n. entry_at w.graph.tables n) slot.index found e
+
+pub word_found : (w : World) (slot : Slot) (found : Found AreaWord) → word_in w slot ≡ Ok found
+    → (entry_at w.graph.areas found.number ≡ Some found.list) × (slice_get found.list found.index ≡ Some found.value)
+word_found w slot found e = found_by (number_named w slot.name as_area) (λ n. entry_at w.graph.areas n) slot.index found e
+
+pub object_found : (w : World) (target : Option ℕ) (object : Numbered Object) → object_in w target ≡ Ok object
+    → (target ≡ Some object.number) × (object_at w.graph object.number ≡ Some object.value)
+object_found w None object e = absurd (cc)
+object_found w (Some id) object e = of_object (object_at w.graph id) refl e
+  where
+    of_object : (x : Option Object) → object_at w.graph id ≡ x
+        → (required x refusal.NullRef >>= (λ o. Ok (record { number = id; value = o }))) ≡ Ok object
+        → (Some id ≡ Some object.number) × (object_at w.graph object.number ≡ Some object.value)
+    of_object None f h = absurd (cc)
+    of_object (Some o) f h =
+        let same : record { number = id; value = o } ≡ object = cc in
+        subst (λ (y : Numbered Object). (Some id ≡ Some y.number) × (object_at w.graph y.number ≡ Some y.value)) same (refl, f)
+
+reference_is : (c : Cell) (r : Option ℕ) → reference_in c ≡ Ok r → target_of_cell c ≡ r
+reference_is (ReferenceCell target tag) r e = (let same : target ≡ r = cc in same)
+reference_is HeadCell r e = absurd (cc)
+reference_is (NumberCell number) r e = absurd (cc)
+
+pub reference_found : (cells : List Cell) (k : ℕ) (r : Option ℕ) → reference_at cells k ≡ Ok r → slice_get (map target_of_cell cells) k ≡ Some r
+reference_found cells k r e = of_cell (slice_get cells k) refl e
+  where
+    of_cell : (x : Option Cell) → slice_get cells k ≡ x → (required x refusal.BadIndex >>= reference_in) ≡ Ok r
+        → slice_get (map target_of_cell cells) k ≡ Some r
+    of_cell None f h = absurd (cc)
+    of_cell (Some c) f h = slice_get-map target_of_cell cells k ∙ ap (option_map target_of_cell) f ∙ ap Some (reference_is c r h)
+
+number_is : (c : Cell) (n : ℕ) → number_of_cell c ≡ Ok n → c ≡ NumberCell n
+number_is (NumberCell m) n e = (let same : m ≡ n = cc in ap NumberCell same)
+number_is HeadCell n e = absurd (cc)
+number_is (ReferenceCell target tag) n e = absurd (cc)
+
+pub number_found : (cells : List Cell) (k n : ℕ) → number_at cells k ≡ Ok n → slice_get cells k ≡ Some (NumberCell n)
+number_found cells k n e = of_cell (slice_get cells k) refl e
+  where
+    of_cell : (x : Option Cell) → slice_get cells k ≡ x → (required x refusal.BadIndex >>= number_of_cell) ≡ Ok n
+        → slice_get cells k ≡ Some (NumberCell n)
+    of_cell None f h = absurd (cc)
+    of_cell (Some c) f h = f ∙ ap Some (number_is c n h)
+
+-- ---- what is found passes
+
+pub table_passes : (test : ℕ → Bool) (tables : List (Option Slots)) (n : ℕ) (list : Slots) → All test (flat_map slots_of tables)
+    → entry_at tables n ≡ Some list → All test (entries list)
+table_passes test tables n list h e = all-at test slots_of tables n (Some list) h (entry_is_there tables n list e)
+
+module _ (v : World) (s : IsSoundGraph v) where
+  pub slot_passes : (slot : Slot) (found : Found (Option ℕ)) → slot_in v slot ≡ Ok found → PassesOrNull (auto v) found.value
+  slot_passes slot found e =
+      let f = slot_found v slot found e in
+      entry-passes (auto v) found.list found.index found.value (table_passes (auto v) v.graph.tables found.number found.list s.slots f.0) f.1
+
+  -- the pool and cells of an object
+  pub object_cells : (id : ℕ) (o : Object) → object_at v.graph id ≡ Some o → All (auto v) (targets_of_cells (cells_of_body o.body))
+  object_cells id o e = of_pool (pool_at v o.pool) (s.objects id o e)
+    where
+      of_body : (p : Pool) (b : Body) → is_right_body v p b ≡ true → All (auto v) (targets_of_cells (cells_of_body b))
+      of_body p (Manual words) h = refl
+      of_body p (Automatic head cells is_weak) h =
+          let outer = and_parts (is_automatic_kind p.kind && are_right_cells v p head cells) (not is_weak || is_weak_kind p.kind) h in
+          let inner = and_parts (is_automatic_kind p.kind) (are_right_cells v p head cells) outer.0 in
+          (and_parts ((v.formats p.format).is_valid head && are_shaped (new_cells (v.formats p.format) head) cells)
+          (list_all (auto v) (targets_of_cells cells)) inner.1).1
+
+      of_pool : (x : Option Pool) → option_map_or (λ p. is_right_body v p o.body) x false ≡ true
+          → All (auto v) (targets_of_cells (cells_of_body o.body))
+      of_pool None h = absurd (false≢true h)
+      of_pool (Some p) h = of_body p o.body h
+
+  pub reference_passes : (cells : List Cell) (k : ℕ) (r : Option ℕ) → All (auto v) (targets_of_cells cells) → reference_at cells k ≡ Ok r
+      → PassesOrNull (auto v) r
+  reference_passes cells k r h e = entry-passes (auto v) (map target_of_cell cells) k r h (reference_found cells k r e)
+
+  no_more : (n : ℕ) (p : Pool) → slice_get v.pools n ≡ Some p → slice_get v.pools n ≡ Some p
+  no_more n p e = e
+
+  -- ---- effects
+
+  -- the graph with other tables, areas, blocks, registrations and messages, by what of them is new
+  pub held_written : (g : Graph) → g.objects ≡ v.graph.objects → g.points ≡ v.graph.points
+      → (g.tables ≡ v.graph.tables) ⊎ All (auto v) (flat_map slots_of g.tables)
+      → (g.areas ≡ v.graph.areas) ⊎ ((n : ℕ) (area : List AreaWord) → entry_at g.areas n ≡ Some area → list_all (is_sound_word v) area ≡ true)
+      → (g.blocks ≡ v.graph.blocks) ⊎ All (manual v) (flat_map entries g.blocks)
+      → (g.registered ≡ v.graph.registered) ⊎ All (is_live_automatic v) g.registered
+      → (g.messages ≡ v.graph.messages) ⊎ All (auto v) g.messages → IsSoundGraph (with_graph v g)
+  held_written g objects points tables areas blocks registered messages =
+      let w = with_graph v g in
+      let grows = grows_alike v w refl no_more objects in
+      edited v w grows s (record {
+        live = λ id h. h;
+        objects = λ id o h. inl (sym (ap (λ os. slice_get os id) objects) ∙ h);
+        reservations = λ n p r h k. inl (s.reservations n p r (sym (ap (λ ps. entry_at ps n) points) ∙ h) k);
+        points = λ n p h. inl (s.points n p (sym (ap (λ ps. entry_at ps n) points) ∙ h));
+        slots =
+            elim tables [
+              | inl same ↦ inl same
+              | inr new ↦ inr (all-weaker (auto v) (auto w) (Rattle.mps_laws.proofs.SoundGraph.auto_kept v w grows) (flat_map slots_of g.tables) new)
+            ];
+        words =
+            elim areas [
+              | inl same ↦ inl same
+              | inr new ↦
+                  inr (λ n area h. Rattle.mps_laws.proofs.SoundGraph.each-weaker (is_sound_word v) (is_sound_word w)
+                  (Rattle.mps_laws.proofs.SoundGraph.word_kept v w grows s.objects) area (new n area h))
+            ];
+        blocks =
+            elim blocks [
+              | inl same ↦ inl same
+              | inr new ↦ inr (all-weaker (manual v) (manual w) (Rattle.mps_laws.proofs.SoundGraph.manual_kept v w grows) (flat_map entries g.blocks) new)
+            ];
+        registered =
+            elim registered [
+              | inl same ↦ inl same
+              | inr new ↦
+                  inr (all-weaker (is_live_automatic v) (is_live_automatic w)
+                  (Rattle.mps_laws.proofs.SoundGraph.live_auto_kept v w grows (λ id h. h)) g.registered new)
+            ];
+        messages =
+            elim messages [
+              | inl same ↦ inl same
+              | inr new ↦ inr (all-weaker (auto v) (auto w) (Rattle.mps_laws.proofs.SoundGraph.auto_kept v w grows) g.messages new)
+            ];
+      })
+
+  -- a slot is written, whose table's other slots pass
+  pub slot_written : (into : Found (Option ℕ)) (target : Option ℕ) → All (auto v) (entries into.list) → PassesOrNull (auto v) target
+      → IsSoundGraph (with_graph v (with_slot v.graph into target))
+  slot_written into target others passes =
+      held_written (with_slot v.graph into target) refl refl
+      (inr (all-written (auto v) slots_of v.graph.tables into.number (Some (slice_set into.list into.index target)) s.slots
+      (entries-written (auto v) into.list into.index target others passes)))
+      (inl refl) (inl refl) (inl refl) (inl refl)
+
+  pub own_slot_written : (slot : Slot) (into : Found (Option ℕ)) (target : Option ℕ) → slot_in v slot ≡ Ok into → PassesOrNull (auto v) target
+      → IsSoundGraph (with_graph v (with_slot v.graph into target))
+  own_slot_written slot into target e passes =
+      slot_written into target (table_passes (auto v) v.graph.tables into.number into.list s.slots (slot_found v slot into e).0) passes
+
+  -- a word of an area is written
+  pub word_written : (place : Slot) (at : Found AreaWord) (word : AreaWord) → word_in v place ≡ Ok at → is_sound_word v word ≡ true
+      → IsSoundGraph (with_graph v (with_word v.graph at word))
+  word_written place at word e sound =
+      held_written (with_word v.graph at word) refl refl (inl refl)
+      (inr (λ n area h.
+      elim (entry_within_set v.graph.areas at.number n area (Some (slice_set at.list at.index word)) h) [
+        | inl here ↦
+            subst (λ (x : List AreaWord). list_all (is_sound_word v) x ≡ true) (same_Some (slice_set at.list at.index word) area here.1)
+            (each-written (is_sound_word v) at.list at.index word (s.words at.number at.list (word_found v place at e).0) sound)
+        | inr there ↦ s.words n area there.1
+      ]))
+      (inl refl) (inl refl) (inl refl)
+
+  -- ---- cells and words of objects
+
+  -- an object is written over one that is alike
+  pub object_written : (id : ℕ) (o new : Object) → object_at v.graph id ≡ Some o → IsAlike o new → is_right_object v new ≡ true
+      → IsSoundGraph (with_graph v (record v.graph { objects = slice_set v.graph.objects id new }))
+  object_written id o new e alike right =
+      let w = with_graph v (record v.graph { objects = slice_set v.graph.objects id new }) in
+      let within = Rattle.std.proofs.lemmas.Option.slice_get_within v.graph.objects id o e in
+      let grows : Grows v w = record {
+        formats = refl;
+        pools = no_more;
+        objects = λ j x h.
+            elim (cases_eq id j) [
+              | inl same ↦
+                  subst (λ (k : ℕ). object_at v.graph k ≡ Some x → (y : Object) × (object_at w.graph k ≡ Some y) × IsAlike x y) same
+                  (λ h'. (
+                    new,
+                    slice_get-set_same v.graph.objects id new within,
+                    subst (λ (z : Object). IsAlike z new) (same_Some o x (sym e ∙ h')) alike,
+                  )) h
+              | inr other ↦ (x, slice_get-set_other v.graph.objects id j new other ∙ h, record { pool = refl; size = refl; kind = refl })
+            ];
+      } in
+      edited v w grows s (record {
+        live = λ j h. h;
+        objects = λ j x h.
+            elim (cases_eq id j) [
+              | inl same ↦
+                  inr (subst (λ (z : Object). is_right_object w z ≡ true)
+                  (same_Some new x (sym (ap (λ (k : ℕ). slice_get (slice_set v.graph.objects id new) k) (sym same) ∙ slice_get-set_same v.graph.objects id new within) ∙ h))
+                  (Rattle.mps_laws.proofs.SoundGraph.right_object_kept v w grows new right))
+              | inr other ↦ inl (sym (slice_get-set_other v.graph.objects id j new other) ∙ h)
+            ];
+        reservations = λ n p r h k. inl (s.reservations n p r h k);
+        points = λ n p h. inl (s.points n p h);
+        slots = inl refl;
+        words = inl refl;
+        blocks = inl refl;
+        registered = inl refl;
+        messages = inl refl;
+      })
+
+  right_with_cells : (o : Object) (change : List Cell → List Cell)
+      → ((likes : List Cell) → AreRight (auto v) likes (cells_of_body o.body) → AreRight (auto v) likes (change (cells_of_body o.body)))
+      → is_right_object v o ≡ true → is_right_object v (object_with_cells o change) ≡ true
+  right_with_cells o change each h = of_pool (pool_at v o.pool) h
+    where
+      of_body : (p : Pool) (b : Body) → ((likes : List Cell) → AreRight (auto v) likes (cells_of_body b) → AreRight (auto v) likes (change (cells_of_body b)))
+          → is_right_body v p b ≡ true → is_right_body v p (body_with_cells b change) ≡ true
+      of_body p (Manual words) each h = h
+      of_body p (Automatic head cells is_weak) each h =
+          let outer = and_parts (is_automatic_kind p.kind && are_right_cells v p head cells) (not is_weak || is_weak_kind p.kind) h in
+          let inner = and_parts (is_automatic_kind p.kind) (are_right_cells v p head cells) outer.0 in
+          let parts = and_parts ((v.formats p.format).is_valid head && are_shaped (new_cells (v.formats p.format) head) cells)
+          (list_all (auto v) (targets_of_cells cells)) inner.1 in
+          let first = and_parts ((v.formats p.format).is_valid head) (are_shaped (new_cells (v.formats p.format) head) cells) parts.0 in
+          let now = each (new_cells (v.formats p.format) head) (first.1, parts.1) in
+          and_from (is_automatic_kind p.kind && are_right_cells v p head (change cells)) (not is_weak || is_weak_kind p.kind)
+          (and_from (is_automatic_kind p.kind) (are_right_cells v p head (change cells)) inner.0
+          (and_from ((v.formats p.format).is_valid head && are_shaped (new_cells (v.formats p.format) head) (change cells))
+          (list_all (auto v) (targets_of_cells (change cells)))
+          (and_from ((v.formats p.format).is_valid head) (are_shaped (new_cells (v.formats p.format) head) (change cells)) first.0 now.0) now.1))
+          outer.1
+
+      of_pool : (x : Option Pool) → option_map_or (λ p. is_right_body v p o.body) x false ≡ true
+          → option_map_or (λ p. is_right_body v p (body_with_cells o.body change)) x false ≡ true
+      of_pool None h = absurd (false≢true h)
+      of_pool (Some p) h = of_body p o.body each h
+
+  alike_cells : (o : Object) (change : List Cell → List Cell) → length (change (cells_of_body o.body)) ≡ length (cells_of_body o.body)
+      → IsAlike o (object_with_cells o change)
+  alike_cells o change same = record { pool = refl; size = size_kept o.body same; kind = kind_kept o.body }
+    where
+      size_kept : (b : Body) → length (change (cells_of_body b)) ≡ length (cells_of_body b) → size_of_body (body_with_cells b change) ≡ size_of_body b
+      size_kept (Automatic head cells is_weak) h = h
+      size_kept (Manual words) h = refl
+
+      kind_kept : (b : Body) → Rattle.mps_model.specs.Graph.is_automatic_body (body_with_cells b change) ≡ Rattle.mps_model.specs.Graph.is_automatic_body b
+      kind_kept (Automatic head cells is_weak) = refl
+      kind_kept (Manual words) = refl
+
+  pub cells_changed : (id : ℕ) (o : Object) (change : List Cell → List Cell) → object_at v.graph id ≡ Some o
+      → length (change (cells_of_body o.body)) ≡ length (cells_of_body o.body)
+      → ((likes : List Cell) → AreRight (auto v) likes (cells_of_body o.body) → AreRight (auto v) likes (change (cells_of_body o.body)))
+      → IsSoundGraph (with_graph v (graph_with_cells v.graph id change))
+  cells_changed id o change e same each =
+      subst (λ os. IsSoundGraph (with_graph v (record v.graph { objects = os })))
+      (sym (ap (λ x. option_map_or (λ y. slice_set v.graph.objects id (object_with_cells y change)) x v.graph.objects) e))
+      (object_written id o (object_with_cells o change) e (alike_cells o change same) (right_with_cells o change each (s.objects id o e)))
