@@ -288,3 +288,188 @@ module _ (v : World) (s : IsSoundGraph v) where
       subst (λ os. IsSoundGraph (with_graph v (record v.graph { objects = os })))
       (sym (ap (λ x. option_map_or (λ y. slice_set v.graph.objects id (object_with_cells y change)) x v.graph.objects) e))
       (object_written id o (object_with_cells o change) e (alike_cells o change same) (right_with_cells o change each (s.objects id o e)))
+
+-- ---- points and new objects
+
+module _ (v : World) (s : IsSoundGraph v) where
+  -- a point gets another reservation, or none
+  pub reservation_written : (p : Numbered Point) (reservation : Option Reservation) → entry_at v.graph.points p.number ≡ Some p.value
+      → ((r : Reservation) → reservation ≡ Some r → is_sound_reservation v p.value.pool r ≡ true)
+      → IsSoundGraph (with_graph v (with_reservation v.graph p reservation))
+  reservation_written p reservation there sound =
+      let w = with_graph v (with_reservation v.graph p reservation) in
+      let new : Point = record p.value { reservation = reservation } in
+      edited v w (grows_alike v w refl (λ n q e. e) refl) s (record {
+        live = λ id h. h;
+        objects = λ id o h. inl h;
+        reservations = λ n q r h k.
+            elim (entry_within_set v.graph.points p.number n q (Some new) h) [
+              | inl here ↦
+                  let same : new ≡ q = same_Some new q here.1 in
+                  inl (subst (λ (x : Point). is_sound_reservation v x.pool r ≡ true) same
+                  (sound r (ap (λ (x : Point). x.reservation) same ∙ k)))
+              | inr other ↦ inl (s.reservations n q r other.1 k)
+            ];
+        points = λ n q h.
+            elim (entry_within_set v.graph.points p.number n q (Some new) h) [
+              | inl here ↦
+                  inl (subst (λ (x : Point). Rattle.mps_laws.proofs.LaidOut.kind_in is_automatic_kind v.pools x.pool ≡ true) (same_Some new q here.1)
+                  (s.points p.number p.value there))
+              | inr other ↦ inl (s.points n q other.1)
+            ];
+        slots = inl refl;
+        words = inl refl;
+        blocks = inl refl;
+        registered = inl refl;
+        messages = inl refl;
+      })
+
+  -- one object more
+  pub object_added : (o : Object) (at : Option ℕ) → is_right_object v o ≡ true
+      → IsSoundGraph (record v { graph = record v.graph { objects = with_last v.graph.objects o }; addresses = with_last v.addresses at })
+  object_added o at right =
+      let w = record v { graph = record v.graph { objects = with_last v.graph.objects o }; addresses = with_last v.addresses at } in
+      let grows : Grows v w = record {
+        formats = refl;
+        pools = λ n p e. e;
+        objects = λ id x e. (x, Rattle.mps_laws.proofs.Lookups.slice_get-kept v.graph.objects o x id e, record { pool = refl; size = refl; kind = refl });
+      } in
+      edited v w grows s (record {
+        live = λ id h. still_live id h;
+        objects = λ id x h.
+            elim (Rattle.std.proofs.lemmas.Bool.cases_order id (length v.graph.objects)) [
+              | inl e ↦
+                  inr (subst (λ (z : Object). is_right_object w z ≡ true)
+                  (same_Some o x (sym (ap (slice_get (with_last v.graph.objects o)) e ∙ Rattle.mps_laws.proofs.Lookups.slice_get-at_last v.graph.objects o) ∙ h))
+                  (Rattle.mps_laws.proofs.SoundGraph.right_object_kept v w grows o right))
+              | inr (inl low) ↦ inl (sym (Rattle.mps_laws.proofs.Lookups.slice_get-last v.graph.objects o id low) ∙ h)
+              | inr (inr high) ↦
+                  absurd (none-some x (sym (Rattle.mps_laws.proofs.Lookups.slice_get-after_last v.graph.objects o id high) ∙ h))
+            ];
+        reservations = λ n p r h k. inl (s.reservations n p r h k);
+        points = λ n p h. inl (s.points n p h);
+        slots = inl refl;
+        words = inl refl;
+        blocks = inl refl;
+        registered = inl refl;
+        messages = inl refl;
+      })
+    where
+      still_live : (id : ℕ) → is_live v id ≡ true → is_some (entry_at (with_last v.addresses at) id) ≡ true
+      still_live id h = of_one (entry_at v.addresses id) refl h
+        where
+          of_one : (x : Option ℕ) → entry_at v.addresses id ≡ x → is_some x ≡ true → is_some (entry_at (with_last v.addresses at) id) ≡ true
+          of_one None e k = absurd (false≢true k)
+          of_one (Some a) e k =
+              ap is_some (entry_at-last v.addresses at id (entry_within v.addresses id a e) ∙ e)
+
+  -- a place of a table of blocks is written
+  pub place_written : (place : Found (Option ℕ)) (block : Option ℕ) → All (manual v) (entries place.list) → PassesOrNull (manual v) block
+      → IsSoundGraph (with_graph v (with_block_place v.graph place block))
+  place_written place block others passes =
+      held_written v s (with_block_place v.graph place block) refl refl (inl refl) (inl refl)
+      (inr (all-written (manual v) entries v.graph.blocks place.number (slice_set place.list place.index block) s.blocks
+      (entries-written (manual v) place.list place.index block others passes)))
+      (inl refl) (inl refl)
+
+  -- a word of a manual block is written
+  pub block_word_written : (id k value : ℕ) → IsSoundGraph (with_graph v (graph_with_word v.graph id k value))
+  block_word_written id k value = of_object (object_at v.graph id) refl
+    where
+      size_kept : (b : Body) → size_of_body (body_with_word b k value) ≡ size_of_body b
+      size_kept (Automatic head cells is_weak) = refl
+      size_kept (Manual words) = length-slice_set words k value
+
+      kind_kept : (b : Body) → Rattle.mps_model.specs.Graph.is_automatic_body (body_with_word b k value) ≡ Rattle.mps_model.specs.Graph.is_automatic_body b
+      kind_kept (Automatic head cells is_weak) = refl
+      kind_kept (Manual words) = refl
+
+      body_right : (p : Pool) (b : Body) → is_right_body v p b ≡ true → is_right_body v p (body_with_word b k value) ≡ true
+      body_right p (Automatic head cells is_weak) h = h
+      body_right p (Manual words) h =
+          subst (λ (n : ℕ). (not (is_automatic_kind p.kind) && is_block_size n) ≡ true) (sym (length-slice_set words k value)) h
+
+      object_right : (o : Object) (x : Option Pool) → option_map_or (λ p. is_right_body v p o.body) x false ≡ true
+          → option_map_or (λ p. is_right_body v p (body_with_word o.body k value)) x false ≡ true
+      object_right o None h = absurd (false≢true h)
+      object_right o (Some p) h = body_right p o.body h
+
+      of_object : (x : Option Object) → object_at v.graph id ≡ x
+          → IsSoundGraph (with_graph v (record v.graph {
+            objects = option_map_or (λ o. slice_set v.graph.objects id (record o { body = body_with_word o.body k value })) x v.graph.objects;
+          }))
+      of_object None e = held_written v s v.graph refl refl (inl refl) (inl refl) (inl refl) (inl refl) (inl refl)
+      of_object (Some o) e =
+          object_written v s id o (record o { body = body_with_word o.body k value }) e
+          (record { pool = refl; size = size_kept o.body; kind = kind_kept o.body })
+          (object_right o (pool_at v o.pool) (s.objects id o e))
+
+  -- ---- words that hold objects
+
+  find-passes : {X : Type 0} (p : X → Bool) (xs : List X) (x : X) → find p xs ≡ Some x → p x ≡ true
+  find-passes p [] x h = absurd (none-some x h)
+  find-passes p (y ∷ ys) x h =
+      elim (p y) as (λ t. p y ≡ t → (if t then Some y else find p ys) ≡ Some x → p x ≡ true) [
+        | true ↦ (λ t g. subst (λ n. p n ≡ true) (same_Some y x g) t)
+        | false ↦ (λ t g. find-passes p ys x g)
+      ] refl h
+
+  pub block_lies : (word id : ℕ) → block_of_word v word ≡ Some id → lies_in v word id ≡ true
+  block_lies word id e = find-passes (λ n. lies_in v word n) (live_ids v) id e
+
+  in_words : (copying : Bool) (at words word : ℕ) → is_word_in copying at words word ≡ true
+      → (if copying then nat_lt (word - at) (8 * words) else (word - at) == 0) ≡ true
+  in_words true at words word h =
+      let parts = and_parts (nat_le at word) (nat_lt word (at + 8 * words)) h in
+      let low = leb-true at word parts.0 in
+      let high = ltb-true word (at + 8 * words) parts.1 in
+      lt-ltb (word - at) (8 * words) (omega (arith, low, high))
+  in_words false at words word h =
+      let same = eqb-true word at h in eq-eqb (word - at) 0 (omega (arith, same))
+
+  pub hold_is_sound : (id word : ℕ) → lies_in v word id ≡ true → is_sound_word v (hold_of v id word) ≡ true
+  hold_is_sound id word h =
+      let parts = and_parts (auto v id) (is_live_and (λ at. is_word_in (is_copying_object v id) at (words_of v id) word) v id) h in
+      and_from (auto v id)
+      (if is_copying_object v id then nat_lt (word - address_or_null v id) (8 * words_of v id) else (word - address_or_null v id) == 0) parts.0
+      (of_address (entry_at v.addresses id) parts.1)
+    where
+      of_address : (x : Option ℕ) → option_map_or (λ at. is_word_in (is_copying_object v id) at (words_of v id) word) x false ≡ true
+          → (if is_copying_object v id then nat_lt (word - option_map_or (λ at. at) x 0) (8 * words_of v id)
+          else (word - option_map_or (λ at. at) x 0) == 0) ≡ true
+      of_address None k = absurd (false≢true k)
+      of_address (Some at) k = in_words (is_copying_object v id) at (words_of v id) word k
+
+  -- an object is held by its address
+  some_size : (o : Object) → is_right_object v o ≡ true → 0 < size_of o
+  some_size o h = of_pool (pool_at v o.pool) h
+    where
+      of_cells : (likes cells : List Cell) (n : ℕ) → are_shaped (HeadCell ∷ likes) cells ≡ true → 0 < length cells
+      of_cells likes [] n k = absurd (false≢true k)
+      of_cells likes (c ∷ cs) n k = omega arith
+
+      of_body : (p : Pool) (b : Body) → is_right_body v p b ≡ true → 0 < size_of_body b
+      of_body p (Manual words) k =
+          let parts = and_parts (not (is_automatic_kind p.kind)) (is_block_size (length words)) k in
+          let sized = and_parts (nat_le 1 (length words)) (nat_le (length words) 65536) parts.1 in
+          (let low = leb-true 1 (length words) sized.0 in omega (arith, low))
+      of_body p (Automatic head cells is_weak) k =
+          let outer = and_parts (is_automatic_kind p.kind && are_right_cells v p head cells) (not is_weak || is_weak_kind p.kind) k in
+          let inner = and_parts (is_automatic_kind p.kind) (are_right_cells v p head cells) outer.0 in
+          let parts = and_parts ((v.formats p.format).is_valid head && are_shaped (new_cells (v.formats p.format) head) cells)
+          (list_all (auto v) (targets_of_cells cells)) inner.1 in
+          let first = and_parts ((v.formats p.format).is_valid head) (are_shaped (new_cells (v.formats p.format) head) cells) parts.0 in
+          of_cells (Rattle.mps_model.specs.Graph.new_cells_from (v.formats p.format) head 1 ((v.formats p.format).size head - 1)) cells 0 first.1
+
+      of_pool : (x : Option Pool) → option_map_or (λ p. is_right_body v p o.body) x false ≡ true → 0 < size_of o
+      of_pool None k = absurd (false≢true k)
+      of_pool (Some p) k = of_body p o.body k
+
+  pub pin_is_sound : (id : ℕ) (o : Object) → object_at v.graph id ≡ Some o → auto v id ≡ true → is_sound_word v (Hold id 0) ≡ true
+  pin_is_sound id o e h =
+      and_from (auto v id) (if is_copying_object v id then nat_lt 0 (8 * words_of v id) else 0 == 0) h
+      (of_kind (is_copying_object v id) (subst (λ (n : ℕ). 0 < n) (sym (ap (λ x. option_map_or size_of x 0) e)) (some_size o (s.objects id o e))))
+    where
+      of_kind : (b : Bool) → 0 < words_of v id → (if b then nat_lt 0 (8 * words_of v id) else 0 == 0) ≡ true
+      of_kind true k = lt-ltb 0 (8 * words_of v id) (omega (arith, k))
+      of_kind false k = refl
