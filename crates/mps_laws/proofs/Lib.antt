@@ -52,3 +52,4 @@ pub mod SoundEffects
 pub mod SoundChanges
 pub mod SoundGraph
 pub mod SoundActs
+pub mod SoundSteps
