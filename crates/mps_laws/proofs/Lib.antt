@@ -53,3 +53,4 @@ pub mod SoundChanges
 pub mod SoundGraph
 pub mod SoundActs
 pub mod SoundSteps
+pub mod SoundMoves

@@ -313,7 +313,7 @@ module _ (v : World) (s : IsSoundGraph v) where
         points = λ n q h.
             elim (entry_within_set v.graph.points p.number n q (Some new) h) [
               | inl here ↦
-                  inl (subst (λ (x : Point). Rattle.mps_laws.proofs.LaidOut.kind_in is_automatic_kind v.pools x.pool ≡ true) (same_Some new q here.1)
+                  inl (subst (λ (x : Point). Rattle.mps_laws.proofs.SoundGraph.IsRightPoint v.pools x) (same_Some new q here.1)
                   (s.points p.number p.value there))
               | inr other ↦ inl (s.points n q other.1)
             ];
@@ -473,3 +473,35 @@ module _ (v : World) (s : IsSoundGraph v) where
       of_kind : (b : Bool) → 0 < words_of v id → (if b then nat_lt 0 (8 * words_of v id) else 0 == 0) ≡ true
       of_kind true k = lt-ltb 0 (8 * words_of v id) (omega (arith, k))
       of_kind false k = refl
+
+-- objects whose cells are changed are alike
+pub cells_alike : (v : World) (id : ℕ) (change : List Cell → List Cell) → ((cells : List Cell) → length (change cells) ≡ length cells) → (j : ℕ) (x : Object)
+    → object_at v.graph j ≡ Some x → (y : Object) × (object_at (graph_with_cells v.graph id change) j ≡ Some y) × IsAlike x y
+cells_alike v id change same j x e = of_object (object_at v.graph id) refl
+  where
+    size_kept : (b : Body) → size_of_body (body_with_cells b change) ≡ size_of_body b
+    size_kept (Automatic head cells is_weak) = same cells
+    size_kept (Manual words) = refl
+
+    kind_kept : (b : Body) → Rattle.mps_model.specs.Graph.is_automatic_body (body_with_cells b change) ≡ Rattle.mps_model.specs.Graph.is_automatic_body b
+    kind_kept (Automatic head cells is_weak) = refl
+    kind_kept (Manual words) = refl
+
+    of_object : (o : Option Object) → object_at v.graph id ≡ o
+        → (y : Object) × (slice_get (option_map_or (λ z. slice_set v.graph.objects id (object_with_cells z change)) o v.graph.objects) j ≡ Some y) × IsAlike x y
+    of_object None f = (x, e, record { pool = refl; size = refl; kind = refl })
+    of_object (Some o) f =
+        elim (cases_eq id j) [
+          | inl here ↦
+              let is : o ≡ x = same_Some o x (sym f ∙ ap (object_at v.graph) here ∙ e) in
+              (
+                object_with_cells o change,
+                ap (slice_get (slice_set v.graph.objects id (object_with_cells o change))) (sym here)
+                    ∙ slice_get-set_same v.graph.objects id (object_with_cells o change)
+                    (Rattle.std.proofs.lemmas.Option.slice_get_within v.graph.objects id o f),
+                subst (λ (z : Object). IsAlike z (object_with_cells o change)) is
+                    (record { pool = refl; size = size_kept o.body; kind = kind_kept o.body }),
+              )
+          | inr other ↦
+              (x, slice_get-set_other v.graph.objects id j (object_with_cells o change) other ∙ e, record { pool = refl; size = refl; kind = refl })
+        ]

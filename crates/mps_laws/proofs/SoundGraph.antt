@@ -7,7 +7,8 @@ use Rattle.std.specs.Prelude.{map, slice_get, slice_set, option_map, option_and_
 use Rattle.std.specs.Option.{option_map_or}
 use Rattle.std.specs.List.{list_all, list_any, flat_map}
 use Rattle.mps_model.specs.Graph.{Graph, Object, Body, Automatic, Manual, Cell, HeadCell, NumberCell, ReferenceCell, Point, Reservation, AreaWord, PlainWord, Hold, Slots, contains, entries, entry_at, object_at, size_of, is_automatic, target_of_cell, targets_of_cells, slots_of, ids_in_slots, ids_in_blocks, with_last, without_first, retargeted, with_target_cell}
-use Rattle.mps_model.specs.World.{World, Pool, object_is, is_live, words_of, is_copying_object, is_copying_pool, pool_at, is_automatic_kind}
+use Rattle.mps_model.specs.World.{World, Pool, object_is, is_live, words_of, is_copying_object, is_copying_pool, pool_at, is_automatic_kind, is_weak_kind}
+use Rattle.mps_model.specs.Making.{is_weak_rank}
 use Rattle.mps_model.specs.WellFormed.{is_shaped, are_shaped, are_right_cells, is_right_body, is_right_object, is_live_automatic}
 use Rattle.mps_laws.proofs.LaidOut.{kind_in}
 
@@ -218,12 +219,16 @@ is_sound_word w (Hold id offset) =
 abbrev pub is_sound_reservation : World → (pool : ℕ) → Reservation → Bool
 is_sound_reservation w pool r = option_map_or (λ of. are_right_cells w of r.head r.cells) (pool_at w pool) false
 
+-- only automatic pools have points, and only those of weak references weak ones
+abbrev pub IsRightPoint : List Pool → Point → Type 0
+IsRightPoint pools p =
+    (kind_in is_automatic_kind pools p.pool ≡ true) × (is_weak_rank p.rank ≡ true → kind_in is_weak_kind pools p.pool ≡ true)
+
 pub record IsSoundGraph (w : World) : Type 0 where
   pub objects : (id : ℕ) (o : Object) → object_at w.graph id ≡ Some o → is_right_object w o ≡ true
   pub reservations : (n : ℕ) (p : Point) (r : Reservation) → entry_at w.graph.points n ≡ Some p → p.reservation ≡ Some r
       → is_sound_reservation w p.pool r ≡ true
-  -- only automatic pools have points
-  pub points : (n : ℕ) (p : Point) → entry_at w.graph.points n ≡ Some p → kind_in is_automatic_kind w.pools p.pool ≡ true
+  pub points : (n : ℕ) (p : Point) → entry_at w.graph.points n ≡ Some p → IsRightPoint w.pools p
   pub slots : All (auto w) (ids_in_slots w.graph)
   pub words : (n : ℕ) (area : List AreaWord) → entry_at w.graph.areas n ≡ Some area → list_all (is_sound_word w) area ≡ true
   pub blocks : All (manual w) (ids_in_blocks w.graph)
@@ -338,7 +343,7 @@ module _ (w w' : World) (g : Grows w w') where
     pub reservations : (n : ℕ) (p : Point) (r : Reservation) → entry_at w'.graph.points n ≡ Some p → p.reservation ≡ Some r
         → (is_sound_reservation w p.pool r ≡ true) ⊎ (is_sound_reservation w' p.pool r ≡ true)
     pub points : (n : ℕ) (p : Point) → entry_at w'.graph.points n ≡ Some p
-        → (kind_in is_automatic_kind w.pools p.pool ≡ true) ⊎ (kind_in is_automatic_kind w'.pools p.pool ≡ true)
+        → IsRightPoint w.pools p ⊎ IsRightPoint w'.pools p
     pub slots : (w'.graph.tables ≡ w.graph.tables) ⊎ All (auto w') (ids_in_slots w'.graph)
     pub words : (w'.graph.areas ≡ w.graph.areas)
         ⊎ ((n : ℕ) (area : List AreaWord) → entry_at w'.graph.areas n ≡ Some area → list_all (is_sound_word w') area ≡ true)
@@ -365,7 +370,10 @@ module _ (w w' : World) (g : Grows w w') where
         ];
     points = λ n p h.
         elim (e.points n p h) [
-          | inl old ↦ pool_kept p.pool (λ q. is_automatic_kind q.kind) (λ q. is_automatic_kind q.kind) (λ q k. k) old
+          | inl old ↦ (
+            pool_kept p.pool (λ q. is_automatic_kind q.kind) (λ q. is_automatic_kind q.kind) (λ q k. k) old.0,
+            (λ weak. pool_kept p.pool (λ q. is_weak_kind q.kind) (λ q. is_weak_kind q.kind) (λ q k. k) (old.1 weak)),
+          )
           | inr new ↦ new
         ];
     slots =

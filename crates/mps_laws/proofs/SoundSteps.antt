@@ -30,7 +30,7 @@ use Rattle.mps_laws.proofs.LaidOut.{IsLaidOut, kind_in}
 use Rattle.mps_laws.proofs.LegalMoves.{HasLayout, length-with_target_cell}
 use Rattle.mps_laws.proofs.PoolKinds.{kind_of_pool}
 use Rattle.mps_laws.proofs.Acts.{ForAct, accepted, refused, with_value, after_check, unless, required-is, point_named-is, pool_named-is}
-use Rattle.mps_laws.proofs.SoundGraph.{All, PassesOrNull, AreRight, IsSoundGraph, Grows, IsEdited, auto, manual, is_sound_word, is_sound_reservation, all-weaker, all-append, all-at, all-written, all-last, all-without, all-ended, entries-written, entry-passes, entries-none, each-written, each-at, each-replicated, each-weaker, edited, grows_alike, untouched, auto_kept, manual_kept, right_target_cell, right_number_cell, reservation_kept}
+use Rattle.mps_laws.proofs.SoundGraph.{All, PassesOrNull, AreRight, IsSoundGraph, IsRightPoint, Grows, IsEdited, auto, manual, is_sound_word, is_sound_reservation, all-weaker, all-append, all-at, all-written, all-last, all-without, all-ended, entries-written, entry-passes, entries-none, each-written, each-at, each-replicated, each-weaker, edited, grows_alike, untouched, auto_kept, manual_kept, right_target_cell, right_number_cell, reservation_kept}
 use Rattle.mps_laws.proofs.SoundActs.{found_by, slot_found, word_found, object_found, number_found, table_passes, slot_passes, object_cells, reference_passes, held_written, slot_written, own_slot_written, word_written, cells_changed, reservation_written, object_added, place_written, block_word_written, block_lies, hold_is_sound, pin_is_sound}
 
 abbrev pub is_finalize : Call → Bool
@@ -159,8 +159,8 @@ module _ (v : World) (s : IsSoundGraph v) where
 
   -- ---- points
 
-  new_point : (name : Name) (pool : ℕ) (at_rank : Rank) → kind_in is_automatic_kind v.pools pool ≡ true → IsSoundGraph (with_point v name pool at_rank)
-  new_point name pool at_rank kind =
+  new_point : (name : Name) (pool : ℕ) (at_rank : Rank) → IsRightPoint v.pools (record { pool = pool; rank = at_rank; reservation = None }) → IsSoundGraph (with_point v name pool at_rank)
+  new_point name pool at_rank right =
       let w = with_point v name pool at_rank in
       let new : Point = record { pool = pool; rank = at_rank; reservation = None } in
       edited v w (grows_alike v w refl (λ n q e. e) refl) s (record {
@@ -178,8 +178,8 @@ module _ (v : World) (s : IsSoundGraph v) where
         points = λ n p h.
             elim (Rattle.std.proofs.lemmas.Bool.cases_order n (length v.graph.points)) [
               | inl e ↦
-                  inl (subst (λ (x : Point). kind_in is_automatic_kind v.pools x.pool ≡ true)
-                  (same_Some new p (sym (ap (entry_at (with_last v.graph.points (Some new))) e ∙ entry_at-at_last v.graph.points (Some new)) ∙ h)) kind)
+                  inl (subst (IsRightPoint v.pools)
+                  (same_Some new p (sym (ap (entry_at (with_last v.graph.points (Some new))) e ∙ entry_at-at_last v.graph.points (Some new)) ∙ h)) right)
               | inr (inl low) ↦ inl (s.points n p (sym (entry_at-last v.graph.points (Some new) n low) ∙ h))
               | inr (inr high) ↦ absurd (none-some p (sym (entry_at-after_last v.graph.points (Some new) n high) ∙ h))
             ];
@@ -260,7 +260,7 @@ module _ (v : World) (s : IsSoundGraph v) where
 
 -- ---- calls
 
-module _ (limit : ℕ) (marked : Bool) (judged v : World) (j : IsSoundGraph judged) (grown : Grows judged v) (laid : HasLayout limit v) (s : IsSoundGraph v) where
+module _ (marked : Bool) (judged v : World) (j : IsSoundGraph judged) (grown : Grows judged v) (s : IsSoundGraph v) where
   abbrev Sound : Checked Act → Type 0
   Sound x = ForAct IsSoundGraph x
 
@@ -283,16 +283,10 @@ module _ (limit : ℕ) (marked : Bool) (judged v : World) (j : IsSoundGraph judg
   -- an object is made of a reservation
   committed_right : (p : Numbered Point) (r : Reservation) → entry_at v.graph.points p.number ≡ Some p.value → p.value.reservation ≡ Some r
       → is_right_object v (committed_object p.value r) ≡ true
-  committed_right p r there f = of_pool (pool_at v p.value.pool) refl (s.reservations p.number p.value r there f) (s.points p.number p.value there)
+  committed_right p r there f = of_pool (pool_at v p.value.pool) refl (s.reservations p.number p.value r there f) (s.points p.number p.value there).0
     where
-      shape : entry_at (map shape_of_point v.graph.points) p.number ≡ shape_of_point (Some p.value)
-      shape =
-          ap (λ o. option_and_then (λ entry. entry) o)
-          (slice_get-map shape_of_point v.graph.points p.number ∙ ap (option_map shape_of_point) (entry_is_there v.graph.points p.number p.value there))
-
       weak : is_weak_rank p.value.rank ≡ true → kind_in is_weak_kind v.pools p.value.pool ≡ true
-      weak h =
-          (laid.points p.number (record { pool = p.value.pool; rank = p.value.rank; reserved = reserved_words p.value.reservation }) shape).weak h
+      weak h = (s.points p.number p.value there).1 h
 
       weak_or : (b : Bool) (q : Pool) → (b ≡ true → is_weak_kind q.kind ≡ true) → (not b || is_weak_kind q.kind) ≡ true
       weak_or true q h = h refl
@@ -367,6 +361,15 @@ module _ (limit : ℕ) (marked : Bool) (judged v : World) (j : IsSoundGraph judg
   may_is_automatic : (kind : PoolKind) (at_rank : Rank) → not (may_have_point kind at_rank) ≡ false → is_automatic_kind kind ≡ true
   may_is_automatic kind at_rank h = (and_parts (is_automatic_kind kind) (not (is_weak_rank at_rank) || is_weak_kind kind) (not_not (may_have_point kind at_rank) h)).0
 
+  may_is_weak : (kind : PoolKind) (at_rank : Rank) → not (may_have_point kind at_rank) ≡ false → is_weak_rank at_rank ≡ true → is_weak_kind kind ≡ true
+  may_is_weak kind at_rank h weak =
+      of_rank (is_weak_rank at_rank) (is_weak_kind kind) weak
+      (and_parts (is_automatic_kind kind) (not (is_weak_rank at_rank) || is_weak_kind kind) (not_not (may_have_point kind at_rank) h)).1
+    where
+      of_rank : (b c : Bool) → b ≡ true → (not b || c) ≡ true → c ≡ true
+      of_rank true c e k = k
+      of_rank false c e k = absurd (false≢true e)
+
   registered_sound : (slot : Slot) (from : Found (Option ℕ)) (object : Numbered Object) → All (is_live v) (ids_in_slots v.graph) → slot_in v slot ≡ Ok from
       → object_in v from.value ≡ Ok object
       → IsSoundGraph (with_graph v (record v.graph { registered = with_last v.graph.registered object.number }))
@@ -418,7 +421,10 @@ module _ (limit : ℕ) (marked : Bool) (judged v : World) (j : IsSoundGraph judg
       unless (not (may_have_point of.value.kind at_rank)) refusal.WrongPool (λ may.
       after_check (refuse_at_limit (live_points v.graph) most_points)
       (accepted (new_point v s point of.number at_rank
-      (kind_of_pool is_automatic_kind v.pools of.number of.value (pool_named-is v pool of e) (may_is_automatic of.value.kind at_rank may)))))))
+      (
+        kind_of_pool is_automatic_kind v.pools of.number of.value (pool_named-is v pool of e) (may_is_automatic of.value.kind at_rank may),
+        (λ weak. kind_of_pool is_weak_kind v.pools of.number of.value (pool_named-is v pool of e) (may_is_weak of.value.kind at_rank may weak)),
+      ))))))
   act_sound (call.DropPoint point) live plain =
       with_value (point_named v point) (λ (p : Numbered Point) e.
       after_check (refuse_when (is_some p.value.reservation) refusal.Open) (accepted (no_point v s point p.number)))
