@@ -54,3 +54,4 @@ pub mod SoundGraph
 pub mod SoundActs
 pub mod SoundSteps
 pub mod SoundMoves
+pub mod SoundHistories

@@ -40,7 +40,7 @@ pub record IsMovedWell (w w' : World) : Type 0 where
   pub sound : IsSoundGraph w'
   pub grown : Grows w w'
 
-quiet : (w w' : World) → IsSoundGraph w → w'.formats ≡ w.formats → w'.pools ≡ w.pools → w'.graph ≡ w.graph → w'.addresses ≡ w.addresses → IsMovedWell w w'
+pub quiet : (w w' : World) → IsSoundGraph w → w'.formats ≡ w.formats → w'.pools ≡ w.pools → w'.graph ≡ w.graph → w'.addresses ≡ w.addresses → IsMovedWell w w'
 quiet w w' s formats pools graph addresses = record {
   sound =
       untouched w w' s formats (λ n p e. ap (λ ps. slice_get ps n) pools ∙ e) (ap (λ (g : Graph). g.objects) graph)
