@@ -123,6 +123,7 @@ recondemned limit g condemned laid spared held distinct = record {
   ranked = laid.ranked;
   condemned = held;
   distinct = distinct;
+  keyed = laid.keyed;
   placed = record {
     apart = laid.placed.apart;
     homes = λ o some.
@@ -197,7 +198,7 @@ module _ (limit : ℕ) (g : Occupancy) (laid : IsLaidOut limit g) where
 
   flipped_laid_out : IsLaidOut limit flipped
   flipped_laid_out =
-      laid_out_again limit g g.shapes g.addresses (map without_reserved g.points) (map without_buffer g.memories) [] laid laid.lengths
+      laid_out_again limit g g.shapes g.addresses (map without_reserved g.points) (map without_buffer g.memories) [] laid tt laid.lengths
       (length-map g.memories without_buffer ∙ laid.memories ∙ sym (length-map g.points without_reserved)) laid.shapes unreserved_right
       (placed_kept g g.shapes g.addresses (map without_reserved g.points) (map without_buffer g.memories) [] flipped_kept laid.placed)
 
@@ -246,6 +247,7 @@ module _ (limit : ℕ) (g : Occupancy) (base : Address) (laid : IsLaidOut limit 
     ranked = all_without (Rattle.mps_laws.proofs.LaidOut.IsRightlyRanked g.pools) base g.segments laid.ranked;
     condemned = condemned_held;
     distinct = distinct-without_first g.condemned base laid.distinct;
+    keyed = laid.keyed;
     placed = record {
       apart = laid.placed.apart;
       homes = λ o some.

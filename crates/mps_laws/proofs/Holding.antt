@@ -19,7 +19,7 @@ use Rattle.mps_laws.proofs.ApartRuns.{AreApart, lowest_gap, put_apart}
 use Rattle.mps_laws.proofs.Segments.{IsAmong, IsAligned, base_of, among_with, among_new, among_aligned, aligned_with, grains_with, grain_of_word, segment_bounds}
 use Rattle.mps_laws.proofs.Occupancy.{Occupancy, Occupant, OfBlock, OfReservation, OfBuffer, OfTail, PointShape, run_of, run_of_buffer, run_of_reservation, run_of_reserved}
 use Rattle.mps_laws.proofs.LaidOut.{Home, HomeOf, IsLaidOut, IsRightlyRanked, IsKept, kind_in, placed_new, at_hand_again}
-use Rattle.mps_laws.proofs.Tails.{with_tail_of, own_tail, cases_tail}
+use Rattle.mps_laws.proofs.Tails.{with_tail_of, own_tail, cases_tail, keyed_with}
 use Rattle.mps_laws.proofs.Lookups.{slice_get-set_same, slice_get-set_other, length-slice_set, there_is, entry_within}
 
 pub all_among : {X : Type 0} (P : X → Type 0) (xs : List X) (x : X) → AllByRecursion P xs → IsAmong x xs → P x
@@ -197,6 +197,7 @@ module _ (limit : ℕ) (g : Occupancy) (s : Segment) (laid : IsLaidOut limit g) 
     ranked = all_put base_of (IsRightlyRanked g.pools) s g.segments ranked laid.ranked;
     condemned = λ base h. let t = laid.condemned base h in (t.0, among_with s t.0 g.segments t.1, t.2);
     distinct = laid.distinct;
+    keyed = laid.keyed;
     placed = record {
       apart = laid.placed.apart;
       homes = λ o some. in_more g.segments s o (laid.placed.homes o some);
@@ -222,7 +223,8 @@ module _ (limit : ℕ) (g : Occupancy) (s : Segment) (laid : IsLaidOut limit g) 
   tailed_laid_out exact copying =
       let held = held_laid_out (λ weak. absurd (false≢true (sym (ap Rattle.mps_model.specs.Making.is_weak_rank exact) ∙ weak))) in
       let own = own_tail g.tails s.pool s.generation (words_of_segment s) in
-      at_hand_again limit holding_it g.memories (with_tail_of g.tails s.pool s.generation (words_of_segment s)) held refl
+      at_hand_again limit holding_it g.memories (with_tail_of g.tails s.pool s.generation (words_of_segment s)) held
+      (keyed_with g.tails s.pool s.generation (words_of_segment s) laid.keyed) refl
       (placed_new holding_it g.shapes g.addresses g.points g.memories (with_tail_of g.tails s.pool s.generation (words_of_segment s))
       (OfTail s.pool s.generation) tailed_kept
       (λ some. subst (Home (with_segment s g.segments) g.pools g.condemned (OfTail s.pool s.generation) s.pool rank.Exact) (sym own) (record {
@@ -247,7 +249,7 @@ module _ (limit : ℕ) (g : Occupancy) (s : Segment) (laid : IsLaidOut limit g) 
       → IsRightlyRanked g.pools s → kind_in is_copying_kind g.pools s.pool ≡ true → IsLaidOut limit (buffered point)
   buffered_laid_out point p e of_pool of_rank ranked copying =
       let held = held_laid_out ranked in
-      at_hand_again limit holding_it (with_buffer g.memories point (words_of_segment s)) g.tails held
+      at_hand_again limit holding_it (with_buffer g.memories point (words_of_segment s)) g.tails held held.keyed
       (length-with_buffer g.memories point (words_of_segment s))
       (placed_new holding_it g.shapes g.addresses g.points (with_buffer g.memories point (words_of_segment s)) g.tails (OfBuffer point)
       (buffered_kept point) (λ some. home) (λ o n c d. fresh_unoccupied o n c (in_buffer n d)) held.placed)

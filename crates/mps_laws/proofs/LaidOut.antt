@@ -12,6 +12,7 @@ use Rattle.mps_model.specs.Making.{is_weak_rank}
 use Rattle.mps_model.specs.World.{Pool, PoolKind, PointMemory, Tail, is_copying_kind, is_weak_kind}
 use Rattle.mps_laws.proofs.Occupancy.{Occupancy, Occupant, OfBlock, OfReservation, OfBuffer, OfTail, Shape, PointShape, run_of, pool_of_occupant, rank_of_occupant}
 use Rattle.mps_laws.proofs.Segments.{IsAmong, AreAligned}
+use Rattle.mps_laws.proofs.Tails.{AreKeyed}
 
 -- whether there is a pool of this number among these, and its kind passes a test
 abbrev pub kind_in : (PoolKind → Bool) → List Pool → (number : ℕ) → Bool
@@ -78,6 +79,7 @@ pub record IsLaidOut (limit : ℕ) (g : Occupancy) : Type 0 where
   pub ranked : AllByRecursion (IsRightlyRanked g.pools) g.segments
   pub condemned : (base : Address) → contains g.condemned base ≡ true → (s : Segment) × IsAmong s g.segments × (s.base ≡ base)
   pub distinct : AreDistinct g.condemned
+  pub keyed : AreKeyed g.tails
   pub placed : ArePlaced g
 
 -- ---- who has words after a change, where segments stay
@@ -187,11 +189,11 @@ module _ (g : Occupancy) (shapes : List Shape) (addresses : List (Option Address
 
 -- an arena whose segments stay
 pub laid_out_again : (limit : ℕ) (g : Occupancy) (shapes : List Shape) (addresses : List (Option Address)) (points : List (Option PointShape)) (memories : List PointMemory) (tails : List Tail)
-    → IsLaidOut limit g → length addresses ≡ length shapes → length memories ≡ length points
+    → IsLaidOut limit g → AreKeyed tails → length addresses ≡ length shapes → length memories ≡ length points
     → ((id : ℕ) (s : Shape) → slice_get shapes id ≡ Some s → IsRightShape g.pools s)
     → ((n : ℕ) (p : PointShape) → entry_at points n ≡ Some p → IsRightPointShape g.pools p)
     → ArePlaced (changed g shapes addresses points memories tails) → IsLaidOut limit (changed g shapes addresses points memories tails)
-laid_out_again limit g shapes addresses points memories tails laid lengths lengths' right right' placed = record {
+laid_out_again limit g shapes addresses points memories tails laid keyed lengths lengths' right right' placed = record {
   in_range = laid.in_range;
   lengths = lengths;
   memories = lengths';
@@ -202,12 +204,13 @@ laid_out_again limit g shapes addresses points memories tails laid lengths lengt
   ranked = laid.ranked;
   condemned = laid.condemned;
   distinct = laid.distinct;
+  keyed = keyed;
   placed = placed;
 }
 
 -- and in which words are at hand elsewhere
-pub at_hand_again : (limit : ℕ) (g : Occupancy) (memories : List PointMemory) (tails : List Tail) → IsLaidOut limit g
+pub at_hand_again : (limit : ℕ) (g : Occupancy) (memories : List PointMemory) (tails : List Tail) → IsLaidOut limit g → AreKeyed tails
     → length memories ≡ length g.memories → ArePlaced (record g { memories = memories; tails = tails })
     → IsLaidOut limit (record g { memories = memories; tails = tails })
-at_hand_again limit g memories tails laid same placed =
-    laid_out_again limit g g.shapes g.addresses g.points memories tails laid laid.lengths (same ∙ laid.memories) laid.shapes laid.points placed
+at_hand_again limit g memories tails laid keyed same placed =
+    laid_out_again limit g g.shapes g.addresses g.points memories tails laid keyed laid.lengths (same ∙ laid.memories) laid.shapes laid.points placed

@@ -38,6 +38,7 @@ arena_laid_out limit limit' grains g order range laid = record {
   ranked = laid.ranked;
   condemned = laid.condemned;
   distinct = laid.distinct;
+  keyed = laid.keyed;
   placed = record { apart = laid.placed.apart; homes = laid.placed.homes };
 }
 
@@ -71,6 +72,7 @@ pool_laid_out limit p g laid = record {
       (λ s right h. kind_in-more is_weak_kind g.pools p s.pool (right h)) laid.ranked;
   condemned = laid.condemned;
   distinct = laid.distinct;
+  keyed = laid.keyed;
   placed = record { apart = laid.placed.apart; homes = λ o some. in_more_pools g.pools p o (laid.placed.homes o some) };
 }
 
@@ -145,7 +147,7 @@ module _ (limit : ℕ) (g : Occupancy) (laid : IsLaidOut limit g) where
 
     pub point_laid_out : IsLaidOut limit with_point_shape
     point_laid_out =
-        laid_out_again limit g g.shapes g.addresses (with_last g.points (Some p)) (with_last g.memories m) g.tails laid laid.lengths
+        laid_out_again limit g g.shapes g.addresses (with_last g.points (Some p)) (with_last g.memories m) g.tails laid laid.keyed laid.lengths
         (length-with_last g.memories m ∙ ap (λ n. n + 1) laid.memories ∙ sym (length-with_last g.points (Some p))) laid.shapes right_points
         (placed_kept g g.shapes g.addresses (with_last g.points (Some p)) (with_last g.memories m) g.tails point_kept laid.placed)
 
@@ -206,7 +208,7 @@ module _ (limit : ℕ) (g : Occupancy) (laid : IsLaidOut limit g) where
 
     pub dropped_laid_out : IsLaidOut limit without_point_shape
     dropped_laid_out =
-        laid_out_again limit g g.shapes g.addresses (slice_set g.points point None) (slice_set g.memories point m) g.tails laid laid.lengths
+        laid_out_again limit g g.shapes g.addresses (slice_set g.points point None) (slice_set g.memories point m) g.tails laid laid.keyed laid.lengths
         (length-slice_set g.memories point m ∙ laid.memories ∙ sym (length-slice_set g.points point None)) laid.shapes right_rest
         (placed_kept g g.shapes g.addresses (slice_set g.points point None) (slice_set g.memories point m) g.tails dropped_kept laid.placed)
 
@@ -281,7 +283,7 @@ module _ (limit : ℕ) (g : Occupancy) (laid : IsLaidOut limit g) where
         let run = new_run g.points in
         let from : (run_of (with_block_at g.points) (OfBlock (length g.shapes))).from ≡ word_of at = ap (λ (r : Run). r.from) run in
         let count : (run_of (with_block_at g.points) (OfBlock (length g.shapes))).count ≡ s.words = ap (λ (r : Run). r.count) run in
-        laid_out_again limit g (with_last g.shapes s) (with_last g.addresses (Some at)) g.points g.memories g.tails laid more_lengths
+        laid_out_again limit g (with_last g.shapes s) (with_last g.addresses (Some at)) g.points g.memories g.tails laid laid.keyed more_lengths
         laid.memories right_shapes laid.points
         (placed_new g (with_last g.shapes s) (with_last g.addresses (Some at)) g.points g.memories g.tails (OfBlock (length g.shapes)) block_kept
         (λ _. record {

@@ -16,7 +16,7 @@ use Rattle.mps_laws.proofs.Occupancy.{Occupancy, Occupant, OfBlock, OfReservatio
 use Rattle.mps_laws.proofs.LaidOut.{HomeOf, IsLaidOut, IsKept, IsGiven, kind_in, is_tail, placed_given, placed_kept, laid_out_again}
 use Rattle.mps_laws.proofs.PoolKinds.{not_copying_and_weak}
 use Rattle.mps_laws.proofs.Segments.{IsAligned, among_aligned, found_segment}
-use Rattle.mps_laws.proofs.Tails.{with_tail_of, own_tail, cases_tail}
+use Rattle.mps_laws.proofs.Tails.{with_tail_of, own_tail, cases_tail, keyed_with}
 
 abbrev tail_pool : Occupant → ℕ
 tail_pool (OfTail pool generation) = pool
@@ -159,7 +159,7 @@ module _ (limit : ℕ) (g : Occupancy) (id to generation : ℕ) (s : Shape) (lai
   pub moved_laid_out : IsLaidOut limit after_moving_to
   moved_laid_out =
       laid_out_again limit g g.shapes (slice_set g.addresses id (Some to)) g.points g.memories
-      (with_tail_of g.tails s.pool generation rest) laid (length-slice_set g.addresses id (Some to) ∙ laid.lengths) laid.memories laid.shapes
+      (with_tail_of g.tails s.pool generation rest) laid (keyed_with g.tails s.pool generation rest laid.keyed) (length-slice_set g.addresses id (Some to) ∙ laid.lengths) laid.memories laid.shapes
       laid.points
       (placed_given g g.shapes (slice_set g.addresses id (Some to)) g.points g.memories
       (with_tail_of g.tails s.pool generation rest) (OfTail s.pool generation) (OfBlock id) given laid.placed)
@@ -202,6 +202,6 @@ module _ (limit : ℕ) (g : Occupancy) (id : ℕ) (laid : IsLaidOut limit g) whe
 
   pub freed_laid_out : IsLaidOut limit (record g { addresses = slice_set g.addresses id None })
   freed_laid_out =
-      laid_out_again limit g g.shapes (slice_set g.addresses id None) g.points g.memories g.tails laid
+      laid_out_again limit g g.shapes (slice_set g.addresses id None) g.points g.memories g.tails laid laid.keyed
       (length-slice_set g.addresses id None ∙ laid.lengths) laid.memories laid.shapes laid.points
       (placed_kept g g.shapes (slice_set g.addresses id None) g.points g.memories g.tails freed_kept laid.placed)

@@ -144,6 +144,7 @@ empty_layout formats = record {
   ranked = tt;
   condemned = λ base h. absurd (false≢true h);
   distinct = tt;
+  keyed = tt;
   placed = record {
     apart = λ a b n c d. absurd (omega (arith, none_has_words formats a, c.0, c.1));
     homes = λ o some. absurd (omega (arith, none_has_words formats o, some));

@@ -175,7 +175,7 @@ module _ (limit : ℕ) (g : Occupancy) (laid : IsLaidOut limit g) (n : ℕ) (p :
 
     pub reserved_laid_out : IsRoomToReserve → IsLaidOut limit after_reserving
     reserved_laid_out room =
-        laid_out_again limit g g.shapes g.addresses (points_with (Some words)) memories_with g.tails laid laid.lengths reserving_lengths
+        laid_out_again limit g g.shapes g.addresses (points_with (Some words)) memories_with g.tails laid laid.keyed laid.lengths reserving_lengths
         laid.shapes
         (right_with (Some words) (λ k e. subst (λ (x : ℕ). 0 < x) (same_Some words k e) some))
         (placed_new g g.shapes g.addresses (points_with (Some words)) memories_with g.tails (OfReservation n) (room_kept room)
@@ -254,7 +254,7 @@ module _ (limit : ℕ) (g : Occupancy) (laid : IsLaidOut limit g) (n : ℕ) (p :
 
     pub buffer_reserved_laid_out : IsInBuffer → IsLaidOut limit after_reserving
     buffer_reserved_laid_out i =
-        laid_out_again limit g g.shapes g.addresses (points_with (Some words)) memories_with g.tails laid laid.lengths reserving_lengths
+        laid_out_again limit g g.shapes g.addresses (points_with (Some words)) memories_with g.tails laid laid.keyed laid.lengths reserving_lengths
         laid.shapes
         (right_with (Some words) (λ k e. subst (λ (x : ℕ). 0 < x) (same_Some words k e) some))
         (placed_given g g.shapes g.addresses (points_with (Some words)) memories_with g.tails (OfBuffer n) (OfReservation n) (given_buffer i)
@@ -348,7 +348,7 @@ module _ (limit : ℕ) (g : Occupancy) (laid : IsLaidOut limit g) (n : ℕ) (p :
     pub committed_laid_out : IsLaidOut limit after_committing
     committed_laid_out =
         laid_out_again limit g (with_last g.shapes shape_committed) (with_last g.addresses (Some m.reserved_at)) (points_with None) g.memories
-        g.tails laid (more_lengths limit g laid shape_committed m.reserved_at right_committed)
+        g.tails laid laid.keyed (more_lengths limit g laid shape_committed m.reserved_at right_committed)
         (laid.memories ∙ sym (length-slice_set g.points n (Some (reserving None))))
         (right_shapes limit g laid shape_committed m.reserved_at right_committed) (right_with None (λ k e. absurd (none-some k e)))
         (placed_given g (with_last g.shapes shape_committed) (with_last g.addresses (Some m.reserved_at)) (points_with None) g.memories g.tails

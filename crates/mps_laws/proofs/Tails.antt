@@ -3,6 +3,7 @@ use Rattle.std.proofs.Common.{◌≡◌, ◌∙◌, ◌⊎◌, ℕ, Bool, true, 
 use Rattle.std.proofs.lemmas.Bool.{false≢true, and_parts, cases_Bool, cases_eq, eqb-true, eq-eqb, ne_eqb, and_left, and_right}
 use Rattle.std.specs.Prelude.{◌==◌, ◌&&◌, not, if◌then◌else◌, find, filter}
 use Rattle.std.specs.Option.{option_map_or}
+use Rattle.std.specs.List.{AllByRecursion}
 use Rattle.mps_base.specs.Run.{Run}
 use Rattle.mps_model.specs.World.{Tail, is_tail_of, empty_run}
 use Rattle.mps_laws.proofs.Occupancy.{run_of_tail}
@@ -65,3 +66,36 @@ cases_tail tails p g p' g' words =
           ]
       | inr e ↦ inr ((λ a _. e a), other_tail tails p g p' g' words (λ a _. e a))
     ]
+
+-- each is of a pool and generation of its own
+abbrev pub AreKeyed : List Tail → Type 0
+AreKeyed [] = Unit {0}
+AreKeyed (t ∷ ts) = AllByRecursion (λ (u : Tail). is_tail_of t.pool t.generation u ≡ false) ts × AreKeyed ts
+
+all_kept : (P : Tail → Type 0) (test : Tail → Bool) (ts : List Tail) → AllByRecursion P ts → AllByRecursion P (filter test ts)
+all_kept P test [] all = tt
+all_kept P test (t ∷ ts) all =
+    elim (test t) as (λ b. AllByRecursion P (if b then t ∷ filter test ts else filter test ts)) [
+      | true ↦ (all.0, all_kept P test ts all.1)
+      | false ↦ all_kept P test ts all.1
+    ]
+
+keyed_kept : (test : Tail → Bool) (ts : List Tail) → AreKeyed ts → AreKeyed (filter test ts)
+keyed_kept test [] keyed = tt
+keyed_kept test (t ∷ ts) keyed =
+    elim (test t) as (λ b. AreKeyed (if b then t ∷ filter test ts else filter test ts)) [
+      | true ↦ (all_kept (λ u. is_tail_of t.pool t.generation u ≡ false) test ts keyed.0, keyed_kept test ts keyed.1)
+      | false ↦ keyed_kept test ts keyed.1
+    ]
+
+none_left : (p g : ℕ) (ts : List Tail) → AllByRecursion (λ (u : Tail). is_tail_of p g u ≡ false) (filter (λ t. not (is_tail_of p g t)) ts)
+none_left p g [] = tt
+none_left p g (t ∷ ts) =
+    elim (is_tail_of p g t) as (λ b. is_tail_of p g t ≡ b
+        → AllByRecursion (λ (u : Tail). is_tail_of p g u ≡ false) (if not b then t ∷ filter (λ u. not (is_tail_of p g u)) ts else filter (λ u. not (is_tail_of p g u)) ts)) [
+      | true ↦ (λ is. none_left p g ts)
+      | false ↦ (λ isnt. (isnt, none_left p g ts))
+    ] refl
+
+pub keyed_with : (ts : List Tail) (p g : ℕ) (words : Run) → AreKeyed ts → AreKeyed (with_tail_of ts p g words)
+keyed_with ts p g words keyed = (none_left p g ts, keyed_kept (λ t. not (is_tail_of p g t)) ts keyed)
