@@ -201,7 +201,7 @@ lowest_gap low high limit (r ∷ rs) need place some order asc is =
           }
     ]
 
-all_above : (low high : ℕ) (rs : List Run) → IsAscending low high rs → AllByRecursion (λ (r : Run). low ≤ r.from) rs
+pub all_above : (low high : ℕ) (rs : List Run) → IsAscending low high rs → AllByRecursion (λ (r : Run). low ≤ r.from) rs
 all_above low high [] asc = tt
 all_above low high (r ∷ rs) asc =
     (asc.0, all_weaker (λ s. end_of r ≤ s.from) (λ s. low ≤ s.from) rs (λ s h. omega (arith, h, asc.0)) (all_above (end_of r) high rs asc.2))

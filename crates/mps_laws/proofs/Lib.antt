@@ -55,3 +55,5 @@ pub mod SoundActs
 pub mod SoundSteps
 pub mod SoundMoves
 pub mod SoundHistories
+pub mod WellPlaced
+pub mod WellFormed

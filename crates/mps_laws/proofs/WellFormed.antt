@@ -1,0 +1,193 @@
+-- Each world that a legal history reaches is well-formed.
+use Rattle.std.proofs.Common.{◌≡◌, ◌∙◌, ◌⊎◌, ℕ, zero, suc, ◌+◌, ◌*◌, ◌<◌, ◌≤◌, Bool, true, false, refl, sym, ap, List, [], ◌∷◌, ◌++◌, length, Option, Some, None, Ok, Err, subst, inl, inr, arith, max}
+use Rattle.std.proofs.lemmas.Bool.{cases_Bool, cases_eq, false≢true, true≢false, and_parts, and_from, le-leb, lt-ltb, ltb-true, eq-eqb, eqb-true, or_left, or_right}
+use Rattle.std.proofs.lemmas.Option.{none-some, same_Some, slice_get-map}
+use Rattle.std.proofs.lemmas.List.{length-map}
+use Rattle.std.specs.Prelude.{MatchBool, map, slice_get, option_map, option_and_then, not, ◌==◌, ◌&&◌, ◌||◌, nat_le, nat_lt, if◌then◌else◌, is_some}
+use Rattle.std.specs.Option.{option_map_or}
+use Rattle.std.specs.List.{list_all, list_any, flat_map}
+use Rattle.mps_base.specs.Segment.{Segment, words_of_segment}
+use Rattle.mps_base.specs.Run.{Run}
+use Rattle.mps_base.specs.declared.moves.Move.{Move}
+use Rattle.mps_base.specs.declared.moves.Move.TheVariants as moves
+use Rattle.mps_base.specs.declared.names.Name.{Name}
+use Rattle.mps_base.specs.declared.names.Slot.{Slot}
+use Rattle.mps_base.specs.declared.refusal.Refusal.TheVariants as refusal
+use Rattle.mps_format.specs.Layout.{Layout}
+use Rattle.mps_model.specs.declared.call.Call.{Call}
+use Rattle.mps_model.specs.declared.call.Call.TheVariants as call
+use Rattle.mps_model.specs.Answer.{Answer, is_block, is_unsupported}
+use Rattle.mps_model.specs.Graph.{Graph, Object, Point, Reservation, AreaWord, PlainWord, Hold, entries, entry_at, object_at, held_by_word, holds_of, is_automatic, ids_in_slots, ids_in_holds, ids_in_reservations, ids_of_client}
+use Rattle.mps_model.specs.World.{World, Pool, PointMemory, empty_world_of, extent, id_at, is_live, is_live_and, is_copying_object, is_copying_pool, is_word_in, lies_in, object_is, pool_at, shown_word, words_of}
+use Rattle.mps_model.specs.Making.{is_weak_rank}
+use Rattle.mps_model.specs.WellFormed.{IsWellFormed, are_right_cells, is_home, is_right_at_hand, is_right_object, is_right_point, is_right_reservation, are_right_points, is_right_word, are_right_words, is_live_automatic}
+use Rattle.mps_model.specs.Checked.{Act, Checked, Found, Numbered, ◌>>=◌, ◌>>◌, required, refuse_when, done, says, pool_named, point_named, slot_in, block_place_in}
+use Rattle.mps_model.specs.Allocating.{Reserving, act_reserve, act_commit, act_alloc, allows_size, check_reserve, refuse_without_place, with_reservation, world_committed}
+use Rattle.mps_model.specs.Placement.{ForReserve, ForAlloc, placement_of}
+use Rattle.mps_model.specs.Effect.{world_after_move, world_after_moves, after_segment, after_free, after_moved, after_post, after_splat, holding, where_one, with_collection, with_address, reclaiming, segment_base_of, segment_of_move, placing}
+use Rattle.mps_model.specs.Reply.{act, world_from}
+use Rattle.mps_model.specs.Step.{Step, History}
+use Rattle.mps_model.specs.Policy.{units_asked}
+use Rattle.mps_model.specs.History.{IsLegalStep, IsAnsweredStep, IsLegalFrom, asking, after_own_segment, after_its_moves, judged_world, moved_world, world_after, world_after_call, world_after_steps, with_client_remembered, with_buffer, rank_of_point, own_segment, moves_of_poll}
+use Rattle.mps_laws.proofs.Lookups.{entry_is_there}
+use Rattle.mps_laws.proofs.Occupancy.{Occupancy, OfBlock, OfReservation, OfBuffer, PointShape, shape_of_point, reserved_words, occupancy_of, run_of, run_of_reservation, run_of_reserved, run_of_buffer, pool_of_occupant, rank_of_occupant}
+use Rattle.mps_laws.proofs.LaidOut.{Home, IsLaidOut}
+use Rattle.mps_laws.proofs.LegalMoves.{HasLayout}
+use Rattle.mps_laws.proofs.Reserving.{rank_where-weak}
+use Rattle.mps_laws.proofs.Acts.{ForAct, accepted, refused, with_value, after_check, IsChange, nothing, a_pool, a_point, no_point, Changes, is_placing, act_changes, for_world}
+use Rattle.mps_laws.proofs.FreeSteps.{BlocksAreLive}
+use Rattle.mps_laws.proofs.Replay.{limit_after, legal_step_replayed, live_after, empty_layout}
+use Rattle.mps_laws.proofs.SoundGraph.{All, PassesOrNull, IsSoundGraph, auto, is_sound_word, is_sound_reservation, all-parts, all-at, entry-passes, each-all}
+use Rattle.mps_laws.proofs.SoundHistories.{SlotsAreLive, slots_held, step_sound}
+use Rattle.mps_laws.proofs.WellPlaced.{segments_right, ascending_apart, apart_right, places_right, tails_right, home_is, at_hand_is}
+
+-- what the client holds is live
+abbrev ClientIsLive : World → Type 0
+ClientIsLive w = All (is_live w) (ids_of_client w.graph)
+
+-- ---- points
+
+module _ (limit : ℕ) (w : World) (laid : HasLayout limit w) (s : IsSoundGraph w) where
+  shape_there : (n : ℕ) (p : Point) → entry_at w.graph.points n ≡ Some p → entry_at (map shape_of_point w.graph.points) n ≡ shape_of_point (Some p)
+  shape_there n p e =
+      ap (λ o. option_and_then (λ entry. entry) o)
+      (slice_get-map shape_of_point w.graph.points n ∙ ap (option_map shape_of_point) (entry_is_there w.graph.points n p e))
+
+  reservation_right : (n : ℕ) (p : Point) (m : PointMemory) (r : Reservation) → entry_at w.graph.points n ≡ Some p
+      → slice_get w.point_memories n ≡ Some m → p.reservation ≡ Some r → is_right_reservation w p m r ≡ true
+  reservation_right n p m r e f k =
+      and_from (option_map_or (λ of. are_right_cells w of r.head r.cells) (pool_at w p.pool) false)
+      (r.is_doomed || is_home w p.pool (is_weak_rank p.rank) (extent m.reserved_at (length r.cells))) (s.reservations n p r e k)
+      (elim (cases_Bool r.is_doomed) [
+        | inl is ↦ or_left (r.is_doomed) (is_home w p.pool (is_weak_rank p.rank) (extent m.reserved_at (length r.cells))) is
+        | inr isnt ↦
+            or_right (r.is_doomed) (is_home w p.pool (is_weak_rank p.rank) (extent m.reserved_at (length r.cells))) (live isnt)
+      ])
+    where
+      live : r.is_doomed ≡ false → is_home w p.pool (is_weak_rank p.rank) (extent m.reserved_at (length r.cells)) ≡ true
+      live isnt =
+          let g = occupancy_of w in
+          let shape = shape_there n p e in
+          let reserved : reserved_words p.reservation ≡ Some (length r.cells) =
+          ap reserved_words k ∙ ap (λ b. if b then None else Some (length r.cells)) isnt in
+          let run : run_of g (OfReservation n) ≡ extent m.reserved_at (length r.cells) =
+          ap (λ o. run_of_reservation o (slice_get w.point_memories n)) shape ∙ ap (λ o. run_of_reserved o (slice_get w.point_memories n)) reserved
+          ∙ ap (run_of_reserved (Some (length r.cells))) f in
+          let q : PointShape = record { pool = p.pool; rank = p.rank; reserved = reserved_words p.reservation } in
+          let some = (laid.points n q shape).some (length r.cells) reserved in
+          let home = laid.placed.homes (OfReservation n) (subst (λ (x : Run). 0 < x.count) (sym run) some) in
+          home_is w (OfReservation n) p.pool (is_weak_rank p.rank) p.rank (extent m.reserved_at (length r.cells)) (sym (rank_where-weak p.rank))
+          (subst (λ (x : ℕ). Home w.segments w.pools g.condemned (OfReservation n) x p.rank (extent m.reserved_at (length r.cells)))
+          (ap (λ o. option_map_or (λ (y : PointShape). y.pool) o 0) shape)
+          (subst (λ x. Home w.segments w.pools g.condemned (OfReservation n) (pool_of_occupant g (OfReservation n)) x (extent m.reserved_at (length r.cells)))
+          (ap (λ o. option_map_or (λ (y : PointShape). y.rank) o Rattle.mps_base.specs.declared.names.Rank.TheVariants.Exact) shape)
+          (subst (Home w.segments w.pools g.condemned (OfReservation n) (pool_of_occupant g (OfReservation n)) (rank_of_occupant g (OfReservation n))) run home)))
+
+  buffer_right : (n : ℕ) (p : Point) (m : PointMemory) → entry_at w.graph.points n ≡ Some p → slice_get w.point_memories n ≡ Some m
+      → is_right_at_hand w p.pool m.buffer ≡ true
+  buffer_right n p m e f =
+      let g = occupancy_of w in
+      let run : run_of g (OfBuffer n) ≡ m.buffer = ap run_of_buffer f in
+      at_hand_is w (OfBuffer n) p.pool (rank_of_occupant g (OfBuffer n)) m.buffer (λ some.
+      subst (λ (x : ℕ). Home w.segments w.pools g.condemned (OfBuffer n) x (rank_of_occupant g (OfBuffer n)) m.buffer)
+      (ap (λ o. option_map_or (λ (y : PointShape). y.pool) o 0) (shape_there n p e))
+      (subst (Home w.segments w.pools g.condemned (OfBuffer n) (pool_of_occupant g (OfBuffer n)) (rank_of_occupant g (OfBuffer n))) run
+      (laid.placed.homes (OfBuffer n) (subst (λ (x : Run). 0 < x.count) (sym run) some))))
+
+  point_right : (n : ℕ) (p : Point) (m : PointMemory) → entry_at w.graph.points n ≡ Some p → slice_get w.point_memories n ≡ Some m
+      → is_right_point w p m ≡ true
+  point_right n p m e f =
+      and_from (option_map_or (is_right_reservation w p m) p.reservation true) (is_right_at_hand w p.pool m.buffer) (of_one p.reservation refl)
+      (buffer_right n p m e f)
+    where
+      of_one : (o : Option Reservation) → p.reservation ≡ o → option_map_or (is_right_reservation w p m) o true ≡ true
+      of_one None k = refl
+      of_one (Some r) k = reservation_right n p m r e f k
+
+  points_from : (ps : List (Option Point)) (ms : List PointMemory) → length ms ≡ length ps
+      → ((n : ℕ) (p : Point) (m : PointMemory) → entry_at ps n ≡ Some p → slice_get ms n ≡ Some m → is_right_point w p m ≡ true)
+      → are_right_points w ps ms ≡ true
+  points_from [] [] h each = refl
+  points_from [] (m ∷ ms) h each = absurd (omega (arith, h))
+  points_from (p ∷ ps) [] h each = absurd (omega (arith, h))
+  points_from (None ∷ ps) (m ∷ ms) h each = points_from ps ms (omega (arith, h)) (λ n p k e f. each (suc n) p k e f)
+  points_from (Some p ∷ ps) (m ∷ ms) h each =
+      and_from (is_right_point w p m) (are_right_points w ps ms) (each zero p m refl refl)
+      (points_from ps ms (omega (arith, h)) (λ n q k e f. each (suc n) q k e f))
+
+  points_right : are_right_points w w.graph.points w.point_memories ≡ true
+  points_right = points_from w.graph.points w.point_memories (laid.memories ∙ length-map w.graph.points shape_of_point) point_right
+
+-- ---- what the client holds
+
+module _ (w : World) (s : IsSoundGraph w) (live : ClientIsLive w) where
+  holds_live : All (is_live w) (ids_in_holds w.graph)
+  holds_live =
+      let a = all-parts (is_live w) ((ids_in_slots w.graph ++ ids_in_holds w.graph) ++ w.graph.messages) (ids_in_reservations w.graph) live in
+      let b = all-parts (is_live w) (ids_in_slots w.graph ++ ids_in_holds w.graph) w.graph.messages a.0 in
+      (all-parts (is_live w) (ids_in_slots w.graph) (ids_in_holds w.graph) b.0).1
+
+  messages_live : All (is_live w) w.graph.messages
+  messages_live =
+      let a = all-parts (is_live w) ((ids_in_slots w.graph ++ ids_in_holds w.graph) ++ w.graph.messages) (ids_in_reservations w.graph) live in
+      (all-parts (is_live w) (ids_in_slots w.graph ++ ids_in_holds w.graph) w.graph.messages a.0).1
+
+  both : (p q : ℕ → Bool) (ids : List ℕ) → All p ids → All q ids → All (λ id. p id && q id) ids
+  both p q [] h k = refl
+  both p q (x ∷ xs) h k =
+      let a = and_parts (p x) (list_all p xs) h in
+      let b = and_parts (q x) (list_all q xs) k in
+      and_from (p x && q x) (list_all (λ id. p id && q id) xs) (and_from (p x) (q x) a.0 b.0) (both p q xs a.1 b.1)
+
+  in_it : (copying : Bool) (at words offset : ℕ) → (if copying then nat_lt offset (8 * words) else offset == 0) ≡ true
+      → is_word_in copying at words (at + offset) ≡ true
+  in_it true at words offset h =
+      let fits = ltb-true offset (8 * words) h in
+      and_from (nat_le at (at + offset)) (nat_lt (at + offset) (at + 8 * words)) (le-leb at (at + offset) (omega arith))
+      (lt-ltb (at + offset) (at + 8 * words) (omega (arith, fits)))
+  in_it false at words offset h =
+      let none = eqb-true offset 0 h in eq-eqb (at + offset) at (omega (arith, none))
+
+  word_right : (word : AreaWord) → is_sound_word w word ≡ true → PassesOrNull (is_live w) (held_by_word word) → is_right_word w word ≡ true
+  word_right (PlainWord number) h l = refl
+  word_right (Hold id offset) h l =
+      let parts = and_parts (auto w id) (if is_copying_object w id then nat_lt offset (8 * words_of w id) else offset == 0) h in
+      and_from (auto w id) (is_live_and (λ at. is_word_in (is_copying_object w id) at (words_of w id) (shown_word w (Hold id offset))) w id) parts.0
+      (of_address (entry_at w.addresses id) l parts.1)
+    where
+      of_address : (o : Option ℕ) → is_some o ≡ true → (if is_copying_object w id then nat_lt offset (8 * words_of w id) else offset == 0) ≡ true
+          → option_map_or (λ at. is_word_in (is_copying_object w id) at (words_of w id) (option_map_or (λ a. a + offset) o 0)) o false ≡ true
+      of_address None k g = absurd (false≢true k)
+      of_address (Some at) k g = in_it (is_copying_object w id) at (words_of w id) offset g
+
+  area_right : (n : ℕ) (area : Option (List AreaWord)) → slice_get w.graph.areas n ≡ Some area → are_right_words w area ≡ true
+  area_right n None e = refl
+  area_right n (Some words) e =
+      let sound = s.words n words (ap (λ o. option_and_then (λ entry. entry) o) e) in
+      let held = all-at (is_live w) holds_of w.graph.areas n (Some words) holds_live e in
+      each-all (is_right_word w) words (λ k word f.
+      word_right word (Rattle.mps_laws.proofs.SoundGraph.each-at (is_sound_word w) words k word sound f)
+      (entry-passes (is_live w) (map held_by_word words) k (held_by_word word) held
+      (slice_get-map held_by_word words k ∙ ap (option_map held_by_word) f)))
+
+-- ---- a world that is laid out, whose graph is sound
+
+pub well_formed : (w : World) → HasLayout (w.grains + 1) w → IsSoundGraph w → ClientIsLive w → IsWellFormed w
+well_formed w laid s live = record {
+  segments =
+      and_from (list_all (Rattle.mps_model.specs.WellFormed.is_right_segment w) w.segments)
+      (Rattle.mps_model.specs.WellFormed.are_apart (map Rattle.mps_base.specs.Segment.grains_of_segment w.segments))
+      (segments_right w w.segments 1 (omega arith) laid.ascending laid.aligned laid.ranked)
+      (ascending_apart 1 (w.grains + 1) (map Rattle.mps_base.specs.Segment.grains_of_segment w.segments) laid.ascending);
+  addresses = laid.lengths ∙ length-map w.graph.objects Rattle.mps_laws.proofs.Occupancy.shape_of;
+  apart = apart_right (w.grains + 1) w laid;
+  objects = each-all (is_right_object w) w.graph.objects (λ id o e. s.objects id o e);
+  places = places_right (w.grains + 1) w laid;
+  points = points_right (w.grains + 1) w laid s;
+  tails = tails_right (w.grains + 1) w laid;
+  slots = s.slots;
+  words = each-all (are_right_words w) w.graph.areas (λ n area e. area_right w s live n area e);
+  blocks = s.blocks;
+  registered = s.registered;
+  messages = both w s live (is_live w) (auto w) w.graph.messages (messages_live w s live) s.messages;
+}
