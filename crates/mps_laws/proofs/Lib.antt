@@ -57,3 +57,4 @@ pub mod SoundMoves
 pub mod SoundHistories
 pub mod WellPlaced
 pub mod WellFormed
+pub mod WellFormedHistories

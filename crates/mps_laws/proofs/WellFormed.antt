@@ -42,7 +42,7 @@ use Rattle.mps_laws.proofs.SoundHistories.{SlotsAreLive, slots_held, step_sound}
 use Rattle.mps_laws.proofs.WellPlaced.{segments_right, ascending_apart, apart_right, places_right, tails_right, home_is, at_hand_is}
 
 -- what the client holds is live
-abbrev ClientIsLive : World → Type 0
+abbrev pub ClientIsLive : World → Type 0
 ClientIsLive w = All (is_live w) (ids_of_client w.graph)
 
 -- ---- points

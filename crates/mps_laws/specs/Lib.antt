@@ -3,3 +3,4 @@ pub mod Replay
 pub mod Held
 pub mod Staying
 pub mod Depending
+pub mod WellFormed

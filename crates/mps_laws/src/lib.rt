@@ -7,6 +7,7 @@ ghost use Rattle.mps_laws.specs.Held.{HeldObjectsAreLive, GetsReachLiveObjects};
 ghost use Rattle.mps_laws.specs.Staying.{HeldBlocksStay, AddressesStayRight};
 ghost use Rattle.mps_laws.specs.Depending.{FreshDependenciesHold};
 ghost use Rattle.mps_laws.specs.Replay.{StepReplaysToLiveBlocks, LogReplaysToLiveBlocks};
+ghost use Rattle.mps_laws.specs.WellFormed.{ReachedWorldsAreWellFormed};
 
 /// Commands with their lines, their answers and the log determine the history: no two histories have one log.
 pub fn a_log_tells_one_history()
@@ -48,4 +49,11 @@ pub fn addresses_stay_right()
 /// unless it is live no more.
 pub fn fresh_dependencies_hold()
     ensures { FreshDependenciesHold }
+{}
+
+/// Each world that a legal history reaches is well-formed, where no command but the first makes an arena, as in any script:
+/// objects have the cells of their formats, whatever lies in the arena lies apart in held segments of its pool, and what the
+/// client holds is of the right kind.
+pub fn reached_worlds_are_well_formed()
+    ensures { ReachedWorldsAreWellFormed }
 {}
