@@ -1,22 +1,20 @@
 -- What calls leave of a sound graph, but for those that make objects or reserve: a sound graph.
-use Rattle.std.proofs.Common.{◌≡◌, ◌∙◌, ◌⊎◌, ℕ, zero, suc, ◌+◌, ◌-◌, ◌*◌, ◌<◌, ◌≤◌, Bool, true, false, refl, sym, ap, List, [], ◌∷◌, ◌++◌, length, Option, Some, None, Ok, Err, subst, inl, inr, arith}
+use Rattle.std.proofs.Common.{◌≡◌, ◌∙◌, ◌⊎◌, ℕ, ◌+◌, ◌-◌, ◌*◌, ◌<◌, Bool, true, false, refl, sym, ap, List, [], ◌∷◌, length, Option, Some, None, Ok, subst, inl, inr, arith}
 use Rattle.std.proofs.lemmas.Bool.{false≢true, true≢false, and_parts, and_from, cases_Bool, cases_eq, leb-true, ltb-true, lt-ltb, le-leb, eqb-true, eq-eqb}
 use Rattle.std.proofs.lemmas.Option.{none-some, same_Some, slice_get-map}
-use Rattle.std.specs.Prelude.{map, slice_get, slice_set, option_map, option_and_then, not, ◌&&◌, ◌||◌, ◌==◌, nat_lt, nat_le, if◌then◌else◌, is_some, find, replicate}
+use Rattle.std.specs.Prelude.{map, slice_get, slice_set, option_map, not, ◌&&◌, ◌||◌, ◌==◌, nat_lt, nat_le, if◌then◌else◌, is_some, find}
 use Rattle.std.specs.Option.{option_map_or}
 use Rattle.std.specs.List.{list_all, flat_map}
-use Rattle.mps_base.specs.declared.names.Name.{Name}
 use Rattle.mps_base.specs.declared.names.Slot.{Slot}
 use Rattle.mps_base.specs.declared.refusal.Refusal.TheVariants as refusal
 use Rattle.mps_model.specs.Graph.{Graph, Object, Body, Automatic, Manual, Cell, HeadCell, NumberCell, ReferenceCell, Point, Reservation, AreaWord, PlainWord, Hold, Slots, Thing, ChainThing, PoolThing, TableThing, AreaThing, BlocksThing, PointThing, DependencyThing, TransformThing, CacheThing, entries, entry_at, object_at, size_of, size_of_body, is_automatic, target_of_cell, targets_of_cells, slots_of, ids_in_slots, ids_in_blocks, with_last, without_first, body_with_cells, object_with_cells, graph_with_cells, with_target_cell, new_cells}
-use Rattle.mps_model.specs.World.{World, Pool, object_is, is_live, is_live_and, words_of, is_copying_object, is_word_in, lies_in, live_ids, block_of_word, pool_at, is_automatic_kind, is_weak_kind}
+use Rattle.mps_model.specs.World.{World, Pool, is_live, is_live_and, words_of, is_copying_object, is_word_in, lies_in, live_ids, block_of_word, pool_at, is_automatic_kind, is_weak_kind}
 use Rattle.mps_model.specs.WellFormed.{are_shaped, are_right_cells, is_right_body, is_right_object, is_live_automatic}
-use Rattle.mps_model.specs.Checked.{Checked, Found, Numbered, ◌>>=◌, required, numbered, number_named, as_table, as_area, entry_in, slot_in, word_in, object_in, cells_of_body, cell_of, number_of_cell, reference_in, number_at, reference_at, with_graph}
+use Rattle.mps_model.specs.Checked.{Found, Numbered, ◌>>=◌, required, numbered, number_named, as_table, as_area, entry_in, slot_in, word_in, object_in, cells_of_body, number_of_cell, reference_in, number_at, reference_at, with_graph}
 use Rattle.mps_model.specs.Allocating.{with_slot, with_block_place, with_reservation, graph_with_word, body_with_word}
 use Rattle.mps_model.specs.Accessing.{with_word, hold_of, address_or_null}
-use Rattle.mps_model.specs.Making.{is_block_size, graph_without_root}
+use Rattle.mps_model.specs.Making.{is_block_size}
 use Rattle.mps_laws.proofs.Lookups.{slice_get-set_same, slice_get-set_other, length-slice_set, entry_is_there, entry_within_set, entry_at-last, entry_within}
-use Rattle.mps_laws.proofs.LegalMoves.{length-with_target_cell}
 use Rattle.mps_laws.proofs.SoundGraph.{All, PassesOrNull, AreRight, IsSoundGraph, IsAlike, Grows, IsEdited, auto, manual, is_sound_word, is_sound_reservation, all-weaker, all-at, all-written, all-last, all-contains, entries-written, entry-passes, entries-none, each-written, each-at, each-replicated, edited, grows_alike, untouched}
 
 -- ---- what is found
@@ -493,8 +491,7 @@ cells_alike v id change same j x e = of_object (object_at v.graph id) refl
     of_object (Some o) f =
         elim (cases_eq id j) [
           | inl here ↦
-              let is : o ≡ x = same_Some o x (sym f ∙ ap (object_at v.graph) here ∙ e) in
-              (
+              let is : o ≡ x = same_Some o x (sym f ∙ ap (object_at v.graph) here ∙ e) in (
                 object_with_cells o change,
                 ap (slice_get (slice_set v.graph.objects id (object_with_cells o change))) (sym here)
                     ∙ slice_get-set_same v.graph.objects id (object_with_cells o change)

@@ -1,7 +1,6 @@
 -- Each legal step leaves a sound graph, so each world that a legal history reaches has one.
-use Rattle.std.proofs.Common.{◌≡◌, ◌∙◌, ◌⊎◌, ℕ, ◌+◌, Bool, true, false, refl, sym, ap, List, [], ◌∷◌, ◌++◌, length, Option, Some, None, Ok, Err, subst, inl, inr}
+use Rattle.std.proofs.Common.{◌≡◌, ◌∙◌, ◌⊎◌, ℕ, Bool, true, false, refl, sym, ap, List, [], ◌∷◌, ◌++◌, Option, Some, None, Ok, Err, subst, inl, inr}
 use Rattle.std.proofs.lemmas.Bool.{false≢true, true≢false, and_parts, cases_Bool}
-use Rattle.std.proofs.lemmas.Option.{none-some}
 use Rattle.std.specs.Prelude.{MatchBool, slice_get, option_and_then, not, ◌&&◌, if◌then◌else◌}
 use Rattle.std.specs.Option.{option_map_or}
 use Rattle.std.specs.List.{list_all}
@@ -11,29 +10,28 @@ use Rattle.mps_base.specs.Segment.{Segment, words_of_segment}
 use Rattle.mps_base.specs.declared.moves.Move.{Move}
 use Rattle.mps_base.specs.declared.moves.Move.TheVariants as moves
 use Rattle.mps_base.specs.declared.names.Slot.{Slot}
-use Rattle.mps_format.specs.Layout.{Layout}
 use Rattle.mps_model.specs.declared.call.Call.{Call}
 use Rattle.mps_model.specs.declared.call.Call.TheVariants as call
 use Rattle.mps_model.specs.Answer.{Answer, is_accepted, is_refused, is_block, is_unsupported}
 use Rattle.mps_model.specs.Graph.{Graph, Object, Reservation, contains, entry_at, is_automatic, object_at, ids_in_slots, ids_in_holds, ids_in_reservations, ids_of_client}
-use Rattle.mps_model.specs.World.{World, Pool, id_at, is_live, segment_of, is_copying_pool, is_empty_segment, is_any_size_kind, pool_is, empty_world_of}
+use Rattle.mps_model.specs.World.{World, Pool, id_at, is_live, segment_of, is_copying_pool, is_empty_segment, is_any_size_kind, pool_is}
 use Rattle.mps_model.specs.Checked.{Checked, Found, Numbered, pool_named, point_named, block_place_in, number_named, as_point}
 use Rattle.mps_model.specs.Accessing.{address_or_null}
 use Rattle.mps_model.specs.Placement.{ForAlloc, placement_of}
-use Rattle.mps_model.specs.Effect.{world_after_move, world_after_moves, after_free, where_one, holding, segment_of_move, with_collection}
+use Rattle.mps_model.specs.Effect.{world_after_moves, after_free, where_one, holding, segment_of_move}
 use Rattle.mps_model.specs.Reply.{act, world_from}
-use Rattle.mps_model.specs.Step.{Step, History}
+use Rattle.mps_model.specs.Step.{Step}
 use Rattle.mps_model.specs.Flip.{at_address}
 use Rattle.mps_model.specs.Policy.{units_asked}
-use Rattle.mps_model.specs.History.{IsLegalStep, IsAnsweredStep, IsLegalFrom, HeldAreLive, asking, judged_world, moved_world, after_own_segment, with_segment_for_point, with_buffer, rank_of_point, own_segment, moves_of_poll, with_client_remembered, world_after, world_after_call, world_after_steps, alloc_at, moves_of_alloc, segment_taken, moves_of_commit, commit_of, if_accepted, unless_refused, moves_of_free, free_of, free_at, give_back_empty}
+use Rattle.mps_model.specs.History.{IsLegalStep, IsAnsweredStep, HeldAreLive, asking, judged_world, moved_world, after_own_segment, with_buffer, rank_of_point, own_segment, moves_of_poll, with_client_remembered, world_after, world_after_call, alloc_at, moves_of_alloc, moves_of_commit, commit_of, if_accepted, unless_refused, moves_of_free, free_of, give_back_empty}
 use Rattle.mps_laws.proofs.Finding.{id_at-found}
-use Rattle.mps_laws.proofs.Acts.{ForAct, for_world}
+use Rattle.mps_laws.proofs.Acts.{for_world}
 use Rattle.mps_laws.proofs.Steps.{is_reserve}
 use Rattle.mps_laws.proofs.FreeSteps.{block_is_live}
-use Rattle.mps_laws.proofs.SoundGraph.{All, IsSoundGraph, Grows, PassesOrNull, auto, manual, all-parts, all-at, all-contains, entry-passes, untouched}
+use Rattle.mps_laws.proofs.SoundGraph.{All, IsSoundGraph, PassesOrNull, auto, manual, all-parts, all-at, all-contains, entry-passes}
 use Rattle.mps_laws.proofs.SoundActs.{found_by}
 use Rattle.mps_laws.proofs.SoundSteps.{act_sound, reserve_sound, is_finalize}
-use Rattle.mps_laws.proofs.SoundMoves.{IsMovedWell, grows_on, grows_same, quiet, moves_well, segment_well, freed_well, unseg_well}
+use Rattle.mps_laws.proofs.SoundMoves.{IsMovedWell, grows_on, quiet, moves_well, segment_well, freed_well, unseg_well}
 
 -- ---- the units that are asked, and what is remembered
 
@@ -62,9 +60,12 @@ own_well w (moves.Seg base grains pool generation ∷ ms) (Some point) s = of_ki
         × ((if b then record (holding w (record (segment_of_move base.0 grains pool generation) { rank = rank_of_point w point })) {
           point_memories = with_buffer w.point_memories point (words_of_segment (segment_of_move base.0 grains pool generation));
         } else holding w (record (segment_of_move base.0 grains pool generation) { rank = rank_of_point w point })).graph ≡ w.graph)
-    of_kind true = (quiet w (record (holding w (record (segment_of_move base.0 grains pool generation) { rank = rank_of_point w point })) {
-      point_memories = with_buffer w.point_memories point (words_of_segment (segment_of_move base.0 grains pool generation));
-    }) s refl refl refl refl, refl)
+    of_kind true = (
+      quiet w (record (holding w (record (segment_of_move base.0 grains pool generation) { rank = rank_of_point w point })) {
+        point_memories = with_buffer w.point_memories point (words_of_segment (segment_of_move base.0 grains pool generation));
+      }) s refl refl refl refl,
+      refl,
+    )
     of_kind false = (quiet w (holding w (record (segment_of_move base.0 grains pool generation) { rank = rank_of_point w point })) s refl refl refl refl, refl)
 own_well w _ _ s = (quiet w w s refl refl refl refl, refl)
 

@@ -1,8 +1,8 @@
 -- Moves leave a sound graph, in which objects keep their kinds.
-use Rattle.std.proofs.Common.{◌≡◌, ◌∙◌, ◌⊎◌, ℕ, ◌+◌, ◌<◌, Bool, true, false, refl, sym, ap, List, [], ◌∷◌, length, Option, Some, None, subst, inl, inr, arith}
-use Rattle.std.proofs.lemmas.Bool.{false≢true, true≢false, and_parts, and_from, cases_Bool, cases_eq, or_cases, eqb-true, eq-eqb, ne_eqb}
+use Rattle.std.proofs.Common.{◌≡◌, ◌∙◌, ℕ, ◌+◌, Bool, true, false, refl, sym, ap, List, [], ◌∷◌, Option, Some, None, subst, inl, inr}
+use Rattle.std.proofs.lemmas.Bool.{false≢true, true≢false, and_parts, and_from, cases_eq, eq-eqb}
 use Rattle.std.proofs.lemmas.Option.{none-some, same_Some, slice_get-map}
-use Rattle.std.specs.Prelude.{map, slice_get, slice_set, option_map, option_and_then, not, ◌&&◌, ◌||◌, ◌==◌, ◌≢◌, if◌then◌else◌, is_some}
+use Rattle.std.specs.Prelude.{slice_get, slice_set, option_map, not, ◌&&◌, ◌||◌, ◌==◌, ◌≢◌, if◌then◌else◌, is_some}
 use Rattle.std.specs.Option.{option_map_or}
 use Rattle.std.specs.List.{list_all}
 use Rattle.mps_base.specs.Address.{Address}
@@ -10,14 +10,13 @@ use Rattle.mps_base.specs.Segment.{Segment}
 use Rattle.mps_base.specs.declared.moves.Move.{Move}
 use Rattle.mps_base.specs.declared.moves.Move.TheVariants as moves
 use Rattle.mps_model.specs.Graph.{Graph, Object, Point, Reservation, contains, position_of_first, entry_at, object_at, is_automatic, with_last, without_first, with_target_cell, graph_with_cells, object_with_cells}
-use Rattle.mps_model.specs.Collection.{Collection}
 use Rattle.mps_model.specs.World.{World, Pool, id_at, is_live, object_is, is_copying_pool}
-use Rattle.mps_model.specs.WellFormed.{is_live_automatic, is_right_object}
-use Rattle.mps_model.specs.Effect.{world_after_move, world_after_moves, after_segment, after_moved, after_splat, after_post, after_free, after_unseg, after_flip, where_one, with_collection, with_address, graph_posted, reclaiming, segment_base_of, segment_of_move, placing, doomed, doomed_graph, condemnation_of, holding, splatting, posting, registration_of}
-use Rattle.mps_model.specs.LegalMove.{ForOne, IsLegalMove, IsLegalMoved, IsLegalStay, IsLegalSplat, IsLegalPost, IsLegalSweep, AreLegalMoves, first_move}
+use Rattle.mps_model.specs.WellFormed.{is_live_automatic}
+use Rattle.mps_model.specs.Effect.{world_after_move, world_after_moves, after_segment, after_moved, after_splat, after_post, after_free, after_unseg, after_flip, where_one, with_collection, with_address, graph_posted, reclaiming, segment_base_of, segment_of_move, placing, doomed, condemnation_of, holding, splatting, posting, registration_of}
+use Rattle.mps_model.specs.LegalMove.{IsLegalMove, IsLegalMoved, IsLegalStay, IsLegalSplat, IsLegalPost, IsLegalSweep, AreLegalMoves, first_move}
 use Rattle.mps_model.specs.Checked.{with_graph}
 use Rattle.mps_laws.proofs.Lookups.{entry_at-set_same, entry_at-set_other, entry_within, opened}
-use Rattle.mps_laws.proofs.Finding.{ForBoth, for_both, for_one, id_at-found}
+use Rattle.mps_laws.proofs.Finding.{for_both, for_one, id_at-found}
 use Rattle.mps_laws.proofs.LegalMoves.{length-with_target_cell}
 use Rattle.mps_laws.proofs.SoundGraph.{All, IsSoundGraph, IsRightPoint, IsAlike, Grows, IsEdited, auto, manual, is_sound_reservation, all-contains, all-without, all-ended, all-weaker, edited, grows_alike, untouched, right_target_cell}
 use Rattle.mps_laws.proofs.SoundActs.{held_written, cells_changed}
@@ -119,7 +118,7 @@ moved_well w id at to s e =
 pub freed_well : (w : World) (id at : ℕ) → IsSoundGraph w → contains w.graph.registered id ≡ false → IsMovedWell w (after_free w id at)
 freed_well w id at s none =
     elim (object_is is_automatic w id) as (λ b. IsMovedWell w (if b then with_collection (with_address w id None) (reclaiming (segment_base_of w at))
-        else with_address w id None)) [
+    else with_address w id None)) [
       | true ↦ with_live w (with_collection (with_address w id None) (reclaiming (segment_base_of w at))) s refl refl refl still
       | false ↦ with_live w (with_address w id None) s refl refl refl still
     ]
@@ -132,7 +131,7 @@ freed_well w id at s none =
 pub segment_well : (w : World) (t : Segment) → IsSoundGraph w → IsMovedWell w (after_segment w t)
 segment_well w t s =
     elim (is_copying_pool w t.pool) as (λ b. IsMovedWell w (if b then Rattle.mps_model.specs.World.with_tail (holding w t) t.pool t.generation (Rattle.mps_base.specs.Segment.words_of_segment t)
-        else holding w t)) [
+    else holding w t)) [
       | true ↦ quiet w (Rattle.mps_model.specs.World.with_tail (holding w t) t.pool t.generation (Rattle.mps_base.specs.Segment.words_of_segment t)) s refl refl refl refl
       | false ↦ quiet w (holding w t) s refl refl refl refl
     ]

@@ -1,11 +1,11 @@
 -- Each call leaves a sound graph.
 use Rattle.std.proofs.Common.{◌≡◌, ◌∙◌, ◌⊎◌, ℕ, ◌+◌, ◌-◌, ◌<◌, Bool, true, false, refl, sym, ap, List, [], ◌∷◌, ◌++◌, length, Option, Some, None, Ok, Err, subst, inl, inr, arith}
 use Rattle.std.proofs.lemmas.Bool.{false≢true, true≢false, and_parts, and_from, cases_Bool}
-use Rattle.std.proofs.lemmas.Option.{none-some, same_Some, slice_get-map}
+use Rattle.std.proofs.lemmas.Option.{none-some, same_Some}
 use Rattle.std.proofs.lemmas.List.{length-replicate}
-use Rattle.std.specs.Prelude.{map, slice_get, slice_set, option_map, option_and_then, not, ◌&&◌, ◌||◌, ◌==◌, nat_lt, nat_le, if◌then◌else◌, is_some, is_none, replicate, take}
+use Rattle.std.specs.Prelude.{slice_get, slice_set, option_map, not, ◌&&◌, ◌||◌, ◌==◌, nat_lt, nat_le, if◌then◌else◌, is_some, is_none, replicate}
 use Rattle.std.specs.Option.{option_map_or}
-use Rattle.std.specs.List.{list_all, flat_map}
+use Rattle.std.specs.List.{list_all}
 use Rattle.mps_base.specs.Staleness.{is_stale}
 use Rattle.mps_base.specs.declared.names.Name.{Name}
 use Rattle.mps_base.specs.declared.names.Rank.{Rank}
@@ -17,17 +17,16 @@ use Rattle.mps_model.specs.declared.call.Call.TheVariants as call
 use Rattle.mps_model.specs.Graph.{Graph, Object, Body, Automatic, Manual, Cell, HeadCell, NumberCell, ReferenceCell, Point, Reservation, AreaWord, PlainWord, Hold, Slots, Thing, ChainThing, PoolThing, TableThing, AreaThing, BlocksThing, PointThing, DependencyThing, TransformThing, CacheThing, contains, entries, entry_at, object_at, is_automatic, slots_of, ids_in_slots, target_of_cell, targets_of_cells, thing_named, with_last, without_first, with_target_cell, graph_with_cells, new_cells, new_cells_from, position_of_first}
 use Rattle.mps_model.specs.World.{World, Pool, PoolKind, Collected, OneSize, AnySize, Dependency, PointMemory, block_of_word, committed, id_at, is_live, is_running, empty_run, is_automatic_kind, is_weak_kind, pool_at}
 use Rattle.mps_model.specs.WellFormed.{is_shaped, are_shaped, are_right_cells, is_right_object, is_live_automatic}
-use Rattle.mps_model.specs.Checked.{Act, Checked, Found, Numbered, ◌>>=◌, ◌>>◌, required, refuse_when, says, done, tells, chain_named, pool_named, point_named, dependency_named, slot_in, word_in, block_place_in, object_in, cells_of_body, number_at, reference_at, number_named, as_blocks, with_graph, named}
+use Rattle.mps_model.specs.Checked.{Act, Checked, Found, Numbered, ◌>>=◌, ◌>>◌, required, refuse_when, says, done, tells, chain_named, pool_named, point_named, dependency_named, slot_in, word_in, block_place_in, object_in, cells_of_body, number_at, reference_at, number_named, as_blocks, with_graph}
 use Rattle.mps_model.specs.Making.{graph_without_root, graph_with_table, graph_with_area, graph_with_blocks, make_pool, with_point, without_point, is_block_size, is_weak_rank, live_points, may_have_point, most_chains, most_dependencies, most_points, most_pools, refuse_at_limit, refuse_root, refuse_taken}
 use Rattle.mps_model.specs.Placement.{ForReserve, ForAlloc, placement_of}
-use Rattle.mps_model.specs.Allocating.{Reserving, act_reserve, act_commit, act_alloc, allows_size, block_in, body_with_word, check_reserve, committed_object, graph_allocated, graph_with_word, layout_of, refuse_without_place, reserved_address, takes_head, with_block_place, with_object, with_reservation, with_reserved, with_reserved_cells, with_slot, words_at, world_committed, address_of_placement}
-use Rattle.mps_model.specs.Accessing.{Poked, AsBlock, AsMarked, AsNumber, act_poke_in, act_poked, held_in, hold_of, poked, same_target, with_word}
+use Rattle.mps_model.specs.Allocating.{Reserving, act_reserve, allows_size, block_in, check_reserve, committed_object, graph_allocated, layout_of, refuse_without_place, reserved_address, takes_head, with_reservation, with_reserved, with_reserved_cells, with_slot, words_at, world_committed, address_of_placement}
+use Rattle.mps_model.specs.Accessing.{Poked, AsBlock, AsMarked, AsNumber, act_poke_in, act_poked, held_in, hold_of, poked, same_target}
 use Rattle.mps_model.specs.Collecting.{act_message_in, most_registrations, without_registration}
 use Rattle.mps_model.specs.Reply.{act}
 use Rattle.mps_laws.proofs.Lookups.{slice_get-set_other, slice_get-kept, entry_at-last, entry_at-at_last, entry_at-after_last, entry_within_set, entry_is_there, slice_get-at_last}
-use Rattle.mps_laws.proofs.Occupancy.{PointShape, shape_of_point, occupancy_of, reserved_words}
-use Rattle.mps_laws.proofs.LaidOut.{IsLaidOut, kind_in}
-use Rattle.mps_laws.proofs.LegalMoves.{HasLayout, length-with_target_cell}
+use Rattle.mps_laws.proofs.LaidOut.{kind_in}
+use Rattle.mps_laws.proofs.LegalMoves.{length-with_target_cell}
 use Rattle.mps_laws.proofs.PoolKinds.{kind_of_pool}
 use Rattle.mps_laws.proofs.Acts.{ForAct, accepted, refused, with_value, after_check, unless, required-is, point_named-is, pool_named-is}
 use Rattle.mps_laws.proofs.SoundGraph.{All, PassesOrNull, AreRight, IsSoundGraph, IsRightPoint, Grows, IsEdited, auto, manual, is_sound_word, is_sound_reservation, all-weaker, all-append, all-at, all-written, all-last, all-without, all-ended, entries-written, entry-passes, entries-none, each-written, each-at, each-replicated, each-weaker, edited, grows_alike, untouched, auto_kept, manual_kept, right_target_cell, right_number_cell, reservation_kept}
@@ -321,7 +320,7 @@ module _ (marked : Bool) (judged v : World) (j : IsSoundGraph judged) (grown : G
       let own : auto v2 (length v.graph.objects) ≡ true = ap (λ x. option_map_or is_automatic x false) (slice_get-at_last v.graph.objects o) in
       let third = slot_written v2 second slot (Some (length v.graph.objects)) others own in
       elim (r.is_doomed) as (λ b. Sound (if b then says Rattle.mps_model.specs.declared.reply.Reply.TheVariants.Flipped (with_graph v (with_reservation v.graph p None))
-          else done (world_committed v p r slot))) [
+      else done (world_committed v p r slot))) [
         | true ↦ accepted first
         | false ↦ accepted third
       ]
@@ -420,8 +419,7 @@ module _ (marked : Bool) (judged v : World) (j : IsSoundGraph judged) (grown : G
       (with_value (pool_named v pool) (λ (of : Numbered Pool) e.
       unless (not (may_have_point of.value.kind at_rank)) refusal.WrongPool (λ may.
       after_check (refuse_at_limit (live_points v.graph) most_points)
-      (accepted (new_point v s point of.number at_rank
-      (
+      (accepted (new_point v s point of.number at_rank (
         kind_of_pool is_automatic_kind v.pools of.number of.value (pool_named-is v pool of e) (may_is_automatic of.value.kind at_rank may),
         (λ weak. kind_of_pool is_weak_kind v.pools of.number of.value (pool_named-is v pool of e) (may_is_weak of.value.kind at_rank may weak)),
       ))))))

@@ -1,44 +1,23 @@
 -- Each world that a legal history reaches is well-formed.
-use Rattle.std.proofs.Common.{◌≡◌, ◌∙◌, ◌⊎◌, ℕ, zero, suc, ◌+◌, ◌*◌, ◌<◌, ◌≤◌, Bool, true, false, refl, sym, ap, List, [], ◌∷◌, ◌++◌, length, Option, Some, None, Ok, Err, subst, inl, inr, arith, max}
-use Rattle.std.proofs.lemmas.Bool.{cases_Bool, cases_eq, false≢true, true≢false, and_parts, and_from, le-leb, lt-ltb, ltb-true, eq-eqb, eqb-true, or_left, or_right}
-use Rattle.std.proofs.lemmas.Option.{none-some, same_Some, slice_get-map}
+use Rattle.std.proofs.Common.{◌≡◌, ◌∙◌, ℕ, zero, suc, ◌+◌, ◌*◌, ◌<◌, Bool, true, false, refl, sym, ap, List, [], ◌∷◌, ◌++◌, length, Option, Some, None, subst, inl, inr, arith}
+use Rattle.std.proofs.lemmas.Bool.{cases_Bool, false≢true, and_parts, and_from, le-leb, lt-ltb, ltb-true, eq-eqb, eqb-true, or_left, or_right}
+use Rattle.std.proofs.lemmas.Option.{slice_get-map}
 use Rattle.std.proofs.lemmas.List.{length-map}
-use Rattle.std.specs.Prelude.{MatchBool, map, slice_get, option_map, option_and_then, not, ◌==◌, ◌&&◌, ◌||◌, nat_le, nat_lt, if◌then◌else◌, is_some}
+use Rattle.std.specs.Prelude.{map, slice_get, option_map, option_and_then, ◌==◌, ◌&&◌, ◌||◌, nat_le, nat_lt, if◌then◌else◌, is_some}
 use Rattle.std.specs.Option.{option_map_or}
-use Rattle.std.specs.List.{list_all, list_any, flat_map}
+use Rattle.std.specs.List.{list_all}
 use Rattle.mps_base.specs.Segment.{Segment, words_of_segment}
 use Rattle.mps_base.specs.Run.{Run}
-use Rattle.mps_base.specs.declared.moves.Move.{Move}
-use Rattle.mps_base.specs.declared.moves.Move.TheVariants as moves
-use Rattle.mps_base.specs.declared.names.Name.{Name}
-use Rattle.mps_base.specs.declared.names.Slot.{Slot}
-use Rattle.mps_base.specs.declared.refusal.Refusal.TheVariants as refusal
-use Rattle.mps_format.specs.Layout.{Layout}
-use Rattle.mps_model.specs.declared.call.Call.{Call}
-use Rattle.mps_model.specs.declared.call.Call.TheVariants as call
-use Rattle.mps_model.specs.Answer.{Answer, is_block, is_unsupported}
-use Rattle.mps_model.specs.Graph.{Graph, Object, Point, Reservation, AreaWord, PlainWord, Hold, entries, entry_at, object_at, held_by_word, holds_of, is_automatic, ids_in_slots, ids_in_holds, ids_in_reservations, ids_of_client}
-use Rattle.mps_model.specs.World.{World, Pool, PointMemory, empty_world_of, extent, id_at, is_live, is_live_and, is_copying_object, is_copying_pool, is_word_in, lies_in, object_is, pool_at, shown_word, words_of}
+use Rattle.mps_model.specs.Graph.{Point, Reservation, AreaWord, PlainWord, Hold, entry_at, held_by_word, holds_of, ids_in_slots, ids_in_holds, ids_in_reservations, ids_of_client}
+use Rattle.mps_model.specs.World.{World, PointMemory, extent, is_live, is_live_and, is_copying_object, is_word_in, pool_at, shown_word, words_of}
 use Rattle.mps_model.specs.Making.{is_weak_rank}
 use Rattle.mps_model.specs.WellFormed.{IsWellFormed, are_right_cells, is_home, is_right_at_hand, is_right_object, is_right_point, is_right_reservation, are_right_points, is_right_word, are_right_words, is_live_automatic}
-use Rattle.mps_model.specs.Checked.{Act, Checked, Found, Numbered, ◌>>=◌, ◌>>◌, required, refuse_when, done, says, pool_named, point_named, slot_in, block_place_in}
-use Rattle.mps_model.specs.Allocating.{Reserving, act_reserve, act_commit, act_alloc, allows_size, check_reserve, refuse_without_place, with_reservation, world_committed}
-use Rattle.mps_model.specs.Placement.{ForReserve, ForAlloc, placement_of}
-use Rattle.mps_model.specs.Effect.{world_after_move, world_after_moves, after_segment, after_free, after_moved, after_post, after_splat, holding, where_one, with_collection, with_address, reclaiming, segment_base_of, segment_of_move, placing}
-use Rattle.mps_model.specs.Reply.{act, world_from}
-use Rattle.mps_model.specs.Step.{Step, History}
-use Rattle.mps_model.specs.Policy.{units_asked}
-use Rattle.mps_model.specs.History.{IsLegalStep, IsAnsweredStep, IsLegalFrom, asking, after_own_segment, after_its_moves, judged_world, moved_world, world_after, world_after_call, world_after_steps, with_client_remembered, with_buffer, rank_of_point, own_segment, moves_of_poll}
 use Rattle.mps_laws.proofs.Lookups.{entry_is_there}
 use Rattle.mps_laws.proofs.Occupancy.{Occupancy, OfBlock, OfReservation, OfBuffer, PointShape, shape_of_point, reserved_words, occupancy_of, run_of, run_of_reservation, run_of_reserved, run_of_buffer, pool_of_occupant, rank_of_occupant}
-use Rattle.mps_laws.proofs.LaidOut.{Home, IsLaidOut}
+use Rattle.mps_laws.proofs.LaidOut.{Home}
 use Rattle.mps_laws.proofs.LegalMoves.{HasLayout}
 use Rattle.mps_laws.proofs.Reserving.{rank_where-weak}
-use Rattle.mps_laws.proofs.Acts.{ForAct, accepted, refused, with_value, after_check, IsChange, nothing, a_pool, a_point, no_point, Changes, is_placing, act_changes, for_world}
-use Rattle.mps_laws.proofs.FreeSteps.{BlocksAreLive}
-use Rattle.mps_laws.proofs.Replay.{limit_after, legal_step_replayed, live_after, empty_layout}
 use Rattle.mps_laws.proofs.SoundGraph.{All, PassesOrNull, IsSoundGraph, auto, is_sound_word, is_sound_reservation, all-parts, all-at, entry-passes, each-all}
-use Rattle.mps_laws.proofs.SoundHistories.{SlotsAreLive, slots_held, step_sound}
 use Rattle.mps_laws.proofs.WellPlaced.{segments_right, ascending_apart, apart_right, places_right, tails_right, home_is, at_hand_is}
 
 -- what the client holds is live

@@ -1,6 +1,6 @@
 -- Each legal step keeps the arena's grains, but for the one that makes the arena; so the worlds of a legal history are well-formed.
 use Rattle.std.proofs.Common.{◌≡◌, ◌∙◌, ◌⊎◌, ℕ, ◌+◌, ◌<◌, ◌≤◌, Bool, true, false, refl, sym, ap, List, [], ◌∷◌, Option, Some, None, Ok, Err, subst, inl, inr, arith, max}
-use Rattle.std.proofs.lemmas.Bool.{cases_Bool, false≢true, true≢false}
+use Rattle.std.proofs.lemmas.Bool.{false≢true, true≢false}
 use Rattle.std.specs.Prelude.{MatchBool, not, ◌||◌, if◌then◌else◌}
 use Rattle.std.specs.List.{list_any}
 use Rattle.mps_base.specs.Segment.{Segment, words_of_segment}
@@ -14,8 +14,8 @@ use Rattle.mps_model.specs.declared.call.Call.{Call}
 use Rattle.mps_model.specs.declared.call.Call.TheVariants as call
 use Rattle.mps_model.specs.declared.reply.Reply.TheVariants as reply
 use Rattle.mps_model.specs.Answer.{Answer, is_block, is_unsupported}
-use Rattle.mps_model.specs.Graph.{Reservation, is_automatic, ids_of_client}
-use Rattle.mps_model.specs.World.{World, Pool, empty_world_of, id_at, is_live, is_copying_pool, object_is, is_automatic_kind, with_tail}
+use Rattle.mps_model.specs.Graph.{Reservation, is_automatic}
+use Rattle.mps_model.specs.World.{World, Pool, empty_world_of, id_at, is_copying_pool, object_is, is_automatic_kind, with_tail}
 use Rattle.mps_model.specs.Checked.{Act, Checked, Found, Numbered, required, refuse_when, done, says, pool_named, point_named, slot_in, block_place_in, with_graph}
 use Rattle.mps_model.specs.Allocating.{Reserving, act_reserve, act_commit, act_alloc, allows_size, check_reserve, refuse_without_place, with_reservation, world_committed}
 use Rattle.mps_model.specs.Placement.{ForReserve, ForAlloc, placement_of}
@@ -23,17 +23,15 @@ use Rattle.mps_model.specs.Effect.{world_after_move, world_after_moves, after_se
 use Rattle.mps_model.specs.Reply.{act, world_from}
 use Rattle.mps_model.specs.Step.{Step, History}
 use Rattle.mps_model.specs.Policy.{units_asked}
-use Rattle.mps_model.specs.History.{IsLegalStep, IsAnsweredStep, IsLegalFrom, asking, after_own_segment, judged_world, moved_world, world_after, world_after_call, world_after_steps, with_client_remembered, with_buffer, rank_of_point, own_segment, moves_of_poll}
-use Rattle.mps_model.specs.WellFormed.{IsWellFormed}
-use Rattle.mps_laws.specs.WellFormed.{makes_arena, is_arena_made_once, ReachedWorldsAreWellFormed}
+use Rattle.mps_model.specs.History.{IsLegalStep, IsLegalFrom, asking, after_own_segment, judged_world, moved_world, world_after, world_after_call, world_after_steps, with_buffer, rank_of_point, own_segment, moves_of_poll}
+use Rattle.mps_laws.specs.WellFormed.{makes_arena, ReachedWorldsAreWellFormed}
 use Rattle.mps_laws.proofs.Occupancy.{Occupancy, occupancy_of}
-use Rattle.mps_laws.proofs.LaidOut.{IsLaidOut}
 use Rattle.mps_laws.proofs.LegalMoves.{HasLayout}
-use Rattle.mps_laws.proofs.Acts.{ForAct, accepted, refused, with_value, after_check, IsChange, nothing, a_pool, a_point, no_point, Changes, is_placing, act_changes, for_world}
+use Rattle.mps_laws.proofs.Acts.{ForAct, accepted, with_value, after_check, IsChange, nothing, a_pool, a_point, no_point, Changes, act_changes, for_world}
 use Rattle.mps_laws.proofs.FreeSteps.{BlocksAreLive}
 use Rattle.mps_laws.proofs.Replay.{limit_after, legal_step_replayed, live_after, empty_layout}
-use Rattle.mps_laws.proofs.SoundGraph.{All, IsSoundGraph}
-use Rattle.mps_laws.proofs.SoundHistories.{SlotsAreLive, slots_held, step_sound}
+use Rattle.mps_laws.proofs.SoundGraph.{IsSoundGraph}
+use Rattle.mps_laws.proofs.SoundHistories.{SlotsAreLive, step_sound}
 use Rattle.mps_laws.proofs.WellFormed.{ClientIsLive, well_formed}
 
 -- ---- grains after moves
@@ -45,7 +43,7 @@ one_grains w (Some id) change each = each id
 free_grains : (w : World) (id at : ℕ) → (after_free w id at).grains ≡ w.grains
 free_grains w id at =
     elim (object_is is_automatic w id) as (λ b. (if b then with_collection (with_address w id None) (reclaiming (segment_base_of w at))
-        else with_address w id None).grains ≡ w.grains) [
+    else with_address w id None).grains ≡ w.grains) [
       | true ↦ refl
       | false ↦ refl
     ]

@@ -1,8 +1,7 @@
 -- What an arena that is laid out gives of well-formedness: segments, extents apart, and where objects, reservations and words at
 -- hand lie.
-use Rattle.std.proofs.Common.{◌≡◌, ◌∙◌, ◌⊎◌, ℕ, zero, suc, ◌+◌, ◌*◌, ◌<◌, ◌≤◌, Bool, true, false, refl, sym, ap, List, [], ◌∷◌, ◌++◌, length, Option, Some, None, subst, inl, inr, arith}
-use Rattle.std.proofs.lemmas.Bool.{cases_Bool, cases_eq, false≢true, true≢false, and_parts, and_from, le-leb, lt-ltb, ltb-true, eq-eqb, eqb-true, or_left, or_right}
-use Rattle.std.proofs.lemmas.Option.{none-some, same_Some, slice_get-map}
+use Rattle.std.proofs.Common.{◌≡◌, ◌∙◌, ◌⊎◌, ℕ, zero, suc, ◌+◌, ◌*◌, ◌<◌, ◌≤◌, Bool, true, false, refl, sym, ap, List, [], ◌∷◌, ◌++◌, Option, Some, None, subst, inl, inr, arith}
+use Rattle.std.proofs.lemmas.Bool.{cases_Bool, false≢true, true≢false, and_parts, and_from, le-leb, lt-ltb, ltb-true, eq-eqb, eqb-true, or_left, or_right}
 use Rattle.std.proofs.lemmas.List.Elements.{filter-append}
 use Rattle.std.specs.Prelude.{map, slice_get, filter, find, ◌≢◌, ◌==◌, ◌&&◌, ◌||◌, not, nat_le, nat_lt, if◌then◌else◌, is_some}
 use Rattle.std.specs.Option.{option_map_or}
@@ -12,16 +11,16 @@ use Rattle.mps_base.specs.Run.{Run, Covers, IsAscending, end_of, in_order}
 use Rattle.mps_base.specs.Segment.{Segment, words_of_segment, grains_of_segment, same_rank}
 use Rattle.mps_base.specs.declared.names.Rank.{Rank}
 use Rattle.mps_base.specs.declared.names.Rank.TheVariants as rank
-use Rattle.mps_model.specs.Graph.{Object, Point, Reservation, entry_at, object_at, size_of, is_weak_object}
-use Rattle.mps_model.specs.World.{World, PointMemory, Tail, covered, extent, is_tail_of, is_live, live_ids, numbers_of, pool_of, words_of, object_is, is_weak_kind, pool_is, pool_at, empty_run}
+use Rattle.mps_model.specs.Graph.{Object, entry_at, size_of, is_weak_object}
+use Rattle.mps_model.specs.World.{World, PointMemory, Tail, covered, extent, is_tail_of, live_ids, numbers_of, pool_of, words_of, object_is, is_weak_kind, pool_is, empty_run}
 use Rattle.mps_model.specs.Making.{is_weak_rank}
 use Rattle.mps_model.specs.WellFormed.{are_apart, lies_within, is_in_segment_of, is_home, is_right_segment, is_right_place, is_right_at_hand, at_hand}
 use Rattle.mps_laws.proofs.InOrder.{all_weaker, all_append}
 use Rattle.mps_laws.proofs.ApartRuns.{AreApart, AreAllApart, IsRunWithin, all_above, all_in_order, apart_append, ascending_in_order}
 use Rattle.mps_laws.proofs.Segments.{IsAmong, AreAligned, segment_bounds}
 use Rattle.mps_laws.proofs.Tails.{AreKeyed}
-use Rattle.mps_laws.proofs.Occupancy.{Occupancy, Occupant, OfBlock, OfReservation, OfBuffer, OfTail, shape_of, occupancy_of, run_of, run_of_block, run_of_buffer, run_of_tail, pool_of_occupant, rank_of_occupant, rank_where}
-use Rattle.mps_laws.proofs.LaidOut.{Home, HomeOf, IsLaidOut, IsRightlyRanked, is_at_hand}
+use Rattle.mps_laws.proofs.Occupancy.{Occupancy, Occupant, OfBlock, OfBuffer, OfTail, shape_of, occupancy_of, run_of, run_of_block, run_of_buffer, run_of_tail, pool_of_occupant, rank_of_occupant, rank_where}
+use Rattle.mps_laws.proofs.LaidOut.{Home, IsLaidOut, IsRightlyRanked, is_at_hand}
 use Rattle.mps_laws.proofs.Covered.{covered_in, covered-shapes, listed, all_listed, covered_ascending, occupant_within}
 use Rattle.mps_laws.proofs.LegalMoves.{HasLayout, live_at}
 
@@ -111,7 +110,7 @@ buffers_apart : (ms : List PointMemory)
 buffers_apart [] each = tt
 buffers_apart (m ∷ ms) each = (
   (λ some. all_buffers (λ (s : Run). 0 < s.count → AreApart m.buffer s) ms
-  (λ n k e some'. each zero (suc n) m k (λ h. omega (arith, h)) refl e)),
+      (λ n k e some'. each zero (suc n) m k (λ h. omega (arith, h)) refl e)),
   buffers_apart ms (λ i j m' k n e f. each (suc i) (suc j) m' k (λ h. n (omega (arith, h))) e f),
 )
 
@@ -179,10 +178,10 @@ module _ (limit : ℕ) (g : Occupancy) (laid : IsLaidOut limit g) where
   tails_apart [] keyed found = tt
   tails_apart (t ∷ ts) keyed found = (
     (λ some. all_tails (λ (s : Run). 0 < s.count → AreApart t.words s) ts
-    (both (λ (u : Tail). is_tail_of t.pool t.generation u ≡ false) IsFound (λ (u : Tail). 0 < u.words.count → AreApart t.words u.words) ts
-    (λ u other e some'. apart_by (OfTail t.pool t.generation) (OfTail u.pool u.generation) t.words u.words found.0 e
-    (λ same. false≢true (sym other ∙ and_from (u.pool == t.pool) (u.generation == t.generation)
-    (eq-eqb u.pool t.pool (sym (ap pool_in same))) (eq-eqb u.generation t.generation (sym (ap generation_in same)))))) keyed.0 found.1)),
+        (both (λ (u : Tail). is_tail_of t.pool t.generation u ≡ false) IsFound (λ (u : Tail). 0 < u.words.count → AreApart t.words u.words) ts
+        (λ u other e some'. apart_by (OfTail t.pool t.generation) (OfTail u.pool u.generation) t.words u.words found.0 e
+        (λ same. false≢true (sym other ∙ and_from (u.pool == t.pool) (u.generation == t.generation)
+        (eq-eqb u.pool t.pool (sym (ap pool_in same))) (eq-eqb u.generation t.generation (sym (ap generation_in same)))))) keyed.0 found.1)),
     tails_apart ts keyed.1 found.1,
   )
 

@@ -1,5 +1,5 @@
 -- Worlds that legal histories reach are well-formed, where the arena is made once.
-use Rattle.std.specs.Prelude.{◌≡◌, ℕ, Bool, true, false, not, IsTrue, List, [], ◌∷◌, refl}
+use Rattle.std.specs.Prelude.{◌≡◌, ℕ, Bool, true, false, not, IsTrue, [], ◌∷◌, refl}
 use Rattle.std.specs.List.{list_any}
 use Rattle.mps_format.specs.Layout.{Layout}
 use Rattle.mps_model.specs.declared.call.Call.{Call}
