@@ -1,6 +1,6 @@
 -- What is known of the outside world through a desk, and how its calls change it. A desk is where a program gets its input and
 -- leaves its output: it opens one input at a time, writes one log, and prints and reports.
-use Rattle.std.specs.Prelude.{ℕ, ◌≡◌, ◌≢◌, ◌-◌, ◌^◌, ◌<◌, ◌≤◌, ◌⊎◌, if◌then◌else◌, Option, Some, None, unwrap_or, List, [], ◌∷◌, ◌++◌, take, refl}
+use Rattle.std.specs.Prelude.{ℕ, ◌≡◌, ◌≢◌, ◌-◌, ◌^◌, ◌<◌, ◌≤◌, ◌⊎◌, Bool, true, false, if◌then◌else◌, Option, Some, None, unwrap_or, List, [], ◌∷◌, ◌++◌, take, refl}
 use Rattle.std.specs.Option.{option_map}
 use Rattle.std.specs.Str.{bytes_eq}
 
@@ -15,11 +15,25 @@ pub record Files : Type 0 where
   -- the name of the one that the log goes to, where one was made for it
   pub log : Option (List ℕ)
 
+-- what a desk was asked for by name
+pub record Request : Type 0 where
+  pub name : List ℕ
+  -- to make the file for the log; else to open it as the input
+  pub for_log : Bool
+
+abbrev pub opening : (name : List ℕ) → Request
+opening name = record { name = name; for_log = false }
+
+abbrev pub making : (name : List ℕ) → Request
+making name = record { name = name; for_log = true }
+
 -- All that a desk knows. A desk may know some of it and not the rest: what it doesn't know is None.
 pub record Outside : Type 0 where
   pub files : Option Files
   -- what an accepted open of a name gives as the input
   pub text : List ℕ → Option (List ℕ)
+  -- what it was asked for by name so far, in order, also where that failed
+  pub asked : Option (List Request)
   -- the input that is left to read
   pub input : Option (List ℕ)
   -- the bytes taken so far: by the log, as printed, and as reported
@@ -83,8 +97,24 @@ last_count = 2 ^ 64 - 1
 abbrev pub HasRisen : ℕ → ℕ → Type 0
 HasRisen before now = (before < now) ⊎ (last_count ≤ now)
 
--- only the input and its count may have changed
-pub record OnlyReads (old new : Outside) : Type 0 where
+-- no call failed but those that report: the other counts are as they were
+pub record IsSteady (old new : Outside) : Type 0 where
+  pub in_faults : new.in_faults ≡ old.in_faults
+  pub log_faults : new.log_faults ≡ old.log_faults
+  pub out_faults : new.out_faults ≡ old.out_faults
+
+-- These are the next requests, in this order, and there were no others. A desk may forget all that it was asked for: then
+-- nothing is said.
+abbrev pub AreNext : Option (List Request) → List Request → Option (List Request) → Type 0
+AreNext before requests None = Unit {0}
+AreNext before requests (Some now) = Some now ≡ option_map (λ all. all ++ requests) before
+
+-- the desk was asked for exactly these by name, in this order
+abbrev pub Asks : (old new : Outside) → List Request → Type 0
+Asks old new requests = AreNext old.asked requests new.asked
+
+-- only the input, its count and the requests may have changed
+pub record OnlyOpens (old new : Outside) : Type 0 where
   pub files : new.files ≡ old.files
   pub text : new.text ≡ old.text
   pub logged : new.logged ≡ old.logged
@@ -94,8 +124,30 @@ pub record OnlyReads (old new : Outside) : Type 0 where
   pub reported : new.reported ≡ old.reported
   pub err_faults : new.err_faults ≡ old.err_faults
 
+-- only the input and its count may have changed
+pub record OnlyReads (old new : Outside) : Type 0 where
+  pub files : new.files ≡ old.files
+  pub text : new.text ≡ old.text
+  pub asked : new.asked ≡ old.asked
+  pub logged : new.logged ≡ old.logged
+  pub log_faults : new.log_faults ≡ old.log_faults
+  pub printed : new.printed ≡ old.printed
+  pub out_faults : new.out_faults ≡ old.out_faults
+  pub reported : new.reported ≡ old.reported
+  pub err_faults : new.err_faults ≡ old.err_faults
+
+-- only the files, the bytes logged, their count and the requests may have changed
+pub record OnlyCreates (old new : Outside) : Type 0 where
+  pub input : new.input ≡ old.input
+  pub in_faults : new.in_faults ≡ old.in_faults
+  pub printed : new.printed ≡ old.printed
+  pub out_faults : new.out_faults ≡ old.out_faults
+  pub reported : new.reported ≡ old.reported
+  pub err_faults : new.err_faults ≡ old.err_faults
+
 -- only the files, the bytes logged and their count may have changed
 pub record OnlyLogs (old new : Outside) : Type 0 where
+  pub asked : new.asked ≡ old.asked
   pub input : new.input ≡ old.input
   pub in_faults : new.in_faults ≡ old.in_faults
   pub printed : new.printed ≡ old.printed
@@ -107,6 +159,7 @@ pub record OnlyLogs (old new : Outside) : Type 0 where
 pub record OnlyPrints (old new : Outside) : Type 0 where
   pub files : new.files ≡ old.files
   pub text : new.text ≡ old.text
+  pub asked : new.asked ≡ old.asked
   pub input : new.input ≡ old.input
   pub in_faults : new.in_faults ≡ old.in_faults
   pub logged : new.logged ≡ old.logged
@@ -118,6 +171,7 @@ pub record OnlyPrints (old new : Outside) : Type 0 where
 pub record OnlyReports (old new : Outside) : Type 0 where
   pub files : new.files ≡ old.files
   pub text : new.text ≡ old.text
+  pub asked : new.asked ≡ old.asked
   pub input : new.input ≡ old.input
   pub in_faults : new.in_faults ≡ old.in_faults
   pub logged : new.logged ≡ old.logged
@@ -167,3 +221,10 @@ a_missing_file_has_no_text = refl
 
 pub a_piece_is_taken_from_its_front : added (Some (1 ∷ [])) (2 ∷ 3 ∷ []) 1 ≡ Some (1 ∷ 2 ∷ [])
 a_piece_is_taken_from_its_front = refl
+
+pub a_request_comes_after_the_others :
+    AreNext (Some (opening (97 ∷ []) ∷ [])) (making (98 ∷ []) ∷ []) (Some (opening (97 ∷ []) ∷ making (98 ∷ []) ∷ []))
+a_request_comes_after_the_others = refl
+
+pub what_was_forgotten_says_nothing : AreNext (Some []) (opening (97 ∷ []) ∷ []) None
+what_was_forgotten_says_nothing = tt

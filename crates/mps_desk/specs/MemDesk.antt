@@ -1,7 +1,7 @@
 -- A desk in memory: its files, what was read and written, and which of its calls are to fail.
-use Rattle.std.specs.Prelude.{ℕ, ◌≡◌, ◌+◌, ◌-◌, ◌^◌, nat_lt, Some, None, List, [], ◌∷◌, ◌++◌, Contains, if◌then◌else◌, refl}
+use Rattle.std.specs.Prelude.{ℕ, ◌≡◌, ◌+◌, ◌-◌, ◌^◌, nat_lt, Option, Some, None, List, [], ◌∷◌, ◌++◌, Contains, if◌then◌else◌, refl}
 use Rattle.std.specs.Str.{bytes_eq}
-use Rattle.mps_desk.specs.Desk.{Outside, File, Files, text_in, last_count}
+use Rattle.mps_desk.specs.Desk.{Outside, File, Files, Request, text_in, last_count}
 use Rattle.mps_desk.specs.declared.mem_desk.DeskCall.{DeskCall}
 use Rattle.mps_desk.specs.declared.mem_desk.DeskCall.TheVariants.{Open, Read, Create, Log, Out, Err}
 
@@ -12,6 +12,8 @@ pub record Calls : Type 0 where
 
 pub record DeskInMemory : Type 0 where
   pub files : Files
+  -- what it was asked for by name so far, unless there was no memory to remember that
+  pub requests : Option (List Request)
   -- the input that is left to read
   pub input : List ℕ
   pub logged : List ℕ
@@ -34,6 +36,7 @@ pub record DeskInMemory : Type 0 where
 abbrev pub new_desk : DeskInMemory
 new_desk = record {
   files = record { all = []; log = None };
+  requests = Some [];
   input = [];
   logged = [];
   printed = [];
@@ -70,6 +73,7 @@ abbrev pub outside_of : DeskInMemory → Outside
 outside_of d = record {
   files = Some d.files;
   text = text_in d.files.all;
+  asked = d.requests;
   input = Some d.input;
   logged = Some d.logged;
   printed = Some d.printed;

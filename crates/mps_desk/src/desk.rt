@@ -1,7 +1,7 @@
 // The outside world as the program sees it: one input, one log, what is printed and what is reported.
-ghost use Rattle.std.specs.Prelude.{◌≡◌, ◌<◌, ◌≤◌, ◌++◌, ◌↔◌, [], ℕ, List, length, take, IfOk, IfSome, IsSome, OnOk, OnErr};
+ghost use Rattle.std.specs.Prelude.{◌≡◌, ◌<◌, ◌≤◌, ◌++◌, ◌↔◌, [], ◌∷◌, ℕ, List, length, take, IfOk, IfSome, IsSome, OnOk, OnErr};
 ghost use Rattle.std.specs.Option.{option_map};
-ghost use Rattle.mps_desk.specs.Desk.{Outside, HasRisen, OnlyReads, OnlyLogs, OnlyPrints, OnlyReports, SameFiles, SameElsewhere, made_for_log, after_log, text_in, added};
+ghost use Rattle.mps_desk.specs.Desk.{Outside, HasRisen, Asks, OnlyOpens, OnlyReads, OnlyCreates, OnlyLogs, OnlyPrints, OnlyReports, SameFiles, SameElsewhere, opening, making, made_for_log, after_log, text_in, added};
 
 use thiserror::Error;
 
@@ -14,7 +14,8 @@ pub struct Failed;
 ///
 /// A call answers `Failed` only where the count of its faults rose, or stands at the last value of a u64, and it then
 /// leaves the known bytes as they are. An accepted call leaves the counts as they are, and no count ever falls. What a
-/// desk doesn't know of the outside it never knows.
+/// desk doesn't know of the outside it never knows. A desk may also know what it was asked for by name, until it forgets
+/// that.
 ///
 /// A desk may gather the bytes that it takes and write them later. `settle_log` and `settle_out` have them written, so
 /// that a fault is known at once.
@@ -30,7 +31,8 @@ pub trait Desk {
         ensures steady { OnOk result ((outside self.new).in_faults ≡ (outside self.old).in_faults) }
         ensures counted { (outside self.old).in_faults ≤ (outside self.new).in_faults }
         ensures cause { OnErr result (HasRisen (outside self.old).in_faults (outside self.new).in_faults) }
-        ensures others { OnlyReads (outside self.old) (outside self.new) };
+        ensures asked { Asks (outside self.old) (outside self.new) (opening name.now ∷ []) }
+        ensures others { OnlyOpens (outside self.old) (outside self.new) };
 
     /// Reads some bytes of the input into a prefix of the buffer. What the buffer holds after them is left open,
     /// and so is the whole buffer where the call fails. At a buffer that isn't empty, 0 is the end of the input.
@@ -57,7 +59,8 @@ pub trait Desk {
         ensures steady { OnOk result ((outside self.new).log_faults ≡ (outside self.old).log_faults) }
         ensures counted { (outside self.old).log_faults ≤ (outside self.new).log_faults }
         ensures cause { OnErr result (HasRisen (outside self.old).log_faults (outside self.new).log_faults) }
-        ensures others { OnlyLogs (outside self.old) (outside self.new) };
+        ensures asked { Asks (outside self.old) (outside self.new) (making name.now ∷ []) }
+        ensures others { OnlyCreates (outside self.old) (outside self.new) };
 
     /// Writes a prefix of the piece to the log, and answers its length: at least one byte where there is one. The bytes
     /// go after what the log's file holds, and no other file changes.

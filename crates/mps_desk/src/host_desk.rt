@@ -138,6 +138,7 @@ impl Desk for HostDesk {
     ghost outside = { λ d. record {
       files = None;
       text = λ _. None;
+      asked = None;
       input = None;
       logged = None;
       printed = None;

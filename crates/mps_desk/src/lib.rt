@@ -8,6 +8,7 @@ mod host_desk;
 mod host_file;
 mod mem_desk;
 mod quiet_desk;
+mod requests;
 mod stored_file;
 
 pub use desk::{Desk, Failed};

@@ -4,6 +4,7 @@ ghost use Rattle.std.specs.Option.{option_copied};
 ghost use Rattle.mps_desk.specs.Desk.{text_in};
 
 use crate::calls::CallList;
+use crate::requests::Requests;
 use crate::stored_file::{StoredFile, add_to_log, bytes_of_file, make_file, put_file};
 use crate::{Desk, Failed};
 use std::alloc::{AllocError, Global};
@@ -27,6 +28,7 @@ pub struct MemDesk {
     alloc: Global,
     files: Vec<StoredFile>,
     log_file: Option<String>,
+    requests: Requests,
     input: Vec<u8>,
     position: usize,
     logged: Vec<u8>,
@@ -54,6 +56,7 @@ impl Model for MemDesk {
 
     ghost view = { λ d. record {
       files = record { all = d.files.items; log = option_map string_bytes d.log_file };
+      requests = d.requests;
       input = drop d.position d.input.items;
       logged = d.logged.items;
       printed = d.printed.items;
@@ -86,6 +89,7 @@ impl MemDesk {
             alloc,
             files: Vec::new(alloc),
             log_file: None,
+            requests: Requests::new(alloc),
             input: Vec::new(alloc),
             position: 0,
             logged: Vec::new(alloc),
@@ -161,8 +165,8 @@ impl MemDesk {
 }
 
 impl Desk for MemDesk {
-    ghost use Rattle.std.specs.Prelude.{◌≡◌, ◌<◌, ◌↔◌, min, [], ◌++◌, length, take, drop, Some, None, refl, IsErr, IsNone, IfOk, OnOk, OnErr};
-    ghost use Rattle.mps_desk.specs.Desk.{SameElsewhere, text_in, made_for_log, after_log};
+    ghost use Rattle.std.specs.Prelude.{◌≡◌, ◌<◌, ◌↔◌, min, [], ◌∷◌, ◌++◌, length, take, drop, Some, None, refl, IsErr, IsNone, IfOk, OnOk, OnErr};
+    ghost use Rattle.mps_desk.specs.Desk.{AreNext, SameElsewhere, text_in, opening, making, made_for_log, after_log};
     ghost use Rattle.mps_desk.specs.MemDesk.{outside_of, one_more_call, next_count, IsNextListed};
 
     ghost outside = { outside_of };
@@ -172,10 +176,15 @@ impl Desk for MemDesk {
         ensures absent { IsNone (text_in self.old.files.all name.now) → IsErr result }
         ensures ok { IfOk result (λ _. Some self.new.input ≡ text_in self.old.files.all name.now) }
         ensures ok_state { OnOk result (self.new
-            ≡ record self.old { input = self.new.input; opens = one_more_call self.old.opens }) }
-        ensures err { OnErr result (self.new
-            ≡ record self.old { opens = one_more_call self.old.opens; in_faults = next_count self.old.in_faults }) }
+            ≡ record self.old { input = self.new.input; requests = self.new.requests; opens = one_more_call self.old.opens }) }
+        ensures asked { AreNext self.old.requests (opening name.now ∷ []) self.new.requests }
+        ensures err { OnErr result (self.new ≡ record self.old {
+          requests = self.new.requests;
+          opens = one_more_call self.old.opens;
+          in_faults = next_count self.old.in_faults;
+        }) }
     {
+        self.requests.note(self.alloc, name, false);
         let listed = self.opens.next_fails();
         let text = text_of_name(&self.files, name).filter(|_| !listed);
         let input = text.and_then(|text| Vec::from_slice(self.alloc, text).ok());
@@ -214,13 +223,17 @@ impl Desk for MemDesk {
         ensures listed { IsNextListed self.old.creates → IsErr result }
         ensures ok { OnOk result (self.new ≡ record self.old {
           files = made_for_log name.now self.old.files;
+          requests = self.new.requests;
           creates = one_more_call self.old.creates;
         }) }
+        ensures asked { AreNext self.old.requests (making name.now ∷ []) self.new.requests }
         ensures err { OnErr result (self.new ≡ record self.old {
+          requests = self.new.requests;
           creates = one_more_call self.old.creates;
           log_faults = next_count self.old.log_faults;
         }) }
     {
+        self.requests.note(self.alloc, name, true);
         if !self.creates.next_fails() {
             if let Ok(name) = make_file(self.alloc, &mut self.files, name) {
                 self.log_file = Some(name);

@@ -37,6 +37,7 @@ impl Desk for QuietDesk<'_> {
     ghost outside = { λ d. record {
       files = None;
       text = λ _. Some d.text;
+      asked = None;
       input = Some d.left;
       logged = None;
       printed = None;

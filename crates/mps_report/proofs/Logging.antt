@@ -43,40 +43,43 @@ filed_twice (Some files) first second =
 -- ---- some bytes
 
 -- neither the log nor the files changed
-pub takes_nothing : (old new : Outside) → new.logged ≡ old.logged → new.files ≡ old.files → LogTakes old new
-takes_nothing old new logged files = record {
+pub takes_nothing : (old new : Outside) → new.logged ≡ old.logged → new.files ≡ old.files → new.asked ≡ old.asked → LogTakes old new
+takes_nothing old new logged files asked = record {
+  asked = asked;
   bytes = [];
   logged = logged ∙ appended_empty old.logged;
   filed = files ∙ filed_nothing old.files;
 }
 
 pub takes_self : (a : Outside) → LogTakes a a
-takes_self a = takes_nothing a a refl refl
+takes_self a = takes_nothing a a refl refl refl
 
 pub takes_then : (a b c : Outside) → LogTakes a b → LogTakes b c → LogTakes a c
 takes_then a b c f g = record {
+  asked = g.asked ∙ f.asked;
   bytes = f.bytes ++ g.bytes;
   logged = g.logged ∙ (ap (λ known. appended known g.bytes) f.logged ∙ appended_twice a.logged f.bytes g.bytes);
   filed = g.filed ∙ (ap (λ known. option_map (after_log g.bytes) known) f.filed ∙ filed_twice a.files f.bytes g.bytes);
 }
 
 pub takes_of_logs : (a b : Outside) (piece : List ℕ) → Logs a b piece → LogTakes a b
-takes_of_logs a b piece l = record { bytes = piece; logged = l.logged; filed = l.filed }
+takes_of_logs a b piece l = record { asked = l.others.asked; bytes = piece; logged = l.logged; filed = l.filed }
 
 pub takes_of_part : (a b : Outside) (piece : List ℕ) → LogsPart a b piece → LogTakes a b
-takes_of_part a b piece p = takes_of_logs a b (take p.count piece) p.part
+takes_of_part a b piece p = record { asked = p.others.asked; bytes = take p.count piece; logged = p.logged; filed = p.filed }
 
 -- the input was read, and then the log took some bytes
 pub takes_after_reading : (a b c d : Outside) → LogTakes a b → OnlyReads b c → LogTakes c d → LogTakes a d
-takes_after_reading a b c d f reads g = takes_then a b d f (takes_then b c d (takes_nothing b c reads.logged reads.files) g)
+takes_after_reading a b c d f reads g = takes_then a b d f (takes_then b c d (takes_nothing b c reads.logged reads.files reads.asked) g)
 
 -- ---- pieces
 
 only_logs_self : (a : Outside) → OnlyLogs a a
-only_logs_self a = record { input = refl; in_faults = refl; printed = refl; out_faults = refl; reported = refl; err_faults = refl }
+only_logs_self a = record { asked = refl; input = refl; in_faults = refl; printed = refl; out_faults = refl; reported = refl; err_faults = refl }
 
 only_logs_then : (a b c : Outside) → OnlyLogs a b → OnlyLogs b c → OnlyLogs a c
 only_logs_then a b c f g = record {
+  asked = g.asked ∙ f.asked;
   input = g.input ∙ f.input;
   in_faults = g.in_faults ∙ f.in_faults;
   printed = g.printed ∙ f.printed;
@@ -86,7 +89,7 @@ only_logs_then a b c f g = record {
 }
 
 pub logs_none : (o : Outside) → Logs o o []
-logs_none o = record { logged = appended_empty o.logged; filed = filed_nothing o.files; counted = omega arith; others = only_logs_self o }
+logs_none o = record { logged = appended_empty o.logged; filed = filed_nothing o.files; steady = refl; others = only_logs_self o }
 
 pub logs_then : (a b c : Outside) (first second : List ℕ) → Logs a b first → Logs b c second → Logs a c (first ++ second)
 unfolding takes_then takes_of_logs
@@ -95,7 +98,7 @@ logs_then a b c first second f g =
     record {
       logged = both.logged;
       filed = both.filed;
-      counted = omega (arith, f.counted, g.counted);
+      steady = g.steady ∙ f.steady;
       others =
           only_logs_then a b c f.others g.others;
     }
@@ -116,9 +119,11 @@ pub part_logged : (a b c : Outside) (bytes : List ℕ) (at : ℕ) → Logs a b (
     → b.log_faults ≤ c.log_faults → OnlyLogs b c → HasRisen b.log_faults c.log_faults → LogsPart a c bytes
 part_logged a b c bytes at before logged files counted others fault = record {
   count = at;
-  part = logs_as a c _ _ (append-nil (take at bytes)) (logs_then a b c (take at bytes) [] before
-      (record { logged = logged ∙ appended_empty b.logged; filed = files ∙ filed_nothing b.files; counted = counted; others = others }));
-  fault = risen_earlier a.log_faults b.log_faults c.log_faults before.counted fault;
+  logged = logged ∙ before.logged;
+  filed = files ∙ before.filed;
+  counted = omega (arith, before.steady, counted);
+  fault = risen_earlier a.log_faults b.log_faults c.log_faults (omega (arith, before.steady)) fault;
+  others = only_logs_then a b c before.others others;
 }
 
 pub all_logged : (a b : Outside) (bytes : List ℕ) (at : ℕ) → length bytes ≤ at → Logs a b (take at bytes) → Logs a b bytes
@@ -134,18 +139,30 @@ part_of_first a b first second p =
     ap (λ (xs : List ℕ). xs ++ second) (sym (take-append-drop p.count first)) ∙ append_assoc some (drop p.count first) second in
     let taken : take (length some) (first ++ second) ≡ some = ap (take (length some)) parts
     ∙ take-append_seam some (drop p.count first ++ second) in
-    record { count = length some; part = logs_as a b _ _ (sym taken) p.part; fault = p.fault }
+    record {
+      count = length some;
+      logged = rw taken p.logged;
+      filed = rw taken p.filed;
+      counted = p.counted;
+      fault = p.fault;
+      others = p.others;
+    }
 
 -- the first was logged whole, and then a prefix of the second
 pub part_of_second : (a b c : Outside) (first second : List ℕ) → Logs a b first → LogsPart b c second → LogsPart a c (first ++ second)
+unfolding takes_then takes_of_logs takes_of_part
 part_of_second a b c first second l p =
     let some = first ++ take p.count second in
     let parts : first ++ second ≡ some ++ drop p.count second =
     ap (λ (xs : List ℕ). first ++ xs) (sym (take-append-drop p.count second))
     ∙ sym (append_assoc first (take p.count second) (drop p.count second)) in
     let taken : take (length some) (first ++ second) ≡ some = ap (take (length some)) parts ∙ take-append_seam some (drop p.count second) in
+    let both = takes_then a b c (takes_of_logs a b first l) (takes_of_part b c second p) in
     record {
       count = length some;
-      part = logs_as a c _ _ (sym taken) (logs_then a b c first (take p.count second) l p.part);
-      fault = risen_earlier a.log_faults b.log_faults c.log_faults l.counted p.fault;
+      logged = rw taken both.logged;
+      filed = rw taken both.filed;
+      counted = omega (arith, l.steady, p.counted);
+      fault = risen_earlier a.log_faults b.log_faults c.log_faults (omega (arith, l.steady)) p.fault;
+      others = only_logs_then a b c l.others p.others;
     }

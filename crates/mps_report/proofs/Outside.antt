@@ -25,6 +25,7 @@ prints_only-same o = record {
   text = refl;
   input = refl;
   in_faults = refl;
+  asked = refl;
   logged = refl;
   log_faults = refl;
   reported = refl;
@@ -35,6 +36,7 @@ pub prints_only-then : (a b c : Outside) → OnlyPrints a b → OnlyPrints b c �
 prints_only-then a b c e f = record {
   files = f.files ∙ e.files;
   text = f.text ∙ e.text;
+  asked = f.asked ∙ e.asked;
   input = f.input ∙ e.input;
   in_faults = f.in_faults ∙ e.in_faults;
   logged = f.logged ∙ e.logged;
@@ -44,12 +46,12 @@ prints_only-then a b c e f = record {
 }
 
 pub prints-none : (o : Outside) → Prints o o []
-prints-none o = record { printed = appended_empty o.printed; counted = omega arith; others = prints_only-same o }
+prints-none o = record { printed = appended_empty o.printed; steady = refl; others = prints_only-same o }
 
 pub prints-then : (a b c : Outside) (x y : List ℕ) → Prints a b x → Prints b c y → Prints a c (x ++ y)
 prints-then a b c x y e f = record {
   printed = appended_both x y a.printed b.printed c.printed e.printed f.printed;
-  counted = omega (arith, e.counted, f.counted);
+  steady = f.steady ∙ e.steady;
   others = prints_only-then a b c e.others f.others;
 }
 
@@ -58,21 +60,14 @@ prints-as a b x y e p = subst (λ (z : List ℕ). Prints a b z) e p
 
 -- one more piece of the bytes was taken
 pub prints_more : (a b c : Outside) (bytes : List ℕ) (at count : ℕ) → Prints a b (take at bytes)
-    → c.printed ≡ added b.printed (take (length bytes - at) (drop at bytes)) count → b.out_faults ≤ c.out_faults → OnlyPrints b c
+    → c.printed ≡ added b.printed (take (length bytes - at) (drop at bytes)) count → c.out_faults ≡ b.out_faults → OnlyPrints b c
     → Prints a c (take (at + count) bytes)
-prints_more a b c bytes at count before printed counted others =
+prints_more a b c bytes at count before printed steady others =
     let piece : Prints b c (take count (take (length bytes - at) (drop at bytes))) =
-    record { printed = printed; counted = counted; others = others } in
+    record { printed = printed; steady = steady; others = others } in
     let text : take at bytes ++ take count (take (length bytes - at) (drop at bytes)) ≡ take (at + count) bytes =
     ap (λ (x : List ℕ). take at bytes ++ take count x) (take_rest bytes at) ∙ sym (take-add at count bytes) in
     prints-as a c _ _ text (prints-then a b c (take at bytes) _ before piece)
-
--- a call that failed took nothing
-pub prints_no_more : (a b c : Outside) (text : List ℕ) → Prints a b text → c.printed ≡ b.printed → b.out_faults ≤ c.out_faults
-    → OnlyPrints b c → Prints a c text
-prints_no_more a b c text before printed counted others =
-    let piece : Prints b c [] = record { printed = printed ∙ appended_empty b.printed; counted = counted; others = others } in
-    prints-as a c _ _ (append-nil text) (prints-then a b c text [] before piece)
 
 -- a fault after a prefix of the bytes was printed
 pub part_printed : (a b c : Outside) (bytes : List ℕ) (at : ℕ) → Prints a b (take at bytes) → c.printed ≡ b.printed
@@ -80,14 +75,32 @@ pub part_printed : (a b c : Outside) (bytes : List ℕ) (at : ℕ) → Prints a 
     → HasRisen b.out_faults c.out_faults → PrintsPart a c bytes
 part_printed a b c bytes at before printed counted others fault = record {
   count = at;
-  part = prints_no_more a b c (take at bytes) before printed counted others;
-  fault = risen_earlier a.out_faults b.out_faults c.out_faults before.counted fault;
+  printed = printed ∙ before.printed;
+  counted = omega (arith, before.steady, counted);
+  fault = risen_earlier a.out_faults b.out_faults c.out_faults (omega (arith, before.steady)) fault;
+  others = prints_only-then a b c before.others others;
+}
+
+-- some of a text was printed, and of the rest a prefix
+pub part_after_front : (a b c : Outside) (front text all : List ℕ) (n : ℕ) → Prints a b front → (p : PrintsPart b c text)
+    → front ++ take p.count text ≡ take n all → PrintsPart a c all
+part_after_front a b c front text all n before p same = record {
+  count = n;
+  printed = appended_both front (take p.count text) a.printed b.printed c.printed before.printed p.printed
+      ∙ ap (λ (x : List ℕ). option_map (λ known. known ++ x) a.printed) same;
+  counted = omega (arith, before.steady, p.counted);
+  fault = risen_earlier a.out_faults b.out_faults c.out_faults (omega (arith, before.steady)) p.fault;
+  others = prints_only-then a b c before.others p.others;
 }
 
 -- all was printed, and then what waited was written
-pub settled_all : (a b c : Outside) (text : List ℕ) → Prints a b text → c.printed ≡ b.printed → b.out_faults ≤ c.out_faults
+pub settled_all : (a b c : Outside) (text : List ℕ) → Prints a b text → c.printed ≡ b.printed → c.out_faults ≡ b.out_faults
     → OnlyPrints b c → Prints a c text
-settled_all a b c text before printed counted others = prints_no_more a b c text before printed counted others
+settled_all a b c text before printed steady others = record {
+  printed = printed ∙ before.printed;
+  steady = steady ∙ before.steady;
+  others = prints_only-then a b c before.others others;
+}
 
 -- all was printed, and then a fault came as what waited was written
 pub settled_part : (a b c : Outside) (text : List ℕ) → Prints a b text → c.printed ≡ b.printed → b.out_faults ≤ c.out_faults
@@ -105,6 +118,7 @@ pub reports_only-same : (o : Outside) → OnlyReports o o
 reports_only-same o = record {
   files = refl;
   text = refl;
+  asked = refl;
   input = refl;
   in_faults = refl;
   logged = refl;
@@ -117,6 +131,7 @@ pub reports_only-then : (a b c : Outside) → OnlyReports a b → OnlyReports b 
 reports_only-then a b c e f = record {
   files = f.files ∙ e.files;
   text = f.text ∙ e.text;
+  asked = f.asked ∙ e.asked;
   input = f.input ∙ e.input;
   in_faults = f.in_faults ∙ e.in_faults;
   logged = f.logged ∙ e.logged;

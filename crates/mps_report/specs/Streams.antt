@@ -7,33 +7,39 @@ use Rattle.mps_desk.specs.Desk.{Outside, HasRisen, OnlyLogs, OnlyPrints, OnlyRep
 abbrev pub appended : Option (List ℕ) → List ℕ → Option (List ℕ)
 appended known piece = option_map (λ before. before ++ piece) known
 
--- all of a text was printed
+-- all of a text was printed, and no fault came
 pub record Prints (old new : Outside) (text : List ℕ) : Type 0 where
   pub printed : new.printed ≡ appended old.printed text
-  pub counted : old.out_faults ≤ new.out_faults
+  pub steady : new.out_faults ≡ old.out_faults
   pub others : OnlyPrints old new
 
 -- a prefix of a text was printed, and then a fault came
 pub record PrintsPart (old new : Outside) (text : List ℕ) : Type 0 where
   pub count : ℕ
-  pub part : Prints old new (take count text)
+  pub printed : new.printed ≡ appended old.printed (take count text)
+  pub counted : old.out_faults ≤ new.out_faults
   pub fault : HasRisen old.out_faults new.out_faults
+  pub others : OnlyPrints old new
 
--- all of a piece was logged, and went after what the log's file held
+-- all of a piece was logged, and went after what the log's file held, and no fault came
 pub record Logs (old new : Outside) (piece : List ℕ) : Type 0 where
   pub logged : new.logged ≡ appended old.logged piece
   pub filed : new.files ≡ option_map (after_log piece) old.files
-  pub counted : old.log_faults ≤ new.log_faults
+  pub steady : new.log_faults ≡ old.log_faults
   pub others : OnlyLogs old new
 
 -- a prefix of a piece was logged, and then a fault came
 pub record LogsPart (old new : Outside) (piece : List ℕ) : Type 0 where
   pub count : ℕ
-  pub part : Logs old new (take count piece)
+  pub logged : new.logged ≡ appended old.logged (take count piece)
+  pub filed : new.files ≡ option_map (after_log (take count piece)) old.files
+  pub counted : old.log_faults ≤ new.log_faults
   pub fault : HasRisen old.log_faults new.log_faults
+  pub others : OnlyLogs old new
 
--- some bytes were logged, and went after what the log's file held
+-- some bytes were logged, and went after what the log's file held; nothing was asked for by name
 pub record LogTakes (old new : Outside) : Type 0 where
+  pub asked : new.asked ≡ old.asked
   pub bytes : List ℕ
   pub logged : new.logged ≡ appended old.logged bytes
   pub filed : new.files ≡ option_map (after_log bytes) old.files

@@ -1,6 +1,6 @@
 // Writing whole pieces to a desk, whose calls may take a part of a piece.
 
-ghost use Rattle.std.specs.Prelude.{◌≡◌, OnOk, OnErr};
+ghost use Rattle.std.specs.Prelude.{OnOk, OnErr};
 ghost use Rattle.mps_report.specs.Streams.{Prints, PrintsPart, Logs, LogsPart, Reports};
 
 use mps_desk::{Desk, Failed};
@@ -9,7 +9,6 @@ use mps_desk::{Desk, Failed};
 pub fn print_all<D: Desk>(bytes: &[u8], desk: &mut D) -> Result<(), Failed>
     ensures printed { OnOk result (Prints (D.outside desk.old) (D.outside desk.new) bytes.now) }
     ensures failed { OnErr result (PrintsPart (D.outside desk.old) (D.outside desk.new) bytes.now) }
-    ensures steady { OnOk result ((D.outside desk.new).out_faults ≡ (D.outside desk.old).out_faults) }
 {
     let mut at = 0;
     while at < bytes.len() {
@@ -24,7 +23,6 @@ pub fn print_all<D: Desk>(bytes: &[u8], desk: &mut D) -> Result<(), Failed>
 pub fn print_settled<D: Desk>(bytes: &[u8], desk: &mut D) -> Result<(), Failed>
     ensures printed { OnOk result (Prints (D.outside desk.old) (D.outside desk.new) bytes.now) }
     ensures failed { OnErr result (PrintsPart (D.outside desk.old) (D.outside desk.new) bytes.now) }
-    ensures steady { OnOk result ((D.outside desk.new).out_faults ≡ (D.outside desk.old).out_faults) }
 {
     print_all(bytes, desk)?;
     let Ok(()) = desk.settle_out() else {
@@ -37,7 +35,6 @@ pub fn print_settled<D: Desk>(bytes: &[u8], desk: &mut D) -> Result<(), Failed>
 pub fn log_all<D: Desk>(bytes: &[u8], desk: &mut D) -> Result<(), Failed>
     ensures logged { OnOk result (Logs (D.outside desk.old) (D.outside desk.new) bytes.now) }
     ensures failed { OnErr result (LogsPart (D.outside desk.old) (D.outside desk.new) bytes.now) }
-    ensures steady { OnOk result ((D.outside desk.new).log_faults ≡ (D.outside desk.old).log_faults) }
 {
     let mut at = 0;
     while at < bytes.len() {

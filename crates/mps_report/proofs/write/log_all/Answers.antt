@@ -1,10 +1,10 @@
-use Rattle.std.proofs.Common.{ℕ, ◌∙◌, refl, arith}
+use Rattle.std.proofs.Common.{ℕ, arith}
 use Rattle.std.proofs.lemmas.List.{length-take, length-drop}
 use Rattle.mps_report.proofs.Logging.{logs_none, logs_more}
 use Rattle.mps_report.proofs.write.log_all.Goals as goal
 
 pub loop-at-init : goal.loop-at-init
-loop-at-init g c = (omega arith, logs_none (g.D.Desk.outside c.args.desk.now), refl)
+loop-at-init g c = (omega arith, logs_none (g.D.Desk.outside c.args.desk.now))
 
 pub loop-at-preserved : goal.loop-at-preserved
 loop-at-preserved g c =
@@ -14,8 +14,7 @@ loop-at-preserved g c =
           (record {
             logged = c.in_ok-count.ensures.logged;
             filed = c.in_ok-count.ensures.filed;
-            counted = c.in_ok-count.ensures.counted;
+            steady = c.in_ok-count.ensures.steady;
             others = c.in_ok-count.ensures.others;
           }),
-      c.in_ok-count.ensures.steady ∙ i.2,
     )

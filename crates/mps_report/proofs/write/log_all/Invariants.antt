@@ -1,10 +1,9 @@
-use Rattle.std.proofs.Common.{◌≡◌, ◌-◌, ◌≤◌, length, take}
+use Rattle.std.proofs.Common.{◌-◌, ◌≤◌, length, take}
 use Rattle.mps_report.specs.Streams.{Logs}
 use Rattle.mps_report.proofs.write.log_all.Given as goal
 
 abbrev pub invariant-loop-at : goal.invariant-loop-at
 invariant-loop-at g l = (l.at ≤ length l.bytes) × Logs (g.D.Desk.outside l.initial.desk) (g.D.Desk.outside l.desk) (take l.at l.bytes)
-    × ((g.D.Desk.outside l.desk).log_faults ≡ (g.D.Desk.outside l.initial.desk).log_faults)
 
 abbrev pub decreases-loop-at : goal.decreases-loop-at
 decreases-loop-at g l = length l.bytes - l.at
