@@ -1,13 +1,14 @@
 -- Runs that leave the log alone, one after the other, and the causes of their stops.
-use Rattle.std.proofs.Common.{◌≡◌, ℕ, ◌≤◌, true, List, Result, Ok, Err, refl, sym, subst, ◌∙◌, arith, inl, inr}
+use Rattle.std.proofs.Common.{◌≡◌, ◌≢◌, ◌⊎◌, ℕ, ◌≤◌, true, false, List, [], ◌∷◌, Result, Ok, Err, refl, sym, subst, ◌∙◌, arith, inl, inr}
 use Rattle.std.specs.Prelude.{OnOk, IfErr}
-use Rattle.mps_desk.specs.Desk.{Outside, HasRisen, OnlyReads}
+use Rattle.mps_desk.specs.Desk.{Outside, HasRisen, OnlyOpens, OnlyReads, OnlyPrints, IsSteady, Asks, opening}
 use Rattle.mps_report.specs.declared.stop.Stop.{Stop}
 use Rattle.mps_report.specs.declared.stop.Stop.TheVariants as stop
 use Rattle.mps_log_reader.specs.Input.{Buffered, ReadsMore}
 use Rattle.mps_report.specs.Reports.{status_of, report_of}
-use Rattle.mps_report.specs.Streams.{LeavesLogAlone, Prints, Reports}
-use Rattle.mps_log_reader.specs.Causes.{IsFaulty, CauseOfReader, IsCaused, CauseFrom, IsCausedFrom, StopIsJustified, IsStatus, WorksOnInput, StatusIsJustified}
+use Rattle.mps_report.specs.Streams.{LeavesLogAlone, Prints, PrintsPart, Reports}
+use Rattle.mps_log_reader.specs.Causes.{IsFaulty, CauseOfReader, IsCaused, CauseFrom, IsCausedFrom, StopIsJustified, KeepsPrinting, IsStatus, WorksOnInput, AsksForInput, AsksWith, StatusIsJustified}
+use Rattle.mps_log_reader.specs.Ending.{is_input_verdict}
 use Rattle.mps_report.proofs.Outside.{risen_later, risen_earlier}
 
 pub runs-none : (o : Outside) → LeavesLogAlone o o
@@ -47,10 +48,33 @@ runs_reading a b counted o = record {
   log_faults = o.log_faults;
 }
 
+-- opened, and then read
+pub runs_opening : (a b : Outside) → a.in_faults ≤ b.in_faults → OnlyOpens a b → LeavesLogAlone a b
+runs_opening a b counted o = record {
+  in_counted = counted;
+  out_counted = same-le _ _ o.out_faults;
+  err_counted = same-le _ _ o.err_faults;
+  files = o.files;
+  text = o.text;
+  logged = o.logged;
+  log_faults = o.log_faults;
+}
+
+pub runs_printing_part : (a b : Outside) (text : List ℕ) → PrintsPart a b text → LeavesLogAlone a b
+runs_printing_part a b text p = record {
+  in_counted = same-le _ _ p.others.in_faults;
+  out_counted = p.counted;
+  err_counted = same-le _ _ p.others.err_faults;
+  files = p.others.files;
+  text = p.others.text;
+  logged = p.others.logged;
+  log_faults = p.others.log_faults;
+}
+
 pub runs_printing : (a b : Outside) (text : List ℕ) → Prints a b text → LeavesLogAlone a b
 runs_printing a b text p = record {
   in_counted = same-le _ _ p.others.in_faults;
-  out_counted = p.counted;
+  out_counted = same-le _ _ p.steady;
   err_counted = same-le _ _ p.others.err_faults;
   files = p.others.files;
   text = p.others.text;
@@ -144,38 +168,116 @@ caused_after : {E : Type 0} (T : Type 0) (a b c : Outside) (x y : Buffered) (end
 caused_after T a b c x y (Ok value) r f s h = tt
 caused_after T a b c x y (Err why) r f s h = cause_after a b c x y why r f s h
 
+keeps_printing_self : {T E : Type 0} (o : Outside) (ending : Result T (Stop E)) → KeepsPrinting o o ending
+keeps_printing_self o (Ok value) = refl
+keeps_printing_self o (Err stop.ReadFailed) = tt
+keeps_printing_self o (Err stop.WriteFailed) = tt
+keeps_printing_self o (Err stop.LogFailed) = refl
+keeps_printing_self o (Err stop.TooLong) = refl
+keeps_printing_self o (Err stop.OutOfMemory) = refl
+keeps_printing_self o (Err (stop.Bad place)) = refl
+
+keeps_printing_after : {T E : Type 0} (a b c : Outside) (ending : Result T (Stop E)) → b.out_faults ≡ a.out_faults
+    → KeepsPrinting b c ending → KeepsPrinting a c ending
+keeps_printing_after a b c (Ok value) e f = f ∙ e
+keeps_printing_after a b c (Err stop.ReadFailed) e f = tt
+keeps_printing_after a b c (Err stop.WriteFailed) e f = tt
+keeps_printing_after a b c (Err stop.LogFailed) e f = f ∙ e
+keeps_printing_after a b c (Err stop.TooLong) e f = f ∙ e
+keeps_printing_after a b c (Err stop.OutOfMemory) e f = f ∙ e
+keeps_printing_after a b c (Err (stop.Bad place)) e f = f ∙ e
+
+-- the same stop of a value of another type
+keeps_printing_at : {E : Type 0} (T U : Type 0) (a b : Outside) (why : Stop E) → KeepsPrinting {T = T} a b (Err why)
+    → KeepsPrinting {T = U} a b (Err why)
+keeps_printing_at T U a b stop.ReadFailed f = tt
+keeps_printing_at T U a b stop.WriteFailed f = tt
+keeps_printing_at T U a b stop.LogFailed f = f
+keeps_printing_at T U a b stop.TooLong f = f
+keeps_printing_at T U a b stop.OutOfMemory f = f
+keeps_printing_at T U a b (stop.Bad place) f = f
+
 -- one piece of work after another
-pub works-then : {T U E : Type 0} (a b c : Outside) (x y z : Buffered) (first : Result U (Stop E)) (ending : Result T (Stop E))
-    → WorksOnInput a b x y first → WorksOnInput b c y z ending → WorksOnInput a c x z ending
+pub works-then : {T U E : Type 0} (a b c : Outside) (x y z : Buffered) (first : U) (ending : Result T (Stop E))
+    → WorksOnInput {E = E} a b x y (Ok first) → WorksOnInput b c y z ending → WorksOnInput a c x z ending
 works-then {T = T} a b c x y z first ending e f = record {
   runs = runs-then a b c e.runs f.runs;
   fault = faulty_since a b c x y z e.runs e.fault f.runs f.fault;
   cause = caused_after T a b c x y ending e.runs e.fault f.runs f.cause;
+  asked = f.asked ∙ e.asked;
+  steady = λ h.
+      let later = f.steady h in
+      let earlier = e.steady later.0 in
+      (earlier.0, later.1 ∙ earlier.1);
+  printing = keeps_printing_after a b c ending e.printing f.printing;
 }
 
 pub works-none : {T E : Type 0} (o : Outside) (x : Buffered) (value : T) → WorksOnInput {E = E} o o x x (Ok value)
-works-none o x value = record { runs = runs-none o; fault = λ h. inl h; cause = tt }
+works-none o x value = record {
+  runs = runs-none o;
+  fault = λ h. inl h;
+  cause = tt;
+  asked = refl;
+  steady = λ h. (h, refl);
+  printing = refl;
+}
 
 -- the same stop of a value of another type
 pub works-at : {T U E : Type 0} (a b : Outside) (x y : Buffered) (why : Stop E) → WorksOnInput {T = T} a b x y (Err why)
     → WorksOnInput {T = U} a b x y (Err why)
-works-at a b x y why e = record { runs = e.runs; fault = e.fault; cause = e.cause }
+works-at {T = T} {U = U} a b x y why e = record {
+  runs = e.runs;
+  fault = e.fault;
+  cause = e.cause;
+  asked = e.asked;
+  steady = e.steady;
+  printing = keeps_printing_at T U a b why e.printing;
+}
 
 pub works_value : {T U E : Type 0} (a b : Outside) (x y : Buffered) (v : T) (u : U) → WorksOnInput {E = E} a b x y (Ok v)
     → WorksOnInput {E = E} a b x y (Ok u)
-works_value a b x y v u e = record { runs = e.runs; fault = e.fault; cause = tt }
+works_value a b x y v u e = record {
+  runs = e.runs;
+  fault = e.fault;
+  cause = tt;
+  asked = e.asked;
+  steady = e.steady;
+  printing = e.printing;
+}
 
 pub works_reading : {T E : Type 0} (a b : Outside) (x y : Buffered) (value : T) → ReadsMore a b x y
     → WorksOnInput {E = E} a b x y (Ok value)
-works_reading a b x y value r = record { runs = runs_reading a b r.counted r.others; fault = r.fault; cause = tt }
+works_reading a b x y value r = record {
+  runs = runs_reading a b r.counted r.others;
+  fault = r.fault;
+  cause = tt;
+  asked = r.others.asked;
+  steady = r.steady;
+  printing = r.others.out_faults;
+}
 
 -- what does not touch the input
-pub works_beside : {T E : Type 0} (a b : Outside) (x : Buffered) (value : T) → LeavesLogAlone a b → WorksOnInput {E = E} a b x x (Ok value)
-works_beside a b x value r = record { runs = r; fault = λ h. inl h; cause = tt }
+pub works_beside : {T E : Type 0} (a b : Outside) (x : Buffered) (value : T) → LeavesLogAlone a b → OnlyPrints a b
+    → b.out_faults ≡ a.out_faults → WorksOnInput {E = E} a b x x (Ok value)
+works_beside a b x value r o steady = record {
+  runs = r;
+  fault = λ h. inl h;
+  cause = tt;
+  asked = o.asked;
+  steady = λ h. (h, o.in_faults);
+  printing = steady;
+}
 
-pub works_write_failed : {T E : Type 0} (a b : Outside) (x : Buffered) → LeavesLogAlone a b → HasRisen a.out_faults b.out_faults
-    → WorksOnInput {T = T} {E = E} a b x x (Err stop.WriteFailed)
-works_write_failed a b x r h = record { runs = r; fault = λ f. inl f; cause = h }
+pub works_write_failed : {T E : Type 0} (a b : Outside) (x : Buffered) → LeavesLogAlone a b → OnlyPrints a b
+    → HasRisen a.out_faults b.out_faults → WorksOnInput {T = T} {E = E} a b x x (Err stop.WriteFailed)
+works_write_failed a b x r o h = record {
+  runs = r;
+  fault = λ f. inl f;
+  cause = h;
+  asked = o.asked;
+  steady = λ f. (f, o.in_faults);
+  printing = tt;
+}
 
 -- the same of a step that leaves the input as it is, or takes something from it
 pub works_known : {T E : Type 0} (o : Outside) (x y : Buffered) (ending : Result T (Stop E)) → y.failed ≡ x.failed
@@ -184,6 +286,9 @@ works_known o x y ending same is_known = record {
   runs = runs-none o;
   fault = λ f. inl (sym same ∙ f);
   cause = caused_known o o x x ending (λ f. inl f) is_known;
+  asked = refl;
+  steady = λ f. (sym same ∙ f, refl);
+  printing = keeps_printing_self o ending;
 }
 
 -- ---- the status
@@ -204,17 +309,34 @@ write_status : {E : Type 0} (a b : Outside) (why : Stop E) → CauseOfReader a b
 write_status a b stop.WriteFailed h e = h
 write_status a b why h e = absurd (omega (arith, e))
 
+-- with status 0 no call failed
+steady_status : {E : Type 0} (why : Stop E) (P : Type 0) → status_of why ≡ 0 → P
+steady_status stop.ReadFailed P e = absurd (omega (arith, e))
+steady_status why P e = absurd (omega (arith, e))
+
+printing_status : {T E : Type 0} (a b c : Outside) (why : Stop E) → KeepsPrinting {T = T} a b (Err why) → c.out_faults ≡ b.out_faults
+    → is_input_verdict (status_of why) ≡ true → c.out_faults ≡ a.out_faults
+printing_status a b c stop.ReadFailed h e v = absurd (let wrong : false ≡ true = v in cc)
+printing_status a b c stop.WriteFailed h e v = absurd (let wrong : false ≡ true = v in cc)
+printing_status a b c stop.LogFailed h e v = e ∙ h
+printing_status a b c stop.TooLong h e v = e ∙ h
+printing_status a b c stop.OutOfMemory h e v = e ∙ h
+printing_status a b c (stop.Bad place) h e v = e ∙ h
+
 -- what the status of the program says after an ending and its report
 pub status_is_justified : {T E : Type 0} (a b c : Outside) (text : E → List ℕ) (ending : Result T (Stop E)) (status : ℕ)
-    → LeavesLogAlone a b → IsCaused a b ending → OnOk ending (status ≡ 0) → OnOk ending (c ≡ b)
+    → LeavesLogAlone a b → IsCaused a b ending → OnOk ending (IsSteady a b) → KeepsPrinting a b ending
+    → OnOk ending (status ≡ 0) → OnOk ending (c ≡ b)
     → IfErr ending (λ why. status ≡ status_of why) → IfErr ending (λ why. Reports b c (report_of text why)) → StatusIsJustified a c status
-status_is_justified a b c text (Ok value) status r f zero same is reports = record {
+status_is_justified a b c text (Ok value) status r f steady printing zero same is reports = record {
   known = inl zero;
   read_fault = λ e. absurd (omega (arith, zero, e));
   write_fault = λ e. absurd (omega (arith, zero, e));
   runs = subst (λ (o : Outside). LeavesLogAlone a o) (sym same) r;
+  steady = λ e. subst (λ (o : Outside). IsSteady a o) (sym same) steady;
+  printing = λ v. subst (λ (o : Outside). o.out_faults ≡ a.out_faults) (sym same) printing;
 }
-status_is_justified a b c text (Err why) status r f zero same is reports =
+status_is_justified {T = T} a b c text (Err why) status r f steady printing zero same is reports =
     let s = runs_reports b c (report_of text why) reports in
     let g = cause_later a b c why f s in
     record {
@@ -222,4 +344,30 @@ status_is_justified a b c text (Err why) status r f zero same is reports =
       read_fault = λ e. read_status a c why g (sym is ∙ e);
       write_fault = λ e. write_status a c why g (sym is ∙ e);
       runs = runs-then a b c r s;
+      steady = λ e. steady_status why (IsSteady a c) (sym is ∙ e);
+      printing = λ v. printing_status {T = T} a b c why printing reports.others.out_faults
+          (subst (λ (n : ℕ). is_input_verdict n ≡ true) is v);
     }
+
+-- what was asked for by name, by the status
+asks_status : {T E : Type 0} (name : List ℕ) (a b : Outside) (why : Stop E) (status : ℕ) → AsksForInput {T = T} name a b (Err why)
+    → status ≡ status_of why → AsksWith name a b status
+asks_status name a b stop.OutOfMemory status h is = record { whole = λ other. absurd (other is); at_most = h }
+asks_status name a b stop.ReadFailed status h is = record { whole = λ other. h; at_most = inr h }
+asks_status name a b stop.WriteFailed status h is = record { whole = λ other. h; at_most = inr h }
+asks_status name a b stop.LogFailed status h is = record { whole = λ other. h; at_most = inr h }
+asks_status name a b stop.TooLong status h is = record { whole = λ other. h; at_most = inr h }
+asks_status name a b (stop.Bad place) status h is = record { whole = λ other. h; at_most = inr h }
+
+same_asks : (name : List ℕ) (a b c : Outside) (status : ℕ) → c.asked ≡ b.asked → AsksWith name a b status → AsksWith name a c status
+same_asks name a b c status same h =
+    subst (λ asked. AsksWith name a (record c { asked = asked }) status) (sym same)
+    (record { whole = h.whole; at_most = h.at_most })
+
+pub asks_with : {T E : Type 0} (name : List ℕ) (a b c : Outside) (text : E → List ℕ) (ending : Result T (Stop E)) (status : ℕ)
+    → AsksForInput name a b ending → OnOk ending (c ≡ b)
+    → IfErr ending (λ why. status ≡ status_of why) → IfErr ending (λ why. Reports b c (report_of text why)) → AsksWith name a c status
+asks_with name a b c text (Ok value) status h same is reports =
+    subst (λ (o : Outside). AsksWith name a o status) (sym same) (record { whole = λ other. h; at_most = inr h })
+asks_with {T = T} name a b c text (Err why) status h same is reports =
+    same_asks name a b c status reports.others.asked (asks_status {T = T} name a b why status h is)

@@ -1,5 +1,5 @@
 -- What is pending in the buffer of an input.
-use Rattle.std.proofs.Common.{◌≡◌, ℕ, ◌+◌, ◌-◌, ◌≤◌, ◌⊎◌, Bool, true, List, [], ◌++◌, length, take, drop, Option, Some, None, refl, sym, ap, subst, ◌∙◌, append_assoc, arith, inl, inr}
+use Rattle.std.proofs.Common.{◌≡◌, ℕ, ◌+◌, ◌-◌, ◌≤◌, ◌⊎◌, Bool, true, false, List, [], ◌++◌, length, take, drop, Option, Some, None, refl, sym, ap, subst, ◌∙◌, append_assoc, arith, inl, inr}
 use Rattle.std.specs.Prelude.{IfSome}
 use Rattle.std.specs.Option.{option_map}
 use Rattle.std.proofs.lemmas.List.{append-nil, drop-drop, drop-take, length-append, length-drop, length-take, nil_from_length, take_at}
@@ -35,6 +35,7 @@ reads_only-same : (o : Outside) → OnlyReads o o
 reads_only-same o = record {
   files = refl;
   text = refl;
+  asked = refl;
   logged = refl;
   log_faults = refl;
   printed = refl;
@@ -47,6 +48,7 @@ reads_only-then : (a b c : Outside) → OnlyReads a b → OnlyReads b c → Only
 reads_only-then a b c e f = record {
   files = f.files ∙ e.files;
   text = f.text ∙ e.text;
+  asked = f.asked ∙ e.asked;
   logged = f.logged ∙ e.logged;
   log_faults = f.log_faults ∙ e.log_faults;
   printed = f.printed ∙ e.printed;
@@ -63,6 +65,7 @@ reads-none o b = record {
   end = λ h. h;
   fault = λ h. inl h;
   counted = omega arith;
+  steady = λ h. (h, refl);
   others = reads_only-same o;
 }
 
@@ -84,14 +87,18 @@ reads-then a b c x y z e f = record {
   end = λ h. f.end (e.end h);
   fault = λ h. later_fault a b c x y z e f (f.fault h);
   counted = omega (arith, e.counted, f.counted);
+  steady = λ h.
+      let later = f.steady h in
+      let earlier = e.steady later.0 in
+      (earlier.0, later.1 ∙ earlier.1);
   others = reads_only-then a b c e.others f.others;
 }
 
 -- some bytes came
 pub reads_some : (a b : Outside) (x : Buffered) (room : List ℕ) (at count : ℕ) → take at room ≡ x.pending
-    → a.input ≡ option_map (λ left. take count (drop at room) ++ left) b.input → a.in_faults ≤ b.in_faults → OnlyReads a b
+    → a.input ≡ option_map (λ left. take count (drop at room) ++ left) b.input → a.in_faults ≤ b.in_faults → b.in_faults ≡ a.in_faults → OnlyReads a b
     → ReadsMore a b x (buffered (take (at + count - 0) (drop 0 room)) x.ended x.failed)
-reads_some a b x room at count kept input counted others =
+reads_some a b x room at count kept input counted steady others =
     let count-is : at + count - 0 ≡ at + count = omega arith in
     record {
       read = take count (drop at room);
@@ -101,14 +108,15 @@ reads_some a b x room at count kept input counted others =
           (subst (λ (o : Option (List ℕ)). IfSome o (λ left. left ≡ [])) input (h e));
       fault = λ h. inl h;
       counted = counted;
+      steady = λ h. (h, steady);
       others = others;
     }
 
 -- the end came
 pub reads_end : (a b : Outside) (x : Buffered) (room : List ℕ) (at : ℕ) → take at room ≡ x.pending
-    → a.input ≡ option_map (λ left. [] ++ left) b.input → IfSome a.input (λ left. left ≡ []) → a.in_faults ≤ b.in_faults → OnlyReads a b
+    → a.input ≡ option_map (λ left. [] ++ left) b.input → IfSome a.input (λ left. left ≡ []) → a.in_faults ≤ b.in_faults → b.in_faults ≡ a.in_faults → OnlyReads a b
     → ReadsMore a b x (buffered (take (at - 0) (drop 0 room)) true x.failed)
-reads_end a b x room at kept input ended counted others =
+reads_end a b x room at kept input ended counted steady others =
     let at-is : at - 0 ≡ at = omega arith in
     record {
       read = [];
@@ -117,6 +125,7 @@ reads_end a b x room at kept input ended counted others =
       end = λ h e. rest_empty [] b.input (subst (λ (o : Option (List ℕ)). IfSome o (λ left. left ≡ [])) input ended);
       fault = λ h. inl h;
       counted = counted;
+      steady = λ h. (h, steady);
       others = others;
     }
 
@@ -133,6 +142,7 @@ reads_fail a b x room at kept input risen counted others =
       end = λ h e. subst (λ (o : Option (List ℕ)). IfSome o (λ left. left ≡ [])) (sym input) (h e);
       fault = λ h. inr risen;
       counted = counted;
+      steady = λ h. absurd (let wrong : true ≡ false = h in cc);
       others = others;
     }
 

@@ -29,4 +29,5 @@ pub record ReadsMore (old new : Outside) (before after : Buffered) : Type 0 wher
   pub end : IsAtEnd old before → IsAtEnd new after
   pub fault : after.failed ≡ true → (before.failed ≡ true) ⊎ HasRisen old.in_faults new.in_faults
   pub counted : old.in_faults ≤ new.in_faults
+  pub steady : after.failed ≡ false → (before.failed ≡ false) × (new.in_faults ≡ old.in_faults)
   pub others : OnlyReads old new

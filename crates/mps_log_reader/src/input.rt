@@ -1,6 +1,6 @@
 // An input that is read in pieces into a buffer.
 
-ghost use Rattle.std.specs.Prelude.{◌≡◌, ◌≤◌, ◌<◌, ◌+◌, ◌-◌, ◌++◌, ◌⊎◌, [], length, take, drop, true, false, IfOk, IfSome, OnErr};
+ghost use Rattle.std.specs.Prelude.{◌≡◌, ◌≤◌, ◌<◌, ◌+◌, ◌-◌, ◌++◌, ◌⊎◌, [], length, take, drop, true, false, IfOk, IfSome, OnOk, OnErr};
 ghost use Rattle.std.specs.Option.{option_map};
 ghost use Rattle.std.specs.Bool.{OnTrue, OnFalse};
 ghost use Rattle.mps_desk.specs.Desk.{HasRisen, OnlyReads};
@@ -138,6 +138,7 @@ fn read_after<D: Desk>(room: &mut [u8], to: usize, desk: &mut D) -> Result<usize
     ensures end { IfOk result (λ count. count ≡ 0 → IfSome (D.outside desk.old).input (λ left. left ≡ [])) }
     ensures failed { OnErr result ((D.outside desk.new).input ≡ (D.outside desk.old).input) }
     ensures counted { (D.outside desk.old).in_faults ≤ (D.outside desk.new).in_faults }
+    ensures steady { OnOk result ((D.outside desk.new).in_faults ≡ (D.outside desk.old).in_faults) }
     ensures cause { OnErr result (HasRisen (D.outside desk.old).in_faults (D.outside desk.new).in_faults) }
     ensures others { OnlyReads (D.outside desk.old) (D.outside desk.new) }
 {

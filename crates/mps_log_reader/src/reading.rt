@@ -1,8 +1,8 @@
 // The header, the room for what is printed, and the end: what the readers of a log and of its text share.
 
-ghost use Rattle.std.specs.Prelude.{◌≡◌, ◌≢◌, ◌≤◌, ◌+◌, ◌++◌, ◌⊎◌, ℕ, List, [], Some, true, false, length, IfErr, OnOk, OnErr};
-ghost use Rattle.mps_desk.specs.Desk.{HasRisen};
-ghost use Rattle.mps_log_reader.specs.Causes.{IsCaused, StopIsJustified, WorksOnInput};
+ghost use Rattle.std.specs.Prelude.{◌≡◌, ◌≢◌, ◌≤◌, ◌+◌, ◌++◌, ◌⊎◌, ℕ, List, [], ◌∷◌, Some, true, false, length, IfErr, OnOk, OnErr};
+ghost use Rattle.mps_desk.specs.Desk.{HasRisen, Asks, OnlyOpens, OnlyPrints, opening};
+ghost use Rattle.mps_log_reader.specs.Causes.{IsCaused, KeepsPrinting, StopIsJustified, WorksOnInput};
 ghost use Rattle.mps_report.specs.Streams.{LeavesLogAlone, FlushedPrefix, PrintsPart};
 ghost use Rattle.mps_log_reader.specs.Input.{IsAtEnd, IsComplete};
 ghost use Rattle.mps_log_reader.specs.Left.{left_of, LastGives, EndGives};
@@ -42,6 +42,9 @@ pub fn open_log<E: Copy, D: Desk>(
     ensures cause { IsCaused (D.outside desk.old) (D.outside desk.new) result }
     ensures fault { input.new.failed ≡ true → HasRisen (D.outside desk.old).in_faults (D.outside desk.new).in_faults }
     ensures runs { LeavesLogAlone (D.outside desk.old) (D.outside desk.new) }
+    ensures asked { Asks (D.outside desk.old) (D.outside desk.new) (opening log.now ∷ []) }
+    ensures others { OnlyOpens (D.outside desk.old) (D.outside desk.new) }
+    ensures steady { OnOk result (input.new.failed ≡ false → (D.outside desk.new).in_faults ≡ (D.outside desk.old).in_faults) }
 {
     let Ok(()) = desk.open(log) else {
         return Err(Stop::ReadFailed);
@@ -90,6 +93,8 @@ pub fn make_room<E: Copy, D: Desk>(output: &mut Output, desk: &mut D) -> Result<
     ensures cause { OnErr result (result ≡ Err Stop.WriteFailed) }
     ensures fault { OnErr result (HasRisen (D.outside desk.old).out_faults (D.outside desk.new).out_faults) }
     ensures runs { LeavesLogAlone (D.outside desk.old) (D.outside desk.new) }
+    ensures steady { OnOk result ((D.outside desk.new).out_faults ≡ (D.outside desk.old).out_faults) }
+    ensures others { OnlyPrints (D.outside desk.old) (D.outside desk.new) }
 {
     match output.make_room(desk) {
         Ok(()) => Ok(()),
@@ -104,6 +109,7 @@ pub fn after_the_last<E: Copy, D: Desk>(input: &mut Input, desk: &mut D) -> Resu
     ensures gives { IsAtEnd (D.outside desk.old) input.old → LastGives (left_of (D.outside desk.old) input.old) result }
     // Where a read fails, nothing more had come.
     ensures unread { result ≡ Err Stop.ReadFailed → (D.outside desk.new).input ≡ left_of (D.outside desk.old) input.old }
+    ensures whole { OnOk result (input.new.failed ≡ false) }
     // Where all had been read, no read fails.
     ensures complete { IsComplete input.old → result ≢ Err Stop.ReadFailed }
     ensures printed { (D.outside desk.new).printed ≡ (D.outside desk.old).printed }
@@ -149,6 +155,10 @@ pub fn flush_after<E: Copy, D: Desk>(
     ensures first { (result ≡ ending) ⊎ ((result ≡ Err Stop.WriteFailed)
         × HasRisen (D.outside desk.old).out_faults (D.outside desk.new).out_faults) }
     ensures runs { LeavesLogAlone (D.outside desk.old) (D.outside desk.new) }
+    ensures others { OnlyPrints (D.outside desk.old) (D.outside desk.new) }
+    ensures printing { KeepsPrinting (D.outside desk.old) (D.outside desk.new) result }
+    // Where all was written, no call failed.
+    ensures steady { OnOk result ((D.outside desk.new).out_faults ≡ (D.outside desk.old).out_faults) }
 {
     match ending {
         Err(Stop::WriteFailed) => ending,

@@ -1,7 +1,7 @@
 -- What is printed and reported piece by piece.
 use Rattle.std.proofs.Common.{◌≡◌, ℕ, ◌+◌, ◌-◌, ◌≤◌, List, [], ◌++◌, length, take, drop, refl, sym, ap, subst, ◌∙◌, arith, inl, inr}
 use Rattle.std.specs.Option.{option_map}
-use Rattle.std.proofs.lemmas.List.{append-nil, take_all, take_rest}
+use Rattle.std.proofs.lemmas.List.{take_all, take_rest}
 use Rattle.std.proofs.Math.Seq.{take-add}
 use Rattle.mps_desk.specs.Desk.{Outside, HasRisen, OnlyPrints, OnlyReports, added}
 use Rattle.mps_report.specs.Streams.{Prints, PrintsPart, Reports}
