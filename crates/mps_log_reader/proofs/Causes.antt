@@ -314,14 +314,14 @@ steady_status : {E : Type 0} (why : Stop E) (P : Type 0) → status_of why ≡ 0
 steady_status stop.ReadFailed P e = absurd (omega (arith, e))
 steady_status why P e = absurd (omega (arith, e))
 
-printing_status : {T E : Type 0} (a b c : Outside) (why : Stop E) → KeepsPrinting {T = T} a b (Err why) → c.out_faults ≡ b.out_faults
+printing_status : {E : Type 0} (T : Type 0) (a b c : Outside) (why : Stop E) → KeepsPrinting {T = T} a b (Err why) → c.out_faults ≡ b.out_faults
     → is_input_verdict (status_of why) ≡ true → c.out_faults ≡ a.out_faults
-printing_status a b c stop.ReadFailed h e v = absurd (let wrong : false ≡ true = v in cc)
-printing_status a b c stop.WriteFailed h e v = absurd (let wrong : false ≡ true = v in cc)
-printing_status a b c stop.LogFailed h e v = e ∙ h
-printing_status a b c stop.TooLong h e v = e ∙ h
-printing_status a b c stop.OutOfMemory h e v = e ∙ h
-printing_status a b c (stop.Bad place) h e v = e ∙ h
+printing_status T a b c stop.ReadFailed h e v = absurd (let wrong : false ≡ true = v in cc)
+printing_status T a b c stop.WriteFailed h e v = absurd (let wrong : false ≡ true = v in cc)
+printing_status T a b c stop.LogFailed h e v = e ∙ h
+printing_status T a b c stop.TooLong h e v = e ∙ h
+printing_status T a b c stop.OutOfMemory h e v = e ∙ h
+printing_status T a b c (stop.Bad place) h e v = e ∙ h
 
 -- what the status of the program says after an ending and its report
 pub status_is_justified : {T E : Type 0} (a b c : Outside) (text : E → List ℕ) (ending : Result T (Stop E)) (status : ℕ)
@@ -345,19 +345,19 @@ status_is_justified {T = T} a b c text (Err why) status r f steady printing zero
       write_fault = λ e. write_status a c why g (sym is ∙ e);
       runs = runs-then a b c r s;
       steady = λ e. steady_status why (IsSteady a c) (sym is ∙ e);
-      printing = λ v. printing_status {T = T} a b c why printing reports.others.out_faults
+      printing = λ v. printing_status T a b c why printing reports.others.out_faults
           (subst (λ (n : ℕ). is_input_verdict n ≡ true) is v);
     }
 
 -- what was asked for by name, by the status
-asks_status : {T E : Type 0} (name : List ℕ) (a b : Outside) (why : Stop E) (status : ℕ) → AsksForInput {T = T} name a b (Err why)
+asks_status : {E : Type 0} (T : Type 0) (name : List ℕ) (a b : Outside) (why : Stop E) (status : ℕ) → AsksForInput {T = T} name a b (Err why)
     → status ≡ status_of why → AsksWith name a b status
-asks_status name a b stop.OutOfMemory status h is = record { whole = λ other. absurd (other is); at_most = h }
-asks_status name a b stop.ReadFailed status h is = record { whole = λ other. h; at_most = inr h }
-asks_status name a b stop.WriteFailed status h is = record { whole = λ other. h; at_most = inr h }
-asks_status name a b stop.LogFailed status h is = record { whole = λ other. h; at_most = inr h }
-asks_status name a b stop.TooLong status h is = record { whole = λ other. h; at_most = inr h }
-asks_status name a b (stop.Bad place) status h is = record { whole = λ other. h; at_most = inr h }
+asks_status T name a b stop.OutOfMemory status h is = record { whole = λ other. absurd (other is); at_most = h }
+asks_status T name a b stop.ReadFailed status h is = record { whole = λ other. h; at_most = inr h }
+asks_status T name a b stop.WriteFailed status h is = record { whole = λ other. h; at_most = inr h }
+asks_status T name a b stop.LogFailed status h is = record { whole = λ other. h; at_most = inr h }
+asks_status T name a b stop.TooLong status h is = record { whole = λ other. h; at_most = inr h }
+asks_status T name a b (stop.Bad place) status h is = record { whole = λ other. h; at_most = inr h }
 
 same_asks : (name : List ℕ) (a b c : Outside) (status : ℕ) → c.asked ≡ b.asked → AsksWith name a b status → AsksWith name a c status
 same_asks name a b c status same h =
@@ -370,4 +370,4 @@ pub asks_with : {T E : Type 0} (name : List ℕ) (a b c : Outside) (text : E →
 asks_with name a b c text (Ok value) status h same is reports =
     subst (λ (o : Outside). AsksWith name a o status) (sym same) (record { whole = λ other. h; at_most = inr h })
 asks_with {T = T} name a b c text (Err why) status h same is reports =
-    same_asks name a b c status reports.others.asked (asks_status {T = T} name a b why status h is)
+    same_asks name a b c status reports.others.asked (asks_status T name a b why status h is)

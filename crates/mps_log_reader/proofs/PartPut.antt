@@ -24,7 +24,7 @@ pub puts_part : (a b c : Outside) (gathered : List ℕ) → b.printed ≡ a.prin
     → PutsPart a.printed c.printed gathered
 puts_part a b c gathered same p = (
   p.count,
-  p.part.printed
+  p.printed
       ∙ ap (λ (x : Option (List ℕ)). option_map (λ before. before ++ take p.count gathered) x) same,
 )
 
