@@ -89,7 +89,7 @@ listed_part bytes state a b c h same p = record {
   text = listing state.blocks;
   lists = (h.0, ap (λ (s : State). listing s.blocks) (sym h.1));
   count = p.count;
-  printed = printed_since (take p.count (listing state.blocks)) a.printed b.printed c.printed same p.part.printed;
+  printed = printed_since (take p.count (listing state.blocks)) a.printed b.printed c.printed same p.printed;
 }
 
 pub listed_stop : (bytes : List ℕ) (why : Stop BadReplay) (a b : Outside) → HasReplayed bytes (Err why) → b.printed ≡ a.printed

@@ -66,7 +66,7 @@ part_of_all : (version : Version) (kinds : ℕ) (left out gathered : List ℕ) (
 part_of_all version kinds left out gathered b c d ending all grown p = record {
   prefix = all.prefix;
   part = part_of_text grown.0 gathered out (flat_map (line_of_kinds version kinds) all.prefix.records) p.count b.printed c.printed
-      d.printed grown.1 all.put p.part.printed;
+      d.printed grown.1 all.put p.printed;
 }
 
 part_of_front : (version : Version) (kinds : ℕ) (left out gathered : List ℕ) (unread : Option (List ℕ)) (b c d : Outside)
@@ -75,7 +75,7 @@ part_of_front : (version : Version) (kinds : ℕ) (left out gathered : List ℕ)
 part_of_front version kinds left out gathered unread b c d front grown p = record {
   prefix = front.prefix;
   part = part_of_text grown.0 gathered out (flat_map (line_of_kinds version kinds) front.prefix.records) p.count b.printed c.printed
-      d.printed grown.1 front.put p.part.printed;
+      d.printed grown.1 front.put p.printed;
 }
 
 other_status : (ending : Ending) (why : Stop BadLog) → ending ≡ Err why → (status_of why ≡ 4 → ⊥) → ending ≡ Err stop.WriteFailed → ⊥

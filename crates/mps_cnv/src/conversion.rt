@@ -1,7 +1,8 @@
 // `cnv`: the portable text of a log.
 
-ghost use Rattle.std.specs.Prelude.{◌≡◌, ◌≢◌, ◌≤◌, ◌<◌, ◌+◌, ◌*◌, ◌++◌, ◌⊎◌, ℕ, List, Some, true, length, IfOk, IfSome};
-ghost use Rattle.mps_log_reader.specs.Causes.{IsCaused, StopIsJustified, WorksOnInput, StatusIsJustified};
+ghost use Rattle.std.specs.Prelude.{◌≡◌, ◌≢◌, ◌≤◌, ◌<◌, ◌+◌, ◌*◌, ◌++◌, ◌⊎◌, ℕ, List, Ok, Some, None, true, false, length, IfOk, IfSome, OnOk};
+ghost use Rattle.mps_desk.specs.Desk.{IsSteady};
+ghost use Rattle.mps_log_reader.specs.Causes.{AsksForInput, AsksWith, IsCaused, KeepsPrinting, StopIsJustified, WorksOnInput, StatusIsJustified};
 ghost use Rattle.std.specs.List.{flat_map};
 ghost use Rattle.mps_event.specs.Event.{event_of};
 ghost use Rattle.mps_event.specs.Reading.{first_of};
@@ -34,6 +35,8 @@ use std::alloc::Global;
 /// where record 2^32 begins, 8 for out of memory.
 pub fn cnv<D: Desk>(alloc: Global, log: &str, kinds: Kinds, desk: &mut D) -> u8
     ensures status { StatusIsJustified (D.outside desk.old) (D.outside desk.new) result }
+    // The log of this name was asked for, and nothing else.
+    ensures asked { AsksWith log.now (D.outside desk.old) (D.outside desk.new) result }
     // With any status its ending was reported, and nothing with 0.
     ensures reported { ReportsStatus text_of_bad_log result (D.outside desk.old) (D.outside desk.new) }
     // Where it is known what the opened file holds, and the status is of the input alone: exactly this was printed.
@@ -67,6 +70,9 @@ fn convert<D: Desk>(
 ) -> Result<(), Stop<BadLog>>
     ensures cause { IsCaused (D.outside desk.old) (D.outside desk.new) result }
     ensures runs { LeavesLogAlone (D.outside desk.old) (D.outside desk.new) }
+    ensures asked { AsksForInput log.now (D.outside desk.old) (D.outside desk.new) result }
+    ensures steady { OnOk result (IsSteady (D.outside desk.old) (D.outside desk.new)) }
+    ensures printing { KeepsPrinting (D.outside desk.old) (D.outside desk.new) result }
     ensures reported { (D.outside desk.new).reported ≡ (D.outside desk.old).reported }
     ensures err_faults { (D.outside desk.new).err_faults ≡ (D.outside desk.old).err_faults }
     ensures broken { result ≡ Err Stop.ReadFailed → (bytes : List ℕ) → (D.outside desk.old).text log.now ≡ Some bytes
@@ -110,6 +116,7 @@ fn convert_records<D: Desk>(
         → ConvertsFront version (bits_of kinds) bytes (D.outside desk.new).input (put_out (D.outside desk.old) output.old)
         (put_out (D.outside desk.new) output.new) }
     ensures memory { result ≢ Err Stop.OutOfMemory }
+    ensures whole { OnOk result (input.new.failed ≡ false) }
     ensures grows { Grows (D.outside desk.old).printed (D.outside desk.new).printed }
     ensures cut { result ≡ Err Stop.WriteFailed → (bytes : List ℕ) → left_of (D.outside desk.old) input.old ≡ Some bytes
         → ConvertsPart version (bits_of kinds) bytes output.old (D.outside desk.old).printed (D.outside desk.new).printed }
@@ -146,6 +153,7 @@ fn convert_next<D: Desk>(
         × (put_out (D.outside desk.new) output.new ≡ put_out (D.outside desk.old) output.old) }
     ensures grows { Grows (D.outside desk.old).printed (D.outside desk.new).printed }
     ensures cut { result ≡ Err Stop.WriteFailed → PutsPart (D.outside desk.old).printed (D.outside desk.new).printed output.old }
+    ensures whole { result ≡ Ok None → input.new.failed ≡ false }
     ensures at_end { IsAtEnd (D.outside desk.new) input.new }
     ensures reported { (D.outside desk.new).reported ≡ (D.outside desk.old).reported }
     ensures err_faults { (D.outside desk.new).err_faults ≡ (D.outside desk.old).err_faults }
@@ -170,6 +178,7 @@ fn convert_record(
     ensures size { IfOk result (λ o. IfSome o (λ size. (size ≤ 40) × (size ≤ length input.now.pending))) }
     ensures broken { result ≡ Err Stop.ReadFailed → (first_of version input.now.ended input.now.pending ≡ Ok None)
         × (output.new ≡ output.old) }
+    ensures whole { result ≡ Ok None → input.now.failed ≡ false }
     ensures gives { PendingGives version (bits_of kinds) offset input.now output.old output.new result }
 {
     match first(input.pending(), input.has_ended(), version) {

@@ -1,7 +1,7 @@
 -- Runs that leave the log alone, one after the other, and the causes of their stops.
-use Rattle.std.proofs.Common.{◌≡◌, ◌≢◌, ◌⊎◌, ℕ, ◌≤◌, true, false, List, [], ◌∷◌, Result, Ok, Err, refl, sym, subst, ◌∙◌, arith, inl, inr}
+use Rattle.std.proofs.Common.{◌≡◌, ℕ, ◌≤◌, true, false, List, Result, Ok, Err, refl, sym, subst, ◌∙◌, arith, inl, inr}
 use Rattle.std.specs.Prelude.{OnOk, IfErr}
-use Rattle.mps_desk.specs.Desk.{Outside, HasRisen, OnlyOpens, OnlyReads, OnlyPrints, IsSteady, Asks, opening}
+use Rattle.mps_desk.specs.Desk.{Outside, HasRisen, OnlyOpens, OnlyReads, OnlyPrints, IsSteady}
 use Rattle.mps_report.specs.declared.stop.Stop.{Stop}
 use Rattle.mps_report.specs.declared.stop.Stop.TheVariants as stop
 use Rattle.mps_log_reader.specs.Input.{Buffered, ReadsMore}

@@ -6,6 +6,7 @@ pub mod Left
 pub mod PutOut
 pub mod PartPut
 pub mod Stops
+pub mod Steady
 pub mod Records
 pub mod Opening
 pub mod LogPrefix

@@ -6,7 +6,7 @@ use Rattle.mps_log_reader.specs.Causes.{WorksOnInput}
 use Rattle.mps_event.specs.KindSet.{bits_of}
 use Rattle.mps_log_reader.specs.Left.{left_of}
 use Rattle.mps_log_reader.specs.PutOut.{put_out}
-use Rattle.mps_log_reader.proofs.Causes.{works-then}
+use Rattle.mps_log_reader.proofs.Causes.{works-then, works_value}
 use Rattle.mps_log_reader.proofs.PartPut.{grows_none, grows_then}
 use Rattle.mps_log_reader.proofs.Stops.{not_at_the_end, handed_on}
 use Rattle.mps_cnv.proofs.WriteFault.{records_cut}
@@ -21,7 +21,7 @@ loop-preserved g c =
     let next = rw c.in-Some.is at c.in_ok-convert_next.ensures.gives in
     let step = c.in_ok-convert_next.ensures.works in
     record {
-      works = works-then _ _ _ _ _ _ (Ok tt) (Ok tt) works (record { runs = step.runs; fault = step.fault; cause = tt });
+      works = works-then _ _ _ _ _ _ tt (Ok tt) works (works_value _ _ _ _ _ tt step);
       offset = let size = rw c.in-Some.is at c.in_ok-convert_next.ensures.size in omega (arith, size, c.loop.invariant.offset);
       reported = c.in_ok-convert_next.ensures.reported ∙ c.loop.invariant.reported;
       err_faults = c.in_ok-convert_next.ensures.err_faults ∙ c.loop.invariant.err_faults;

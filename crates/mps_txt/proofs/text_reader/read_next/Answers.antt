@@ -53,7 +53,7 @@ returns-in_err-make_room-clause-grows g c =
     let p = c.in_err-make_room.ensures.part in
     grows_by (take p.count c.args.output.now) (g.D.Desk.outside c.args.desk.now).printed (g.D.Desk.outside c.fill.new.desk).printed
     (g.D.Desk.outside c.make_room.new.desk).printed
-    c.fill.ensures.read.others.printed p.part.printed
+    c.fill.ensures.read.others.printed p.printed
 
 pub returns-in_err-make_room-clause-cut : goal.returns-in_err-make_room-clause-cut
 returns-in_err-make_room-clause-cut g c failed =
