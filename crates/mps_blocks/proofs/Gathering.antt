@@ -6,7 +6,7 @@ use Rattle.std.proofs.Math.Seq.{take-append_seam}
 use Rattle.mps_desk.specs.Desk.{Outside}
 use Rattle.mps_report.specs.Streams.{PrintsPart, Gathers}
 use Rattle.mps_report.proofs.Gathering.{gathers-none, gathers-then}
-use Rattle.mps_report.proofs.Outside.{prints-then, prints-as, risen_earlier}
+use Rattle.mps_report.proofs.Outside.{part_after_front}
 
 -- a prefix of a text was gathered, and this is left of it
 pub record IsGatheredUpTo (old new : Outside) (before after all left : List ℕ) : Type 0 where
@@ -48,13 +48,8 @@ part_printed a b c x y all left empty e p =
     ∙ ap (λ (t : List ℕ). front ++ (t ++ left)) parts
     ∙ ap (λ (t : List ℕ). front ++ t) (append_assoc some (drop p.count y) left)
     ∙ sym (append_assoc front some following) in
-    record {
-      count = length (front ++ some);
-      part = prints-as a c (front ++ some) (take (length (front ++ some)) all)
-          (sym (ap (take (length (front ++ some))) whole ∙ take-append_seam (front ++ some) following))
-          (prints-then a b c front some e.gathers.printed p.part);
-      fault = risen_earlier a.out_faults b.out_faults c.out_faults e.gathers.printed.counted p.fault;
-    }
+    part_after_front a b c front y all (length (front ++ some)) e.gathers.printed p
+    (sym (ap (take (length (front ++ some))) whole ∙ take-append_seam (front ++ some) following))
 
 -- what holds holds where there is an error
 pub on_err_of : {T E P : Type 0} (r : Result T E) → P → OnErr r P

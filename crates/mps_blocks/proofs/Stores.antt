@@ -1,8 +1,8 @@
 -- Blocks whose addresses ascend: what a store has at each address, which determines it.
-use Rattle.std.proofs.Common.{◌≡◌, ℕ, ◌+◌, ◌<◌, ◌≤◌, Bool, true, false, cond, eqb, ltb, List, [], ◌∷◌, Option, Some, None, refl, sym, ap, ◌∙◌, arith}
-use Rattle.std.proofs.lemmas.Bool.{lt-ltb, ltb-true, ltb-false, eq-eqb, eqb-true}
+use Rattle.std.proofs.Common.{◌≡◌, ℕ, ◌<◌, Bool, true, false, cond, eqb, ltb, [], ◌∷◌, Option, Some, None, refl, sym, ap, ◌∙◌, arith}
+use Rattle.std.proofs.lemmas.Bool.{ltb-true, ltb-false, eq-eqb, eqb-true}
 use Rattle.mps_model.specs.Replay.{Block, Store, block_at, with_block, without_block}
-use Rattle.mps_blocks.proofs.Ascending.{Above, Ascends, not_same, lower_above, ascends_with, ascends_without}
+use Rattle.mps_blocks.proofs.Ascending.{Above, Ascends, not_same, lower_above}
 
 -- two tests that do not both pass
 abbrev NotBoth : Bool → Bool → Type 0

@@ -1,7 +1,8 @@
 // `blocks`: the blocks that are live at the end of a log.
 
-ghost use Rattle.std.specs.Prelude.{◌≡◌, ◌≢◌, ◌≤◌, ◌<◌, ◌+◌, ◌⊎◌, ℕ, List, Some, true, length, IfOk, IfSome, OnOk};
-ghost use Rattle.mps_log_reader.specs.Causes.{IsCaused, StopIsJustified, WorksOnInput, StatusIsJustified};
+ghost use Rattle.std.specs.Prelude.{◌≡◌, ◌≢◌, ◌≤◌, ◌<◌, ◌+◌, ◌⊎◌, ℕ, List, Ok, Some, None, true, false, length, IfOk, IfSome, OnOk};
+ghost use Rattle.mps_desk.specs.Desk.{IsSteady};
+ghost use Rattle.mps_log_reader.specs.Causes.{AsksForInput, AsksWith, IsCaused, KeepsPrinting, StopIsJustified, WorksOnInput, StatusIsJustified};
 ghost use Rattle.mps_log_reader.specs.Input.{IsAtEnd};
 ghost use Rattle.mps_log_reader.specs.Left.{left_of};
 ghost use Rattle.mps_log_reader.specs.Opening.{OpensNothing};
@@ -27,6 +28,8 @@ use std::alloc::Global;
 /// failed, 6 at the first record that is wrong or cannot be replayed, 7 where record 2^32 begins, 8 where there is no memory.
 pub fn blocks<D: Desk>(alloc: Global, log: &str, desk: &mut D) -> u8
     ensures status { StatusIsJustified (D.outside desk.old) (D.outside desk.new) result }
+    // The log of this name was asked for, and nothing else.
+    ensures asked { AsksWith log.now (D.outside desk.old) (D.outside desk.new) result }
     // With any status but 0 its ending was reported, and with 0 nothing.
     ensures reported { ReportsStatus text_of_bad_replay result (D.outside desk.old) (D.outside desk.new) }
     // Where the opened file is known and the status is a verdict on it: exactly this was printed.
@@ -50,6 +53,9 @@ pub fn blocks<D: Desk>(alloc: Global, log: &str, desk: &mut D) -> u8
 fn list_blocks<D: Desk>(alloc: Global, log: &str, desk: &mut D) -> Result<(), Stop<BadReplay>>
     ensures cause { IsCaused (D.outside desk.old) (D.outside desk.new) result }
     ensures runs { LeavesLogAlone (D.outside desk.old) (D.outside desk.new) }
+    ensures asked { AsksForInput log.now (D.outside desk.old) (D.outside desk.new) result }
+    ensures steady { OnOk result (IsSteady (D.outside desk.old) (D.outside desk.new)) }
+    ensures printing { KeepsPrinting (D.outside desk.old) (D.outside desk.new) result }
     ensures reported { (D.outside desk.new).reported ≡ (D.outside desk.old).reported }
     ensures err_faults { (D.outside desk.new).err_faults ≡ (D.outside desk.old).err_faults }
     ensures silent { IsSilent result → (D.outside desk.new).printed ≡ (D.outside desk.old).printed }
@@ -77,6 +83,9 @@ fn list_blocks<D: Desk>(alloc: Global, log: &str, desk: &mut D) -> Result<(), St
 fn replay_log<D: Desk>(alloc: Global, log: &str, desk: &mut D) -> Result<Replay, Stop<BadReplay>>
     ensures cause { IsCaused (D.outside desk.old) (D.outside desk.new) result }
     ensures runs { LeavesLogAlone (D.outside desk.old) (D.outside desk.new) }
+    ensures asked { AsksForInput log.now (D.outside desk.old) (D.outside desk.new) result }
+    ensures steady { OnOk result (IsSteady (D.outside desk.old) (D.outside desk.new)) }
+    ensures printing { KeepsPrinting (D.outside desk.old) (D.outside desk.new) result }
     ensures printed { (D.outside desk.new).printed ≡ (D.outside desk.old).printed }
     ensures reported { (D.outside desk.new).reported ≡ (D.outside desk.old).reported }
     ensures err_faults { (D.outside desk.new).err_faults ≡ (D.outside desk.old).err_faults }
@@ -105,6 +114,7 @@ fn replay_records<D: Desk>(
     ensures printed { (D.outside desk.new).printed ≡ (D.outside desk.old).printed }
     ensures reported { (D.outside desk.new).reported ≡ (D.outside desk.old).reported }
     ensures err_faults { (D.outside desk.new).err_faults ≡ (D.outside desk.old).err_faults }
+    ensures whole { OnOk result (input.new.failed ≡ false) }
     ensures all { (bytes : List ℕ) → left_of (D.outside desk.old) input.old ≡ Some bytes
         → AllReplay version bytes replay.old replay.new result }
 {
@@ -132,6 +142,7 @@ fn replay_next<D: Desk>(
     ensures size { IfOk result (λ o. IfSome o (λ size. size ≤ 40)) }
     ensures replays { NextReplays version offset (left_of (D.outside desk.old) input.old) (left_of (D.outside desk.new) input.new)
         replay.old replay.new result }
+    ensures whole { result ≡ Ok None → input.new.failed ≡ false }
     ensures at_end { IsAtEnd (D.outside desk.new) input.new }
     ensures printed { (D.outside desk.new).printed ≡ (D.outside desk.old).printed }
     ensures reported { (D.outside desk.new).reported ≡ (D.outside desk.old).reported }
@@ -153,6 +164,7 @@ fn replay_record(
     requires { replay.old.interned < 4294967296 }
     ensures known { StopIsJustified input.now result }
     ensures size { IfOk result (λ o. IfSome o (λ size. (size ≤ 40) × (size ≤ length input.now.pending))) }
+    ensures whole { result ≡ Ok None → input.now.failed ≡ false }
     ensures replays { PendingReplays version offset input.now replay.old replay.new result }
 {
     match first(input.pending(), input.has_ended(), version) {

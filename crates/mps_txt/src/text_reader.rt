@@ -1,12 +1,12 @@
 // `txt`: the readable text of a portable text.
 
-ghost use Rattle.std.specs.Prelude.{◌≡◌, ◌≢◌, ◌≤◌, ◌+◌, ◌⊎◌, ℕ, List, Some, true, false, None, [], length, IfOk, IfErr, IfSome, IfNone, OnOk, OnErr};
+ghost use Rattle.std.specs.Prelude.{◌≡◌, ◌≢◌, ◌≤◌, ◌+◌, ◌⊎◌, ℕ, List, Ok, Some, true, false, None, [], ◌∷◌, length, IfOk, IfErr, IfSome, IfNone, OnOk, OnErr};
 ghost use Rattle.mps_base.specs.Record.{Record};
-ghost use Rattle.mps_desk.specs.Desk.{HasRisen};
+ghost use Rattle.mps_desk.specs.Desk.{HasRisen, IsSteady, Asks, OnlyOpens, opening};
 ghost use Rattle.mps_event.specs.declared.version.Version.{Version};
 ghost use Rattle.mps_report.specs.Reports.{ReportsStatus};
 ghost use Rattle.mps_report.specs.Streams.{LeavesLogAlone};
-ghost use Rattle.mps_log_reader.specs.Causes.{IsCaused, StopIsJustified, WorksOnInput, StatusIsJustified};
+ghost use Rattle.mps_log_reader.specs.Causes.{AsksForInput, AsksWith, IsCaused, KeepsPrinting, StopIsJustified, WorksOnInput, StatusIsJustified};
 ghost use Rattle.mps_log_reader.specs.Ending.{is_input_verdict, IsUnopened};
 ghost use Rattle.mps_log_reader.specs.Opening.{OpensNothing};
 ghost use Rattle.mps_log_reader.specs.Input.{IsAtEnd, IsComplete};
@@ -38,6 +38,8 @@ const MAX_LINE_BYTES: usize = 4096;
 /// begins, 8 when out of memory.
 pub fn txt<D: Desk>(alloc: Global, text: &str, desk: &mut D) -> u8
     ensures status { StatusIsJustified (D.outside desk.old) (D.outside desk.new) result }
+    // The text of this name was asked for, and nothing else.
+    ensures asked { AsksWith text.now (D.outside desk.old) (D.outside desk.new) result }
     // Where it is known what the desk opens, this was read, printed and reported. After a failed read the lines that had
     // come whole, each with its line feed, are printed; a prefix of that, where a write failed too. Memory runs out before
     // the desk is called, or at a line that interns a name, sets a label or moves one; then the lines before it are printed.
@@ -63,6 +65,9 @@ pub fn txt<D: Desk>(alloc: Global, text: &str, desk: &mut D) -> u8
 fn read_text<D: Desk>(alloc: Global, text: &str, desk: &mut D) -> Result<(), Stop<BadTextLine>>
     ensures cause { IsCaused (D.outside desk.old) (D.outside desk.new) result }
     ensures runs { LeavesLogAlone (D.outside desk.old) (D.outside desk.new) }
+    ensures asked { AsksForInput text.now (D.outside desk.old) (D.outside desk.new) result }
+    ensures steady { OnOk result (IsSteady (D.outside desk.old) (D.outside desk.new)) }
+    ensures printing { KeepsPrinting (D.outside desk.old) (D.outside desk.new) result }
     ensures reported { (D.outside desk.new).reported ≡ (D.outside desk.old).reported }
     ensures err_faults { (D.outside desk.new).err_faults ≡ (D.outside desk.old).err_faults }
     ensures read { (bytes : List ℕ) → (D.outside desk.old).text text.now ≡ Some bytes
@@ -107,6 +112,9 @@ fn open_text<D: Desk>(
     ensures cause { IsCaused (D.outside desk.old) (D.outside desk.new) result }
     ensures fault { input.new.failed ≡ true → HasRisen (D.outside desk.old).in_faults (D.outside desk.new).in_faults }
     ensures runs { LeavesLogAlone (D.outside desk.old) (D.outside desk.new) }
+    ensures asked { Asks (D.outside desk.old) (D.outside desk.new) (opening text.now ∷ []) }
+    ensures others { OnlyOpens (D.outside desk.old) (D.outside desk.new) }
+    ensures steady { OnOk result (input.new.failed ≡ false → (D.outside desk.new).in_faults ≡ (D.outside desk.old).in_faults) }
 {
     let Ok(()) = desk.open(text) else {
         return Err(Stop::ReadFailed);
@@ -197,6 +205,7 @@ fn read_lines<D: Desk>(
         (put_out (D.outside desk.new) output.new) result }
     // Where all had been read, no read fails.
     ensures no_fault { IsComplete input.old → result ≢ Err Stop.ReadFailed }
+    ensures whole { OnOk result (input.new.failed ≡ false) }
     ensures grows { Grows (D.outside desk.old).printed (D.outside desk.new).printed }
     ensures cut { result ≡ Err Stop.WriteFailed → (bytes : List ℕ) → left_of (D.outside desk.old) input.old ≡ Some bytes
         → ShowsPart version bytes output.old (D.outside desk.old).printed (D.outside desk.new).printed }
@@ -225,6 +234,7 @@ fn read_next<D: Desk>(
     // Where all had been read, it stays so, and no read fails.
     ensures stays { IsComplete input.old → IsComplete input.new }
     ensures no_fault { IsComplete input.old → result ≢ Err Stop.ReadFailed }
+    ensures whole { result ≡ Ok false → input.new.failed ≡ false }
     ensures grows { Grows (D.outside desk.old).printed (D.outside desk.new).printed }
     ensures cut { result ≡ Err Stop.WriteFailed → PutsPart (D.outside desk.old).printed (D.outside desk.new).printed output.old }
     ensures at_end { IsAtEnd (D.outside desk.new) input.new }
@@ -250,6 +260,7 @@ fn read_line(
     requires { length output.old + 512 ≤ 65536 }
     ensures justified { StopIsJustified input.now result }
     ensures size { IfOk result (λ o. IfSome o (λ size. size ≤ length input.now.pending)) }
+    ensures whole { result ≡ Ok None → input.now.failed ≡ false }
     ensures gives { PendingGives version number labels.old labels.new input.now output.old output.new result }
 {
     match next_line(input, number)? {

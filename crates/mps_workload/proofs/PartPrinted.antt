@@ -3,8 +3,8 @@ use Rattle.std.proofs.Common.{◌≡◌, ℕ, zero, suc, Result, Ok, Err, ◌+�
 use Rattle.std.specs.Prelude.{OnErr}
 use Rattle.std.proofs.Math.Seq.{take-append-add}
 use Rattle.mps_desk.specs.Desk.{Outside}
-use Rattle.mps_report.specs.Streams.{Prints, PrintsPart, Gathers}
-use Rattle.mps_report.proofs.Outside.{prints-then, prints-as, risen_earlier}
+use Rattle.mps_report.specs.Streams.{Prints, PrintsPart, Gathers, appended}
+use Rattle.mps_report.proofs.Outside.{part_after_front}
 use Rattle.mps_report.proofs.Gathering.{IsGathered, joined}
 
 -- a prefix of a text is one of a longer text
@@ -19,14 +19,17 @@ prefix_of_longer (x ∷ xs) more (suc n) =
 part_of_longer : (a b : Outside) (text more : List ℕ) → PrintsPart a b text → PrintsPart a b (text ++ more)
 part_of_longer a b text more p =
     let front = prefix_of_longer text more p.count in
-    record { count = front.0; part = prints-as a b _ _ front.1 p.part; fault = p.fault }
+    record {
+      count = front.0;
+      printed = p.printed ∙ ap (appended a.printed) front.1;
+      counted = p.counted;
+      fault = p.fault;
+      others = p.others;
+    }
 
 part_after : (a b c : Outside) (front text : List ℕ) → Prints a b front → PrintsPart b c text → PrintsPart a c (front ++ text)
-part_after a b c front text before p = record {
-  count = length front + p.count;
-  part = prints-as a c _ _ (sym (take-append-add front text p.count)) (prints-then a b c front (take p.count text) before p.part);
-  fault = risen_earlier a.out_faults b.out_faults c.out_faults before.counted p.fault;
-}
+part_after a b c front text before p =
+    part_after_front a b c front text (front ++ text) (length front + p.count) before p (sym (take-append-add front text p.count))
 
 -- a write failed after what was printed of what was gathered
 pub gathers_failed : (a b c : Outside) (x y text : List ℕ) → Gathers a b x y text → PrintsPart b c y → PrintsPart a c (x ++ text)

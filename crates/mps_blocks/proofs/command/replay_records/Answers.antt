@@ -3,7 +3,7 @@ use Rattle.mps_blocks.specs.declared.bad_replay.BadReplay.{BadReplay}
 use Rattle.mps_log_reader.specs.Causes.{WorksOnInput}
 use Rattle.std.proofs.lemmas.Result.{err_from_is_err_and}
 use Rattle.mps_log_reader.specs.Left.{left_of}
-use Rattle.mps_log_reader.proofs.Causes.{works-then}
+use Rattle.mps_log_reader.proofs.Causes.{works-then, works_value}
 use Rattle.mps_blocks.proofs.Replaying.{one_more, interned_more, all_read, all_stop, all_counted}
 use Rattle.mps_blocks.proofs.command.replay_records.Goals as goal
 
@@ -14,7 +14,7 @@ loop-preserved g c =
     let next = rw c.in-Some.is at c.in_ok-replay_next.ensures.replays in
     let step = c.in_ok-replay_next.ensures.works in
     record {
-      works = works-then _ _ _ _ _ _ (Ok tt) (Ok tt) works (record { runs = step.runs; fault = step.fault; cause = tt });
+      works = works-then _ _ _ _ _ _ tt (Ok tt) works (works_value _ _ _ _ _ tt step);
       offset = let size = rw c.in-Some.is at c.in_ok-replay_next.ensures.size in omega (arith, size, c.loop.invariant.offset);
       interned = let more = interned_more c.loop.replay c.replay_next.new.replay next.read next.replay in
           omega (arith, more, c.loop.invariant.interned);

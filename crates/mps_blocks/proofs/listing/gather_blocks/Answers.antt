@@ -1,4 +1,4 @@
-use Rattle.std.proofs.Common.{◌≡◌, ◌+◌, ◌++◌, get_or, drop, arith}
+use Rattle.std.proofs.Common.{◌+◌, get_or, drop, arith}
 use Rattle.std.specs.Map.{lookup}
 use Rattle.std.specs.Prelude.{nat_eq}
 use Rattle.mps_blocks.specs.Entries.{block_there, blocks_at}

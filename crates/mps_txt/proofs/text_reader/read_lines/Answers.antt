@@ -4,7 +4,7 @@ use Rattle.std.proofs.lemmas.Result.{err_from_is_err_and}
 use Rattle.mps_log_reader.specs.Causes.{WorksOnInput}
 use Rattle.mps_log_reader.specs.Left.{left_of}
 use Rattle.mps_log_reader.specs.PutOut.{put_out}
-use Rattle.mps_log_reader.proofs.Causes.{works-then}
+use Rattle.mps_log_reader.proofs.Causes.{works-then, works_value}
 use Rattle.mps_log_reader.proofs.PartPut.{grows_none, grows_then}
 use Rattle.mps_log_reader.proofs.Stops.{stopped, not_at_the_end, handed_on}
 use Rattle.mps_txt.specs.declared.bad_text_line.BadTextLine.{BadTextLine}
@@ -80,7 +80,7 @@ loop-lines-preserved g c =
     let next = progress c.read_next.new.labels (g.D.Desk.outside c.read_next.new.desk) c.read_next.new.input c.read_next.new.output in
     let unread = (g.D.Desk.outside c.read_next.new.desk).input in
     record {
-      works = works-then _ _ _ _ _ _ (Ok tt) (Ok tt) works (record { runs = step.runs; fault = step.fault; cause = tt });
+      works = works-then _ _ _ _ _ _ tt (Ok tt) works (works_value _ _ _ _ _ tt step);
       reported = c.in_ok-read_next.ensures.reported ∙ c.loop-lines.invariant.reported;
       err_faults = c.in_ok-read_next.ensures.err_faults ∙ c.loop-lines.invariant.err_faults;
       at_end = c.in_ok-read_next.ensures.at_end;
