@@ -1,7 +1,7 @@
 -- Parts of the buffer, and what comes next of them.
-use Rattle.std.proofs.Common.{◌≡◌, ℕ, ◌+◌, ◌-◌, ◌≤◌, List, ◌++◌, length, take, drop, sym, ◌∙◌, ap, arith, append_assoc}
+use Rattle.std.proofs.Common.{◌≡◌, ℕ, ◌+◌, ◌-◌, ◌≤◌, Result, Ok, Err, OnErr, List, ◌++◌, length, take, drop, sym, ◌∙◌, ap, arith, append_assoc}
 use Rattle.std.proofs.Math.Seq.{take-append-add}
-use Rattle.std.proofs.lemmas.List.{take-take, drop-take, drop-drop, drop-append-le, length-take-le, length-drop, take-append-le}
+use Rattle.std.proofs.lemmas.List.{take_at, take-take, drop-take, drop-drop, drop-append-le, length-take-le, length-drop, take-append-le}
 use Rattle.mps_cli.specs.Buffer.{bytes_between}
 
 -- what lies before an index of a part
@@ -53,3 +53,20 @@ between_grown bytes buf tail later s e n room h k m r =
     between_take s (e + n) room ((take e bytes ++ (buf ++ tail)) ++ later) a r
     ∙ (ap (bytes_between s (e + n)) (append_assoc (take e bytes) (buf ++ tail) later)
     ∙ (between_after bytes ((buf ++ tail) ++ later) s e n h k ∙ ap (λ p. bytes_between s e bytes ++ p) front))
+
+-- what waited before a read that failed
+pub between_kept : (bytes buf tail later : List ℕ) (s e room : ℕ) → s ≤ e → e ≤ length bytes → e ≤ room
+    → bytes_between s e (take room ((take e bytes ++ (buf ++ tail)) ++ later)) ≡ bytes_between s e bytes
+between_kept bytes buf tail later s e room h k r =
+    let rest = (buf ++ tail) ++ later in
+    let long : length (take e bytes) ≡ e = length-take-le e bytes k in
+    let all : e ≤ e = omega arith in
+    between_take s e room ((take e bytes ++ (buf ++ tail)) ++ later) h r
+    ∙ (ap (bytes_between s e) (append_assoc (take e bytes) (buf ++ tail) later)
+    ∙ (sym (between_take s e e (take e bytes ++ rest) h all)
+    ∙ (ap (bytes_between s e) (take_at (take e bytes) rest e long) ∙ between_take s e e bytes h all)))
+
+-- what holds holds at an error
+pub at_an_error : {T E : Type 0} (r : Result T E) (P : Type 0) → P → OnErr r P
+at_an_error (Ok value) P h = tt
+at_an_error (Err why) P h = h

@@ -13,16 +13,17 @@ use Rattle.mps_report.specs.declared.stop.Stop.{Stop}
 use Rattle.mps_report.specs.declared.stop.Stop.TheVariants as stop
 use Rattle.mps_report.proofs.Outside.{reports_only-then}
 use Rattle.mps_script.specs.Line.{lines_of, call_of_line}
-use Rattle.mps_cli.specs.Buffer.{length_of_line}
+use Rattle.std.specs.Option.{option_map}
+use Rattle.mps_cli.specs.Buffer.{LineBuffer, KeepsUnread, rest_of_script, length_of_line}
 use Rattle.mps_cli.specs.Ending.{Ending, IsFault, is_fault, is_verdict}
-use Rattle.mps_cli.specs.Leaving.{IsUnbegun, NeedsMemory, RunsOutOfMemory, Begins, LeavesPartOfRecords, LeavesPartOfAnswer, Leaves, LeavesRun, IsBegun, StopsLogging, StopsPrinting, Stops, records_after}
+use Rattle.mps_cli.specs.Leaving.{IsUnbegun, StopsReading, NeedsMemory, RunsOutOfMemory, Begins, LeavesPartOfRecords, LeavesPartOfAnswer, Leaves, LeavesRun, IsBegun, StopsLogging, StopsPrinting, Stops, records_after}
 use Rattle.mps_cli.specs.Script.{LeavesWhole, RanTo, answers_of, commands_of_call, commands_from, log_header}
 use Rattle.mps_report.specs.Streams.{appended}
 use Rattle.mps_cli.specs.declared.bad_script_line.BadScriptLine.{BadScriptLine}
 use Rattle.mps_cli.specs.declared.next.Next.TheVariants.{Line}
 use Rattle.mps_report.proofs.Appended.{appended_empty, appended_twice}
 use Rattle.mps_cli.proofs.LineByLine.{first_line}
-use Rattle.mps_cli.proofs.SoFar.{NextRead, has_run, leaves_whole, commands_more, unsupported-append}
+use Rattle.mps_cli.proofs.SoFar.{SoFar, NextRead, has_run, leaves_whole, commands_more, unsupported-append}
 
 -- ---- one line
 
@@ -129,6 +130,17 @@ module _ (header script : List ℕ) (old start new : Outside) (p : start.printed
     logged = logged_after (records_bytes (log_of r.history)) r.logged;
   }
 
+  reading_after : StopsReading [] script start new → StopsReading header script old new
+  unfolding whole_after
+  reading_after r = record {
+    whole = whole_after r.whole;
+    part = r.part;
+    unread = r.unread;
+    input = r.input;
+    parts = r.parts;
+    unfinished = r.unfinished;
+  }
+
   memory_after : RunsOutOfMemory [] script start new → RunsOutOfMemory header script old new
   unfolding whole_after
   memory_after r = record { whole = whole_after r.whole; next = r.next }
@@ -166,7 +178,7 @@ module _ (script : List ℕ) (old start new : Outside) (p : start.printed ≡ ol
   leaves_after_header (Ok done) r = whole_after log_header script old start new p l r
   leaves_after_header (Err (stop.Bad bad)) r = whole_after log_header script old start new p l r
   leaves_after_header (Err stop.TooLong) r = whole_after log_header script old start new p l r
-  leaves_after_header (Err stop.ReadFailed) r = inr (whole_after log_header script old start new p l r)
+  leaves_after_header (Err stop.ReadFailed) r = inr (reading_after log_header script old start new p l r)
   leaves_after_header (Err stop.OutOfMemory) r = inr (memory_after log_header script old start new p l r)
   leaves_after_header (Err stop.LogFailed) (inl r) = inr (inl (whole_after log_header script old start new p l r))
   leaves_after_header (Err stop.LogFailed) (inr r) = inr (inr (records_part_after log_header script old start new p l r))
@@ -184,7 +196,8 @@ leaves_unbegun why script old new (inr is) u =
 
 -- ---- nothing more is printed or logged
 
-module _ (header script : List ℕ) (old mid new : Outside) (printed : new.printed ≡ mid.printed) (logged : new.logged ≡ mid.logged) where
+module _ (header script : List ℕ) (old mid new : Outside) (printed : new.printed ≡ mid.printed) (logged : new.logged ≡ mid.logged)
+    (input : new.input ≡ mid.input) where
   whole_kept : LeavesWhole header script old mid → LeavesWhole header script old new
   whole_kept r = record {
     history = r.history;
@@ -192,6 +205,17 @@ module _ (header script : List ℕ) (old mid new : Outside) (printed : new.print
     run = r.run;
     printed = printed ∙ r.printed;
     logged = logged ∙ r.logged;
+  }
+
+  reading_kept : StopsReading header script old mid → StopsReading header script old new
+  unfolding whole_kept
+  reading_kept r = record {
+    whole = whole_kept r.whole;
+    part = r.part;
+    unread = r.unread;
+    input = input ∙ r.input;
+    parts = r.parts;
+    unfinished = r.unfinished;
   }
 
   memory_kept : RunsOutOfMemory header script old mid → RunsOutOfMemory header script old new
@@ -228,7 +252,7 @@ module _ (header script : List ℕ) (old mid new : Outside) (printed : new.print
   leaves_kept (Ok done) r = whole_kept r
   leaves_kept (Err (stop.Bad bad)) r = whole_kept r
   leaves_kept (Err stop.TooLong) r = whole_kept r
-  leaves_kept (Err stop.ReadFailed) r = whole_kept r
+  leaves_kept (Err stop.ReadFailed) r = reading_kept r
   leaves_kept (Err stop.OutOfMemory) r = memory_kept r
   leaves_kept (Err stop.LogFailed) (inl r) = inl (whole_kept r)
   leaves_kept (Err stop.LogFailed) (inr r) = inr (records_part_kept r)
@@ -258,10 +282,40 @@ not_write_failed ends none is = let wrong : true ≡ false = sym (ap is_fault is
 
 -- a side failed between two lines
 pub leaves_faulted : (header script : List ℕ) (old new : Outside) (why : Stop BadScriptLine) → IsFault why
-    → LeavesWhole header script old new → Leaves (Err why) header script old new
-leaves_faulted header script old new why (inl is) r = subst (λ e. Leaves (Err e) header script old new) (sym is) r
-leaves_faulted header script old new why (inr (inl is)) r = subst (λ e. Leaves (Err e) header script old new) (sym is) (inl r)
-leaves_faulted header script old new why (inr (inr is)) r = subst (λ e. Leaves (Err e) header script old new) (sym is) (inl r)
+    → LeavesWhole header script old new → (why ≡ stop.ReadFailed → StopsReading header script old new)
+    → Leaves (Err why) header script old new
+leaves_faulted header script old new why (inl is) r reads = subst (λ e. Leaves (Err e) header script old new) (sym is) (reads is)
+leaves_faulted header script old new why (inr (inl is)) r reads = subst (λ e. Leaves (Err e) header script old new) (sym is) (inl r)
+leaves_faulted header script old new why (inr (inr is)) r reads = subst (λ e. Leaves (Err e) header script old new) (sym is) (inl r)
+
+-- a read failed between two lines
+unread_part : (after : Option (List ℕ)) (waiting rest : List ℕ) → option_map (λ left. waiting ++ left) after ≡ Some rest
+    → (unread : List ℕ) × (after ≡ Some unread) × (rest ≡ waiting ++ unread)
+unread_part None waiting rest e = absurd (let wrong : None ≡ Some rest = e in cc)
+unread_part (Some unread) waiting rest e = (unread, refl, (let same : Some (waiting ++ unread) ≡ Some rest = e in cc))
+
+stops_reading_at : (has_arena : Bool) (heap : HeapState) (n : ℕ) (old now new : Outside) (script : List ℕ) (left : Option (List ℕ)) (w x : LineBuffer)
+    (before after : Option (List ℕ)) → SoFar has_arena heap n old now (Some script) left → left ≡ rest_of_script w before → new.input ≡ after
+    → KeepsUnread w x before after → new.printed ≡ now.printed → new.logged ≡ now.logged → StopsReading [] script old new
+stops_reading_at has_arena heap n old now new script None w x before after f is input k printed logged = absurd f.read
+stops_reading_at has_arena heap n old now new script (Some rest) w x before after f is input k printed logged =
+    let parts = unread_part after x.waiting rest (k.left ∙ sym is) in
+    record {
+      whole = leaves_whole new f printed logged;
+      part = x.waiting;
+      unread = parts.0;
+      input = input ∙ parts.1;
+      parts = sym f.read.left ∙ parts.2;
+      unfinished = k.unfinished;
+    }
+
+pub stops_reading : {has_arena : Bool} {heap : HeapState} {n : ℕ} {old now : Outside} {known left : Option (List ℕ)} (script : List ℕ) (new : Outside)
+    (w x : LineBuffer) (before after : Option (List ℕ)) → SoFar has_arena heap n old now known left → known ≡ Some script
+    → left ≡ rest_of_script w before → new.input ≡ after → KeepsUnread w x before after → new.printed ≡ now.printed
+    → new.logged ≡ now.logged → StopsReading [] script old new
+stops_reading {has_arena} {heap} {n} {old} {now} {known} {left} script new w x before after f e is input k printed logged =
+    stops_reading_at has_arena heap n old now new script left w x before after (subst (λ s. SoFar has_arena heap n old now s left) e f) is input k printed
+    logged
 
 -- that is no end of the lines
 pub no_verdict_of_fault : (why : Stop BadScriptLine) → IsFault why → is_verdict (Err why) ≡ false
@@ -274,13 +328,13 @@ no_verdict_of_fault why (inr (inr is)) = rw is refl
 module _ (script : List ℕ) (old mid new : Outside) (o : OnlyReports mid new) where
   -- a report changes nothing of what the run leaves
   pub leaves_then_reported : (ends : Ending) → LeavesRun ends script old mid → LeavesRun ends script old new
-  leaves_then_reported (Ok done) r = whole_kept log_header script old mid new o.printed o.logged r
-  leaves_then_reported (Err (stop.Bad bad)) r = whole_kept log_header script old mid new o.printed o.logged r
-  leaves_then_reported (Err stop.TooLong) r = whole_kept log_header script old mid new o.printed o.logged r
+  leaves_then_reported (Ok done) r = whole_kept log_header script old mid new o.printed o.logged o.input r
+  leaves_then_reported (Err (stop.Bad bad)) r = whole_kept log_header script old mid new o.printed o.logged o.input r
+  leaves_then_reported (Err stop.TooLong) r = whole_kept log_header script old mid new o.printed o.logged o.input r
   leaves_then_reported (Err stop.ReadFailed) (inl r) = inl (record { printed = o.printed ∙ r.printed; logged = o.logged ∙ r.logged })
-  leaves_then_reported (Err stop.ReadFailed) (inr r) = inr (whole_kept log_header script old mid new o.printed o.logged r)
+  leaves_then_reported (Err stop.ReadFailed) (inr r) = inr (reading_kept log_header script old mid new o.printed o.logged o.input r)
   leaves_then_reported (Err stop.OutOfMemory) (inl r) = inl (reports_only-then old mid new r o)
-  leaves_then_reported (Err stop.OutOfMemory) (inr r) = inr (memory_kept log_header script old mid new o.printed o.logged r)
+  leaves_then_reported (Err stop.OutOfMemory) (inr r) = inr (memory_kept log_header script old mid new o.printed o.logged o.input r)
   leaves_then_reported (Err stop.LogFailed) (inl r) = inl (record {
     printed = o.printed ∙ r.printed;
     count = r.count;
@@ -288,9 +342,9 @@ module _ (script : List ℕ) (old mid new : Outside) (o : OnlyReports mid new) w
         ∙ r.logged;
   })
   leaves_then_reported (Err stop.LogFailed) (inr r) =
-      inr (leaves_kept log_header script old mid new o.printed o.logged (Err stop.LogFailed) r)
-  leaves_then_reported (Err stop.WriteFailed) r = leaves_kept log_header script old mid new o.printed o.logged (Err stop.WriteFailed) r
+      inr (leaves_kept log_header script old mid new o.printed o.logged o.input (Err stop.LogFailed) r)
+  leaves_then_reported (Err stop.WriteFailed) r = leaves_kept log_header script old mid new o.printed o.logged o.input (Err stop.WriteFailed) r
 
   -- nor of how far it ran
   pub ran_then_reported : (ends : Ending) → RanTo ends log_header script old mid → RanTo ends log_header script old new
-  ran_then_reported ends r = ran_kept log_header script old mid new o.printed o.logged ends r
+  ran_then_reported ends r = ran_kept log_header script old mid new o.printed o.logged o.input ends r

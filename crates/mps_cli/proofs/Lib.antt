@@ -4,7 +4,8 @@ pub mod LogFile
 pub mod NextLine
 pub mod RecordBytes
 pub mod LineByLine
-pub mod InRange
+pub mod Generated
+mod InRange
 pub mod Steps
 pub mod SoFar
 pub mod Leaving

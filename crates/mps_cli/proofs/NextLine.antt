@@ -1,11 +1,12 @@
 -- What comes next of what waits comes next of all that is left.
-use Rattle.std.proofs.Common.{◌≡◌, ℕ, ◌+◌, ◌<◌, ◌≤◌, not, Option, Some, None, IfSome, List, [], ◌∷◌, ◌++◌, length, take, drop, refl, sym, ◌∙◌, ap, arith, append_assoc, length-append}
+use Rattle.std.proofs.Common.{◌≡◌, ℕ, ◌+◌, ◌<◌, ◌≤◌, not, subst, Option, Some, None, IfSome, List, [], ◌∷◌, ◌++◌, length, take, drop, refl, sym, ◌∙◌, ap, arith, append_assoc, length-append}
 use Rattle.std.proofs.lemmas.List.{drop-append-le, take-append-le}
 use Rattle.std.proofs.lemmas.List.Folds.{prefix_len-append}
 use Rattle.std.proofs.lemmas.List.Sums.{prefix_len-le-length}
 use Rattle.std.proofs.lemmas.Grind.{common_steps}
+use Rattle.std.specs.Option.{option_map}
 use Rattle.mps_script.specs.Line.{is_line_feed}
-use Rattle.mps_cli.specs.Buffer.{LineBuffer, TakesIn, HeldGives, IsLast, ComesNextOf, rest_of_script, length_of_line}
+use Rattle.mps_cli.specs.Buffer.{LineBuffer, TakesIn, HeldGives, IsLast, KeepsUnread, ComesNextOf, rest_of_script, length_of_line}
 use Rattle.mps_cli.specs.declared.next.Next.{Next}
 use Rattle.mps_cli.specs.declared.next.Next.TheVariants.{Line, TooLong, End}
 
@@ -90,3 +91,14 @@ end_comes old held filled new (Some left) (Some rest) count next h t zero none l
     let no_rest : rest ≡ [] = empty_front t.chunk rest (sym from ∙ none) in
     let whole : length_of_line held.waiting ≡ length held.waiting = rw (← h.0) at h.1 in
     rw (from, ← h.0) (nothing_read_then held filled new rest next t.chunk whole last t.waits no_chunk no_rest)
+
+-- what waits holds no whole line, and a read failed
+pub keeps_unread : (first old held new : LineBuffer) (before between after : Option (List ℕ))
+    → rest_of_script old between ≡ rest_of_script first before → HeldGives old held None → new.waiting ≡ held.waiting → after ≡ between
+    → KeepsUnread first new before after
+keeps_unread first old held new before between after kept h waits input =
+    let same : new.waiting ≡ old.waiting = waits ∙ h.0 in
+    record {
+      unfinished = subst (λ (w : List ℕ). length_of_line w ≡ length w) (sym same) h.1;
+      left = ap (λ (w : List ℕ). option_map (λ rest. w ++ rest) after) same ∙ (ap (rest_of_script old) input ∙ kept);
+    }

@@ -1,12 +1,15 @@
 -- The report at the end of a run, and the status.
-use Rattle.std.proofs.Common.{◌≡◌, ℕ, ◌≤◌, true, Ok, Err, OnOk, IfErr, refl, sym, ◌∙◌, ap, arith, subst, inl, inr}
-use Rattle.mps_desk.specs.Desk.{Outside, OnlyReports, HasRisen}
+use Rattle.std.proofs.Common.{◌≡◌, ℕ, ◌≤◌, List, [], ◌∷◌, ◌++◌, Option, Some, None, append_assoc, true, Ok, Err, OnOk, IfErr, refl, sym, ◌∙◌, ap, arith, subst, inl, inr}
+use Rattle.mps_desk.specs.Desk.{Outside, OnlyReports, HasRisen, IsSteady}
+use Rattle.mps_log_reader.proofs.Steady.{asks_then_nothing}
 use Rattle.mps_log_reader.specs.Ending.{is_input_verdict}
 use Rattle.mps_report.specs.declared.stop.Stop.TheVariants as stop
 use Rattle.mps_report.specs.Reports.{report_of, status_of, status_of_ending, HasReportedEnding}
 use Rattle.mps_report.specs.Streams.{Reports}
 use Rattle.mps_report.proofs.Outside.{reports_only-same}
-use Rattle.mps_cli.specs.Ending.{Ending, HasCause, RunsOn, text_of_bad_line}
+use Rattle.mps_cli.specs.Ending.{AsksInOrder, Ending, HasCause, RunsOn, requests_of_run, text_of_bad_line}
+use Rattle.mps_desk.specs.Desk.{AreNext, Asks, Request, opening}
+use Rattle.std.specs.Option.{option_map}
 use Rattle.mps_cli.specs.Script.{NoFaultRose}
 use Rattle.mps_report.specs.Streams.{appended}
 
@@ -32,6 +35,57 @@ is_reported (Err why) status old new zero same is reports = record {
   counted = reports.counted;
   others = reports.others;
 }
+
+-- a report asks for nothing by name
+pub asks_then_reported : (log script : List ℕ) (old mid new : Outside) → OnlyReports mid new → (ends : Ending)
+    → AsksInOrder log script ends old mid → AsksInOrder log script ends old new
+asks_then_reported log script old mid new o (Ok done) h = asks_then_nothing old mid new (requests_of_run log script) h o.asked
+asks_then_reported log script old mid new o (Err stop.OutOfMemory) (inl h) = inl (asks_then_nothing old mid new [] h o.asked)
+asks_then_reported log script old mid new o (Err stop.OutOfMemory) (inr h) =
+    inr (asks_then_nothing old mid new (requests_of_run log script) h o.asked)
+asks_then_reported log script old mid new o (Err stop.ReadFailed) (inl h) =
+    inl (asks_then_nothing old mid new (opening script ∷ []) h o.asked)
+asks_then_reported log script old mid new o (Err stop.ReadFailed) (inr h) =
+    inr (asks_then_nothing old mid new (requests_of_run log script) h o.asked)
+asks_then_reported log script old mid new o (Err stop.WriteFailed) h =
+    asks_then_nothing old mid new (requests_of_run log script) h o.asked
+asks_then_reported log script old mid new o (Err stop.LogFailed) h =
+    asks_then_nothing old mid new (requests_of_run log script) h o.asked
+asks_then_reported log script old mid new o (Err stop.TooLong) h =
+    asks_then_nothing old mid new (requests_of_run log script) h o.asked
+asks_then_reported log script old mid new o (Err (stop.Bad bad)) h =
+    asks_then_nothing old mid new (requests_of_run log script) h o.asked
+
+pub steady_then_reported : (old mid new : Outside) → IsSteady old mid → OnlyReports mid new → IsSteady old new
+steady_then_reported old mid new f o = record {
+  in_faults = o.in_faults ∙ f.in_faults;
+  log_faults = o.log_faults ∙ f.log_faults;
+  out_faults = o.out_faults ∙ f.out_faults;
+}
+
+-- after both were asked for, any ending
+pub asked_for_both : (log script : List ℕ) (old mid new : Outside) (ends : Ending) → Asks old mid (requests_of_run log script)
+    → new.asked ≡ mid.asked → AsksInOrder log script ends old new
+asked_for_both log script old mid new (Err stop.OutOfMemory) h same = inr (asks_then_nothing old mid new (requests_of_run log script) h same)
+asked_for_both log script old mid new (Err stop.ReadFailed) h same = inr (asks_then_nothing old mid new (requests_of_run log script) h same)
+asked_for_both log script old mid new (Ok done) h same = asks_then_nothing old mid new (requests_of_run log script) h same
+asked_for_both log script old mid new (Err stop.WriteFailed) h same = asks_then_nothing old mid new (requests_of_run log script) h same
+asked_for_both log script old mid new (Err stop.LogFailed) h same = asks_then_nothing old mid new (requests_of_run log script) h same
+asked_for_both log script old mid new (Err stop.TooLong) h same = asks_then_nothing old mid new (requests_of_run log script) h same
+asked_for_both log script old mid new (Err (stop.Bad bad)) h same = asks_then_nothing old mid new (requests_of_run log script) h same
+
+two_asked : (before middle after : Option (List Request)) (first second : Request) → AreNext before (first ∷ []) middle
+    → AreNext middle (second ∷ []) after → AreNext before (first ∷ second ∷ []) after
+two_asked before middle None first second f g = tt
+two_asked before None (Some all) first second f g = absurd (let wrong : Some all ≡ None = g in cc)
+two_asked None (Some some) (Some all) first second f g = absurd (let wrong : Some some ≡ None = f in cc)
+two_asked (Some known) (Some some) (Some all) first second f g =
+    g ∙ (ap (option_map (λ rs. rs ++ second ∷ [])) f ∙ ap Some (append_assoc known (first ∷ []) (second ∷ [])))
+
+-- one request after another
+pub asks_two : (old mid new : Outside) (first second : Request) → Asks old mid (first ∷ []) → Asks mid new (second ∷ [])
+    → Asks old new (first ∷ second ∷ [])
+asks_two old mid new first second f g = two_asked old.asked mid.asked new.asked first second f g
 
 -- nothing, and then the report of an ending
 pub reported_after : (ends : Ending) (old mid new : Outside) → RunsOn old mid → HasReportedEnding text_of_bad_line ends mid new

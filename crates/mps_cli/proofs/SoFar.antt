@@ -1,8 +1,8 @@
 -- What a run has done so far, and what is left to do.
-use Rattle.std.proofs.Common.{◌≡◌, ℕ, ◌+◌, ◌<◌, ◌≤◌, Bool, true, false, Option, Some, None, Ok, Err, List, [], ◌∷◌, ◌++◌, length, take, drop, refl, sym, ◌∙◌, ap, arith, append-nil, option_and_then, subst, zero-add, nat_lt}
+use Rattle.std.proofs.Common.{◌≡◌, ℕ, ◌+◌, ◌<◌, ◌≤◌, Bool, true, false, Option, Some, None, Ok, Err, List, [], ◌∷◌, ◌++◌, length, take, drop, refl, sym, ◌∙◌, ap, arith, append-nil, option_and_then, subst, zero-add, add-one, nat_lt}
 use Rattle.std.proofs.lemmas.List.{map-append, length-take-le}
 use Rattle.std.proofs.lemmas.Grind.{flat_map-append, common_steps}
-use Rattle.mps_desk.specs.Desk.{Outside, OnlyReads}
+use Rattle.mps_desk.specs.Desk.{Outside, IsSteady, OnlyReads}
 use Rattle.mps_base.specs.Record.{record_bytes, records_bytes}
 use Rattle.mps_model.specs.Step.{Step, History}
 use Rattle.mps_model.specs.Log.{log_from, log_of, pools_made}
@@ -18,7 +18,7 @@ use Rattle.mps_script.specs.Line.{lines_of, call_of_line, max_line_bytes}
 use Rattle.mps_script.specs.Script.{has_arena_after, is_good_after, is_grammatical, is_some_call}
 use Rattle.mps_report.specs.Streams.{appended}
 use Rattle.mps_cli.specs.Ending.{Ending, RunsOn}
-use Rattle.mps_cli.specs.Buffer.{ComesNextOf, length_of_line}
+use Rattle.mps_cli.specs.Buffer.{ComesNextOf, after_lines, length_of_line}
 use Rattle.mps_cli.specs.Script.{ScriptCommand, StepsRan, HasRun, LeavesWhole, AreUnsupportedWhereDue, RanTo, Answered, IsBadHere, RunEndsAt, answers_of, commands_of, command_of_step, commands_of_call, commands_from, max_lines}
 use Rattle.mps_cli.specs.declared.next.Next.{Next}
 use Rattle.mps_cli.specs.declared.next.Next.TheVariants.{Line, TooLong, End}
@@ -31,6 +31,7 @@ pub record ReadUpTo (lines : ℕ) (history : History) (script rest : List ℕ) :
   pub grammatical : is_grammatical (take lines (lines_of script)) ≡ true
   pub commands : commands_of history ≡ commands_from 1 (take lines (lines_of script))
   pub later : drop lines (lines_of script) ≡ lines_of rest
+  pub left : rest ≡ after_lines lines script
 
 -- the same, where the script is known
 abbrev pub ReadSoFar : (lines : ℕ) → History → (script left : Option (List ℕ)) → Type 0
@@ -41,6 +42,7 @@ ReadSoFar lines history (Some script) (Some rest) = ReadUpTo lines history scrip
 -- what was printed and logged since the first line is that of a history
 pub record SoFar (has_arena : Bool) (heap : HeapState) (lines : ℕ) (old now : Outside) (script left : Option (List ℕ)) : Type 0 where
   pub history : History
+  pub bounded : lines ≤ max_lines
   pub printed : now.printed ≡ appended old.printed (answers_of history)
   pub logged : now.logged ≡ appended old.logged (records_bytes (log_of history))
   pub read : ReadSoFar lines history script left
@@ -73,12 +75,13 @@ next_read {has_arena} {heap} {n} {old} {before} {now} {known} {left} {script} {n
 
 read_nothing : (left : Option (List ℕ)) → ReadSoFar 0 [] left left
 read_nothing None = refl
-read_nothing (Some script) = record { grammatical = refl; commands = refl; later = refl }
+read_nothing (Some script) = record { grammatical = refl; commands = refl; later = refl; left = refl }
 
 -- before the first line
 pub at_start : (heap : HeapState) (o : Outside) (left : Option (List ℕ)) → StandsFor heap empty_world → SoFar false heap 0 o o left left
 at_start heap o left stands = record {
   history = [];
+  bounded = omega arith;
   printed = appended_empty o.printed;
   logged = appended_empty o.logged;
   read = read_nothing left;
@@ -89,6 +92,9 @@ at_start heap o left stands = record {
   replayed = refl;
   arena = refl;
 }
+
+after_one_more : (n : ℕ) (script : List ℕ) → after_lines (n + 1) script ≡ drop (length_of_line (after_lines n script) + 1) (after_lines n script)
+after_one_more n script = ap (λ m. after_lines m script) (add-one n)
 
 -- one line more of a script: its command
 pub commands_more : (n : ℕ) (h steps : History) (script rest line : List ℕ) → ReadUpTo n h script rest
@@ -118,6 +124,7 @@ read_more n h steps script rest line rest2 r pos at later good answers =
       grammatical = grammar_more n h (lines_of script) line (lines_of rest2) (r.later ∙ first) r.grammatical r.commands ∙ good;
       commands = commands_more n h steps script rest line r pos at answers;
       later = more.1;
+      left = later ∙ (ap (λ (bytes : List ℕ). drop (length_of_line bytes + 1) bytes) r.left ∙ sym (after_one_more n script));
     }
 
 read_next : (n : ℕ) (h steps : History) (script left : Option (List ℕ)) (line : List ℕ) (left2 : Option (List ℕ))
@@ -149,10 +156,11 @@ pub one_line_more : {has_arena has_arena2 : Bool} {heap heap2 : HeapState} {n : 
     (line : List ℕ)
     → SoFar has_arena heap n old o1 script left → OnlyReads o1 o2 → ComesNextOf Line left line left2
     → is_good_after has_arena line ≡ true → has_arena2 ≡ has_arena_after has_arena (call_of_line line)
-    → StepsRan (commands_of_call (n + 1) (call_of_line line)) heap heap2 o2 o3
+    → StepsRan (commands_of_call (n + 1) (call_of_line line)) heap heap2 o2 o3 → n + 1 ≤ max_lines
     → SoFar has_arena2 heap2 (n + 1) old o3 script left2
 one_line_more {has_arena} {has_arena2} {heap} {heap2} {n} {old} {o1} {o2} {o3} {script}
-    {left} left2 line f reads next good arena s = record {
+    {left} left2 line f reads next good arena s bounded = record {
+      bounded = bounded;
       history = f.history ++ s.steps;
       printed = s.printed
           ∙ (ap (λ known. appended known (answers_of s.steps)) (reads.printed ∙ f.printed)
@@ -191,6 +199,7 @@ pub has_run : {has_arena : Bool} {heap : HeapState} {n : ℕ} {old now : Outside
     (f : SoFar has_arena heap n old now (Some script) (Some rest))
     → HasRun script n f.history
 has_run f = record {
+  bounded = f.bounded;
   grammatical = f.read.grammatical;
   commands = f.read.commands;
   legal = f.legal;
@@ -254,26 +263,26 @@ module _ (has_arena : Bool) (heap : HeapState) (n : ℕ) (old o1 o2 : Outside) (
 
   -- at a line that is too long
   long_line_at : (left left2 : Option (List ℕ)) (line : List ℕ) → NextRead has_arena heap n old o1 o2 script left TooLong line left2
-      → RanTo (Err (stop.Bad (record { line = n + 1 }))) [] script old o2
-  long_line_at None left2 line r = absurd r.so_far.read
-  long_line_at (Some rest) left2 line r =
+      → n + 1 ≤ max_lines → RanTo (Err (stop.Bad (record { line = n + 1 }))) [] script old o2
+  long_line_at None left2 line r bounded = absurd r.so_far.read
+  long_line_at (Some rest) left2 line r bounded =
       let long : length (take (length_of_line rest) rest) ≡ length_of_line rest = length-take-le (length_of_line rest) rest
       (line_bound rest) in
       let bad : is_good_after has_arena (take (length_of_line rest) rest) ≡ false = long_line_is_bad (take (length_of_line rest) rest)
       (omega (arith, r.comes)) in
       let pos : 0 < length rest = omega (arith, r.comes, line_bound rest) in
       ends_with (Err (stop.Bad (record { line = n + 1 }))) r.so_far r.reads
-      (refl, next_is_bad rest (take (length_of_line rest) rest) r.so_far pos refl bad)
+      (refl, bounded, next_is_bad rest (take (length_of_line rest) rest) r.so_far pos refl bad)
 
   -- at a line that is bad
   bad_line_at : (left left2 : Option (List ℕ)) (line : List ℕ) (o3 : Outside) (ends : Ending)
       → NextRead has_arena heap n old o1 o2 script left Line line left2
-      → IsBadHere has_arena line (n + 1) ends o2 o3 → RanTo ends [] script old o3
-  bad_line_at None left2 line o3 ends r bad = absurd r.so_far.read
-  bad_line_at (Some rest) left2 line o3 ends r bad = record {
+      → IsBadHere has_arena line (n + 1) ends o2 o3 → n + 1 ≤ max_lines → RanTo ends [] script old o3
+  bad_line_at None left2 line o3 ends r bad bounded = absurd r.so_far.read
+  bad_line_at (Some rest) left2 line o3 ends r bad bounded = record {
     whole = leaves_whole o3 r.so_far (bad.printed ∙ r.reads.printed) (bad.logged ∙ r.reads.logged);
     ends_at = subst (λ e. RunEndsAt e n (lines_of script)) (sym bad.is_end)
-        (refl, next_is_bad rest line r.so_far r.comes.0 r.comes.1 bad.bad);
+        (refl, bounded, next_is_bad rest line r.so_far r.comes.0 r.comes.1 bad.bad);
   }
 
 pub ends_done : {has_arena : Bool} {heap : HeapState} {n : ℕ} {old o1 o2 : Outside} {script line : List ℕ} {left left2 : Option (List ℕ)}
@@ -290,16 +299,17 @@ ends_too_long {has_arena} {heap} {n} {old} {o1} {o2} {script} {line} {left} {lef
 
 pub ends_long_line : {has_arena : Bool} {heap : HeapState} {n : ℕ} {old o1 o2 : Outside} {script line : List ℕ} {left left2 : Option
     (List ℕ)}
-    → NextRead has_arena heap n old o1 o2 script left TooLong line left2 → RanTo (Err (stop.Bad (record { line = n + 1 }))) [] script old o2
+    → NextRead has_arena heap n old o1 o2 script left TooLong line left2 → n + 1 ≤ max_lines
+    → RanTo (Err (stop.Bad (record { line = n + 1 }))) [] script old o2
 ends_long_line {has_arena} {heap} {n} {old} {o1} {o2} {script} {line} {left}
-    {left2} r = long_line_at has_arena heap n old o1 o2 script left left2 line r
+    {left2} r bounded = long_line_at has_arena heap n old o1 o2 script left left2 line r bounded
 
 pub ends_bad_line : {has_arena : Bool} {heap : HeapState} {n : ℕ} {old o1 o2 o3 : Outside} {script line : List ℕ} {left left2 : Option
     (List ℕ)} {ends : Ending}
-    → NextRead has_arena heap n old o1 o2 script left Line line left2 → IsBadHere has_arena line (n + 1) ends o2 o3
+    → NextRead has_arena heap n old o1 o2 script left Line line left2 → IsBadHere has_arena line (n + 1) ends o2 o3 → n + 1 ≤ max_lines
     → RanTo ends [] script old o3
-ends_bad_line {has_arena} {heap} {n} {old} {o1} {o2} {o3} {script} {line} {left} {left2} {ends} r bad =
-    bad_line_at has_arena heap n old o1 o2 script left left2 line o3 ends r bad
+ends_bad_line {has_arena} {heap} {n} {old} {o1} {o2} {o3} {script} {line} {left} {left2} {ends} r bad bounded =
+    bad_line_at has_arena heap n old o1 o2 script left left2 line o3 ends r bad bounded
 
 -- ---- what was printed in any case
 
@@ -339,7 +349,7 @@ pub answered_nothing : (script : List ℕ) (old new : Outside) → new.printed �
 answered_nothing script old new same = record {
   history = [];
   lines = 0;
-  run = record { grammatical = refl; commands = refl; legal = tt; unsupported = tt; replayed = refl };
+  run = record { bounded = omega arith; grammatical = refl; commands = refl; legal = tt; unsupported = tt; replayed = refl };
   printed = same ∙ appended_empty old.printed;
 }
 
@@ -351,6 +361,18 @@ answered_between script old start end new before a later = record {
   lines = a.lines;
   run = a.run;
   printed = later ∙ (a.printed ∙ ap (λ known. appended known (answers_of a.history)) before);
+}
+
+-- ---- faults that did not come
+
+pub steady_self : (a : Outside) → IsSteady a a
+steady_self a = record { in_faults = refl; log_faults = refl; out_faults = refl }
+
+pub steady_then : (a b c : Outside) → IsSteady a b → IsSteady b c → IsSteady a c
+steady_then a b c f g = record {
+  in_faults = g.in_faults ∙ f.in_faults;
+  log_faults = g.log_faults ∙ f.log_faults;
+  out_faults = g.out_faults ∙ f.out_faults;
 }
 
 -- ---- a part of a run

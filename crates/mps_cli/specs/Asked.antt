@@ -6,7 +6,7 @@ use Rattle.mps_report.specs.declared.stop.Stop.TheVariants as stop
 use Rattle.mps_report.specs.Reports.{report_of, ReportsStatus}
 use Rattle.mps_report.specs.Streams.{Prints, Reports}
 use Rattle.mps_log_reader.specs.BadLog.{text_of_bad_log}
-use Rattle.mps_log_reader.specs.Causes.{StatusIsJustified}
+use Rattle.mps_log_reader.specs.Causes.{AsksWith, StatusIsJustified}
 use Rattle.mps_log_reader.specs.Ending.{IsUnopened, is_input_verdict}
 use Rattle.mps_log_reader.specs.Opening.{OpensNothing}
 use Rattle.mps_blocks.specs.BadReplay.{text_of_bad_replay}
@@ -31,6 +31,8 @@ ReportsUsage old new = Reports old new usage
 pub record ConvertsLog (log : List ℕ) (kinds : ℕ) (status : ℕ) (old new : Outside) : Type 0 where
   -- the status is one of a reader, and blames a side only where the count of its faults rose; the log and the files stay
   pub justified : StatusIsJustified old new status
+  -- this log was asked for by name, and nothing else
+  pub asked : AsksWith log old new status
   -- a log that the desk knows: the portable text of its records of these kinds was printed, up to the end or to the fault
   -- that is reported
   pub converted : is_input_verdict status ≡ true → (bytes : List ℕ) → old.text log ≡ Some bytes → ConvertedWith kinds bytes status old new
@@ -51,6 +53,8 @@ pub record ConvertsLog (log : List ℕ) (kinds : ℕ) (status : ℕ) (old new : 
 pub record ReadsText (text : List ℕ) (status : ℕ) (old new : Outside) : Type 0 where
   -- the status is one of a reader, and blames a side only where the count of its faults rose; the log and the files stay
   pub justified : StatusIsJustified old new status
+  -- this text was asked for by name, and nothing else
+  pub asked : AsksWith text old new status
   -- a text that the desk knows: its readable text was printed, line by line, up to the end or to the line that is reported
   pub sound : (bytes : List ℕ) → old.text text ≡ Some bytes → ReadWith bytes status old new
   -- and nothing else
@@ -66,6 +70,8 @@ pub record ReadsText (text : List ℕ) (status : ℕ) (old new : Outside) : Type
 pub record ListsBlocks (log : List ℕ) (status : ℕ) (old new : Outside) : Type 0 where
   -- the status is one of a reader, and blames a side only where the count of its faults rose; the log and the files stay
   pub justified : StatusIsJustified old new status
+  -- this log was asked for by name, and nothing else
+  pub asked : AsksWith log old new status
   -- a log that the desk knows: the blocks that its replay leaves live were printed, or nothing and the fault is reported
   pub listed : is_input_verdict status ≡ true → (bytes : List ℕ) → old.text log ≡ Some bytes → ListedWith bytes status old new
   -- and nothing else
@@ -82,6 +88,8 @@ pub record ListsBlocks (log : List ℕ) (status : ℕ) (old new : Outside) : Typ
 -- `gen`
 pub record GeneratesScript (seed count : ℕ) (status : ℕ) (old new : Outside) : Type 0 where
   pub statuses : (status ≡ 0) ⊎ (status ≡ 4) ⊎ (status ≡ 8)
+  -- nothing was asked for by name
+  pub asked : new.asked ≡ old.asked
   -- all of the script was printed, and nothing else happened
   pub whole : status ≡ 0 → Prints old new (generated_script seed count)
   -- a prefix of the script was printed, a write failed, and that was reported

@@ -1,5 +1,5 @@
 -- The lines of the input: what waits to be given, and what comes next.
-use Rattle.std.specs.Prelude.{ℕ, ◌≡◌, ◌+◌, ◌-◌, ◌<◌, ◌≤◌, Option, Some, None, List, [], ◌++◌, length, take, drop}
+use Rattle.std.specs.Prelude.{ℕ, ◌≡◌, ◌+◌, ◌-◌, ◌<◌, ◌≤◌, zero, suc, Option, Some, None, List, [], ◌∷◌, ◌++◌, length, take, drop, refl}
 use Rattle.std.specs.List.{position_or_len}
 use Rattle.std.specs.Option.{option_map}
 use Rattle.mps_script.specs.Line.{is_line_feed, max_line_bytes}
@@ -25,6 +25,15 @@ bytes_between from to bytes = take (to - from) (drop from bytes)
 abbrev pub length_of_line : List ℕ → ℕ
 length_of_line bytes = position_or_len is_line_feed bytes
 
+-- what is left after the first line and its line feed
+abbrev pub without_line : List ℕ → List ℕ
+without_line bytes = drop (length_of_line bytes + 1) bytes
+
+-- what is left after n lines
+abbrev pub after_lines : (lines : ℕ) → List ℕ → List ℕ
+after_lines zero bytes = bytes
+after_lines (suc n) bytes = without_line (after_lines n bytes)
+
 -- what is left: what waits, and after it the input that is left to read
 abbrev pub rest_of_script : LineBuffer → Option (List ℕ) → Option (List ℕ)
 rest_of_script w input = option_map (λ rest. w.waiting ++ rest) input
@@ -46,6 +55,11 @@ pub record TakesIn (old new : LineBuffer) (before after : Option (List ℕ)) (co
   pub waits : new.waiting ≡ old.waiting ++ chunk
   pub from : before ≡ option_map (λ rest. chunk ++ rest) after
 
+-- a read failed: what waits has no line feed, and together with the input that is left it is what was left before
+pub record KeepsUnread (old new : LineBuffer) (before after : Option (List ℕ)) : Type 0 where
+  pub unfinished : length_of_line new.waiting ≡ length new.waiting
+  pub left : rest_of_script new after ≡ rest_of_script old before
+
 -- what comes next of the bytes that are left
 abbrev pub ComesNext : Next → (left line : List ℕ) → (left_after : Option (List ℕ)) → Type 0
 ComesNext Line left line left_after =
@@ -63,3 +77,9 @@ abbrev pub IsLast : LineBuffer → LineBuffer → Next → Type 0
 IsLast old new Line = (0 < length old.waiting) × (new.line ≡ old.waiting) × (new.waiting ≡ [])
 IsLast old new TooLong = ⊥
 IsLast old new End = old.waiting ≡ []
+
+pub after_two_lines : after_lines 2 (97 ∷ 10 ∷ 10 ∷ 98 ∷ []) ≡ 98 ∷ []
+after_two_lines = refl
+
+pub after_a_last_line_without_line_feed : after_lines 1 (97 ∷ []) ≡ []
+after_a_last_line_without_line_feed = refl

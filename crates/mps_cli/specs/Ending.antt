@@ -1,7 +1,7 @@
 -- How a run ends, what is reported of it, and the fault that is its cause.
-use Rattle.std.specs.Prelude.{ℕ, ◌≡◌, ◌≤◌, ◌⊎◌, Bool, true, false, codes, decimal, Result, Ok, Err, List, ◌++◌, refl}
+use Rattle.std.specs.Prelude.{ℕ, ◌≡◌, ◌≤◌, ◌⊎◌, [], ◌∷◌, Bool, true, false, codes, decimal, Result, Ok, Err, List, ◌++◌, refl}
 use Rattle.std.specs.Fmt.{digits}
-use Rattle.mps_desk.specs.Desk.{Outside}
+use Rattle.mps_desk.specs.Desk.{Outside, Asks, Request, opening, making}
 use Rattle.mps_report.specs.declared.stop.Stop.{Stop}
 use Rattle.mps_report.specs.declared.stop.Stop.TheVariants as stop
 use Rattle.mps_report.specs.Causes.{CauseOf}
@@ -40,6 +40,23 @@ is_fault ending = false
 -- one of these
 abbrev pub IsFault : Stop BadScriptLine → Type 0
 IsFault why = (why ≡ stop.ReadFailed) ⊎ (why ≡ stop.LogFailed) ⊎ (why ≡ stop.WriteFailed)
+
+-- the script is to be opened and then the log made
+abbrev pub requests_of_run : (log script : List ℕ) → List Request
+requests_of_run log script = opening script ∷ making log ∷ []
+
+-- By name the script was asked for and then the log, once each, and nothing else. Nothing was asked for only where there was
+-- no memory, and the log wasn't only where the script couldn't be opened.
+abbrev pub AsksInOrder : (log script : List ℕ) → Ending → (old new : Outside) → Type 0
+AsksInOrder log script (Err stop.OutOfMemory) old new = Asks old new [] ⊎ Asks old new (requests_of_run log script)
+AsksInOrder log script (Err stop.ReadFailed) old new = Asks old new (opening script ∷ []) ⊎ Asks old new (requests_of_run log script)
+AsksInOrder log script ending old new = Asks old new (requests_of_run log script)
+
+-- the same, by the status of that ending
+pub record AsksWith (log script : List ℕ) (status : ℕ) (old new : Outside) : Type 0 where
+  pub ends : Ending
+  pub status_is : status ≡ status_of_ending ends
+  pub asks : AsksInOrder log script ends old new
 
 -- no count of faults fell
 pub record CountsGrow (old new : Outside) : Type 0 where

@@ -1,5 +1,5 @@
 -- What a run leaves printed and logged, however it ends.
-use Rattle.std.specs.Prelude.{ℕ, ◌≡◌, ◌+◌, ◌⊎◌, Err, List, [], ◌∷◌, ◌++◌, length, take, drop, codes, refl, IsTrue}
+use Rattle.std.specs.Prelude.{ℕ, ◌≡◌, ◌+◌, ◌⊎◌, Some, Err, List, [], ◌∷◌, ◌++◌, length, take, drop, codes, refl, IsTrue}
 use Rattle.mps_desk.specs.Desk.{Outside, OnlyReports}
 use Rattle.mps_base.specs.Record.{record_bytes, records_bytes, limit_set_code}
 use Rattle.mps_model.specs.declared.call.Call.TheVariants as call
@@ -18,6 +18,7 @@ use Rattle.mps_report.specs.Streams.{appended}
 use Rattle.mps_report.specs.declared.stop.Stop.{Stop}
 use Rattle.mps_report.specs.declared.stop.Stop.TheVariants as stop
 use Rattle.mps_report.specs.Reports.{status_of_ending}
+use Rattle.mps_cli.specs.Buffer.{after_lines, length_of_line}
 use Rattle.mps_cli.specs.Ending.{Ending}
 use Rattle.mps_cli.specs.declared.bad_script_line.BadScriptLine.{BadScriptLine}
 use Rattle.mps_cli.specs.Script.{ScriptCommand, HasRun, LeavesWhole, AreUnsupportedWhereDue, log_header, answers_of, commands_of, command_of_step, commands_from}
@@ -80,9 +81,20 @@ LeavesRecords header script old new = LeavesWhole header script old new ⊎ Leav
 abbrev pub LeavesAnswer : (header script : List ℕ) → (old new : Outside) → Type 0
 LeavesAnswer header script old new = LeavesWhole header script old new ⊎ LeavesPartOfAnswer header script old new
 
+-- A fault of reading. What is still unread is a suffix of the script, and what had come between the lines that were run and
+-- that suffix has no line feed: no whole line was dropped.
+pub record StopsReading (header script : List ℕ) (old new : Outside) : Type 0 where
+  pub whole : LeavesWhole header script old new
+  pub part : List ℕ
+  pub unread : List ℕ
+  pub input : new.input ≡ Some unread
+  pub parts : after_lines whole.lines script ≡ part ++ unread
+  pub unfinished : length_of_line part ≡ length part
+
 -- what is left, by the ending
 abbrev pub Leaves : Ending → (header script : List ℕ) → (old new : Outside) → Type 0
 Leaves (Err stop.OutOfMemory) header script old new = RunsOutOfMemory header script old new
+Leaves (Err stop.ReadFailed) header script old new = StopsReading header script old new
 Leaves (Err stop.LogFailed) header script old new = LeavesRecords header script old new
 Leaves (Err stop.WriteFailed) header script old new = LeavesAnswer header script old new
 Leaves ending header script old new = LeavesWhole header script old new
@@ -98,7 +110,7 @@ pub record LeavesHeader (old new : Outside) : Type 0 where
 -- By the ending: it may come before the log has its header, where memory runs out (before anything else happens), the
 -- script can't be opened, or the log can't be made and begun. Else it is as after the header.
 abbrev pub LeavesRun : Ending → (script : List ℕ) → (old new : Outside) → Type 0
-LeavesRun (Err stop.ReadFailed) script old new = IsUnbegun old new ⊎ LeavesWhole log_header script old new
+LeavesRun (Err stop.ReadFailed) script old new = IsUnbegun old new ⊎ StopsReading log_header script old new
 LeavesRun (Err stop.OutOfMemory) script old new = OnlyReports old new ⊎ RunsOutOfMemory log_header script old new
 LeavesRun (Err stop.LogFailed) script old new = LeavesHeader old new ⊎ LeavesRecords log_header script old new
 LeavesRun (Err stop.WriteFailed) script old new = LeavesAnswer log_header script old new

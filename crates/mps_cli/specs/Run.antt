@@ -1,10 +1,10 @@
 -- What `run` does.
 use Rattle.std.specs.Prelude.{ℕ, ◌≡◌, ◌≢◌, true, Some, List}
-use Rattle.mps_desk.specs.Desk.{Outside}
+use Rattle.mps_desk.specs.Desk.{Outside, IsSteady}
 use Rattle.mps_report.specs.Reports.{ReportsStatus}
 use Rattle.mps_log_reader.specs.Ending.{IsUnopened, is_input_verdict}
 use Rattle.mps_log_reader.specs.Opening.{OpensNothing}
-use Rattle.mps_cli.specs.Ending.{text_of_bad_line}
+use Rattle.mps_cli.specs.Ending.{AsksWith, text_of_bad_line}
 use Rattle.mps_cli.specs.Leaving.{LeavesWith}
 use Rattle.mps_cli.specs.LogFile.{IsInFile, IsUnlogged, LogsInto}
 use Rattle.mps_cli.specs.Script.{Answered, RanWith}
@@ -13,6 +13,10 @@ use Rattle.mps_cli.specs.Script.{Answered, RanWith}
 pub record RunsScript (log script : List ℕ) (status : ℕ) (old new : Outside) : Type 0 where
   -- just the ending that has this status is reported, in one line; with status 0 nothing is
   pub reported : ReportsStatus text_of_bad_line status old new
+  -- by name the script was asked for and then the log, once each, and nothing else
+  pub asked : AsksWith log script status old new
+  -- a run whose end is that of the script, or a line of it, had no fault but of reporting
+  pub steady : is_input_verdict status ≡ true → IsSteady old new
   -- A whole run of a script that the desk knows: there is a history of its commands, each with its line, up to the end or
   -- to the line that is reported. It is legal, and a command is `unsupported` exactly where it isn't built. What
   -- was printed is the answer line of each step and nothing else; what was logged is the header and the records of that

@@ -1,5 +1,5 @@
 -- The run of a script: its commands, each with its line, and what was printed and logged for them.
-use Rattle.std.specs.Prelude.{ℕ, ◌≡◌, ◌↔◌, ◌+◌, ◌<◌, IsTrue, Bool, true, false, Option, Some, None, Result, Ok, Err, List, [], ◌∷◌, ◌++◌, map, length, take, drop, codes, refl}
+use Rattle.std.specs.Prelude.{ℕ, ◌≡◌, ◌↔◌, ◌+◌, ◌<◌, ◌≤◌, IsTrue, Bool, true, false, Option, Some, None, Result, Ok, Err, List, [], ◌∷◌, ◌++◌, map, length, take, drop, codes, refl}
 use Rattle.std.specs.List.{flat_map}
 use Rattle.mps_desk.specs.Desk.{Outside, HasRisen}
 use Rattle.mps_base.specs.Record.{records_bytes, header_bytes}
@@ -69,12 +69,14 @@ max_lines = last_u32
 -- are too many
 abbrev pub RunEndsAt : Ending → (lines : ℕ) → (all : List (List ℕ)) → Type 0
 RunEndsAt (Ok done) lines all = drop lines all ≡ []
-RunEndsAt (Err (stop.Bad bad)) lines all = (bad.line ≡ lines + 1) × (is_grammatical (take (lines + 1) all) ≡ false)
+RunEndsAt (Err (stop.Bad bad)) lines all = (bad.line ≡ lines + 1) × (bad.line ≤ max_lines) × (is_grammatical (take (lines + 1) all) ≡ false)
 RunEndsAt (Err stop.TooLong) lines all = (lines ≡ max_lines) × (0 < length (drop lines all))
 RunEndsAt ending lines all = ⊥
 
 -- the lines up to some line were read and answered
 pub record HasRun (script : List ℕ) (lines : ℕ) (history : History) : Type 0 where
+  -- there are fewer than 2^32 of them
+  pub bounded : lines ≤ max_lines
   -- they are a script
   pub grammatical : is_grammatical (take lines (lines_of script)) ≡ true
   -- the history answers their commands, in order and each with its line

@@ -1,7 +1,7 @@
 // The lines of the input, one by one, across reads of any size.
-ghost use Rattle.std.specs.Prelude.{◌≡◌, ◌<◌, ◌≤◌, ◌↔◌, ℕ, [], length, IfOk, IfSome, OnErr};
+ghost use Rattle.std.specs.Prelude.{◌≡◌, ◌<◌, ◌≤◌, ◌↔◌, ℕ, [], length, IfOk, IfSome, OnOk, OnErr};
 ghost use Rattle.mps_desk.specs.Desk.{HasRisen, OnlyReads};
-ghost use Rattle.mps_cli.specs.Buffer.{nothing_read, length_of_line, rest_of_script, HeldGives, TakesIn, ComesNextOf, IsLast};
+ghost use Rattle.mps_cli.specs.Buffer.{nothing_read, length_of_line, rest_of_script, HeldGives, TakesIn, KeepsUnread, ComesNextOf, IsLast};
 
 use crate::next::Next;
 use mps_base::length_before;
@@ -66,6 +66,9 @@ impl Lines {
         ensures next { IfOk result (λ next. ComesNextOf next (rest_of_script self.old (D.outside desk.old).input) self.new.line
             (rest_of_script self.new (D.outside desk.new).input)) }
         ensures counted { (D.outside desk.old).in_faults ≤ (D.outside desk.new).in_faults }
+        // A failed read loses nothing, and no whole line waits then.
+        ensures unread { OnErr result (KeepsUnread self.old self.new (D.outside desk.old).input (D.outside desk.new).input) }
+        ensures steady { OnOk result ((D.outside desk.new).in_faults ≡ (D.outside desk.old).in_faults) }
         ensures cause { OnErr result (HasRisen (D.outside desk.old).in_faults (D.outside desk.new).in_faults) }
         ensures others { OnlyReads (D.outside desk.old) (D.outside desk.new) }
     {
@@ -102,6 +105,9 @@ impl Lines {
         ensures read { IfOk result (λ count. TakesIn self.old self.new (D.outside desk.old).input (D.outside desk.new).input count) }
         ensures end { IfOk result (λ count. count ≡ 0 → IfSome (D.outside desk.old).input (λ left. left ≡ [])) }
         ensures counted { (D.outside desk.old).in_faults ≤ (D.outside desk.new).in_faults }
+        ensures waits { OnErr result (self.new.waiting ≡ self.old.waiting) }
+        ensures input { OnErr result ((D.outside desk.new).input ≡ (D.outside desk.old).input) }
+        ensures steady { OnOk result ((D.outside desk.new).in_faults ≡ (D.outside desk.old).in_faults) }
         ensures cause { OnErr result (HasRisen (D.outside desk.old).in_faults (D.outside desk.new).in_faults) }
         ensures others { OnlyReads (D.outside desk.old) (D.outside desk.new) }
     {
@@ -128,6 +134,9 @@ impl Lines {
         ensures read { IfOk result (λ count. TakesIn self.old self.new (D.outside desk.old).input (D.outside desk.new).input count) }
         ensures end { IfOk result (λ count. count ≡ 0 → IfSome (D.outside desk.old).input (λ left. left ≡ [])) }
         ensures counted { (D.outside desk.old).in_faults ≤ (D.outside desk.new).in_faults }
+        ensures waits { OnErr result (self.new.waiting ≡ self.old.waiting) }
+        ensures input { OnErr result ((D.outside desk.new).input ≡ (D.outside desk.old).input) }
+        ensures steady { OnOk result ((D.outside desk.new).in_faults ≡ (D.outside desk.old).in_faults) }
         ensures cause { OnErr result (HasRisen (D.outside desk.old).in_faults (D.outside desk.new).in_faults) }
         ensures others { OnlyReads (D.outside desk.old) (D.outside desk.new) }
     {

@@ -1,6 +1,6 @@
 // The top call.
 ghost use Rattle.std.specs.Prelude.{◌≡◌, ◌≢◌, ◌↔◌, None, Some, true};
-ghost use Rattle.mps_desk.specs.Desk.{HasRisen};
+ghost use Rattle.mps_desk.specs.Desk.{HasRisen, IsSteady};
 ghost use Rattle.mps_log_reader.specs.Ending.{is_input_verdict};
 ghost use Rattle.mps_args.specs.Runnable.{IsRunnable};
 ghost use Rattle.mps_args.specs.Seen.{meaning_of, texts};
@@ -29,6 +29,9 @@ pub fn mps<D: Desk>(alloc: Global, words: &[String], desk: &mut D) -> u8
     ensures write_failed { result ≡ 4 → HasRisen (D.outside desk.old).out_faults (D.outside desk.new).out_faults }
     ensures log_failed { result ≡ 5 → HasRisen (D.outside desk.old).log_faults (D.outside desk.new).log_faults }
     ensures counts { CountsGrow (D.outside desk.old) (D.outside desk.new) }
+
+    // The first fault ends the program: with status 0 there was none, but of reporting.
+    ensures steady { result ≡ 0 → IsSteady (D.outside desk.old) (D.outside desk.new) }
 
     // Words with a meaning, no fault and no out of memory: the status is 0, 6 or 7.
     ensures complete { meaning (texts words.now) ≢ None → NoFaultRose (D.outside desk.old) (D.outside desk.new)
@@ -62,6 +65,7 @@ fn run_command<D: Desk>(alloc: Global, command: Command<'_>, desk: &mut D) -> u8
     ensures write_failed { result ≡ 4 → HasRisen (D.outside desk.old).out_faults (D.outside desk.new).out_faults }
     ensures log_failed { result ≡ 5 → HasRisen (D.outside desk.old).log_faults (D.outside desk.new).log_faults }
     ensures counts { CountsGrow (D.outside desk.old) (D.outside desk.new) }
+    ensures steady { result ≡ 0 → IsSteady (D.outside desk.old) (D.outside desk.new) }
     ensures complete { NoFaultRose (D.outside desk.old) (D.outside desk.new) → result ≢ 8 → is_input_verdict result ≡ true }
 {
     match command {

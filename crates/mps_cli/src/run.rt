@@ -1,7 +1,7 @@
 // The run of a script.
 ghost use Rattle.std.specs.Prelude.{◌≡◌, ◌≢◌, ◌≤◌, ◌∷◌, ◌⊎◌, [], List, ℕ, true, false, Some, Err, IfOk, IfErr, OnOk, OnErr};
 ghost use Rattle.std.specs.Option.{option_map};
-ghost use Rattle.mps_desk.specs.Desk.{HasRisen, OnlyReads, made_for_log};
+ghost use Rattle.mps_desk.specs.Desk.{HasRisen, IsSteady, OnlyReads, made_for_log};
 ghost use Rattle.mps_base.specs.Record.{records_bytes};
 ghost use Rattle.mps_first_heap.specs.Built.{IsInRange};
 ghost use Rattle.mps_log_reader.specs.Ending.{is_input_verdict};
@@ -11,8 +11,8 @@ ghost use Rattle.mps_report.specs.declared.stop.Stop.TheVariants as stop;
 ghost use Rattle.mps_script.specs.Line.{call_of_line};
 ghost use Rattle.mps_script.specs.Script.{is_good_after, has_arena_after};
 ghost use Rattle.mps_answers.specs.Text.{text_of};
-ghost use Rattle.mps_cli.specs.Buffer.{ComesNextOf, rest_of_script};
-ghost use Rattle.mps_cli.specs.Ending.{HasCause, CountsGrow, IsFault, RunsOn, is_fault as has_failed_side, is_verdict};
+ghost use Rattle.mps_cli.specs.Buffer.{ComesNextOf, KeepsUnread, rest_of_script};
+ghost use Rattle.mps_cli.specs.Ending.{AsksInOrder, HasCause, CountsGrow, IsFault, RunsOn, is_fault as has_failed_side, is_verdict};
 ghost use Rattle.mps_cli.specs.Leaving.{IsUnbegun, Leaves, LeavesRun, Stops};
 ghost use Rattle.mps_cli.specs.LogFile.{LogsInto, IsInFile};
 ghost use Rattle.mps_cli.specs.Records.{records_of_done};
@@ -54,6 +54,8 @@ fn run<D: Desk>(
     desk: &mut D,
 ) -> Result<(), Stop<BadScriptLine>>
     ensures cause { HasCause result (D.outside desk.old) (D.outside desk.new) }
+    ensures asked { AsksInOrder log.now script.now result (D.outside desk.old) (D.outside desk.new) }
+    ensures steady { is_verdict result ≡ true → IsSteady (D.outside desk.old) (D.outside desk.new) }
     ensures filed { LogsInto log.now (D.outside desk.old) (D.outside desk.new) }
     ensures missing { OpensNothing (D.outside desk.old) script.now
         → ((result ≡ Err stop.ReadFailed) ⊎ (result ≡ Err stop.OutOfMemory)) × IsUnbegun (D.outside desk.old) (D.outside desk.new)
@@ -88,6 +90,8 @@ fn open_files<D: Desk>(desk: &mut D, log: &str, script: &str) -> Result<(), Stop
     ensures unbegun { IsUnbegun (D.outside desk.old) (D.outside desk.new) }
     ensures missing { OpensNothing (D.outside desk.old) script.now → result ≡ Err stop.ReadFailed }
     ensures failed { IfErr result (λ why. (why ≡ stop.ReadFailed) ⊎ (why ≡ stop.LogFailed)) }
+    ensures asked { AsksInOrder log.now script.now result (D.outside desk.old) (D.outside desk.new) }
+    ensures steady { OnOk result (IsSteady (D.outside desk.old) (D.outside desk.new)) }
     ensures cause { HasCause result (D.outside desk.old) (D.outside desk.new) }
     ensures runs { RunsOn (D.outside desk.old) (D.outside desk.new) }
 {
@@ -107,6 +111,7 @@ fn run_all_lines<D: Desk>(
     lines: &mut Lines,
 ) -> Result<(), Stop<BadScriptLine>>
     ensures cause { HasCause result (D.outside desk.old) (D.outside desk.new) }
+    ensures steady { is_verdict result ≡ true → IsSteady (D.outside desk.old) (D.outside desk.new) }
     ensures takes { LogTakes (D.outside desk.old) (D.outside desk.new) }
     ensures runs { RunsOn (D.outside desk.old) (D.outside desk.new) }
     ensures ran { is_verdict result ≡ true → (script : List ℕ) → rest_of_script lines.old (D.outside desk.old).input ≡ Some script
@@ -144,6 +149,8 @@ fn settle<D: Desk>(desk: &mut D) -> Result<(), Stop<BadScriptLine>>
     ensures printed { (D.outside desk.new).printed ≡ (D.outside desk.old).printed }
     ensures logged { (D.outside desk.new).logged ≡ (D.outside desk.old).logged }
     ensures files { (D.outside desk.new).files ≡ (D.outside desk.old).files }
+    ensures asked { (D.outside desk.new).asked ≡ (D.outside desk.old).asked }
+    ensures steady { OnOk result (IsSteady (D.outside desk.old) (D.outside desk.new)) }
     ensures failed { IfErr result (λ why. (why ≡ stop.LogFailed) ⊎ (why ≡ stop.WriteFailed)) }
     ensures cause { HasCause result (D.outside desk.old) (D.outside desk.new) }
     ensures runs { RunsOn (D.outside desk.old) (D.outside desk.new) }
@@ -166,6 +173,10 @@ fn next_line<D: Desk>(desk: &mut D, lines: &mut Lines) -> Result<Next, Stop<BadS
     ensures printed { (D.outside desk.new).printed ≡ (D.outside desk.old).printed }
     ensures logged { (D.outside desk.new).logged ≡ (D.outside desk.old).logged }
     ensures files { (D.outside desk.new).files ≡ (D.outside desk.old).files }
+    ensures asked { (D.outside desk.new).asked ≡ (D.outside desk.old).asked }
+    ensures steady { OnOk result (IsSteady (D.outside desk.old) (D.outside desk.new)) }
+    ensures unread { result ≡ Err stop.ReadFailed
+        → KeepsUnread lines.old lines.new (D.outside desk.old).input (D.outside desk.new).input }
     ensures failed { IfErr result (λ why. IsFault why) }
     ensures cause { IfErr result (λ why. CauseOf (D.outside desk.old) (D.outside desk.new) why) }
     ensures runs { RunsOn (D.outside desk.old) (D.outside desk.new) }
@@ -190,6 +201,7 @@ fn run_lines<D: Desk>(
     lines: &mut Lines,
 ) -> Result<(), Stop<BadScriptLine>>
     ensures cause { HasCause result (D.outside desk.old) (D.outside desk.new) }
+    ensures steady { is_verdict result ≡ true → IsSteady (D.outside desk.old) (D.outside desk.new) }
     ensures takes { LogTakes (D.outside desk.old) (D.outside desk.new) }
     ensures runs { RunsOn (D.outside desk.old) (D.outside desk.new) }
     ensures ran { is_verdict result ≡ true → (script : List ℕ) → rest_of_script lines.old (D.outside desk.old).input ≡ Some script
@@ -245,6 +257,7 @@ fn run_line<D: Desk>(
         (D.outside desk.old) (D.outside desk.new)) }
     ensures records_first { OnErr result (result ≢ Err stop.WriteFailed → (D.outside desk.new).printed ≡ (D.outside desk.old).printed) }
     ensures cause { HasCause result (D.outside desk.old) (D.outside desk.new) }
+    ensures steady { is_verdict result ≡ true → IsSteady (D.outside desk.old) (D.outside desk.new) }
     ensures takes { LogTakes (D.outside desk.old) (D.outside desk.new) }
     ensures runs { RunsOn (D.outside desk.old) (D.outside desk.new) }
 {
@@ -274,6 +287,7 @@ fn run_call<D: Desk>(
         (D.outside desk.old) (D.outside desk.new)) }
     ensures records_first { OnErr result (result ≢ Err stop.WriteFailed → (D.outside desk.new).printed ≡ (D.outside desk.old).printed) }
     ensures cause { HasCause result (D.outside desk.old) (D.outside desk.new) }
+    ensures steady { OnOk result (IsSteady (D.outside desk.old) (D.outside desk.new)) }
     ensures takes { LogTakes (D.outside desk.old) (D.outside desk.new) }
     ensures runs { RunsOn (D.outside desk.old) (D.outside desk.new) }
 {
@@ -293,6 +307,7 @@ fn log_then_print<D: Desk>(
     ensures does { LogsThenPrints (records_bytes (records_of_done line call.now done.now)) (text_of done.now.reply) result
         (D.outside desk.old) (D.outside desk.new) }
     ensures cause { HasCause result (D.outside desk.old) (D.outside desk.new) }
+    ensures steady { OnOk result (IsSteady (D.outside desk.old) (D.outside desk.new)) }
     ensures input { (D.outside desk.new).input ≡ (D.outside desk.old).input }
     ensures takes { LogTakes (D.outside desk.old) (D.outside desk.new) }
     ensures runs { RunsOn (D.outside desk.old) (D.outside desk.new) }

@@ -1,8 +1,10 @@
+use Rattle.mps_cli.proofs.Generated.{generated_asks_nothing}
 use Rattle.mps_cli.proofs.mps.run_command.Goals as goal
 
 pub returns-in-Convert-clause-asked : goal.returns-in-Convert-clause-asked
 returns-in-Convert-clause-asked g c = rw c.in-Convert.is (record {
   justified = c.cnv.ensures.status;
+  asked = c.cnv.ensures.asked;
   converted = c.cnv.ensures.converted;
   unique = c.cnv.ensures.unique;
   broken = c.cnv.ensures.broken;
@@ -15,6 +17,8 @@ returns-in-Convert-clause-asked g c = rw c.in-Convert.is (record {
 pub returns-in-Generate-clause-asked : goal.returns-in-Generate-clause-asked
 returns-in-Generate-clause-asked g c = rw c.in-Generate.is (record {
   statuses = c.generate.ensures.statuses;
+  asked = generated_asks_nothing c.generate.result (g.D.Desk.outside c.args.desk.now) (g.D.Desk.outside c.generate.new.desk) _
+      c.generate.ensures.statuses c.generate.ensures.whole c.generate.ensures.cut c.generate.ensures.no_memory;
   whole = c.generate.ensures.whole;
   cut = c.generate.ensures.cut;
   no_memory = c.generate.ensures.no_memory;
@@ -23,6 +27,7 @@ returns-in-Generate-clause-asked g c = rw c.in-Generate.is (record {
 pub returns-in-Read-clause-asked : goal.returns-in-Read-clause-asked
 returns-in-Read-clause-asked g c = rw c.in-Read.is (record {
   justified = c.txt.ensures.status;
+  asked = c.txt.ensures.asked;
   sound = c.txt.ensures.sound;
   unique = c.txt.ensures.unique;
   cut = c.txt.ensures.cut;
@@ -33,6 +38,7 @@ returns-in-Read-clause-asked g c = rw c.in-Read.is (record {
 pub returns-in-Blocks-clause-asked : goal.returns-in-Blocks-clause-asked
 returns-in-Blocks-clause-asked g c = rw c.in-Blocks.is (record {
   justified = c.blocks-in-Blocks.ensures.status;
+  asked = c.blocks-in-Blocks.ensures.asked;
   listed = c.blocks-in-Blocks.ensures.listed;
   unique = c.blocks-in-Blocks.ensures.unique;
   silent = c.blocks-in-Blocks.ensures.silent;

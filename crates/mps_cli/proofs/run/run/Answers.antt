@@ -2,10 +2,13 @@ use Rattle.std.proofs.Common.{◌≡◌, Some, ◌∙◌, ap, refl, inl, inr}
 use Rattle.mps_cli.specs.Buffer.{LineBuffer, rest_of_script}
 use Rattle.mps_cli.specs.Script.{log_header}
 use Rattle.mps_report.specs.Streams.{appended}
-use Rattle.mps_cli.proofs.SoFar.{answered_between, answered_nothing}
+use Rattle.mps_cli.proofs.SoFar.{answered_between, answered_nothing, steady_then}
 use Rattle.mps_report.proofs.Logging.{takes_then, takes_of_logs, takes_of_part}
 use Rattle.mps_cli.proofs.LogFile.{in_file}
 use Rattle.mps_cli.proofs.Leaving.{leaves_after_header, leaves_unbegun, ran_after_header}
+use Rattle.mps_log_reader.proofs.Steady.{asks_nothing, asks_then_nothing}
+use Rattle.mps_cli.specs.Ending.{requests_of_run}
+use Rattle.mps_cli.proofs.Reported.{asked_for_both}
 use Rattle.mps_cli.proofs.run.run.Goals as goal
 
 pub returns-clause-ran : goal.returns-clause-ran
@@ -31,7 +34,7 @@ returns-in-Err-clause-answered g c other bytes e =
 pub returns-in_default-log_header-clause-answered : goal.returns-in_default-log_header-clause-answered
 returns-in_default-log_header-clause-answered g c other bytes e =
     answered_nothing bytes (g.D.Desk.outside c.args.desk.now) (g.D.Desk.outside c.log_header.new.desk)
-    (c.in_default-log_header.ensures.failed.part.others.printed ∙ c.open_files.ensures.unbegun.printed)
+    (c.in_default-log_header.ensures.failed.others.printed ∙ c.open_files.ensures.unbegun.printed)
 
 pub returns-clause-answered : goal.returns-clause-answered
 returns-clause-answered g c other bytes e =
@@ -87,3 +90,27 @@ pub returns-in-Err-clause-leaves : goal.returns-in-Err-clause-leaves
 returns-in-Err-clause-leaves g c bytes e =
     leaves_unbegun c.in-Err.stop bytes (g.D.Desk.outside c.args.desk.now) (g.D.Desk.outside c.open_files.new.desk)
     c.in-Err.ensures.failed c.open_files.ensures.unbegun
+
+pub returns-clause-asked : goal.returns-clause-asked
+returns-clause-asked g c =
+    asked_for_both c.args.log.now c.args.script.now (g.D.Desk.outside c.args.desk.now) (g.D.Desk.outside c.open_files.new.desk)
+    (g.D.Desk.outside c.run_all_lines.new.desk) c.run_all_lines.result c.in-Ok-open_files.ensures.asked
+    (c.run_all_lines.ensures.takes.asked ∙ c.in-Ok-log_header.ensures.logged.others.asked)
+
+pub returns-in_default-clause-asked : goal.returns-in_default-clause-asked
+returns-in_default-clause-asked g c = inl (asks_nothing (g.D.Desk.outside c.args.desk.now) (g.D.Desk.outside c.args.desk.now) refl)
+
+pub returns-in_default-log_header-clause-asked : goal.returns-in_default-log_header-clause-asked
+returns-in_default-log_header-clause-asked g c =
+    asks_then_nothing (g.D.Desk.outside c.args.desk.now) (g.D.Desk.outside c.open_files.new.desk) (g.D.Desk.outside c.log_header.new.desk)
+    (requests_of_run c.args.log.now c.args.script.now) c.in-Ok-open_files.ensures.asked c.in_default-log_header.ensures.failed.others.asked
+
+pub returns-clause-steady : goal.returns-clause-steady
+returns-clause-steady g c whole =
+    let logs = c.in-Ok-log_header.ensures.logged in
+    steady_then (g.D.Desk.outside c.args.desk.now) (g.D.Desk.outside c.open_files.new.desk) (g.D.Desk.outside c.run_all_lines.new.desk)
+    c.in-Ok-open_files.ensures.steady
+    (steady_then (g.D.Desk.outside c.open_files.new.desk) (g.D.Desk.outside c.log_header.new.desk)
+    (g.D.Desk.outside c.run_all_lines.new.desk)
+    (record { in_faults = logs.others.in_faults; log_faults = logs.steady; out_faults = logs.others.out_faults })
+    (c.run_all_lines.ensures.steady whole))

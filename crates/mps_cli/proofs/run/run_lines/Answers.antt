@@ -1,12 +1,12 @@
-use Rattle.std.proofs.Common.{◌≡◌, ◌+◌, true, Err, [], ◌∙◌, subst, sym, ap, arith}
+use Rattle.std.proofs.Common.{◌≡◌, ◌+◌, true, Err, [], refl, ◌∙◌, subst, sym, ap, arith}
 use Rattle.mps_script.specs.Line.{call_of_line}
 use Rattle.mps_cli.specs.Buffer.{ComesNextOf, rest_of_script}
 use Rattle.mps_cli.specs.Leaving.{Stops}
 use Rattle.mps_script.specs.Script.{has_arena_after, is_good_after}
 use Rattle.mps_cli.specs.Script.{IsBadHere, StepsRan, commands_of_call}
-use Rattle.mps_cli.proofs.SoFar.{SoFar, next_read, at_start, answered_so_far, whole_so_far, one_line_more, ends_done, ends_long_line, ends_too_long, ends_bad_line, runs_on_self, runs_on_then, runs_on_line}
+use Rattle.mps_cli.proofs.SoFar.{SoFar, next_read, at_start, answered_so_far, whole_so_far, one_line_more, ends_done, ends_long_line, ends_too_long, ends_bad_line, steady_self, steady_then, runs_on_self, runs_on_then, runs_on_line}
 use Rattle.mps_report.proofs.Logging.{takes_self, takes_then, takes_nothing, takes_after_reading}
-use Rattle.mps_cli.proofs.Leaving.{leaves_line, leaves_faulted, no_verdict_of_fault}
+use Rattle.mps_cli.proofs.Leaving.{leaves_line, leaves_faulted, stops_reading, no_verdict_of_fault}
 use Rattle.mps_cli.proofs.run.run_lines.Goals as goal
 
 pub returns-in-End-clause-ran : goal.returns-in-End-clause-ran
@@ -21,7 +21,7 @@ returns-in-TooLong-clause-ran g c whole script e =
     ends_long_line
     (next_read c.next_line.new.lines.line (rest_of_script c.next_line.new.lines (g.D.Desk.outside c.next_line.new.desk).input)
     c.loop-next.invariant.so_far e
-    c.in-Ok.ensures.others c.in-Ok.ensures.next c.in-TooLong.is)
+    c.in-Ok.ensures.others c.in-Ok.ensures.next c.in-TooLong.is) (omega arith)
 
 pub returns-in-TooLong-2-clause-ran : goal.returns-in-TooLong-2-clause-ran
 returns-in-TooLong-2-clause-ran g c whole script e =
@@ -47,7 +47,7 @@ returns-in-Err-run_line-clause-ran g c whole script e =
     c.in-Ok.ensures.others c.in-Ok.ensures.next c.in-Line.is)
     (subst (λ bytes. IsBadHere c.loop-next.has_arena bytes (c.loop-next.line + 1) (Err c.in-Err-run_line.stop)
     (g.D.Desk.outside c.next_line.new.desk)
-    (g.D.Desk.outside c.run_line.new.desk)) c.line.ensures (c.in-Err-run_line.ensures.bad whole))
+    (g.D.Desk.outside c.run_line.new.desk)) c.line.ensures (c.in-Err-run_line.ensures.bad whole)) (omega arith)
 
 pub loop-next-preserved : goal.loop-next-preserved
 loop-next-preserved g c =
@@ -58,6 +58,7 @@ loop-next-preserved g c =
     let i = c.loop-next.invariant in
     record {
       runs = runs_on_line old before read ran i.runs c.in-Ok.ensures.counted c.in-Ok.ensures.others c.run_line.ensures.runs;
+      steady = steady_then old before ran i.steady (steady_then before read ran c.in-Ok.ensures.steady (c.in-Ok-run_line.ensures.steady refl));
       takes = takes_after_reading old before read ran i.takes c.in-Ok.ensures.others c.run_line.ensures.takes;
       so_far = subst (λ left. SoFar c.run_line.new.has_arena c.run_line.new.heap (c.loop-next.line + 1) old ran
           (rest_of_script c.args.lines.now old.input) left)
@@ -70,12 +71,13 @@ loop-next-preserved g c =
           c.in-Ok-run_line.ensures.arena)
           (subst (λ bytes. StepsRan (commands_of_call (c.loop-next.line + 1)
           (call_of_line bytes)) c.loop-next.heap c.run_line.new.heap read ran)
-          c.line.ensures c.in-Ok-run_line.ensures.steps));
+          c.line.ensures c.in-Ok-run_line.ensures.steps) (omega arith));
     }
 
 pub loop-next-init : goal.loop-next-init
 loop-next-init g c = record {
   runs = runs_on_self (g.D.Desk.outside c.args.desk.now);
+  steady = steady_self (g.D.Desk.outside c.args.desk.now);
   takes = takes_self (g.D.Desk.outside c.args.desk.now);
   so_far = at_start c.new-heap.result (g.D.Desk.outside c.args.desk.now)
       (rest_of_script c.args.lines.now (g.D.Desk.outside c.args.desk.now).input) c.new-heap.ensures;
@@ -109,7 +111,7 @@ pub returns-in-Err-clause-takes : goal.returns-in-Err-clause-takes
 returns-in-Err-clause-takes g c =
     takes_then _ _ _ c.loop-next.invariant.takes
     (takes_nothing (g.D.Desk.outside c.loop-next.desk) (g.D.Desk.outside c.next_line.new.desk) c.next_line.ensures.logged
-    c.next_line.ensures.files)
+    c.next_line.ensures.files c.next_line.ensures.asked)
 
 pub returns-in-Err-clause-leaves : goal.returns-in-Err-clause-leaves
 returns-in-Err-clause-leaves g c script e =
@@ -117,6 +119,9 @@ returns-in-Err-clause-leaves g c script e =
     c.in-Err.ensures.failed
     (whole_so_far script (g.D.Desk.outside c.next_line.new.desk) c.loop-next.invariant.so_far e c.next_line.ensures.printed
     c.next_line.ensures.logged)
+    (λ is. stops_reading script (g.D.Desk.outside c.next_line.new.desk) c.loop-next.lines c.next_line.new.lines
+    (g.D.Desk.outside c.loop-next.desk).input (g.D.Desk.outside c.next_line.new.desk).input c.loop-next.invariant.so_far e refl refl
+    (c.in-Err.ensures.unread (ap Err is)) c.next_line.ensures.printed c.next_line.ensures.logged)
 
 pub returns-in-Err-clause-answered : goal.returns-in-Err-clause-answered
 returns-in-Err-clause-answered g c other script e =

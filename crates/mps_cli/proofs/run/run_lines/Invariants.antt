@@ -1,4 +1,5 @@
 use Rattle.std.proofs.Common.{◌-◌}
+use Rattle.mps_desk.specs.Desk.{IsSteady}
 use Rattle.mps_cli.specs.Buffer.{rest_of_script}
 use Rattle.mps_cli.specs.Ending.{RunsOn}
 use Rattle.mps_report.specs.Streams.{LogTakes}
@@ -8,6 +9,7 @@ use Rattle.mps_cli.proofs.run.run_lines.Given as goal
 abbrev pub invariant-loop-next : goal.invariant-loop-next
 invariant-loop-next g l = record {
   runs : RunsOn (g.D.Desk.outside l.initial.desk) (g.D.Desk.outside l.desk);
+  steady : IsSteady (g.D.Desk.outside l.initial.desk) (g.D.Desk.outside l.desk);
   takes : LogTakes (g.D.Desk.outside l.initial.desk) (g.D.Desk.outside l.desk);
   so_far : SoFar l.has_arena l.heap l.line (g.D.Desk.outside l.initial.desk) (g.D.Desk.outside l.desk)
       (rest_of_script l.initial.lines (g.D.Desk.outside l.initial.desk).input) (rest_of_script l.lines (g.D.Desk.outside l.desk).input);

@@ -4,7 +4,7 @@ use Rattle.mps_report.specs.Reports.{status_of_ending}
 use Rattle.mps_cli.proofs.SoFar.{answered_between}
 use Rattle.mps_cli.proofs.Leaving.{leaves_then_reported, ran_then_reported}
 use Rattle.mps_cli.proofs.LogFile.{in_file_then_reported, logs_into_then_reported, missing_then_reported}
-use Rattle.mps_cli.proofs.Reported.{IsReported, is_reported, reported_after}
+use Rattle.mps_cli.proofs.Reported.{asks_then_reported, steady_then_reported, IsReported, is_reported, reported_after}
 use Rattle.mps_cli.proofs.run.run_script.Goals as goal
 
 pub returns-clause-runs : goal.returns-clause-runs
@@ -20,6 +20,13 @@ returns-clause-runs g c =
     let reported = reported_after ending old mid new run.runs report.reported in
     record {
       reported = record { ending = ending; status_is = report.status_is; reported = reported };
+      asked = record {
+        ends = ending;
+        status_is = report.status_is;
+        asks = asks_then_reported c.args.log.now c.args.script.now old mid new report.others ending run.asked;
+      };
+      steady = λ whole.
+          steady_then_reported old mid new (run.steady (subst (λ n. is_input_verdict n ≡ true) report.status_is whole)) report.others;
       ran = λ whole bytes e. record {
         ends = ending;
         status_is = report.status_is;

@@ -7,6 +7,7 @@ abbrev pub invariant-loop-next : goal.invariant-loop-next
 invariant-loop-next g l = record {
   left : rest_of_script l.self (g.D.Desk.outside l.desk).input ≡ rest_of_script l.initial.self (g.D.Desk.outside l.initial.desk).input;
   counted : (g.D.Desk.outside l.initial.desk).in_faults ≤ (g.D.Desk.outside l.desk).in_faults;
+  steady : (g.D.Desk.outside l.desk).in_faults ≡ (g.D.Desk.outside l.initial.desk).in_faults;
   others : OnlyReads (g.D.Desk.outside l.initial.desk) (g.D.Desk.outside l.desk);
 }
 

@@ -1,6 +1,6 @@
 use Rattle.std.proofs.Common.{◌∙◌, ap, ◌++◌, take, arith}
 use Rattle.std.proofs.lemmas.Grind.{common_steps}
-use Rattle.mps_cli.proofs.Between.{between_grown}
+use Rattle.mps_cli.proofs.Between.{between_grown, between_kept, at_an_error}
 use Rattle.mps_cli.proofs.lines.Lines.read_after.Goals as goal
 
 pub returns-clause-read : goal.returns-clause-read
@@ -14,3 +14,10 @@ returns-clause-read g c = record {
       ∙ ap (λ v. v.waiting ++ take c.in_ok-count.count c.read.new.buf) c.self.view_is;
   from = c.in_ok-count.ensures.prefix;
 }
+
+pub returns-in_err-count-clause-waits : goal.returns-in_err-count-clause-waits
+returns-in_err-count-clause-waits g c =
+    at_an_error c.from_residual.result _
+    (rw c.deref_mut.ensures.value (between_kept c.self.inside.bytes.items c.read.new.buf _ _ c.self.inside.start c.self.inside.end
+    c.self.inside.bytes.len (grind arith) (grind (arith, common_steps)) (grind (arith, common_steps)))
+    ∙ ap (λ v. v.waiting) c.self.view_is)

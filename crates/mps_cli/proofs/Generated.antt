@@ -1,0 +1,13 @@
+-- What `gen` asks for by name: nothing.
+use Rattle.std.proofs.Common.{◌≡◌, ◌⊎◌, ℕ, List, ◌∙◌, inl, inr}
+use Rattle.std.specs.Prelude.{codes}
+use Rattle.mps_desk.specs.Desk.{Outside}
+use Rattle.mps_report.specs.Streams.{Prints, Reports}
+use Rattle.mps_workload.specs.Ending.{FailsWithin}
+
+pub generated_asks_nothing : (status : ℕ) (old new : Outside) (text : List ℕ) → (status ≡ 0) ⊎ (status ≡ 4) ⊎ (status ≡ 8)
+    → (status ≡ 0 → Prints old new text) → (status ≡ 4 → FailsWithin old new text)
+    → (status ≡ 8 → Reports old new (codes "mps: out of memory\n")) → new.asked ≡ old.asked
+generated_asks_nothing status old new text (inl is) whole cut memory = (whole is).others.asked
+generated_asks_nothing status old new text (inr (inl is)) whole cut memory = (cut is).reported.others.asked ∙ (cut is).part.others.asked
+generated_asks_nothing status old new text (inr (inr is)) whole cut memory = (memory is).others.asked
