@@ -33,7 +33,8 @@ pub data ForAct (P : World → Type 0) : Checked Act → Type 0 where
   accepted : {a : Act} → P a.world → ForAct P (Ok a)
   refused : {why : Refusal} → ForAct P (Err why)
 
-pub with_value : {A : Type 0} {P : World → Type 0} (x : Checked A) {f : A → Checked Act} → ((a : A) → x ≡ Ok a → ForAct P (f a)) → ForAct P (x >>= f)
+pub with_value : {A : Type 0} {P : World → Type 0} (x : Checked A) {f : A → Checked Act} → ((a : A) → x ≡ Ok a → ForAct P (f a))
+    → ForAct P (x >>= f)
 with_value (Ok a) next = next a refl
 with_value (Err why) next = refused
 
@@ -41,7 +42,8 @@ pub after_check : {A : Type 0} {P : World → Type 0} (x : Checked A) {y : Check
 after_check (Ok a) next = next
 after_check (Err why) next = refused
 
-pub unless : {P : World → Type 0} (b : Bool) (why : Refusal) {y : Checked Act} → (b ≡ false → ForAct P y) → ForAct P (refuse_when b why >> y)
+pub unless : {P : World → Type 0} (b : Bool) (why : Refusal) {y : Checked Act} → (b ≡ false → ForAct P y)
+    → ForAct P (refuse_when b why >> y)
 unless true why next = refused
 unless false why next = next refl
 
@@ -55,11 +57,15 @@ required-is None why a e = absurd (cc)
 
 numbered-is : {A : Type 0} (n : ℕ) (o : Option A) (p : Numbered A) → numbered n o ≡ Ok p → (n ≡ p.number) × (o ≡ Some p.value)
 numbered-is n (Some x) p e =
-    let same : record { number = n; value = x } ≡ p = cc in (ap (λ (q : Numbered _). q.number) same, ap (λ (q : Numbered _). Some q.value) same)
+    let same : record { number = n; value = x } ≡ p = cc in (
+      ap (λ (q : Numbered _). q.number) same,
+      ap (λ (q : Numbered _). Some q.value) same,
+    )
 numbered-is n None p e = absurd (cc)
 
 pub named_by : {A : Type 0} (o : Option ℕ) (look : ℕ → Option A) (p : Numbered A)
-    → (required o refusal.BadName >>= (λ number. numbered number (look number))) ≡ Ok p → (o ≡ Some p.number) × (look p.number ≡ Some p.value)
+    → (required o refusal.BadName >>= (λ number. numbered number (look number))) ≡ Ok p
+    → (o ≡ Some p.number) × (look p.number ≡ Some p.value)
 named_by None look p e = absurd (cc)
 named_by (Some n) look p e =
     let q = numbered-is n (look n) p e in (ap Some q.0, subst (λ (k : ℕ). look k ≡ Some p.value) q.0 q.1)
@@ -115,7 +121,8 @@ module _ (limit : ℕ) (v : World) where
   point_written n p q e s =
       map-slice_set shape_of_point v.graph.points n (Some q)
       ∙ slice_set-same (map shape_of_point v.graph.points) n (shape_of_point (Some q))
-      (slice_get-map shape_of_point v.graph.points n ∙ ap (option_map shape_of_point) (entry_is_there v.graph.points n p e) ∙ ap Some (sym s))
+      (slice_get-map shape_of_point v.graph.points n ∙ ap (option_map shape_of_point) (entry_is_there v.graph.points n p e)
+      ∙ ap Some (sym s))
 
   abbrev point_with : Point → Option ℕ → Option PointShape
   point_with p reserved = Some (record { pool = p.pool; rank = p.rank; reserved = reserved })
@@ -124,12 +131,15 @@ module _ (limit : ℕ) (v : World) where
       → p.value.reservation ≡ Some r → length cells ≡ length r.cells → ForAct Changes (done (with_reserved_cells v p r cells))
   cells_written p r cells e f l =
       elim (cases_Bool r.is_doomed) [
-        | inl is ↦ subst (λ b. ForAct Changes (done (if b then v else with_graph v (with_reservation v.graph p (Some (record r { cells = cells })))))) (sym is)
+        | inl is ↦ subst (λ b. ForAct Changes (done (if b then v else with_graph v
+            (with_reservation v.graph p (Some (record r { cells = cells })))))) (sym is)
             (same refl)
-        | inr isnt ↦ subst (λ b. ForAct Changes (done (if b then v else with_graph v (with_reservation v.graph p (Some (record r { cells = cells })))))) (sym isnt)
+        | inr isnt ↦ subst (λ b. ForAct Changes (done (if b then v else with_graph v
+            (with_reservation v.graph p (Some (record r { cells = cells })))))) (sym isnt)
             (same (ap (λ ps. record (occupancy_of v) { points = ps })
             (point_written p.number p.value (record p.value { reservation = Some (record r { cells = cells }) }) e
-            (ap (λ n. point_with p.value (if r.is_doomed then None else Some n)) l ∙ ap (λ o. point_with p.value (reserved_words o)) (sym f)))))
+            (ap (λ n. point_with p.value (if r.is_doomed then None else Some n)) l
+            ∙ ap (λ o. point_with p.value (reserved_words o)) (sym f)))))
       ]
 
   dropped_kept : (name : Name) (o : Option Thing) (g : Graph) → graph_without_root v.graph name o ≡ Some g
@@ -160,7 +170,8 @@ module _ (limit : ℕ) (v : World) where
   word_kept id k value = of_one (object_at v.graph id) refl
     where
       of_one : (o : Option Object) → object_at v.graph id ≡ o
-          → map shape_of (option_map_or (λ o. slice_set v.graph.objects id (record o { body = body_with_word o.body k value })) o v.graph.objects)
+          → map shape_of (option_map_or (λ o. slice_set v.graph.objects id
+          (record o { body = body_with_word o.body k value })) o v.graph.objects)
           ≡ map shape_of v.graph.objects
       of_one None e = refl
       of_one (Some o) e =
@@ -192,7 +203,8 @@ module _ (limit : ℕ) (v : World) where
   made_pool : (name : Name) (p : Pool) → ForAct Changes (Rattle.mps_model.specs.Making.make_pool v name p)
   made_pool name p = after_check (refuse_at_limit (length v.pools) most_pools) (accepted (a_pool p refl))
 
-  weak_point : (kind : Rattle.mps_model.specs.World.PoolKind) (at_rank : Rank) → not (may_have_point kind at_rank) ≡ false → is_weak_rank at_rank ≡ true
+  weak_point : (kind : Rattle.mps_model.specs.World.PoolKind) (at_rank : Rank) → not (may_have_point kind at_rank) ≡ false
+      → is_weak_rank at_rank ≡ true
       → is_weak_kind kind ≡ true
   weak_point kind at_rank h weak = of_parts (is_automatic_kind kind) (is_weak_rank at_rank) (is_weak_kind kind) h weak
     where
@@ -210,7 +222,8 @@ is_placing (call.Commit point target) = true
 is_placing (call.Alloc pool words place) = true
 is_placing _ = false
 
-pub act_changes : (limit : ℕ) (marked : Bool) (judged v : World) (c : Call) → is_placing c ≡ false → ForAct (Changes limit v) (act marked judged v c)
+pub act_changes : (limit : ℕ) (marked : Bool) (judged v : World) (c : Call) → is_placing c ≡ false
+    → ForAct (Changes limit v) (act marked judged v c)
 act_changes limit marked judged v (call.Arena grains most) h = absurd (true≢false h)
 act_changes limit marked judged v (call.Reserve point head) h = absurd (true≢false h)
 act_changes limit marked judged v (call.Commit point target) h = absurd (true≢false h)
@@ -219,13 +232,16 @@ act_changes limit marked judged v (call.Limit most) h =
     after_check (refuse_when (nat_lt most (committed v)) refusal.BelowCommitted) (accepted (nothing refl))
 act_changes limit marked judged v (call.Chain chain count capacities) h =
     after_check (refuse_taken v chain) (after_check (refuse_at_limit (length v.chains) most_chains) (accepted (nothing refl)))
-act_changes limit marked judged v (call.Pool pool kind format) h = after_check (refuse_taken v pool) (made_pool limit v pool (record { kind = Collected kind; format = format; chain = None }))
+act_changes limit marked judged v (call.Pool pool kind format) h =
+    after_check (refuse_taken v pool) (made_pool limit v pool (record { kind = Collected kind; format = format; chain = None }))
 act_changes limit marked judged v (call.PoolOnChain pool kind format chain) h =
     after_check (refuse_taken v pool)
-    (with_value (chain_named v chain) (λ (on : Numbered (List ℕ)) e. made_pool limit v pool (record { kind = Collected kind; format = format; chain = Some on.number })))
+    (with_value (chain_named v chain) (λ (on : Numbered (List ℕ)) e.
+    made_pool limit v pool (record { kind = Collected kind; format = format; chain = Some on.number })))
 act_changes limit marked judged v (call.PoolMfs pool words) h =
     after_check (refuse_taken v pool)
-    (after_check (refuse_when (not (is_block_size words)) refusal.BadSize) (made_pool limit v pool (record { kind = OneSize words; format = 0; chain = None })))
+    (after_check (refuse_when (not (is_block_size words)) refusal.BadSize)
+    (made_pool limit v pool (record { kind = OneSize words; format = 0; chain = None })))
 act_changes limit marked judged v (call.PoolMvff pool) h =
     after_check (refuse_taken v pool) (made_pool limit v pool (record { kind = AnySize; format = 0; chain = None }))
 act_changes limit marked judged v (call.Table table count) h =
@@ -243,31 +259,44 @@ act_changes limit marked judged v (call.Point point pool at_rank) h =
     (with_value (pool_named v pool) (λ (of : Numbered Pool) e.
     unless (not (may_have_point of.value.kind at_rank)) refusal.WrongPool (λ may.
     after_check (refuse_at_limit (live_points v.graph) most_points)
-    (accepted (a_point (record { pool = of.number; rank = at_rank; reserved = None }) (record { reserved_at = 0; buffer = empty_run }) refl refl
+    (accepted (a_point (record { pool = of.number; rank = at_rank; reserved = None })
+    (record { reserved_at = 0; buffer = empty_run }) refl refl
     (record {
       some = λ words k. absurd (none-some words k);
-      weak = λ weak. kind_of_pool is_weak_kind v.pools of.number of.value (pool_named-is v pool of e) (weak_point limit v of.value.kind at_rank may weak);
+      weak = λ weak. kind_of_pool is_weak_kind v.pools of.number of.value (pool_named-is v pool of e)
+          (weak_point limit v of.value.kind at_rank may weak);
     })
-    (ap (λ ps. record (occupancy_of v) { points = ps; memories = with_last v.point_memories (record { reserved_at = 0; buffer = empty_run }) })
+    (ap (λ ps. record (occupancy_of v) {
+      points = ps;
+      memories =
+          with_last v.point_memories (record { reserved_at = 0; buffer = empty_run });
+    })
     (map-with_last shape_of_point v.graph.points (Some (record { pool = of.number; rank = at_rank; reservation = None })))))))))
 act_changes limit marked judged v (call.DropPoint point) h =
     with_value (point_named v point) (λ (p : Numbered Point) e.
     after_check (refuse_when (is_some p.value.reservation) refusal.Open)
     (accepted (no_point p.number (record { reserved_at = 0; buffer = empty_run }) refl
-    (ap (λ ps. record (occupancy_of v) { points = ps; memories = slice_set v.point_memories p.number (record { reserved_at = 0; buffer = empty_run }) })
+    (ap (λ ps. record (occupancy_of v) {
+      points = ps;
+      memories =
+          slice_set v.point_memories p.number (record { reserved_at = 0; buffer = empty_run });
+    })
     (map-slice_set shape_of_point v.graph.points p.number None)))))
 act_changes limit marked judged v (call.Dependency dependency) h =
-    after_check (refuse_taken v dependency) (after_check (refuse_at_limit (length v.dependencies) most_dependencies) (accepted (nothing refl)))
+    after_check (refuse_taken v dependency) (after_check (refuse_at_limit (length v.dependencies) most_dependencies)
+    (accepted (nothing refl)))
 act_changes limit marked judged v (call.InitNumber point cell value) h =
     with_value (point_named v point) (λ (p : Numbered Point) e.
     with_value (required p.value.reservation refusal.NotOpen) (λ (r : Reservation) f.
-    after_check (number_at r.cells cell) (cells_written limit v p r (slice_set r.cells cell (NumberCell value)) (point_named-is v point p e).1
+    after_check (number_at r.cells cell) (cells_written limit v p r (slice_set r.cells cell (NumberCell value))
+    (point_named-is v point p e).1
     (required-is p.value.reservation refusal.NotOpen r f) (length-slice_set r.cells cell (NumberCell value)))))
 act_changes limit marked judged v (call.InitReference point cell source) h =
     with_value (point_named v point) (λ (p : Numbered Point) e.
     with_value (slot_in v source) (λ (from : Found (Option ℕ)) e'.
     with_value (required p.value.reservation refusal.NotOpen) (λ (r : Reservation) f.
-    after_check (reference_at r.cells cell) (cells_written limit v p r (with_target_cell r.cells cell from.value) (point_named-is v point p e).1
+    after_check (reference_at r.cells cell) (cells_written limit v p r (with_target_cell r.cells cell from.value)
+    (point_named-is v point p e).1
     (required-is p.value.reservation refusal.NotOpen r f) (length-with_target_cell r.cells cell from.value)))))
 act_changes limit marked judged v (call.Free place) h =
     with_value (block_place_in v place) (λ (p : Found (Option ℕ)) e. after_check (block_in p) (accepted (nothing refl)))
@@ -293,7 +322,8 @@ act_changes limit marked judged v (call.Put target cell source) h =
     with_value (object_in v into.value) (λ (object : Numbered Object) f.
     after_check (reference_at (cells_of_body object.value.body) cell)
     (accepted (nothing (shapes_kept limit v (graph_with_cells v.graph object.number (λ cells. with_target_cell cells cell from.value))
-    (cells_kept v.graph object.number (λ cells. with_target_cell cells cell from.value) (λ cells. length-with_target_cell cells cell from.value)) refl))))))
+    (cells_kept v.graph object.number (λ cells. with_target_cell cells cell from.value)
+    (λ cells. length-with_target_cell cells cell from.value)) refl))))))
 act_changes limit marked judged v (call.Number slot cell) h =
     with_value (slot_in v slot) (λ (from : Found (Option ℕ)) e.
     with_value (object_in v from.value) (λ (object : Numbered Object) f.
@@ -303,24 +333,30 @@ act_changes limit marked judged v (call.SetNumber slot cell value) h =
     with_value (object_in v into.value) (λ (object : Numbered Object) f.
     after_check (number_at (cells_of_body object.value.body) cell)
     (accepted (nothing (shapes_kept limit v (graph_with_cells v.graph object.number (λ cells. slice_set cells cell (NumberCell value)))
-    (cells_kept v.graph object.number (λ cells. slice_set cells cell (NumberCell value)) (λ cells. length-slice_set cells cell (NumberCell value))) refl)))))
+    (cells_kept v.graph object.number (λ cells. slice_set cells cell (NumberCell value))
+    (λ cells. length-slice_set cells cell (NumberCell value))) refl)))))
 act_changes limit marked judged v (call.Copy target source) h =
-    with_value (slot_in v target) (λ (into : Found (Option ℕ)) e. with_value (slot_in v source) (λ (from : Found (Option ℕ)) e'. accepted (nothing refl)))
+    with_value (slot_in v target) (λ (into : Found (Option ℕ)) e.
+    with_value (slot_in v source) (λ (from : Found (Option ℕ)) e'. accepted (nothing refl)))
 act_changes limit marked judged v (call.Clear slot) h = with_value (slot_in v slot) (λ (into : Found (Option ℕ)) e. accepted (nothing refl))
 act_changes limit marked judged v (call.Same slot other) h =
     with_value (slot_in v slot) (λ (one : Found (Option ℕ)) e.
     with_value (slot_in v other) (λ (two : Found (Option ℕ)) e'. told limit v (same_target one.value two.value)))
-act_changes limit marked judged v (call.Null slot) h = with_value (slot_in v slot) (λ (from : Found (Option ℕ)) e. told limit v (is_none from.value))
+act_changes limit marked judged v (call.Null slot) h = with_value (slot_in v slot)
+    (λ (from : Found (Option ℕ)) e. told limit v (is_none from.value))
 act_changes limit marked judged v (call.Head slot) h =
-    with_value (slot_in v slot) (λ (from : Found (Option ℕ)) e. with_value (object_in v from.value) (λ (object : Numbered Object) f. accepted (nothing refl)))
+    with_value (slot_in v slot) (λ (from : Found (Option ℕ)) e.
+    with_value (object_in v from.value) (λ (object : Numbered Object) f. accepted (nothing refl)))
 act_changes limit marked judged v (call.Address slot) h =
-    with_value (slot_in v slot) (λ (from : Found (Option ℕ)) e. with_value (object_in v from.value) (λ (object : Numbered Object) f. accepted (nothing refl)))
+    with_value (slot_in v slot) (λ (from : Found (Option ℕ)) e.
+    with_value (object_in v from.value) (λ (object : Numbered Object) f. accepted (nothing refl)))
 act_changes limit marked judged v (call.Poke word value) h =
     with_value (word_in v word) (λ (at : Found AreaWord) e. poke_kept limit v at value marked (block_of_word v value))
 act_changes limit marked judged v (call.Peek word) h = with_value (word_in v word) (λ (at : Found AreaWord) e. accepted (nothing refl))
 act_changes limit marked judged v (call.Pin word slot) h =
     with_value (word_in v word) (λ (at : Found AreaWord) e.
-    with_value (slot_in v slot) (λ (from : Found (Option ℕ)) e'. with_value (object_in v from.value) (λ (object : Numbered Object) f. accepted (nothing refl))))
+    with_value (slot_in v slot) (λ (from : Found (Option ℕ)) e'.
+    with_value (object_in v from.value) (λ (object : Numbered Object) f. accepted (nothing refl))))
 act_changes limit marked judged v (call.Take slot word) h =
     with_value (slot_in v slot) (λ (into : Found (Option ℕ)) e.
     with_value (word_in v word) (λ (at : Found AreaWord) e'. with_value (held_in at.value) (λ (id : ℕ) f. accepted (nothing refl))))
@@ -332,7 +368,8 @@ act_changes limit marked judged v (call.StartChain chain generation) h =
 act_changes limit marked judged v (call.Finalize slot) h =
     with_value (slot_in v slot) (λ (from : Found (Option ℕ)) e.
     with_value (object_in v from.value) (λ (object : Numbered Object) f.
-    after_check (refuse_when (nat_le most_registrations (length v.graph.registered + length v.graph.messages)) (refusal.TooMany most_registrations))
+    after_check (refuse_when (nat_le most_registrations (length v.graph.registered + length v.graph.messages))
+    (refusal.TooMany most_registrations))
     (accepted (nothing refl))))
 act_changes limit marked judged v (call.Definalize slot) h =
     with_value (slot_in v slot) (λ (from : Found (Option ℕ)) e.
@@ -346,7 +383,8 @@ act_changes limit marked judged v (call.DependencyReset dependency) h =
     with_value (dependency_named v dependency) (λ (d : Numbered Dependency) e. accepted (nothing refl))
 act_changes limit marked judged v (call.DependencyAdd dependency slot) h =
     with_value (dependency_named v dependency) (λ (d : Numbered Dependency) e.
-    with_value (slot_in v slot) (λ (from : Found (Option ℕ)) e'. with_value (object_in v from.value) (λ (object : Numbered Object) f. accepted (nothing refl))))
+    with_value (slot_in v slot) (λ (from : Found (Option ℕ)) e'.
+    with_value (object_in v from.value) (λ (object : Numbered Object) f. accepted (nothing refl))))
 act_changes limit marked judged v (call.DependencyMerge dependency source) h =
     with_value (dependency_named v dependency) (λ (d : Numbered Dependency) e.
     with_value (dependency_named v source) (λ (d' : Numbered Dependency) e'. accepted (nothing refl)))

@@ -141,15 +141,18 @@ module _ (from to : ℕ) where
   all_runs_within P (r ∷ rs) all =
       elim (cases_lt r.from from) [
         | inl before ↦
-            let rest = subst (AllByRecursion P) (left_out r rs (nat_le from r.from) (nat_lt r.from to) (inl (lt-leb from r.from before))) all in
+            let rest = subst (AllByRecursion P) (left_out r rs (nat_le from r.from) (nat_lt r.from to)
+            (inl (lt-leb from r.from before))) all in
             ((λ h k. absurd (omega (arith, h, before))), all_runs_within P rs rest)
         | inr above ↦
             elim (cases_lt r.from to) [
               | inr past ↦
-                  let rest = subst (AllByRecursion P) (left_out r rs (nat_le from r.from) (nat_lt r.from to) (inr (le-ltb r.from to past))) all in
+                  let rest = subst (AllByRecursion P) (left_out r rs (nat_le from r.from) (nat_lt r.from to)
+                  (inr (le-ltb r.from to past))) all in
                   ((λ h k. absurd (omega (arith, k, past))), all_runs_within P rs rest)
               | inl below ↦
-                  let both = subst (AllByRecursion P) (taken_in r rs (nat_le from r.from) (nat_lt r.from to) (le-leb from r.from above) (lt-ltb r.from to below)) all in
+                  let both = subst (AllByRecursion P) (taken_in r rs (nat_le from r.from) (nat_lt r.from to) (le-leb from r.from above)
+                  (lt-ltb r.from to below)) all in
                   ((λ h k. both.0), all_runs_within P rs both.1)
             ]
       ]
@@ -171,7 +174,8 @@ lowest_gap low high limit [] need place some order asc is =
           cc
       | inr fits ↦
           let here : lowest_fitting need (gaps low high []) ≡ Some low =
-          ap (lowest_fitting need) (sym (append-nil (between low high))) ∙ lowest_fitting_here need low high [] some (omega (arith, some, fits)) in
+          ap (lowest_fitting need) (sym (append-nil (between low high)))
+          ∙ lowest_fitting_here need low high [] some (omega (arith, some, fits)) in
           let both : Some low ≡ Some place = sym here ∙ is in
           let same : low ≡ place = cc in
           record { above = omega (arith, same); ascending = (omega (arith, same), some, omega (arith, same, some, fits, order)) }
@@ -203,8 +207,11 @@ lowest_gap low high limit (r ∷ rs) need place some order asc is =
 
 pub all_above : (low high : ℕ) (rs : List Run) → IsAscending low high rs → AllByRecursion (λ (r : Run). low ≤ r.from) rs
 all_above low high [] asc = tt
-all_above low high (r ∷ rs) asc =
-    (asc.0, all_weaker (λ s. end_of r ≤ s.from) (λ s. low ≤ s.from) rs (λ s h. omega (arith, h, asc.0)) (all_above (end_of r) high rs asc.2))
+all_above low high (r ∷ rs) asc = (
+  asc.0,
+  all_weaker (λ s. end_of r ≤ s.from) (λ s. low ≤ s.from) rs (λ s h. omega (arith, h, asc.0))
+      (all_above (end_of r) high rs asc.2),
+)
 
 -- what is put among ascending runs, so that they ascend, is above their beginning and apart from each
 pub put_above : (low high : ℕ) (new : Run) (rs : List Run) → IsAscending low high (with_run new rs) → low ≤ new.from

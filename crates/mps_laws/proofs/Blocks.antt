@@ -129,7 +129,8 @@ pub record IsPlaced (shapes : List Shape) (addresses : List (Option ℕ)) (id at
   pub shape : slice_get shapes id ≡ Some s
 
 module _ (shapes : List Shape) (addresses : List (Option ℕ)) where
-  found : (id at : ℕ) (s : Shape) → IsPlaced shapes addresses id at s → block_at (stored (blocks_in shapes addresses)) at ≡ Some (block s at)
+  found : (id at : ℕ) (s : Shape) → IsPlaced shapes addresses id at s
+      → block_at (stored (blocks_in shapes addresses)) at ≡ Some (block s at)
   found id at s p =
       let a = among shapes addresses id at s p.shape p.address in
       let e = a.elsewhere at (λ j f. p.different id j at p.address f) in

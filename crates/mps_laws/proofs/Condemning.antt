@@ -37,11 +37,15 @@ pub distinct_bases : (test : Segment → Bool) (low limit : ℕ) (ss : List Segm
 distinct_bases test low limit [] asc = tt
 distinct_bases test low limit (s ∷ ss) asc =
     elim (test s) as (λ b. AreDistinct (map (λ (s : Segment). s.base) (if b then s ∷ filter test ss else filter test ss))) [
-      | true ↦ (none (cases_Bool (contains (map (λ (s : Segment). s.base) (filter test ss)) s.base)), distinct_bases test (end_of (grains_of_segment s)) limit ss asc.2)
+      | true ↦ (
+        none (cases_Bool (contains (map (λ (s : Segment). s.base) (filter test ss)) s.base)),
+        distinct_bases test (end_of (grains_of_segment s)) limit ss asc.2,
+      )
       | false ↦ distinct_bases test (end_of (grains_of_segment s)) limit ss asc.2
     ]
   where
-    none : (contains (map (λ (s : Segment). s.base) (filter test ss)) s.base ≡ true) ⊎ (contains (map (λ (s : Segment). s.base) (filter test ss)) s.base ≡ false)
+    none : (contains (map (λ (s : Segment). s.base) (filter test ss)) s.base ≡ true) ⊎
+        (contains (map (λ (s : Segment). s.base) (filter test ss)) s.base ≡ false)
         → contains (map (λ (s : Segment). s.base) (filter test ss)) s.base ≡ false
     none (inl is) =
         let t = contains-filter test ss s.base is in
@@ -54,7 +58,8 @@ pub contains-without_first : (ns : List ℕ) (n m : ℕ) → AreDistinct ns → 
     → (contains ns m ≡ true) × (m ≢ n)
 contains-without_first [] n m d h = absurd (false≢true h)
 contains-without_first (k ∷ ks) n m d h =
-    elim (k == n) as (λ b. (k == n) ≡ b → contains (if b then ks else k ∷ without_first ks n) m ≡ true → (contains (k ∷ ks) m ≡ true) × (m ≢ n)) [
+    elim (k == n) as (λ b. (k == n) ≡ b → contains (if b then ks else k ∷ without_first ks n) m ≡ true
+    → (contains (k ∷ ks) m ≡ true) × (m ≢ n)) [
       | true ↦
           (λ is g. (
             or_right (k == m) (contains ks m) g,
@@ -152,7 +157,8 @@ doomed_shape (Some p) =
 
 pub doomed_shapes : (ps : List (Option Point)) → map shape_of_point (map doomed ps) ≡ map without_reserved (map shape_of_point ps)
 doomed_shapes [] = refl
-doomed_shapes (p ∷ ps) = ap (λ s. s ∷ map shape_of_point (map doomed ps)) (doomed_shape p) ∙ ap (λ rest. without_reserved (shape_of_point p) ∷ rest) (doomed_shapes ps)
+doomed_shapes (p ∷ ps) = ap (λ s. s ∷ map shape_of_point (map doomed ps)) (doomed_shape p)
+    ∙ ap (λ rest. without_reserved (shape_of_point p) ∷ rest) (doomed_shapes ps)
 
 module _ (limit : ℕ) (g : Occupancy) (laid : IsLaidOut limit g) where
   abbrev flipped : Occupancy

@@ -49,7 +49,8 @@ reserved-shape None m = refl
 reserved-shape (Some r) m = of_doomed r.is_doomed
   where
     of_doomed : (b : Bool)
-        → Rattle.std.specs.Prelude.if◌then◌else◌ (Rattle.std.specs.Prelude.if◌then◌else◌ b false true) (extent m.reserved_at (length r.cells) ∷ []) []
+        → Rattle.std.specs.Prelude.if◌then◌else◌ (Rattle.std.specs.Prelude.if◌then◌else◌ b false true)
+        (extent m.reserved_at (length r.cells) ∷ []) []
         ≡ reserved_extent (Rattle.std.specs.Prelude.if◌then◌else◌ b None (Some (length r.cells))) m
     of_doomed true = refl
     of_doomed false = refl
@@ -104,7 +105,8 @@ module _ (P : Run → Type 0) where
       all_reserved_here p.reserved m (reserved_in ps ms) (λ words r. each zero p words m refl r refl)
       (all_reserved ps ms (λ i q words n e r f. each (suc i) q words n e r f))
 
-  later_reserved : (o : Option ℕ) (m : PointMemory) (rest : List Run) → AllByRecursion P (reserved_extent o m ++ rest) → AllByRecursion P rest
+  later_reserved : (o : Option ℕ) (m : PointMemory) (rest : List Run) → AllByRecursion P (reserved_extent o m ++ rest)
+      → AllByRecursion P rest
   later_reserved None m rest all = all
   later_reserved (Some words) m rest all = all.1
 
@@ -147,7 +149,8 @@ reserved_apart_here None m rest here all = all
 reserved_apart_here (Some words) m rest here all = (here words refl, all)
 
 pub reserved_apart : (ps : List (Option PointShape)) (ms : List PointMemory)
-    → ((i j : ℕ) (p q : PointShape) (k l : ℕ) (m n : PointMemory) → i ≢ j → entry_at ps i ≡ Some p → p.reserved ≡ Some k → slice_get ms i ≡ Some m
+    → ((i j : ℕ) (p q : PointShape) (k l : ℕ) (m n : PointMemory) → i ≢ j → entry_at ps i ≡ Some p → p.reserved ≡ Some k
+    → slice_get ms i ≡ Some m
     → entry_at ps j ≡ Some q → q.reserved ≡ Some l → slice_get ms j ≡ Some n → AreApart (extent m.reserved_at k) (extent n.reserved_at l))
     → AreAllApart (reserved_in ps ms)
 reserved_apart [] ms each = tt
@@ -209,13 +212,15 @@ module _ (limit : ℕ) (g : Occupancy) (laid : IsLaidOut limit g) where
       → P (run_of g o)
   each_listed P all (OfBlock i) h some = of_block (slice_get g.shapes i) (entry_at g.addresses i) refl refl some
     where
-      of_block : (s : Option Shape) (a : Option Address) → slice_get g.shapes i ≡ s → entry_at g.addresses i ≡ a → 0 < (run_of_block s a).count
+      of_block : (s : Option Shape) (a : Option Address) → slice_get g.shapes i ≡ s → entry_at g.addresses i ≡ a
+          → 0 < (run_of_block s a).count
           → P (run_of g (OfBlock i))
       of_block None a e f some = absurd (omega (arith, some))
       of_block (Some s) None e f some = absurd (omega (arith, some))
       of_block (Some s) (Some at) e f some =
           subst P (sym (block_of_run g i s at e f))
-          (each_extent P g.shapes g.addresses i s at (first_part P (extents_in g.shapes g.addresses) (reserved_in g.points g.memories) all) e f)
+          (each_extent P g.shapes g.addresses i s at (first_part P (extents_in g.shapes g.addresses)
+          (reserved_in g.points g.memories) all) e f)
   each_listed P all (OfReservation i) h some = of_reservation (entry_at g.points i) (slice_get g.memories i) refl refl some
     where
       of_reserved : (p : PointShape) (words : Option ℕ) (m : Option PointMemory) → entry_at g.points i ≡ Some p → p.reserved ≡ words
@@ -289,8 +294,10 @@ module _ (limit : ℕ) (g : Occupancy) (laid : IsLaidOut limit g) where
       same_segment 1 limit g.segments home.segment s laid.ascending home.held held (Rattle.mps_base.specs.Address.grain_of s.base)
       (omega (arith, e), omega (arith, e, bounds.1)) (omega arith, omega (arith, bounds'.1)) in
       let within : Covers (words_of_segment s) (run_of g o).from =
-      subst (λ (t : Segment). Covers (words_of_segment t) (run_of g o).from) one (omega (arith, home.above), omega (arith, home.below, some)) in
+      subst (λ (t : Segment). Covers (words_of_segment t) (run_of g o).from) one
+      (omega (arith, home.above), omega (arith, home.below, some)) in
       let outside : begins_in s (run_of g o) ≡ false =
-      each_listed (λ r. begins_in s r ≡ false) (all_from_in_order (λ r. begins_in s r ≡ false) listed (list_any-false (begins_in s) (covered_in g) none))
+      each_listed (λ r. begins_in s r ≡ false) (all_from_in_order (λ r. begins_in s r ≡ false) listed
+      (list_any-false (begins_in s) (covered_in g) none))
       o h some in
       false≢true (sym outside ∙ in_segment s (run_of g o).from a within)

@@ -53,8 +53,11 @@ is_here at (Some n) f = eq-eqb n at (same_Some n at f)
 some_from : (at first : ℕ) (addresses : List (Option ℕ)) (i : ℕ) → entry_at addresses i ≡ Some at
     → (id : ℕ) × (first_id (numbers_of (is_at at) first addresses) ≡ Some id)
 some_from at first [] i e = absurd (none-some at e)
-some_from at first (p ∷ ps) zero e =
-    (first, ap (λ t. first_id (if t then first ∷ numbers_of (is_at at) (first + 1) ps else numbers_of (is_at at) (first + 1) ps)) (is_here at p e))
+some_from at first (p ∷ ps) zero e = (
+  first,
+  ap (λ t. first_id (if t then first ∷ numbers_of (is_at at) (first + 1) ps else numbers_of (is_at at) (first + 1) ps))
+      (is_here at p e),
+)
 some_from at first (p ∷ ps) (suc i) e =
     elim (is_at at p) as (λ t. (id : ℕ)
     × (first_id (if t then first ∷ numbers_of (is_at at) (first + 1) ps else numbers_of (is_at at) (first + 1) ps) ≡ Some id)) [

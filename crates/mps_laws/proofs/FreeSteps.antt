@@ -38,7 +38,8 @@ BlocksAreLive w = list_all (is_live w) (ids_in_blocks w.graph) ≡ true
 -- ---- a place of a table of blocks
 
 abbrev placed_block : List Slots → (index : ℕ) → Option ℕ → Checked (Found (Option ℕ))
-placed_block blocks index o = required o refusal.BadName >>= (λ number. numbered number (slice_get blocks number) >>= (λ b. entry_in b index))
+placed_block blocks index o = required o refusal.BadName >>= (λ number.
+    numbered number (slice_get blocks number) >>= (λ b. entry_in b index))
 
 record IsPlaceOf (blocks : List Slots) (value : Option ℕ) : Type 0 where
   pub number : ℕ
@@ -48,7 +49,8 @@ record IsPlaceOf (blocks : List Slots) (value : Option ℕ) : Type 0 where
   pub entry : slice_get slots index ≡ Some value
 
 entry_is : (number : ℕ) (slots : Slots) (index : ℕ) (o : Option (Option ℕ)) (found : Found (Option ℕ))
-    → (required o refusal.BadIndex >>= (λ value. Ok (record { number = number; list = slots; index = index; value = value }))) ≡ Ok found → o ≡ Some found.value
+    → (required o refusal.BadIndex >>= (λ value. Ok (record { number = number; list = slots; index = index; value = value }))) ≡ Ok found
+    → o ≡ Some found.value
 entry_is number slots index None found e = absurd (cc)
 entry_is number slots index (Some value) found e =
     let same : record { number = number; list = slots; index = index; value = value } ≡ found = cc in
@@ -112,10 +114,12 @@ module _ (limit pools line : ℕ) (w : World) (laid : HasLayout limit w) where
 
   -- the segment of a freed block is given back where that is due
   given_back : (v : World) (laid' : HasLayout limit v) (o : Option Segment) → ((s : Segment) → o ≡ Some s → IsAmong s v.segments)
-      → IsReplayed limit v (world_after_moves v (give_back_empty v o)) (replay_from (blocks_of (occupancy_of v)) (records_of (give_back_empty v o) line))
+      → IsReplayed limit v (world_after_moves v (give_back_empty v o))
+      (replay_from (blocks_of (occupancy_of v)) (records_of (give_back_empty v o) line))
   given_back v laid' None held = record { layout = laid'; blocks = refl }
   given_back v laid' (Some s) held =
-      elim (pool_is is_any_size_kind v s.pool && is_empty_segment v s) as (λ b. (pool_is is_any_size_kind v s.pool && is_empty_segment v s) ≡ b
+      elim (pool_is is_any_size_kind v s.pool && is_empty_segment v s) as
+      (λ b. (pool_is is_any_size_kind v s.pool && is_empty_segment v s) ≡ b
       → IsReplayed limit v (world_after_moves v (if b then moves.Unseg (at_address s.base) ∷ [] else []))
       (replay_from (blocks_of (occupancy_of v)) (records_of (if b then moves.Unseg (at_address s.base) ∷ [] else []) line))) [
         | true ↦
@@ -132,7 +136,8 @@ module _ (limit pools line : ℕ) (w : World) (laid : HasLayout limit w) where
 
   then_replayed : (at : Address) (v : World) (ms : List Move) → IsReplayed limit w v (after_freeing (blocks_of (occupancy_of w)) at)
       → IsReplayed limit v (world_after_moves v ms) (replay_from (blocks_of (occupancy_of v)) (records_of ms line))
-      → IsReplayed limit w (world_after_moves v ms) (option_and_then (λ after. replay_from after (records_of ms line)) (after_freeing (blocks_of (occupancy_of w)) at))
+      → IsReplayed limit w (world_after_moves v ms) (option_and_then (λ after. replay_from after (records_of ms line))
+      (after_freeing (blocks_of (occupancy_of w)) at))
   then_replayed at v ms first second = record {
     layout = second.layout;
     blocks = ap (λ o. option_and_then (λ after. replay_from after (records_of ms line)) o) first.blocks ∙ second.blocks;
@@ -158,7 +163,8 @@ module _ (limit pools line : ℕ) (w : World) (laid : HasLayout limit w) where
   nothing_replayed = record { layout = laid; blocks = refl }
 
   of_place : (place : Slot) → BlocksAreLive w → (x : Checked (Found (Option ℕ))) → block_place_in w place ≡ x
-      → IsReplayed limit w (world_after_moves w (moves_of_free w x)) (replay_from (blocks_of (occupancy_of w)) (records_of (moves_of_free w x) line))
+      → IsReplayed limit w (world_after_moves w (moves_of_free w x))
+      (replay_from (blocks_of (occupancy_of w)) (records_of (moves_of_free w x) line))
   of_place place live (Err why) e = nothing_replayed
   of_place place live (Ok found) e = of_value found.value refl
     where
@@ -170,15 +176,19 @@ module _ (limit pools line : ℕ) (w : World) (laid : HasLayout limit w) where
 
   moves_replayed_unless : (b : Bool) (ms : List Move)
       → IsReplayed limit w (world_after_moves w ms) (replay_from (blocks_of (occupancy_of w)) (records_of ms line))
-      → IsReplayed limit w (world_after_moves w (if b then [] else ms)) (replay_from (blocks_of (occupancy_of w)) (records_of (if b then [] else ms) line))
+      → IsReplayed limit w (world_after_moves w (if b then [] else ms))
+      (replay_from (blocks_of (occupancy_of w)) (records_of (if b then [] else ms) line))
   moves_replayed_unless true ms r = nothing_replayed
   moves_replayed_unless false ms r = r
 
   pub free_step : (place : Slot) (ms : List Move) (answer : Answer) → BlocksAreLive w → is_unsupported answer ≡ false
       → ms ≡ unless_refused answer (moves_of_free w (block_place_in w place))
       → IsReplayed limit w (world_after w (record { line = line; call = call.Free place; moves = ms; answer = answer }))
-      (replay_from (blocks_of (occupancy_of w)) (records_of_step pools (record { line = line; call = call.Free place; moves = ms; answer = answer })))
+      (replay_from (blocks_of (occupancy_of w)) (records_of_step pools
+      (record { line = line; call = call.Free place; moves = ms; answer = answer })))
   free_step place ms answer live supported due =
       plain_step limit pools line w (call.Free place) ms answer supported refl
-      (subst (λ (ns : List Move). IsReplayed limit w (world_after_moves w ns) (replay_from (blocks_of (occupancy_of w)) (records_of ns line))) (sym due)
-      (moves_replayed_unless (is_refused answer) (moves_of_free w (block_place_in w place)) (of_place place live (block_place_in w place) refl)))
+      (subst (λ (ns : List Move). IsReplayed limit w (world_after_moves w ns)
+      (replay_from (blocks_of (occupancy_of w)) (records_of ns line))) (sym due)
+      (moves_replayed_unless (is_refused answer) (moves_of_free w (block_place_in w place))
+      (of_place place live (block_place_in w place) refl)))

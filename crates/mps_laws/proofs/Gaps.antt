@@ -105,7 +105,8 @@ module _ (limit : ℕ) (g : Occupancy) (laid : IsLaidOut limit g) where
       let new : Run = record { from = word; count = words } in
       let apart =
       all_from_in_order (λ (r : Run). low ≤ r.from → r.from < high → AreApart new r) (listed limit g laid)
-      (all_runs_within low high (AreApart new) (covered_in g) (put_apart low high new (runs_within low high (covered_in g)) gap.ascending)) in
+      (all_runs_within low high (AreApart new) (covered_in g)
+      (put_apart low high new (runs_within low high (covered_in g)) gap.ascending)) in
       let end = put_below low high new (runs_within low high (covered_in g)) gap.ascending in
       record {
         segment = f.segment;
@@ -178,8 +179,10 @@ none_within from to (r ∷ rs) all =
     ap (λ b. if b then r ∷ runs_within from to rs else runs_within from to rs) (outside all.0) ∙ none_within from to rs all.1
   where
     outside : (r.from < from) ⊎ (to ≤ r.from) → (nat_le from r.from && Rattle.std.specs.Prelude.nat_lt r.from to) ≡ false
-    outside (inl h) = Rattle.std.proofs.lemmas.Bool.and_left (nat_le from r.from) (Rattle.std.specs.Prelude.nat_lt r.from to) (Rattle.std.proofs.lemmas.Bool.lt-leb from r.from h)
-    outside (inr h) = Rattle.std.proofs.lemmas.Bool.and_right (nat_le from r.from) (Rattle.std.specs.Prelude.nat_lt r.from to) (Rattle.std.proofs.lemmas.Bool.le-ltb r.from to h)
+    outside (inl h) = Rattle.std.proofs.lemmas.Bool.and_left (nat_le from r.from) (Rattle.std.specs.Prelude.nat_lt r.from to)
+        (Rattle.std.proofs.lemmas.Bool.lt-leb from r.from h)
+    outside (inr h) = Rattle.std.proofs.lemmas.Bool.and_right (nat_le from r.from) (Rattle.std.specs.Prelude.nat_lt r.from to)
+        (Rattle.std.proofs.lemmas.Bool.le-ltb r.from to h)
 
 -- in a segment in which nobody has words there is a gap of all of it
 pub gap_in_empty : (limit : ℕ) (g : Occupancy) (laid : IsLaidOut limit g) (s : Segment) (words : ℕ) → IsAmong s g.segments

@@ -42,7 +42,8 @@ pub record IsFresh (limit : ℕ) (segments : List Segment) (s : Segment) : Type 
 placed_by : (grains commit : ℕ) (held : List Run) (need grain count : ℕ) (b : Bool) (o : Option ℕ) → nat_lt commit (total held + need) ≡ b
     → lowest_fitting need (gaps 1 (grains + 1) held) ≡ o → run_placement grains commit held need ≡ NewSegment grain count
     → (o ≡ Some grain) × (need ≡ count)
-placed_by grains commit held need grain count true o e f h = absurd (let g = rw e at h in let never : OverLimit (total held) need commit ≡ NewSegment grain count = g in cc)
+placed_by grains commit held need grain count true o e f h = absurd
+    (let g = rw e at h in let never : OverLimit (total held) need commit ≡ NewSegment grain count = g in cc)
 placed_by grains commit held need grain count false None e f h = absurd (let g = rw (e, f) at h in cc)
 placed_by grains commit held need grain count false (Some place) e f h =
     let g : NewSegment place need ≡ NewSegment grain count = rw (e, f) at h in
@@ -54,7 +55,8 @@ placed_by grains commit held need grain count false (Some place) e f h =
 pub need_of_placement : (grains commit : ℕ) (held : List Run) (need grain count : ℕ)
     → run_placement grains commit held need ≡ NewSegment grain count → need ≡ count
 need_of_placement grains commit held need grain count h =
-    (placed_by grains commit held need grain count (nat_lt commit (total held + need)) (lowest_fitting need (gaps 1 (grains + 1) held)) refl refl h).1
+    (placed_by grains commit held need grain count (nat_lt commit (total held + need))
+    (lowest_fitting need (gaps 1 (grains + 1) held)) refl refl h).1
 
 -- what a placement in free grains gives is fresh
 pub fresh_of_placement : (limit grains commit need grain count : ℕ) (segments : List Segment) (s : Segment) → grains < limit → 0 < need
@@ -63,7 +65,8 @@ pub fresh_of_placement : (limit grains commit need grain count : ℕ) (segments 
     → s.base ≡ address_of_grain grain → s.grains ≡ count → IsFresh limit segments s
 fresh_of_placement limit grains commit need grain count segments s range some asc h base size =
     let held = map grains_of_segment segments in
-    let p = placed_by grains commit held need grain count (nat_lt commit (total held + need)) (lowest_fitting need (gaps 1 (grains + 1) held)) refl refl h in
+    let p = placed_by grains commit held need grain count (nat_lt commit (total held + need))
+    (lowest_fitting need (gaps 1 (grains + 1) held)) refl refl h in
     let gap = lowest_gap 1 (grains + 1) limit held need grain some (omega (arith, range)) asc p.0 in
     let first : grain ≡ grain_of s.base = omega (arith, base) in
     let counted : need ≡ s.grains = p.1 ∙ sym size in
@@ -129,13 +132,15 @@ same_reservation memories point q p words =
     of_one : (o : Option PointMemory) → slice_get memories point ≡ o
         → run_of_reservation p (slice_get (with_buffer memories point words) point) ≡ run_of_reservation p (slice_get memories point)
     of_one None e =
-        ap (λ o. run_of_reservation p (slice_get (option_map_or (λ (memory : PointMemory). slice_set memories point (record memory { buffer = words })) o memories) point)) e
+        ap (λ o. run_of_reservation p (slice_get (option_map_or
+        (λ (memory : PointMemory). slice_set memories point (record memory { buffer = words })) o memories) point)) e
     of_one (Some m) e =
         ap (λ ms. run_of_reservation p (slice_get ms point)) (with_buffer-is memories point words m e)
         ∙ ap (run_of_reservation p) (slice_get-set_same memories point (record m { buffer = words }) (slice_get_within memories point m e))
         ∙ in_point p m words ∙ sym (ap (run_of_reservation p) e)
 
-in_more : {pools : List Pool} {condemned : List Address} {pool : ℕ} {rank : Rank} {r : Run} (segments : List Segment) (s : Segment) (o : Occupant)
+in_more : {pools : List Pool} {condemned : List Address} {pool : ℕ} {rank : Rank} {r : Run} (segments : List Segment) (s : Segment)
+    (o : Occupant)
     → Home segments pools condemned o pool rank r → Home (with_segment s segments) pools condemned o pool rank r
 in_more segments s o home = record {
   segment = home.segment;
@@ -158,7 +163,8 @@ module _ (limit : ℕ) (g : Occupancy) (s : Segment) (laid : IsLaidOut limit g) 
   fresh_apart : (t : Segment) → IsAmong t g.segments → AreApart (grains_of_segment s) (grains_of_segment t)
   fresh_apart t h =
       all_among (AreApart (grains_of_segment s)) (map grains_of_segment g.segments) (grains_of_segment t)
-      (put_apart 1 limit (grains_of_segment s) (map grains_of_segment g.segments) fresh.ascending) (among_map grains_of_segment g.segments t h)
+      (put_apart 1 limit (grains_of_segment s) (map grains_of_segment g.segments) fresh.ascending)
+      (among_map grains_of_segment g.segments t h)
 
   -- nobody has words in it
   pub fresh_unoccupied : (o : Occupant) (n : ℕ) → Covers (run_of g o) n → Covers (words_of_segment s) n → ⊥
@@ -227,7 +233,8 @@ module _ (limit : ℕ) (g : Occupancy) (s : Segment) (laid : IsLaidOut limit g) 
       (keyed_with g.tails s.pool s.generation (words_of_segment s) laid.keyed) refl
       (placed_new holding_it g.shapes g.addresses g.points g.memories (with_tail_of g.tails s.pool s.generation (words_of_segment s))
       (OfTail s.pool s.generation) tailed_kept
-      (λ some. subst (Home (with_segment s g.segments) g.pools g.condemned (OfTail s.pool s.generation) s.pool rank.Exact) (sym own) (record {
+      (λ some. subst (Home (with_segment s g.segments) g.pools g.condemned (OfTail s.pool s.generation) s.pool rank.Exact) (sym own)
+      (record {
         segment = s;
         held = among_new s g.segments;
         of_pool = refl;

@@ -32,7 +32,8 @@ is_tail (OfTail pool generation) = true
 
 -- the held segment in which an occupant's words lie. What is at hand lies in a copying pool and not in a condemned segment,
 -- and what is at hand for blocks that move goes to the segment's end
-pub record Home (segments : List Segment) (pools : List Pool) (condemned : List Address) (o : Occupant) (pool : ℕ) (rank : Rank) (r : Run) : Type 0 where
+pub record Home (segments : List Segment) (pools : List Pool) (condemned : List Address) (o : Occupant) (pool : ℕ) (rank : Rank)
+    (r : Run) : Type 0 where
   pub segment : Segment
   pub held : IsAmong segment segments
   pub of_pool : segment.pool ≡ pool
@@ -102,7 +103,8 @@ kept_covers : (g g' : Occupancy) (o : Occupant) (n : ℕ) → IsKept g g' o → 
 kept_covers g g' o n (inl same) c = subst (λ (r : Run). Covers r n) same.run c
 kept_covers g g' o n (inr none) c = absurd (omega (arith, none, c.0, c.1))
 
-module _ (g : Occupancy) (shapes : List Shape) (addresses : List (Option Address)) (points : List (Option PointShape)) (memories : List PointMemory) (tails : List Tail) where
+module _ (g : Occupancy) (shapes : List Shape) (addresses : List (Option Address)) (points : List (Option PointShape))
+    (memories : List PointMemory) (tails : List Tail) where
   abbrev after : Occupancy
   after = changed g shapes addresses points memories tails
 
@@ -188,7 +190,8 @@ module _ (g : Occupancy) (shapes : List Shape) (addresses : List (Option Address
           placed.apart a b n (kept_covers g after a n e.1 c) (kept_covers g after b n f.1 d)
 
 -- an arena whose segments stay
-pub laid_out_again : (limit : ℕ) (g : Occupancy) (shapes : List Shape) (addresses : List (Option Address)) (points : List (Option PointShape)) (memories : List PointMemory) (tails : List Tail)
+pub laid_out_again : (limit : ℕ) (g : Occupancy) (shapes : List Shape) (addresses : List (Option Address))
+    (points : List (Option PointShape)) (memories : List PointMemory) (tails : List Tail)
     → IsLaidOut limit g → AreKeyed tails → length addresses ≡ length shapes → length memories ≡ length points
     → ((id : ℕ) (s : Shape) → slice_get shapes id ≡ Some s → IsRightShape g.pools s)
     → ((n : ℕ) (p : PointShape) → entry_at points n ≡ Some p → IsRightPointShape g.pools p)
@@ -213,4 +216,5 @@ pub at_hand_again : (limit : ℕ) (g : Occupancy) (memories : List PointMemory) 
     → length memories ≡ length g.memories → ArePlaced (record g { memories = memories; tails = tails })
     → IsLaidOut limit (record g { memories = memories; tails = tails })
 at_hand_again limit g memories tails laid keyed same placed =
-    laid_out_again limit g g.shapes g.addresses g.points memories tails laid keyed laid.lengths (same ∙ laid.memories) laid.shapes laid.points placed
+    laid_out_again limit g g.shapes g.addresses g.points memories tails laid keyed laid.lengths
+    (same ∙ laid.memories) laid.shapes laid.points placed

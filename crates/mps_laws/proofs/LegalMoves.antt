@@ -64,7 +64,8 @@ pub condemned_kept : (change : Collection → Collection) → ((c : Collection) 
 condemned_kept change each None = refl
 condemned_kept change each (Some c) = each c
 
-pub collection_kept : (w : World) (change : Collection → Collection) → ((c : Collection) → (change c).condemned_segments ≡ c.condemned_segments)
+pub collection_kept : (w : World) (change : Collection → Collection)
+    → ((c : Collection) → (change c).condemned_segments ≡ c.condemned_segments)
     → occupancy_of (with_collection w change) ≡ occupancy_of w
 collection_kept w change each = ap (λ x. record (occupancy_of w) { condemned = x }) (condemned_kept change each w.collection)
 
@@ -98,7 +99,8 @@ cells_kept g id change same = of_one (object_at g id) refl
     of_one None e = refl
     of_one (Some o) e =
         shapes_written g.objects id o (object_with_cells o change) e
-        (ap (λ n. shape_with o.pool n (Rattle.mps_model.specs.Graph.is_weak_body (body_with_cells o.body change))) (size_kept o.body change same)
+        (ap (λ n. shape_with o.pool n (Rattle.mps_model.specs.Graph.is_weak_body (body_with_cells o.body change)))
+        (size_kept o.body change same)
         ∙ ap (shape_with o.pool (size_of_body o.body)) (weak_kept o.body change))
 
 length-retargeted : (cells : List Cell) (k : ℕ) (target : Option ℕ) (c : Option Cell)
@@ -123,7 +125,8 @@ post_kept w id =
 pub free_is : (w : World) (id at : ℕ)
     → occupancy_of (after_free w id at) ≡ record (occupancy_of w) { addresses = slice_set w.addresses id None }
 free_is w id at =
-    elim (object_is is_automatic w id) as (λ b. occupancy_of (if b then with_collection (with_address w id None) (reclaiming (segment_base_of w at))
+    elim (object_is is_automatic w id) as (λ b. occupancy_of (if b then with_collection (with_address w id None)
+    (reclaiming (segment_base_of w at))
     else with_address w id None) ≡ record (occupancy_of w) { addresses = slice_set w.addresses id None }) [
       | true ↦ collection_kept (with_address w id None) (reclaiming (segment_base_of w at)) (λ c. refl)
       | false ↦ refl
@@ -134,9 +137,11 @@ pub given_back_condemned : (base : Address) (o : Option Collection)
 given_back_condemned base None = refl
 given_back_condemned base (Some c) =
     elim (cases_Bool (contains c.condemned_segments base)) [
-      | inl is ↦ ap (λ b. (if b then reclaiming base (record c { condemned_segments = without_first c.condemned_segments base }) else c).condemned_segments) is
+      | inl is ↦ ap (λ b. (if b then reclaiming base (record c { condemned_segments = without_first c.condemned_segments base })
+          else c).condemned_segments) is
       | inr isnt ↦
-          ap (λ b. (if b then reclaiming base (record c { condemned_segments = without_first c.condemned_segments base }) else c).condemned_segments) isnt
+          ap (λ b. (if b then reclaiming base (record c { condemned_segments = without_first c.condemned_segments base })
+          else c).condemned_segments) isnt
           ∙ sym (without_first-none c.condemned_segments base isnt)
     ]
 
@@ -189,7 +194,12 @@ pub record IsLiveAt (limit : ℕ) (w : World) (at id : ℕ) : Type 0 where
 
 pub live_at : (limit : ℕ) (w : World) (at id : ℕ) → HasLayout limit w → entry_at w.addresses id ≡ Some at → IsLiveAt limit w at id
 live_at limit w at id laid e =
-    let o = there_is w.graph.objects id (omega (arith, laid.lengths, entry_within w.addresses id at e, length-map w.graph.objects shape_of)) in
+    let o = there_is w.graph.objects id (omega (
+      arith,
+      laid.lengths,
+      entry_within w.addresses id at e,
+      length-map w.graph.objects shape_of,
+    )) in
     record {
       object = o.0;
       there = o.1;
@@ -228,7 +238,8 @@ segment_layout limit w base grains pool generation laid fresh =
 
 pub segment_blocks : (w : World) (s : Segment) → blocks_of (occupancy_of (after_segment w s)) ≡ blocks_of (occupancy_of w)
 segment_blocks w s =
-    elim (is_copying_pool w s.pool) as (λ b. blocks_of (occupancy_of (if b then with_tail (Rattle.mps_model.specs.Effect.holding w s) s.pool s.generation (words_of_segment s)
+    elim (is_copying_pool w s.pool) as (λ b. blocks_of (occupancy_of
+    (if b then with_tail (Rattle.mps_model.specs.Effect.holding w s) s.pool s.generation (words_of_segment s)
     else Rattle.mps_model.specs.Effect.holding w s)) ≡ blocks_of (occupancy_of w)) [
       | true ↦ refl
       | false ↦ refl

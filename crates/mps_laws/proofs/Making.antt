@@ -42,7 +42,8 @@ arena_laid_out limit limit' grains g order range laid = record {
   placed = record { apart = laid.placed.apart; homes = laid.placed.homes };
 }
 
-in_more_pools : {segments : List Segment} {condemned : List Address} {pool : ℕ} {at_rank : Rank} {r : Run} (pools : List Pool) (p : Pool) (o : Occupant)
+in_more_pools : {segments : List Segment} {condemned : List Address} {pool : ℕ} {at_rank : Rank} {r : Run} (pools : List Pool) (p : Pool)
+    (o : Occupant)
     → Home segments pools condemned o pool at_rank r → Home segments (with_last pools p) condemned o pool at_rank r
 in_more_pools pools p o home = record {
   segment = home.segment;
@@ -147,7 +148,8 @@ module _ (limit : ℕ) (g : Occupancy) (laid : IsLaidOut limit g) where
 
     pub point_laid_out : IsLaidOut limit with_point_shape
     point_laid_out =
-        laid_out_again limit g g.shapes g.addresses (with_last g.points (Some p)) (with_last g.memories m) g.tails laid laid.keyed laid.lengths
+        laid_out_again limit g g.shapes g.addresses (with_last g.points (Some p))
+        (with_last g.memories m) g.tails laid laid.keyed laid.lengths
         (length-with_last g.memories m ∙ ap (λ n. n + 1) laid.memories ∙ sym (length-with_last g.points (Some p))) laid.shapes right_points
         (placed_kept g g.shapes g.addresses (with_last g.points (Some p)) (with_last g.memories m) g.tails point_kept laid.placed)
 
@@ -160,7 +162,8 @@ module _ (limit : ℕ) (g : Occupancy) (laid : IsLaidOut limit g) where
     dropped_reservation n =
         elim (cases_eq point n) [
           | inl e ↦
-              inr (subst (λ (k : ℕ). (run_of_reservation (entry_at (slice_set g.points point None) k) (slice_get (slice_set g.memories point m) k)).count ≡ 0) e
+              inr (subst (λ (k : ℕ). (run_of_reservation (entry_at (slice_set g.points point None) k)
+              (slice_get (slice_set g.memories point m) k)).count ≡ 0) e
               (ap (λ q. (run_of_reservation q (slice_get (slice_set g.memories point m) point)).count) (entry_at-set_none g.points point)))
           | inr other ↦
               let same = entry_at-set_other g.points point n None other in
@@ -208,7 +211,8 @@ module _ (limit : ℕ) (g : Occupancy) (laid : IsLaidOut limit g) where
 
     pub dropped_laid_out : IsLaidOut limit without_point_shape
     dropped_laid_out =
-        laid_out_again limit g g.shapes g.addresses (slice_set g.points point None) (slice_set g.memories point m) g.tails laid laid.keyed laid.lengths
+        laid_out_again limit g g.shapes g.addresses (slice_set g.points point None)
+        (slice_set g.memories point m) g.tails laid laid.keyed laid.lengths
         (length-slice_set g.memories point m ∙ laid.memories ∙ sym (length-slice_set g.points point None)) laid.shapes right_rest
         (placed_kept g g.shapes g.addresses (slice_set g.points point None) (slice_set g.memories point m) g.tails dropped_kept laid.placed)
 
@@ -221,18 +225,21 @@ module _ (limit : ℕ) (g : Occupancy) (laid : IsLaidOut limit g) where
     pub new_run : (points : List (Option PointShape)) → run_of (with_block_at points) (OfBlock (length g.shapes)) ≡ extent at s.words
     new_run points =
         ap (λ o. run_of_block o (entry_at (with_last g.addresses (Some at)) (length g.shapes))) (slice_get-at_last g.shapes s)
-        ∙ ap (run_of_block (Some s)) (ap (entry_at (with_last g.addresses (Some at))) (sym laid.lengths) ∙ entry_at-at_last g.addresses (Some at))
+        ∙ ap (run_of_block (Some s)) (ap (entry_at (with_last g.addresses (Some at))) (sym laid.lengths)
+        ∙ entry_at-at_last g.addresses (Some at))
 
     pub new_pool : (points : List (Option PointShape)) → pool_of_occupant (with_block_at points) (OfBlock (length g.shapes)) ≡ s.pool
     new_pool points = ap (λ o. option_map_or (λ (t : Shape). t.pool) o 0) (slice_get-at_last g.shapes s)
 
-    pub new_rank : (points : List (Option PointShape)) → rank_of_occupant (with_block_at points) (OfBlock (length g.shapes)) ≡ rank_where s.is_weak
+    pub new_rank : (points : List (Option PointShape)) → rank_of_occupant (with_block_at points)
+        (OfBlock (length g.shapes)) ≡ rank_where s.is_weak
     new_rank points = ap (λ o. option_map_or (λ (t : Shape). rank_where t.is_weak) o rank.Exact) (slice_get-at_last g.shapes s)
 
     none_block : (a : Option Address) → (run_of_block None a).count ≡ 0
     none_block a = refl
 
-    pub blocks_kept : (points : List (Option PointShape)) (id : ℕ) → (OfBlock id ≡ OfBlock (length g.shapes)) ⊎ IsKept g (with_block_at points) (OfBlock id)
+    pub blocks_kept : (points : List (Option PointShape)) (id : ℕ)
+        → (OfBlock id ≡ OfBlock (length g.shapes)) ⊎ IsKept g (with_block_at points) (OfBlock id)
     blocks_kept points id =
         elim (cases_order id (length g.shapes)) [
           | inl e ↦ inl (ap OfBlock e)
@@ -246,7 +253,8 @@ module _ (limit : ℕ) (g : Occupancy) (laid : IsLaidOut limit g) where
                 rank = ap (λ o. option_map_or (λ (t : Shape). rank_where t.is_weak) o rank.Exact) same;
               }))
           | inr (inr high) ↦
-              inr (inr (ap (λ o. (run_of_block o (entry_at (with_last g.addresses (Some at)) id)).count) (slice_get-after_last g.shapes s id high)))
+              inr (inr (ap (λ o. (run_of_block o (entry_at (with_last g.addresses (Some at)) id)).count)
+              (slice_get-after_last g.shapes s id high)))
         ]
 
     pub right_shapes : (id : ℕ) (t : Shape) → slice_get (with_last g.shapes s) id ≡ Some t → IsRightShape g.pools t
@@ -283,9 +291,11 @@ module _ (limit : ℕ) (g : Occupancy) (laid : IsLaidOut limit g) where
         let run = new_run g.points in
         let from : (run_of (with_block_at g.points) (OfBlock (length g.shapes))).from ≡ word_of at = ap (λ (r : Run). r.from) run in
         let count : (run_of (with_block_at g.points) (OfBlock (length g.shapes))).count ≡ s.words = ap (λ (r : Run). r.count) run in
-        laid_out_again limit g (with_last g.shapes s) (with_last g.addresses (Some at)) g.points g.memories g.tails laid laid.keyed more_lengths
+        laid_out_again limit g (with_last g.shapes s) (with_last g.addresses
+        (Some at)) g.points g.memories g.tails laid laid.keyed more_lengths
         laid.memories right_shapes laid.points
-        (placed_new g (with_last g.shapes s) (with_last g.addresses (Some at)) g.points g.memories g.tails (OfBlock (length g.shapes)) block_kept
+        (placed_new g (with_last g.shapes s) (with_last g.addresses (Some at)) g.points g.memories g.tails
+        (OfBlock (length g.shapes)) block_kept
         (λ _. record {
           segment = room.segment;
           held = room.held;

@@ -66,7 +66,8 @@ module _ (w v : World) (pool : Name) (words : ℕ) where
   alloc_placed p place (Err why) e a s f = is_refusal why
   alloc_placed p place (Ok u) e a s f = makes p place e a s f
 
-  alloc_sized : (p : Numbered Pool) (place : Found (Option ℕ)) (b c : Bool) → pool_named w pool ≡ Ok p → is_automatic_kind p.value.kind ≡ false
+  alloc_sized : (p : Numbered Pool) (place : Found (Option ℕ)) (b c : Bool) → pool_named w pool ≡ Ok p
+      → is_automatic_kind p.value.kind ≡ false
       → allows_size p.value.kind words ≡ b
       → AllocCase w v pool words (refuse_when (not b) refusal.BadSize
       >> (refuse_when c refusal.NameTaken >> (refuse_without_place (placement_of w (ForAlloc p.number words)) >> made_at p place)))
@@ -76,14 +77,16 @@ module _ (w v : World) (pool : Name) (words : ℕ) where
 
   alloc_in : (p : Numbered Pool) (x : Checked (Found (Option ℕ))) → pool_named w pool ≡ Ok p → is_automatic_kind p.value.kind ≡ false
       → AllocCase w v pool words (x >>= (λ place. refuse_when (not (allows_size p.value.kind words)) refusal.BadSize
-      >> (refuse_when (is_some place.value) refusal.NameTaken >> (refuse_without_place (placement_of w (ForAlloc p.number words)) >> made_at p place))))
+      >> (refuse_when (is_some place.value) refusal.NameTaken >>
+      (refuse_without_place (placement_of w (ForAlloc p.number words)) >> made_at p place))))
   alloc_in p (Err why) e a = is_refusal why
   alloc_in p (Ok place) e a = alloc_sized p place (allows_size p.value.kind words) (is_some place.value) e a refl
 
   alloc_manual : (p : Numbered Pool) (into : Slot) (b : Bool) → pool_named w pool ≡ Ok p → is_automatic_kind p.value.kind ≡ b
       → AllocCase w v pool words (refuse_when b refusal.WrongPool >> (block_place_in w into >>= (λ place.
       refuse_when (not (allows_size p.value.kind words)) refusal.BadSize
-      >> (refuse_when (is_some place.value) refusal.NameTaken >> (refuse_without_place (placement_of w (ForAlloc p.number words)) >> made_at p place)))))
+      >> (refuse_when (is_some place.value) refusal.NameTaken >>
+      (refuse_without_place (placement_of w (ForAlloc p.number words)) >> made_at p place)))))
   alloc_manual p into true e a = is_refusal refusal.WrongPool
   alloc_manual p into false e a = alloc_in p (block_place_in w into) e a
 
@@ -91,7 +94,8 @@ module _ (w v : World) (pool : Name) (words : ℕ) where
   alloc_case into = of_pool (pool_named w pool) refl
     where
       of_pool : (x : Checked (Numbered Pool)) → pool_named w pool ≡ x
-          → AllocCase w v pool words (x >>= (λ p. refuse_when (is_automatic_kind p.value.kind) refusal.WrongPool >> (block_place_in w into >>= (λ place.
+          → AllocCase w v pool words (x >>= (λ p. refuse_when (is_automatic_kind p.value.kind) refusal.WrongPool >>
+          (block_place_in w into >>= (λ place.
           refuse_when (not (allows_size p.value.kind words)) refusal.BadSize
           >> (refuse_when (is_some place.value) refusal.NameTaken
           >> (refuse_without_place (placement_of w (ForAlloc p.number words)) >> made_at p place))))))
@@ -174,7 +178,8 @@ module _ (limit : ℕ) (w : World) (p : Numbered Pool) (words : ℕ) (some : 0 <
   -- in a gap
   made_in_gap : (place : Found (Option ℕ)) (word : ℕ) → HasLayout limit w → is_copying_pool w p.number ≡ false
       → placement_of w (ForAlloc p.number words) ≡ Place word
-      → IsReplayed limit w (made_in w place (address_of_word word)) (after_making (blocks_of (occupancy_of w)) (address_of_word word) words p.number)
+      → IsReplayed limit w (made_in w place (address_of_word word))
+      (after_making (blocks_of (occupancy_of w)) (address_of_word word) words p.number)
   made_in_gap place word laid manual is =
       let found = place_in_gaps w (gaps_of (covered w) w.segments p.number rank.Exact) words word is in
       let room = room_in_gap limit (occupancy_of w) laid p.number rank.Exact words word some manual
@@ -193,14 +198,16 @@ module _ (limit : ℕ) (w : World) (p : Numbered Pool) (words : ℕ) (some : 0 <
   -- in a new segment
   made_in_segment : (place : Found (Option ℕ)) (grain grains : ℕ) → HasLayout limit w → is_copying_pool w p.number ≡ false
       → placement_of w (ForAlloc p.number words) ≡ NewSegment grain grains
-      → IsReplayed limit w (made_in (after_segment w (segment_of_move (address_of_grain grain) grains p.number 0)) place (address_of_grain grain))
+      → IsReplayed limit w (made_in (after_segment w (segment_of_move (address_of_grain grain) grains p.number 0)) place
+      (address_of_grain grain))
       (after_making (blocks_of (occupancy_of w)) (address_of_grain grain) words p.number)
   made_in_segment place grain grains laid manual is =
       let base = address_of_grain grain in
       let s = segment_of_move base grains p.number 0 in
       let new = new_in_gaps w (gaps_of (covered w) w.segments p.number rank.Exact) words grain grains is in
       let fresh = fresh_segment limit w words grain grains p.number 0 base laid some new refl in
-      let counted = Rattle.mps_laws.proofs.Holding.need_of_placement w.grains w.limit (map Rattle.mps_base.specs.Segment.grains_of_segment w.segments) (grains_needed words) grain grains new in
+      let counted = Rattle.mps_laws.proofs.Holding.need_of_placement w.grains w.limit
+      (map Rattle.mps_base.specs.Segment.grains_of_segment w.segments) (grains_needed words) grain grains new in
       let held = Rattle.mps_laws.proofs.Holding.held_laid_out limit (occupancy_of w) s laid fresh (exact_ranked w base grains p.number 0) in
       let a = fresh.aligned in
       let at : word_of base ≡ (words_of_segment s).from = refl in
@@ -211,13 +218,16 @@ module _ (limit : ℕ) (w : World) (p : Numbered Pool) (words : ℕ) (some : 0 <
         of_rank = refl;
         above = omega arith;
         below = omega (arith, counted);
-        unoccupied = λ o n c d. fresh_unoccupied limit (occupancy_of w) s laid fresh o n c (omega (arith, d.0), omega (arith, d.1, counted));
+        unoccupied = λ o n c d. fresh_unoccupied limit (occupancy_of w) s laid fresh o n c
+            (omega (arith, d.0), omega (arith, d.1, counted));
       }) in
-      subst (λ b. IsReplayed limit w (made_in (if b then with_tail (holding w s) s.pool s.generation (words_of_segment s) else holding w s) place base)
+      subst (λ b. IsReplayed limit w (made_in (if b then with_tail (holding w s) s.pool s.generation (words_of_segment s)
+      else holding w s) place base)
       (after_making (blocks_of (occupancy_of w)) base words p.number)) (sym manual)
       (record { layout = made.layout; blocks = made.blocks })
 
-  then_one : (v v' : World) (store : Option Store) → IsReplayed limit v v' store → IsReplayed limit v v' (option_and_then (λ s. Some s) store)
+  then_one : (v v' : World) (store : Option Store) → IsReplayed limit v v' store
+      → IsReplayed limit v v' (option_and_then (λ s. Some s) store)
   then_one v v' store r = record { layout = r.layout; blocks = ap (λ o. option_and_then (λ s. Some s) o) r.blocks }
 
   -- at its placement, with the moves that tell it
@@ -240,7 +250,8 @@ module _ (limit pools line : ℕ) (w : World) (laid : HasLayout limit w) where
       → ms ≡ unless_refused (answer_from x) (moves_of_alloc w (pool_named w pool) words)
       → IsReplayed limit w (world_from (world_after_moves w ms) x) (replay_from (blocks_of (occupancy_of w)) (records_of ms line))
   alloc_replayed pool words ms (Err _) (is_refusal why) due =
-      subst (λ (ns : List Move). IsReplayed limit w (world_after_moves w ns) (replay_from (blocks_of (occupancy_of w)) (records_of ns line))) (sym due)
+      subst (λ (ns : List Move). IsReplayed limit w (world_after_moves w ns)
+      (replay_from (blocks_of (occupancy_of w)) (records_of ns line))) (sym due)
       (record { layout = laid; blocks = refl })
   alloc_replayed pool words ms (Ok _) (makes p place e a s f) due =
       let q = placement_of w (ForAlloc p.number words) in
@@ -250,16 +261,19 @@ module _ (limit pools line : ℕ) (w : World) (laid : HasLayout limit w) where
         graph = graph_allocated (world_after_moves w ns).graph p.number words place;
         addresses = with_last (world_after_moves w ns).addresses (Some (address_of_placement q));
       }) (replay_from (blocks_of (occupancy_of w)) (records_of ns line))) (sym is)
-      (made_at_placement limit w p words some line place q laid (manual_not_copying w.pools p.number p.value (pool_named-is w pool p e) a) refl f)
+      (made_at_placement limit w p words some line place q laid
+      (manual_not_copying w.pools p.number p.value (pool_named-is w pool p e) a) refl f)
 
   pub alloc_step : (pool : Name) (words : ℕ) (into : Slot) (ms : List Move) (answer : Answer) → is_unsupported answer ≡ false
       → ms ≡ unless_refused answer (moves_of_alloc w (pool_named w pool) words)
       → answer ≡ answer_from (act_alloc w (world_after_moves w ms) pool words into)
       → IsReplayed limit w (world_after w (record { line = line; call = call.Alloc pool words into; moves = ms; answer = answer }))
-      (replay_from (blocks_of (occupancy_of w)) (records_of_step pools (record { line = line; call = call.Alloc pool words into; moves = ms; answer = answer })))
+      (replay_from (blocks_of (occupancy_of w)) (records_of_step pools
+      (record { line = line; call = call.Alloc pool words into; moves = ms; answer = answer })))
   alloc_step pool words into ms answer supported due is =
       answered_step limit pools line w (call.Alloc pool words into) ms answer supported
       (alloc_replayed pool words ms (act_alloc w (world_after_moves w ms) pool words into)
-      (alloc_case w (world_after_moves w ms) pool words into) (due ∙ ap (λ b. unless_refused b (moves_of_alloc w (pool_named w pool) words)) is))
+      (alloc_case w (world_after_moves w ms) pool words into)
+      (due ∙ ap (λ b. unless_refused b (moves_of_alloc w (pool_named w pool) words)) is))
 
 -- ---- a manual block is freed

@@ -159,7 +159,8 @@ module _ (limit : ℕ) (g : Occupancy) (id to generation : ℕ) (s : Shape) (lai
   pub moved_laid_out : IsLaidOut limit after_moving_to
   moved_laid_out =
       laid_out_again limit g g.shapes (slice_set g.addresses id (Some to)) g.points g.memories
-      (with_tail_of g.tails s.pool generation rest) laid (keyed_with g.tails s.pool generation rest laid.keyed) (length-slice_set g.addresses id (Some to) ∙ laid.lengths) laid.memories laid.shapes
+      (with_tail_of g.tails s.pool generation rest) laid (keyed_with g.tails s.pool generation rest laid.keyed)
+      (length-slice_set g.addresses id (Some to) ∙ laid.lengths) laid.memories laid.shapes
       laid.points
       (placed_given g g.shapes (slice_set g.addresses id (Some to)) g.points g.memories
       (with_tail_of g.tails s.pool generation rest) (OfTail s.pool generation) (OfBlock id) given laid.placed)
@@ -172,7 +173,8 @@ module _ (limit : ℕ) (g : Occupancy) (id to generation : ℕ) (s : Shape) (lai
       ap (λ o. run_of_block o (entry_at g.addresses j)) t.1 ∙ ap (run_of_block (Some t.0)) e in
       let others = (laid.shapes j t.0 t.1).some in
       let at = m.at_front in
-      let from : (run_of g (OfBlock j)).from ≡ own.from = ap (λ (r : Run). r.from) run ∙ (let w : word_of to ≡ own.from = omega (arith, at) in w) in
+      let from : (run_of g (OfBlock j)).from ≡ own.from = ap (λ (r : Run). r.from) run
+      ∙ (let w : word_of to ≡ own.from = omega (arith, at) in w) in
       let count : (run_of g (OfBlock j)).count ≡ (t.0).words = ap (λ (r : Run). r.count) run in
       false≢true (ap is_tail (laid.placed.apart (OfBlock j) (OfTail s.pool generation) own.from
       (omega (arith, from), omega (arith, from, count, others)) (omega arith, omega (arith, some, m.fits))))

@@ -57,7 +57,8 @@ module _ (limit pools line : ℕ) (w : World) (laid : HasLayout limit w) (live :
       let r = moves_replayed limit w None ms line laid legal in
       answered_step (max limit (grains + 1)) pools line w (call.Arena grains most) ms answer supported
       (record {
-        layout = arena_laid_out limit (max limit (grains + 1)) grains (occupancy_of (world_after_moves w ms)) (omega arith) (omega arith) r.layout;
+        layout = arena_laid_out limit (max limit (grains + 1)) grains (occupancy_of (world_after_moves w ms)) (omega arith)
+            (omega arith) r.layout;
         blocks = r.blocks;
       })
 
@@ -78,15 +79,19 @@ module _ (limit pools line : ℕ) (w : World) (laid : HasLayout limit w) (live :
   of_unsupported : (c : Call) (ms : List Move) (answer : Answer) → is_unsupported answer ≡ true → ms ≡ [] → StepIsReplayed c ms answer
   of_unsupported c ms answer is none =
       with_command (limit_after limit c) pools (the_step c ms answer) w (world_after w (the_step c ms answer))
-      (subst (λ b. IsReplayed (limit_after limit c) w (Rattle.std.specs.Prelude.if◌then◌else◌ b w (Rattle.mps_model.specs.History.world_after_call w c ms answer))
+      (subst (λ b. IsReplayed (limit_after limit c) w (Rattle.std.specs.Prelude.if◌then◌else◌ b w
+      (Rattle.mps_model.specs.History.world_after_call w c ms answer))
       (replay_from (blocks_of (occupancy_of w)) (records_of ms line))) (sym is)
-      (subst (λ (ns : List Move). IsReplayed (limit_after limit c) w w (replay_from (blocks_of (occupancy_of w)) (records_of ns line))) (sym none)
+      (subst (λ (ns : List Move). IsReplayed (limit_after limit c) w w (replay_from (blocks_of (occupancy_of w)) (records_of ns line)))
+      (sym none)
       (record {
-        layout = arena_laid_out limit (limit_after limit c) w.grains (occupancy_of w) (limit_rises limit c) (let r = limit_rises limit c in omega (arith, r, laid.in_range)) laid;
+        layout = arena_laid_out limit (limit_after limit c) w.grains (occupancy_of w) (limit_rises limit c)
+            (let r = limit_rises limit c in omega (arith, r, laid.in_range)) laid;
         blocks = refl;
       })))
 
-  pub legal_step_replayed : (c : Call) (ms : List Move) (answer : Answer) → IsLegalStep w (the_step c ms answer) → StepIsReplayed c ms answer
+  pub legal_step_replayed : (c : Call) (ms : List Move) (answer : Answer) → IsLegalStep w (the_step c ms answer)
+      → StepIsReplayed c ms answer
   legal_step_replayed c ms answer legal =
       elim (which (is_unsupported answer) legal) [
         | inl h ↦ of_unsupported c ms answer h.0 h.1
@@ -97,7 +102,8 @@ module _ (limit pools line : ℕ) (w : World) (laid : HasLayout limit w) (live :
 pub live_after : (w : World) (s : Step) → BlocksAreLive w → IsLegalStep w s → BlocksAreLive (world_after w s)
 live_after w s live legal =
     elim (which (is_unsupported s.answer) legal) [
-      | inl h ↦ subst (λ b. BlocksAreLive (Rattle.std.specs.Prelude.if◌then◌else◌ b w (Rattle.mps_model.specs.History.world_after_call w s.call s.moves s.answer))) (sym h.0) live
+      | inl h ↦ subst (λ b. BlocksAreLive (Rattle.std.specs.Prelude.if◌then◌else◌ b w
+          (Rattle.mps_model.specs.History.world_after_call w s.call s.moves s.answer))) (sym h.0) live
       | inr h ↦ h.1.held_are_live.blocks
     ]
 
@@ -122,7 +128,8 @@ steps_replayed limit pools w (s ∷ ss) laid live legal =
     (live_after w s live legal.0) legal.1 in (
       record { limit = rest.0.limit; layout = rest.0.layout; live = rest.0.live },
       replay_from-append (blocks_of (occupancy_of w)) (records_of_step pools s) (log_from (pools + pools_made_by s.call s.answer) ss)
-          ∙ ap (λ o. option_and_then (λ after. replay_from after (log_from (pools + pools_made_by s.call s.answer) ss)) o) one.blocks ∙ rest.1,
+          ∙ ap (λ o. option_and_then (λ after. replay_from after (log_from (pools + pools_made_by s.call s.answer) ss)) o) one.blocks
+          ∙ rest.1,
     )
 
 -- before the arena is made

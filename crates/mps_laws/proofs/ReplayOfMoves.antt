@@ -49,7 +49,8 @@ touched_replayed limit w w' at id laid found e =
 -- ---- a segment
 
 segment_for : (limit : ℕ) (w : World) (base grains pool generation : ℕ) (from : Address) (to : ℕ) → HasLayout limit w
-    → ForOne (id_at w from) (IsSegmentForMove w base grains pool generation to) → IsFresh limit w.segments (segment_of_move base grains pool generation)
+    → ForOne (id_at w from) (IsSegmentForMove w base grains pool generation to)
+    → IsFresh limit w.segments (segment_of_move base grains pool generation)
 segment_for limit w base grains pool generation from to laid h =
     let f = for_one (IsSegmentForMove w base grains pool generation to) (id_at w from) h in
     let x = live_at limit w from f.0 laid (id_at-found w from f.0 f.1) in
@@ -86,13 +87,15 @@ moved_to g id to pool generation words condemned = record g {
 
 moved_is : (limit : ℕ) (w : World) (from id to : ℕ) (x : IsLiveAt limit w from id)
     → occupancy_of (after_moved w id to)
-    ≡ moved_to (occupancy_of w) id to (shape_of x.object).pool (target_generation_for w id) (shape_of x.object).words (condemned_in w.collection)
+    ≡ moved_to (occupancy_of w) id to (shape_of x.object).pool (target_generation_for w id) (shape_of x.object).words
+    (condemned_in w.collection)
 moved_is limit w from id to x =
     let g = occupancy_of w in
     let generation = target_generation_for w id in
     ap (λ c. moved_to g id to (pool_of w id) generation (words_of w id) c) (condemned_kept (placing id) (λ c. refl) w.collection)
     ∙ ap (λ o. moved_to g id to (option_map_or (λ (y : Object). y.pool) o 0) generation (words_of w id) (condemned_in w.collection)) x.there
-    ∙ ap (λ o. moved_to g id to (shape_of x.object).pool generation (option_map_or Rattle.mps_model.specs.Graph.size_of o 0) (condemned_in w.collection)) x.there
+    ∙ ap (λ o. moved_to g id to (shape_of x.object).pool generation (option_map_or Rattle.mps_model.specs.Graph.size_of o 0)
+    (condemned_in w.collection)) x.there
 
 moved_replayed : (limit : ℕ) (w : World) (c : Collection) (from id to : ℕ) → HasLayout limit w → id_at w from ≡ Some id
     → IsLegalMoved w c id to → IsReplayed limit w (after_moved w id to) (after_moving (blocks_of (occupancy_of w)) from to)
@@ -105,8 +108,10 @@ moved_replayed limit w c from id to laid found legal =
     let m : IsMoving g id to s generation = record {
       shape = x.shape;
       fits =
-          subst (λ (n : ℕ). n ≤ (tail_of w s.pool generation).count) (ap (λ o. option_map_or Rattle.mps_model.specs.Graph.size_of o 0) x.there)
-          (subst (λ (p : ℕ). words_of w id ≤ (tail_of w p generation).count) (ap (λ o. option_map_or (λ (y : Object). y.pool) o 0) x.there) front.0);
+          subst (λ (n : ℕ). n ≤ (tail_of w s.pool generation).count)
+          (ap (λ o. option_map_or Rattle.mps_model.specs.Graph.size_of o 0) x.there)
+          (subst (λ (p : ℕ). words_of w id ≤ (tail_of w p generation).count)
+          (ap (λ o. option_map_or (λ (y : Object). y.pool) o 0) x.there) front.0);
       at_front =
           subst (λ (p : ℕ). Rattle.mps_base.specs.Address.address_of_word (tail_of w p generation).from ≡ to)
           (ap (λ o. option_map_or (λ (y : Object). y.pool) o 0) x.there) front.1;
@@ -134,7 +139,8 @@ freed_replayed limit w at id laid found =
 
 -- ---- a segment is given back
 
-none_begins : (w : World) (s : Segment) → not (list_any (begins_in s) (covered w)) ≡ true → list_any (begins_in s) (covered_in (occupancy_of w)) ≡ false
+none_begins : (w : World) (s : Segment) → not (list_any (begins_in s) (covered w)) ≡ true
+    → list_any (begins_in s) (covered_in (occupancy_of w)) ≡ false
 none_begins w s h = ap (list_any (begins_in s)) (sym (covered-shapes w)) ∙ not_true (list_any (begins_in s) (covered w)) h
   where
     not_true : (b : Bool) → not b ≡ true → b ≡ false
@@ -162,7 +168,8 @@ given_back_replayed limit w base s laid held begins empty others =
     }
 
 unseg_replayed : (limit : ℕ) (w : World) (base : Address) → HasLayout limit w
-    → ForOne w.collection (λ c. ForOne (segment_at w base) (IsLegalUnseg w c)) → IsReplayed limit w (after_unseg w base) (Some (blocks_of (occupancy_of w)))
+    → ForOne w.collection (λ c. ForOne (segment_at w base) (IsLegalUnseg w c))
+    → IsReplayed limit w (after_unseg w base) (Some (blocks_of (occupancy_of w)))
 unseg_replayed limit w base laid h =
     let b = for_both w.collection (segment_at w base) (IsLegalUnseg w) h in
     let s = found_among (λ t. t.base == base) w.segments b.second b.is_second in
@@ -182,7 +189,8 @@ flip_replayed limit w zones chain generation laid =
     let what = condemnation_of chain generation in
     record {
       layout =
-          subst (λ ps. IsLaidOut limit (record (occupancy_of (after_flip w zones what)) { points = ps })) (sym (doomed_shapes w.graph.points))
+          subst (λ ps. IsLaidOut limit (record (occupancy_of (after_flip w zones what)) { points = ps }))
+          (sym (doomed_shapes w.graph.points))
           (condemning_laid_out limit g laid (is_condemned_by (world_flipped w zones) what));
       blocks = refl;
     }
@@ -190,7 +198,8 @@ flip_replayed limit w zones chain generation laid =
 pub move_replayed : (limit : ℕ) (w : World) (before : Option Move) (m : Move) (next : Option Move) (line : ℕ) → HasLayout limit w
     → IsLegalMove w before m next → IsReplayed limit w (world_after_move w m) (store_after (blocks_of (occupancy_of w)) (record_of m line))
 move_replayed limit w before (moves.Seg base grains pool generation) next line laid legal = record {
-  layout = segment_layout limit w base.0 grains pool generation laid (segment_is_fresh limit w base.0 grains pool generation next laid legal);
+  layout = segment_layout limit w base.0 grains pool generation laid
+      (segment_is_fresh limit w base.0 grains pool generation next laid legal);
   blocks = ap Some (sym (segment_blocks w (segment_of_move base.0 grains pool generation)));
 }
 move_replayed limit w before (moves.Unseg base) next line laid legal = unseg_replayed limit w base.0 laid legal
@@ -204,7 +213,8 @@ move_replayed limit w before (moves.Moved from to) next line laid legal =
     (sym b.is_second) (moved_replayed limit w b.first from.0 b.second to.0 laid b.is_second b.holds)
 move_replayed limit w before (moves.Stay at) next line laid legal =
     let b = for_both w.collection (id_at w at.0) (IsLegalStay w) legal in
-    subst (λ o. IsReplayed limit w (where_one w o (λ id. with_collection w (placing id))) (after_touching (blocks_of (occupancy_of w)) at.0))
+    subst (λ o. IsReplayed limit w (where_one w o (λ id. with_collection w (placing id)))
+    (after_touching (blocks_of (occupancy_of w)) at.0))
     (sym b.is_second)
     (touched_replayed limit w (with_collection w (placing b.second)) at.0 b.second laid b.is_second
     (collection_kept w (placing b.second) (λ c. refl)))
@@ -224,7 +234,8 @@ move_replayed limit w before (moves.Free at) next line laid legal =
     (sym b.is_second) (freed_replayed limit w at.0 b.second laid b.is_second)
 
 -- legal moves, one after the other
-pub moves_replayed : (limit : ℕ) (w : World) (before : Option Move) (ms : List Move) (line : ℕ) → HasLayout limit w → AreLegalMoves w before ms
+pub moves_replayed : (limit : ℕ) (w : World) (before : Option Move) (ms : List Move) (line : ℕ) → HasLayout limit w
+    → AreLegalMoves w before ms
     → IsReplayed limit w (world_after_moves w ms) (replay_from (blocks_of (occupancy_of w)) (records_of ms line))
 moves_replayed limit w before [] line laid legal = record { layout = laid; blocks = refl }
 moves_replayed limit w before (m ∷ ms) line laid legal =

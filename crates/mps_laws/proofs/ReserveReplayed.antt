@@ -53,7 +53,8 @@ free_names w id at =
 
 segment_names : (w : World) (s : Rattle.mps_base.specs.Segment.Segment) → (after_segment w s).graph.names ≡ w.graph.names
 segment_names w s =
-    elim (is_copying_pool w s.pool) as (λ b. (if b then Rattle.mps_model.specs.World.with_tail (holding w s) s.pool s.generation (Rattle.mps_base.specs.Segment.words_of_segment s)
+    elim (is_copying_pool w s.pool) as (λ b. (if b then Rattle.mps_model.specs.World.with_tail (holding w s) s.pool s.generation
+    (Rattle.mps_base.specs.Segment.words_of_segment s)
     else holding w s).graph.names ≡ w.graph.names) [
       | true ↦ refl
       | false ↦ refl
@@ -107,7 +108,8 @@ module _ (v : World) (name : Name) (head : ℕ) where
   checked r f = of_point (point_named v name) refl f
     where
       of_point : (x : Checked (Numbered Point)) → point_named v name ≡ x
-          → (x >>= (λ p. required (pool_at v p.value.pool) refusal.BadName >>= (λ pool. refuse_when (not (takes_head v pool head)) refusal.BadHead
+          → (x >>= (λ p. required (pool_at v p.value.pool) refusal.BadName >>=
+          (λ pool. refuse_when (not (takes_head v pool head)) refusal.BadHead
           >> (refuse_when (is_some p.value.reservation) refusal.Open
           >> Ok (record { point = p; cells = Rattle.mps_model.specs.Graph.new_cells (layout_of v pool) head }))))) ≡ Ok r
           → IsChecked v name r
@@ -156,7 +158,8 @@ module _ (limit : ℕ) (v : World) (name : Name) (head : ℕ) (units : Option �
   reserved_by : (a : World) (r : Reserving) → point_named a name ≡ Ok r.point → HasLayout limit (result a r)
       → blocks_of (occupancy_of a) ≡ blocks_of (occupancy_of v) → IsReservedIn limit v (world_from a (reserve_in a name head r))
   reserved_by a r e layout blocks =
-      subst (λ x. IsReservedIn limit v (world_from a (x >>= (λ point. done (with_reserved a point (record { head = head; cells = r.cells; is_doomed = false })
+      subst (λ x. IsReservedIn limit v (world_from a (x >>= (λ point.
+      done (with_reserved a point (record { head = head; cells = r.cells; is_doomed = false })
       (address_of_placement (placement_of a (ForReserve point.number (length r.cells)))))))))
       (sym e) (record { layout = layout; blocks = blocks })
 
@@ -172,14 +175,17 @@ module _ (limit : ℕ) (v : World) (name : Name) (head : ℕ) (units : Option �
       let kept = collection_kept v (asked units) (asked_condemned units) in
       subst (λ u. IsReservedIn limit v (world_from u (reserve_in u name head r))) (sym (asking_is units v))
       (reserved_by a r c.point
-      (reserved_at_place limit a (subst (IsLaidOut limit) (sym kept) laid) r.point (point_named-is v name r.point c.point).1 head r.cells c.some word e)
+      (reserved_at_place limit a (subst (IsLaidOut limit) (sym kept) laid) r.point
+      (point_named-is v name r.point c.point).1 head r.cells c.some word e)
       (ap blocks_of kept))
 
   in_new : (r : Reserving) (grain grains : ℕ) → IsChecked v name r
       → placement_of v (ForReserve r.point.number (length r.cells)) ≡ NewSegment grain grains
       → IsReservedIn limit v (world_from
-      (asking units (Rattle.mps_model.specs.History.with_segment_for_point v (segment_of_move (address_of_grain grain) grains r.point.value.pool 0) r.point.number))
-      (reserve_in (asking units (Rattle.mps_model.specs.History.with_segment_for_point v (segment_of_move (address_of_grain grain) grains r.point.value.pool 0) r.point.number)) name head r))
+      (asking units (Rattle.mps_model.specs.History.with_segment_for_point v
+      (segment_of_move (address_of_grain grain) grains r.point.value.pool 0) r.point.number))
+      (reserve_in (asking units (Rattle.mps_model.specs.History.with_segment_for_point v
+      (segment_of_move (address_of_grain grain) grains r.point.value.pool 0) r.point.number)) name head r))
   in_new r grain grains c e =
       let s = segment_of_move (address_of_grain grain) grains r.point.value.pool 0 in
       let there = (point_named-is v name r.point c.point).1 in
@@ -188,16 +194,20 @@ module _ (limit : ℕ) (v : World) (name : Name) (head : ℕ) (units : Option �
       (sym (asking_is units (Rattle.mps_model.specs.History.with_segment_for_point v s r.point.number)))
       (elim (is_copying_pool v r.point.value.pool) as (λ b. is_copying_pool v r.point.value.pool ≡ b → IsReservedIn limit v (world_from
       (with_collection (if b then record (holding v own) {
-        point_memories = Rattle.mps_model.specs.History.with_buffer v.point_memories r.point.number (Rattle.mps_base.specs.Segment.words_of_segment s);
+        point_memories = Rattle.mps_model.specs.History.with_buffer v.point_memories r.point.number
+            (Rattle.mps_base.specs.Segment.words_of_segment s);
       } else holding v own) (asked units))
       (reserve_in (with_collection (if b then record (holding v own) {
-        point_memories = Rattle.mps_model.specs.History.with_buffer v.point_memories r.point.number (Rattle.mps_base.specs.Segment.words_of_segment s);
+        point_memories = Rattle.mps_model.specs.History.with_buffer v.point_memories r.point.number
+            (Rattle.mps_base.specs.Segment.words_of_segment s);
       } else holding v own) (asked units)) name head r))) [
         | true ↦
             (λ copying. reserved_by (with_collection (record (holding v own) {
-              point_memories = Rattle.mps_model.specs.History.with_buffer v.point_memories r.point.number (Rattle.mps_base.specs.Segment.words_of_segment s);
+              point_memories = Rattle.mps_model.specs.History.with_buffer v.point_memories r.point.number
+                  (Rattle.mps_base.specs.Segment.words_of_segment s);
             }) (asked units)) r c.point
-            (in_own_buffer limit v laid r.point there head r.cells c.some grain grains e (asked units) (asked_condemned units) copying) refl)
+            (in_own_buffer limit v laid r.point there head r.cells c.some grain grains e (asked units)
+            (asked_condemned units) copying) refl)
         | false ↦
             (λ manual. reserved_by (with_collection (holding v own) (asked units)) r c.point
             (in_own_gap limit v laid r.point there head r.cells c.some grain grains e (asked units) (asked_condemned units) manual) refl)
@@ -214,19 +224,23 @@ module _ (limit : ℕ) (v : World) (name : Name) (head : ℕ) (units : Option �
   of_placement r number c n (Place word) e = at_place r word c e
   of_placement r number c n (NewSegment grain grains) e =
       subst (λ o. IsReservedIn limit v (world_from (taken_world (segment_taken r.point.value.pool (NewSegment grain grains)) o)
-      (reserve_in (taken_world (segment_taken r.point.value.pool (NewSegment grain grains)) o) name head r))) (sym n) (in_new r grain grains c e)
+      (reserve_in (taken_world (segment_taken r.point.value.pool (NewSegment grain grains)) o) name head r))) (sym n)
+      (in_new r grain grains c e)
   of_placement r number c n (OverLimit committed need most) e = refused_in
   of_placement r number c n (NoFreeRun need longest) e = refused_in
 
   of_check : (number : Option ℕ) → number ≡ number_named v name as_point → (x : Checked Reserving) → check_reserve v name head ≡ x
-      → IsReservedIn limit v (world_from (taken_world (segment_of_reserve v x) number) (reserve_from v (taken_world (segment_of_reserve v x) number) name head x))
+      → IsReservedIn limit v (world_from (taken_world (segment_of_reserve v x) number)
+      (reserve_from v (taken_world (segment_of_reserve v x) number) name head x))
   of_check number n (Err why) e = refused_in
   of_check number n (Ok r) e =
       let c = checked v name head r e in
-      of_placement r number c (n ∙ (point_named-is v name r.point c.point).0) (placement_of v (ForReserve r.point.number (length r.cells))) refl
+      of_placement r number c (n ∙ (point_named-is v name r.point c.point).0)
+      (placement_of v (ForReserve r.point.number (length r.cells))) refl
 
 -- the record of the own segment names no block
-own_quiet : (store : Store) (line : ℕ) (v : World) (x : Checked Reserving) → replay_from store (records_of (segment_of_reserve v x) line) ≡ Some store
+own_quiet : (store : Store) (line : ℕ) (v : World) (x : Checked Reserving)
+    → replay_from store (records_of (segment_of_reserve v x) line) ≡ Some store
 own_quiet store line v (Err why) = refl
 own_quiet store line v (Ok r) = of_placement (placement_of v (ForReserve r.point.number (length r.cells)))
   where
@@ -241,7 +255,8 @@ module _ (limit pools line : ℕ) (w : World) (laid : HasLayout limit w) where
       → AreLegalMoves w None (moves_of_poll ms)
       → own_segment ms ≡ segment_where_judged (world_after_moves w (moves_of_poll ms)) name head
       → IsReplayed limit w (world_after w (record { line = line; call = call.Reserve name head; moves = ms; answer = answer }))
-      (replay_from (blocks_of (occupancy_of w)) (records_of_step pools (record { line = line; call = call.Reserve name head; moves = ms; answer = answer })))
+      (replay_from (blocks_of (occupancy_of w)) (records_of_step pools
+      (record { line = line; call = call.Reserve name head; moves = ms; answer = answer })))
   reserve_step name head ms answer supported legal own =
       let v = world_after_moves w (moves_of_poll ms) in
       let poll = moves_replayed limit w None (moves_of_poll ms) line laid legal in
@@ -260,5 +275,6 @@ module _ (limit pools line : ℕ) (w : World) (laid : HasLayout limit w) where
       ∙ own_quiet (blocks_of (occupancy_of v)) line v x in
       answered_step limit pools line w (call.Reserve name head) ms answer supported
       (subst (λ (ns : List Move). IsReplayed limit w (world_from (asking units (after_own_segment v ns number))
-      (reserve_from v (asking units (after_own_segment v ns number)) name head x)) (replay_from (blocks_of (occupancy_of w)) (records_of ms line)))
+      (reserve_from v (asking units (after_own_segment v ns number)) name head x))
+      (replay_from (blocks_of (occupancy_of w)) (records_of ms line)))
       (sym own) (record { layout = r.layout; blocks = all ∙ ap Some (sym r.blocks) }))

@@ -69,7 +69,8 @@ shape_there w n p e =
     ap (λ o. option_and_then (λ entry. entry) o)
     (slice_get-map shape_of_point w.graph.points n ∙ ap (option_map shape_of_point) (entry_is_there w.graph.points n p e))
 
-module _ (limit : ℕ) (a : World) (laid : HasLayout limit a) (p : Numbered Point) (there : entry_at a.graph.points p.number ≡ Some p.value) (head : ℕ) (cells : List Cell) (some : 0 < length cells) where
+module _ (limit : ℕ) (a : World) (laid : HasLayout limit a) (p : Numbered Point) (there : entry_at a.graph.points p.number ≡ Some p.value)
+    (head : ℕ) (cells : List Cell) (some : 0 < length cells) where
   abbrev reservation : Reservation
   reservation = record { head = head; cells = cells; is_doomed = false }
 
@@ -97,7 +98,8 @@ module _ (limit : ℕ) (a : World) (laid : HasLayout limit a) (p : Numbered Poin
       let front = at_front a (buffer_of a p.number) (length cells) (address_of_word word)
       (subst (λ q. IsPlaceAt q (address_of_word word)) (sym e) refl) in
       subst (IsLaidOut limit) (sym (reserved_is (address_of_word word)))
-      (buffer_reserved_laid_out limit (occupancy_of a) laid p.number shape (shape_there a p.number p.value there) (memory (address_of_word word))
+      (buffer_reserved_laid_out limit (occupancy_of a) laid p.number shape (shape_there a p.number p.value there)
+      (memory (address_of_word word))
       (length cells) some (record {
         fits = front.0;
         at_front = front.1;
@@ -148,7 +150,8 @@ new_for v n p words grain grains e =
     else placement_in_gaps v (gaps_of (covered v) v.segments p.pool p.rank) words) ≡ NewSegment grain grains
     → new_segment_for v words ≡ NewSegment grain grains) [
       | true ↦
-          (λ f. elim (nat_le words (buffer_of v n).count) as (λ b. (if b then Place (buffer_of v n).from else new_segment_for v words) ≡ NewSegment grain grains
+          (λ f. elim (nat_le words (buffer_of v n).count) as (λ b.
+          (if b then Place (buffer_of v n).from else new_segment_for v words) ≡ NewSegment grain grains
           → new_segment_for v words ≡ NewSegment grain grains) [
             | true ↦ (λ h. absurd (cc))
             | false ↦ (λ h. h)
@@ -156,7 +159,10 @@ new_for v n p words grain grains e =
       | false ↦ (λ f. new_in_gaps v (gaps_of (covered v) v.segments p.pool p.rank) words grain grains f)
     ] e
 
-module _ (limit : ℕ) (v : World) (laid : HasLayout limit v) (p : Numbered Point) (there : entry_at v.graph.points p.number ≡ Some p.value) (head : ℕ) (cells : List Cell) (some : 0 < length cells) (grain grains : ℕ) (new : placement_of v (ForReserve p.number (length cells)) ≡ NewSegment grain grains) (change : Collection → Collection) (each : (c : Collection) → (change c).condemned_segments ≡ c.condemned_segments) where
+module _ (limit : ℕ) (v : World) (laid : HasLayout limit v) (p : Numbered Point) (there : entry_at v.graph.points p.number ≡ Some p.value)
+    (head : ℕ) (cells : List Cell) (some : 0 < length cells) (grain grains : ℕ)
+    (new : placement_of v (ForReserve p.number (length cells)) ≡ NewSegment grain grains) (change : Collection → Collection)
+    (each : (c : Collection) → (change c).condemned_segments ≡ c.condemned_segments) where
   abbrev reservation' : Reservation
   reservation' = record { head = head; cells = cells; is_doomed = false }
 
@@ -178,7 +184,8 @@ module _ (limit : ℕ) (v : World) (laid : HasLayout limit v) (p : Numbered Poin
 
   own_size : length cells ≤ 512 * grains
   own_size =
-      let counted = need_of_placement v.grains v.limit (map grains_of_segment v.segments) (grains_needed (length cells)) grain grains found_new in
+      let counted = need_of_placement v.grains v.limit (map grains_of_segment v.segments)
+      (grains_needed (length cells)) grain grains found_new in
       omega (arith, counted)
 
   own_ranked : IsRightlyRanked v.pools own
@@ -199,7 +206,12 @@ module _ (limit : ℕ) (v : World) (laid : HasLayout limit v) (p : Numbered Poin
   own_memory : (m : PointMemory) × (slice_get v.point_memories p.number ≡ Some m)
   own_memory =
       there_is v.point_memories p.number
-      (omega (arith, laid.memories, Rattle.std.proofs.lemmas.List.length-map v.graph.points shape_of_point, entry_within v.graph.points p.number p.value there))
+      (omega (
+        arith,
+        laid.memories,
+        Rattle.std.proofs.lemmas.List.length-map v.graph.points shape_of_point,
+        entry_within v.graph.points p.number p.value there,
+      ))
 
   pub in_own_buffer : is_copying_pool v p.value.pool ≡ true
       → HasLayout limit (with_reserved (with_change buffered_world) p reservation'
@@ -218,7 +230,8 @@ module _ (limit : ℕ) (v : World) (laid : HasLayout limit v) (p : Numbered Poin
       ∙ ap (λ b. if b then placement_at_front a (buffer_of a p.number) (length cells)
       else placement_in_gaps a (gaps_of (covered a) a.segments p.value.pool p.value.rank) (length cells)) copying
       ∙ ap (λ r. placement_at_front a r (length cells)) buffer
-      ∙ ap (λ b. if b then Place (words_of_segment own).from else new_segment_for a (length cells)) (le-leb (length cells) (512 * grains) own_size))
+      ∙ ap (λ b. if b then Place (words_of_segment own).from else new_segment_for a (length cells))
+      (le-leb (length cells) (512 * grains) own_size))
 
   -- in the gap of all of it
   pub in_own_gap : is_copying_pool v p.value.pool ≡ false

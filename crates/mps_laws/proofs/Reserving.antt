@@ -52,7 +52,8 @@ module _ (limit : ℕ) (g : Occupancy) (laid : IsLaidOut limit g) (n : ℕ) (p :
   own_point reserved = entry_at-set_same g.points n (Some (reserving reserved)) (entry_within g.points n p there)
 
   same_pool : (reserved : Option ℕ) (q : ℕ)
-      → option_map_or (λ (x : PointShape). x.pool) (entry_at (points_with reserved) q) 0 ≡ option_map_or (λ (x : PointShape). x.pool) (entry_at g.points q) 0
+      → option_map_or (λ (x : PointShape). x.pool) (entry_at (points_with reserved) q) 0 ≡ option_map_or (λ (x : PointShape). x.pool)
+      (entry_at g.points q) 0
   same_pool reserved q =
       elim (cases_eq n q) [
         | inl e ↦
@@ -175,7 +176,8 @@ module _ (limit : ℕ) (g : Occupancy) (laid : IsLaidOut limit g) (n : ℕ) (p :
 
     pub reserved_laid_out : IsRoomToReserve → IsLaidOut limit after_reserving
     reserved_laid_out room =
-        laid_out_again limit g g.shapes g.addresses (points_with (Some words)) memories_with g.tails laid laid.keyed laid.lengths reserving_lengths
+        laid_out_again limit g g.shapes g.addresses (points_with
+        (Some words)) memories_with g.tails laid laid.keyed laid.lengths reserving_lengths
         laid.shapes
         (right_with (Some words) (λ k e. subst (λ (x : ℕ). 0 < x) (same_Some words k e) some))
         (placed_new g g.shapes g.addresses (points_with (Some words)) memories_with g.tails (OfReservation n) (room_kept room)
@@ -201,7 +203,10 @@ module _ (limit : ℕ) (g : Occupancy) (laid : IsLaidOut limit g) (n : ℕ) (p :
     buffer_kept : (o : Occupant)
         → (o ≡ OfReservation n) ⊎ ((o ≡ OfBuffer n) ⊎ ((o ≢ OfBuffer n) × IsKept g after_reserving o))
     buffer_kept (OfBlock id) = inr (inr ((λ e. false≢true (ap is_buffer e)), inl (record { run = refl; pool = refl; rank = refl })))
-    buffer_kept (OfTail pool generation) = inr (inr ((λ e. false≢true (ap is_buffer e)), inl (record { run = refl; pool = refl; rank = refl })))
+    buffer_kept (OfTail pool generation) = inr (inr (
+      (λ e. false≢true (ap is_buffer e)),
+      inl (record { run = refl; pool = refl; rank = refl }),
+    ))
     buffer_kept (OfReservation q) =
         elim (cases_eq n q) [
           | inl e ↦ inl (ap OfReservation (sym e))
@@ -213,7 +218,8 @@ module _ (limit : ℕ) (g : Occupancy) (laid : IsLaidOut limit g) (n : ℕ) (p :
           | inr other ↦ inr (inr ((λ e. other (sym (ap point_in e))), other_buffer q other))
         ]
 
-    given_buffer : IsInBuffer → IsGiven g g.shapes g.addresses (points_with (Some words)) memories_with g.tails (OfBuffer n) (OfReservation n)
+    given_buffer : IsInBuffer → IsGiven g g.shapes g.addresses (points_with (Some words)) memories_with g.tails (OfBuffer n)
+        (OfReservation n)
     given_buffer i =
         let own = run_of g (OfBuffer n) in
         let h = laid.placed.homes (OfBuffer n) (omega (arith, some, i.fits)) in
@@ -254,10 +260,12 @@ module _ (limit : ℕ) (g : Occupancy) (laid : IsLaidOut limit g) (n : ℕ) (p :
 
     pub buffer_reserved_laid_out : IsInBuffer → IsLaidOut limit after_reserving
     buffer_reserved_laid_out i =
-        laid_out_again limit g g.shapes g.addresses (points_with (Some words)) memories_with g.tails laid laid.keyed laid.lengths reserving_lengths
+        laid_out_again limit g g.shapes g.addresses (points_with
+        (Some words)) memories_with g.tails laid laid.keyed laid.lengths reserving_lengths
         laid.shapes
         (right_with (Some words) (λ k e. subst (λ (x : ℕ). 0 < x) (same_Some words k e) some))
-        (placed_given g g.shapes g.addresses (points_with (Some words)) memories_with g.tails (OfBuffer n) (OfReservation n) (given_buffer i)
+        (placed_given g g.shapes g.addresses (points_with (Some words)) memories_with g.tails (OfBuffer n) (OfReservation n)
+        (given_buffer i)
         laid.placed)
 
   -- ---- a reservation becomes a block
@@ -312,7 +320,8 @@ module _ (limit : ℕ) (g : Occupancy) (laid : IsLaidOut limit g) (n : ℕ) (p :
     committed_kept (OfTail pool generation) =
         inr (inr ((λ e. false≢true (ap is_reservation e)), inl (record { run = refl; pool = refl; rank = refl })))
 
-    given_block : IsGiven g (with_last g.shapes shape_committed) (with_last g.addresses (Some m.reserved_at)) (points_with None) g.memories g.tails
+    given_block : IsGiven g (with_last g.shapes shape_committed) (with_last g.addresses (Some m.reserved_at))
+        (points_with None) g.memories g.tails
         (OfReservation n) (OfBlock (length g.shapes))
     given_block =
         let some = (laid.points n p there).some words reserved in
@@ -347,11 +356,13 @@ module _ (limit : ℕ) (g : Occupancy) (laid : IsLaidOut limit g) (n : ℕ) (p :
 
     pub committed_laid_out : IsLaidOut limit after_committing
     committed_laid_out =
-        laid_out_again limit g (with_last g.shapes shape_committed) (with_last g.addresses (Some m.reserved_at)) (points_with None) g.memories
+        laid_out_again limit g (with_last g.shapes shape_committed) (with_last g.addresses (Some m.reserved_at))
+        (points_with None) g.memories
         g.tails laid laid.keyed (more_lengths limit g laid shape_committed m.reserved_at right_committed)
         (laid.memories ∙ sym (length-slice_set g.points n (Some (reserving None))))
         (right_shapes limit g laid shape_committed m.reserved_at right_committed) (right_with None (λ k e. absurd (none-some k e)))
-        (placed_given g (with_last g.shapes shape_committed) (with_last g.addresses (Some m.reserved_at)) (points_with None) g.memories g.tails
+        (placed_given g (with_last g.shapes shape_committed) (with_last g.addresses (Some m.reserved_at))
+        (points_with None) g.memories g.tails
         (OfReservation n) (OfBlock (length g.shapes)) given_block laid.placed)
 
     -- where it lies no live block begins

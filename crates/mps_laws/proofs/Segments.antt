@@ -96,7 +96,8 @@ grains_with s (t ∷ ts) a all =
 pub among_without : (base : Address) (t : Segment) (ss : List Segment) → IsAmong t (without_segment ss base) → IsAmong t ss
 among_without base t [] h = h
 among_without base t (u ∷ us) h =
-    elim (not (u.base == base)) as (λ b. IsAmong t (if b then u ∷ without_segment us base else without_segment us base) → IsAmong t (u ∷ us)) [
+    elim (not (u.base == base)) as (λ b. IsAmong t (if b then u ∷ without_segment us base else without_segment us base)
+    → IsAmong t (u ∷ us)) [
       | true ↦
           (λ g. elim g [
             | inl e ↦ inl e

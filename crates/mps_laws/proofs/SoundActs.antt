@@ -64,7 +64,8 @@ reference_is (ReferenceCell target tag) r e = (let same : target ≡ r = cc in s
 reference_is HeadCell r e = absurd (cc)
 reference_is (NumberCell number) r e = absurd (cc)
 
-pub reference_found : (cells : List Cell) (k : ℕ) (r : Option ℕ) → reference_at cells k ≡ Ok r → slice_get (map target_of_cell cells) k ≡ Some r
+pub reference_found : (cells : List Cell) (k : ℕ) (r : Option ℕ) → reference_at cells k ≡ Ok r
+    → slice_get (map target_of_cell cells) k ≡ Some r
 reference_found cells k r e = of_cell (slice_get cells k) refl e
   where
     of_cell : (x : Option Cell) → slice_get cells k ≡ x → (required x refusal.BadIndex >>= reference_in) ≡ Ok r
@@ -95,7 +96,8 @@ module _ (v : World) (s : IsSoundGraph v) where
   pub slot_passes : (slot : Slot) (found : Found (Option ℕ)) → slot_in v slot ≡ Ok found → PassesOrNull (auto v) found.value
   slot_passes slot found e =
       let f = slot_found v slot found e in
-      entry-passes (auto v) found.list found.index found.value (table_passes (auto v) v.graph.tables found.number found.list s.slots f.0) f.1
+      entry-passes (auto v) found.list found.index found.value
+      (table_passes (auto v) v.graph.tables found.number found.list s.slots f.0) f.1
 
   -- the pool and cells of an object
   pub object_cells : (id : ℕ) (o : Object) → object_at v.graph id ≡ Some o → All (auto v) (targets_of_cells (cells_of_body o.body))
@@ -126,7 +128,8 @@ module _ (v : World) (s : IsSoundGraph v) where
   -- the graph with other tables, areas, blocks, registrations and messages, by what of them is new
   pub held_written : (g : Graph) → g.objects ≡ v.graph.objects → g.points ≡ v.graph.points
       → (g.tables ≡ v.graph.tables) ⊎ All (auto v) (flat_map slots_of g.tables)
-      → (g.areas ≡ v.graph.areas) ⊎ ((n : ℕ) (area : List AreaWord) → entry_at g.areas n ≡ Some area → list_all (is_sound_word v) area ≡ true)
+      → (g.areas ≡ v.graph.areas) ⊎ ((n : ℕ) (area : List AreaWord) → entry_at g.areas n ≡ Some area
+      → list_all (is_sound_word v) area ≡ true)
       → (g.blocks ≡ v.graph.blocks) ⊎ All (manual v) (flat_map entries g.blocks)
       → (g.registered ≡ v.graph.registered) ⊎ All (is_live_automatic v) g.registered
       → (g.messages ≡ v.graph.messages) ⊎ All (auto v) g.messages → IsSoundGraph (with_graph v g)
@@ -141,7 +144,8 @@ module _ (v : World) (s : IsSoundGraph v) where
         slots =
             elim tables [
               | inl same ↦ inl same
-              | inr new ↦ inr (all-weaker (auto v) (auto w) (Rattle.mps_laws.proofs.SoundGraph.auto_kept v w grows) (flat_map slots_of g.tables) new)
+              | inr new ↦ inr (all-weaker (auto v) (auto w) (Rattle.mps_laws.proofs.SoundGraph.auto_kept v w grows)
+                  (flat_map slots_of g.tables) new)
             ];
         words =
             elim areas [
@@ -153,7 +157,8 @@ module _ (v : World) (s : IsSoundGraph v) where
         blocks =
             elim blocks [
               | inl same ↦ inl same
-              | inr new ↦ inr (all-weaker (manual v) (manual w) (Rattle.mps_laws.proofs.SoundGraph.manual_kept v w grows) (flat_map entries g.blocks) new)
+              | inr new ↦ inr (all-weaker (manual v) (manual w) (Rattle.mps_laws.proofs.SoundGraph.manual_kept v w grows)
+                  (flat_map entries g.blocks) new)
             ];
         registered =
             elim registered [
@@ -178,7 +183,8 @@ module _ (v : World) (s : IsSoundGraph v) where
       (entries-written (auto v) into.list into.index target others passes)))
       (inl refl) (inl refl) (inl refl) (inl refl)
 
-  pub own_slot_written : (slot : Slot) (into : Found (Option ℕ)) (target : Option ℕ) → slot_in v slot ≡ Ok into → PassesOrNull (auto v) target
+  pub own_slot_written : (slot : Slot) (into : Found (Option ℕ)) (target : Option ℕ) → slot_in v slot ≡ Ok into
+      → PassesOrNull (auto v) target
       → IsSoundGraph (with_graph v (with_slot v.graph into target))
   own_slot_written slot into target e passes =
       slot_written into target (table_passes (auto v) v.graph.tables into.number into.list s.slots (slot_found v slot into e).0) passes
@@ -226,7 +232,8 @@ module _ (v : World) (s : IsSoundGraph v) where
             elim (cases_eq id j) [
               | inl same ↦
                   inr (subst (λ (z : Object). is_right_object w z ≡ true)
-                  (same_Some new x (sym (ap (λ (k : ℕ). slice_get (slice_set v.graph.objects id new) k) (sym same) ∙ slice_get-set_same v.graph.objects id new within) ∙ h))
+                  (same_Some new x (sym (ap (λ (k : ℕ). slice_get (slice_set v.graph.objects id new) k) (sym same)
+                  ∙ slice_get-set_same v.graph.objects id new within) ∙ h))
                   (Rattle.mps_laws.proofs.SoundGraph.right_object_kept v w grows new right))
               | inr other ↦ inl (sym (slice_get-set_other v.graph.objects id j new other) ∙ h)
             ];
@@ -244,7 +251,8 @@ module _ (v : World) (s : IsSoundGraph v) where
       → is_right_object v o ≡ true → is_right_object v (object_with_cells o change) ≡ true
   right_with_cells o change each h = of_pool (pool_at v o.pool) h
     where
-      of_body : (p : Pool) (b : Body) → ((likes : List Cell) → AreRight (auto v) likes (cells_of_body b) → AreRight (auto v) likes (change (cells_of_body b)))
+      of_body : (p : Pool) (b : Body) → ((likes : List Cell) → AreRight (auto v) likes (cells_of_body b)
+          → AreRight (auto v) likes (change (cells_of_body b)))
           → is_right_body v p b ≡ true → is_right_body v p (body_with_cells b change) ≡ true
       of_body p (Manual words) each h = h
       of_body p (Automatic head cells is_weak) each h =
@@ -258,7 +266,8 @@ module _ (v : World) (s : IsSoundGraph v) where
           (and_from (is_automatic_kind p.kind) (are_right_cells v p head (change cells)) inner.0
           (and_from ((v.formats p.format).is_valid head && are_shaped (new_cells (v.formats p.format) head) (change cells))
           (list_all (auto v) (targets_of_cells (change cells)))
-          (and_from ((v.formats p.format).is_valid head) (are_shaped (new_cells (v.formats p.format) head) (change cells)) first.0 now.0) now.1))
+          (and_from ((v.formats p.format).is_valid head) (are_shaped (new_cells (v.formats p.format) head)
+          (change cells)) first.0 now.0) now.1))
           outer.1
 
       of_pool : (x : Option Pool) → option_map_or (λ p. is_right_body v p o.body) x false ≡ true
@@ -270,11 +279,13 @@ module _ (v : World) (s : IsSoundGraph v) where
       → IsAlike o (object_with_cells o change)
   alike_cells o change same = record { pool = refl; size = size_kept o.body same; kind = kind_kept o.body }
     where
-      size_kept : (b : Body) → length (change (cells_of_body b)) ≡ length (cells_of_body b) → size_of_body (body_with_cells b change) ≡ size_of_body b
+      size_kept : (b : Body) → length (change (cells_of_body b)) ≡ length (cells_of_body b)
+          → size_of_body (body_with_cells b change) ≡ size_of_body b
       size_kept (Automatic head cells is_weak) h = h
       size_kept (Manual words) h = refl
 
-      kind_kept : (b : Body) → Rattle.mps_model.specs.Graph.is_automatic_body (body_with_cells b change) ≡ Rattle.mps_model.specs.Graph.is_automatic_body b
+      kind_kept : (b : Body) → Rattle.mps_model.specs.Graph.is_automatic_body
+          (body_with_cells b change) ≡ Rattle.mps_model.specs.Graph.is_automatic_body b
       kind_kept (Automatic head cells is_weak) = refl
       kind_kept (Manual words) = refl
 
@@ -330,7 +341,11 @@ module _ (v : World) (s : IsSoundGraph v) where
       let grows : Grows v w = record {
         formats = refl;
         pools = λ n p e. e;
-        objects = λ id x e. (x, Rattle.mps_laws.proofs.Lookups.slice_get-kept v.graph.objects o x id e, record { pool = refl; size = refl; kind = refl });
+        objects = λ id x e. (
+          x,
+          Rattle.mps_laws.proofs.Lookups.slice_get-kept v.graph.objects o x id e,
+          record { pool = refl; size = refl; kind = refl },
+        );
       } in
       edited v w grows s (record {
         live = λ id h. still_live id h;
@@ -338,7 +353,8 @@ module _ (v : World) (s : IsSoundGraph v) where
             elim (Rattle.std.proofs.lemmas.Bool.cases_order id (length v.graph.objects)) [
               | inl e ↦
                   inr (subst (λ (z : Object). is_right_object w z ≡ true)
-                  (same_Some o x (sym (ap (slice_get (with_last v.graph.objects o)) e ∙ Rattle.mps_laws.proofs.Lookups.slice_get-at_last v.graph.objects o) ∙ h))
+                  (same_Some o x (sym (ap (slice_get (with_last v.graph.objects o)) e
+                  ∙ Rattle.mps_laws.proofs.Lookups.slice_get-at_last v.graph.objects o) ∙ h))
                   (Rattle.mps_laws.proofs.SoundGraph.right_object_kept v w grows o right))
               | inr (inl low) ↦ inl (sym (Rattle.mps_laws.proofs.Lookups.slice_get-last v.graph.objects o id low) ∙ h)
               | inr (inr high) ↦
@@ -378,7 +394,8 @@ module _ (v : World) (s : IsSoundGraph v) where
       size_kept (Automatic head cells is_weak) = refl
       size_kept (Manual words) = length-slice_set words k value
 
-      kind_kept : (b : Body) → Rattle.mps_model.specs.Graph.is_automatic_body (body_with_word b k value) ≡ Rattle.mps_model.specs.Graph.is_automatic_body b
+      kind_kept : (b : Body) → Rattle.mps_model.specs.Graph.is_automatic_body
+          (body_with_word b k value) ≡ Rattle.mps_model.specs.Graph.is_automatic_body b
       kind_kept (Automatic head cells is_weak) = refl
       kind_kept (Manual words) = refl
 
@@ -394,7 +411,8 @@ module _ (v : World) (s : IsSoundGraph v) where
 
       of_object : (x : Option Object) → object_at v.graph id ≡ x
           → IsSoundGraph (with_graph v (record v.graph {
-            objects = option_map_or (λ o. slice_set v.graph.objects id (record o { body = body_with_word o.body k value })) x v.graph.objects;
+            objects = option_map_or (λ o. slice_set v.graph.objects id
+                (record o { body = body_with_word o.body k value })) x v.graph.objects;
           }))
       of_object None e = held_written v s v.graph refl refl (inl refl) (inl refl) (inl refl) (inl refl) (inl refl)
       of_object (Some o) e =
@@ -429,7 +447,8 @@ module _ (v : World) (s : IsSoundGraph v) where
   hold_is_sound id word h =
       let parts = and_parts (auto v id) (is_live_and (λ at. is_word_in (is_copying_object v id) at (words_of v id) word) v id) h in
       and_from (auto v id)
-      (if is_copying_object v id then nat_lt (word - address_or_null v id) (8 * words_of v id) else (word - address_or_null v id) == 0) parts.0
+      (if is_copying_object v id then nat_lt (word - address_or_null v id) (8 * words_of v id) else (word - address_or_null v id) ==
+      0) parts.0
       (of_address (entry_at v.addresses id) parts.1)
     where
       of_address : (x : Option ℕ) → option_map_or (λ at. is_word_in (is_copying_object v id) at (words_of v id) word) x false ≡ true
@@ -457,7 +476,8 @@ module _ (v : World) (s : IsSoundGraph v) where
           let parts = and_parts ((v.formats p.format).is_valid head && are_shaped (new_cells (v.formats p.format) head) cells)
           (list_all (auto v) (targets_of_cells cells)) inner.1 in
           let first = and_parts ((v.formats p.format).is_valid head) (are_shaped (new_cells (v.formats p.format) head) cells) parts.0 in
-          of_cells (Rattle.mps_model.specs.Graph.new_cells_from (v.formats p.format) head 1 ((v.formats p.format).size head - 1)) cells 0 first.1
+          of_cells (Rattle.mps_model.specs.Graph.new_cells_from (v.formats p.format) head 1
+          ((v.formats p.format).size head - 1)) cells 0 first.1
 
       of_pool : (x : Option Pool) → option_map_or (λ p. is_right_body v p o.body) x false ≡ true → 0 < size_of o
       of_pool None k = absurd (false≢true k)
@@ -466,14 +486,16 @@ module _ (v : World) (s : IsSoundGraph v) where
   pub pin_is_sound : (id : ℕ) (o : Object) → object_at v.graph id ≡ Some o → auto v id ≡ true → is_sound_word v (Hold id 0) ≡ true
   pin_is_sound id o e h =
       and_from (auto v id) (if is_copying_object v id then nat_lt 0 (8 * words_of v id) else 0 == 0) h
-      (of_kind (is_copying_object v id) (subst (λ (n : ℕ). 0 < n) (sym (ap (λ x. option_map_or size_of x 0) e)) (some_size o (s.objects id o e))))
+      (of_kind (is_copying_object v id) (subst (λ (n : ℕ). 0 < n) (sym (ap (λ x. option_map_or size_of x 0) e))
+      (some_size o (s.objects id o e))))
     where
       of_kind : (b : Bool) → 0 < words_of v id → (if b then nat_lt 0 (8 * words_of v id) else 0 == 0) ≡ true
       of_kind true k = lt-ltb 0 (8 * words_of v id) (omega (arith, k))
       of_kind false k = refl
 
 -- objects whose cells are changed are alike
-pub cells_alike : (v : World) (id : ℕ) (change : List Cell → List Cell) → ((cells : List Cell) → length (change cells) ≡ length cells) → (j : ℕ) (x : Object)
+pub cells_alike : (v : World) (id : ℕ) (change : List Cell → List Cell) → ((cells : List Cell) → length (change cells) ≡ length cells)
+    → (j : ℕ) (x : Object)
     → object_at v.graph j ≡ Some x → (y : Object) × (object_at (graph_with_cells v.graph id change) j ≡ Some y) × IsAlike x y
 cells_alike v id change same j x e = of_object (object_at v.graph id) refl
   where
@@ -481,12 +503,14 @@ cells_alike v id change same j x e = of_object (object_at v.graph id) refl
     size_kept (Automatic head cells is_weak) = same cells
     size_kept (Manual words) = refl
 
-    kind_kept : (b : Body) → Rattle.mps_model.specs.Graph.is_automatic_body (body_with_cells b change) ≡ Rattle.mps_model.specs.Graph.is_automatic_body b
+    kind_kept : (b : Body) → Rattle.mps_model.specs.Graph.is_automatic_body
+        (body_with_cells b change) ≡ Rattle.mps_model.specs.Graph.is_automatic_body b
     kind_kept (Automatic head cells is_weak) = refl
     kind_kept (Manual words) = refl
 
     of_object : (o : Option Object) → object_at v.graph id ≡ o
-        → (y : Object) × (slice_get (option_map_or (λ z. slice_set v.graph.objects id (object_with_cells z change)) o v.graph.objects) j ≡ Some y) × IsAlike x y
+        → (y : Object) × (slice_get (option_map_or (λ z. slice_set v.graph.objects id (object_with_cells z change)) o v.graph.objects) j
+        ≡ Some y) × IsAlike x y
     of_object None f = (x, e, record { pool = refl; size = refl; kind = refl })
     of_object (Some o) f =
         elim (cases_eq id j) [
@@ -499,6 +523,9 @@ cells_alike v id change same j x e = of_object (object_at v.graph id) refl
                 subst (λ (z : Object). IsAlike z (object_with_cells o change)) is
                     (record { pool = refl; size = size_kept o.body; kind = kind_kept o.body }),
               )
-          | inr other ↦
-              (x, slice_get-set_other v.graph.objects id j (object_with_cells o change) other ∙ e, record { pool = refl; size = refl; kind = refl })
+          | inr other ↦ (
+            x,
+            slice_get-set_other v.graph.objects id j (object_with_cells o change) other ∙ e,
+            record { pool = refl; size = refl; kind = refl },
+          )
         ]

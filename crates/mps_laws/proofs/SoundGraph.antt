@@ -56,13 +56,15 @@ module _ (test : ℕ → Bool) where
       let parts = all-parts (ids y) (flat_map ids ys) h in
       all-append (ids y) (flat_map ids (with_last ys x)) parts.0 (all-last ids ys x parts.1 k)
 
-  pub all-at : {X : Type 0} (ids : X → List ℕ) (xs : List X) (n : ℕ) (x : X) → All test (flat_map ids xs) → slice_get xs n ≡ Some x → All test (ids x)
+  pub all-at : {X : Type 0} (ids : X → List ℕ) (xs : List X) (n : ℕ) (x : X) → All test (flat_map ids xs) → slice_get xs n ≡ Some x
+      → All test (ids x)
   all-at ids [] n x h there = absurd (none-some x there)
   all-at ids (y ∷ ys) zero x h there = subst (λ z. All test (ids z)) (same_Some y x there) (all-parts (ids y) (flat_map ids ys) h).0
   all-at ids (y ∷ ys) (suc n) x h there = all-at ids ys n x (all-parts (ids y) (flat_map ids ys) h).1 there
 
   -- an entry is written
-  pub entries-written : (xs : List (Option ℕ)) (n : ℕ) (x : Option ℕ) → All test (entries xs) → PassesOrNull test x → All test (entries (slice_set xs n x))
+  pub entries-written : (xs : List (Option ℕ)) (n : ℕ) (x : Option ℕ) → All test (entries xs) → PassesOrNull test x
+      → All test (entries (slice_set xs n x))
   entries-written [] n x h k = refl
   entries-written (None ∷ ys) zero None h k = h
   entries-written (None ∷ ys) zero (Some id) h k = and_from (test id) (list_all test (entries ys)) k h
@@ -156,7 +158,8 @@ map-written f [] n x = refl
 map-written f (y ∷ ys) zero x = refl
 map-written f (y ∷ ys) (suc n) x = ap (λ rest. f y ∷ rest) (map-written f ys n x)
 
-targets_set : (test : ℕ → Bool) (cells : List Cell) (k : ℕ) (new : Cell) → All test (targets_of_cells cells) → PassesOrNull test (target_of_cell new)
+targets_set : (test : ℕ → Bool) (cells : List Cell) (k : ℕ) (new : Cell) → All test (targets_of_cells cells)
+    → PassesOrNull test (target_of_cell new)
     → All test (targets_of_cells (slice_set cells k new))
 targets_set test cells k new h p =
     subst (λ xs. All test (entries xs)) (sym (map-written target_of_cell cells k new))
@@ -169,7 +172,8 @@ retargeted_shape target (ReferenceCell old tag) HeadCell h = h
 retargeted_shape target (ReferenceCell old tag) (NumberCell number) h = h
 retargeted_shape target (ReferenceCell old tag) (ReferenceCell other its_tag) h = h
 
-retargeted_target : (test : ℕ → Bool) (target : Option ℕ) (c : Cell) → PassesOrNull test target → PassesOrNull test (target_of_cell (retargeted c target))
+retargeted_target : (test : ℕ → Bool) (target : Option ℕ) (c : Cell) → PassesOrNull test target
+    → PassesOrNull test (target_of_cell (retargeted c target))
 retargeted_target test target HeadCell h = tt
 retargeted_target test target (NumberCell number) h = tt
 retargeted_target test target (ReferenceCell old tag) h = h
@@ -183,7 +187,8 @@ number_shape number value (ReferenceCell old tag) h = h
 abbrev pub AreRight : (test : ℕ → Bool) → (likes cells : List Cell) → Type 0
 AreRight test likes cells = (are_shaped likes cells ≡ true) × All test (targets_of_cells cells)
 
-pub right_target_cell : (test : ℕ → Bool) (likes cells : List Cell) (k : ℕ) (target : Option ℕ) → PassesOrNull test target → AreRight test likes cells
+pub right_target_cell : (test : ℕ → Bool) (likes cells : List Cell) (k : ℕ) (target : Option ℕ) → PassesOrNull test target
+    → AreRight test likes cells
     → AreRight test likes (with_target_cell cells k target)
 right_target_cell test likes cells k target p h = of_cell (slice_get cells k) refl
   where
@@ -248,7 +253,8 @@ pub record Grows (w w' : World) : Type 0 where
 
 module _ (w w' : World) (g : Grows w w') where
   -- a test of objects that looks at pool, size and kind alone
-  kept_test : (test test' : Object → Bool) → ((o o' : Object) → IsAlike o o' → test o ≡ true → test' o' ≡ true) → (id : ℕ) → object_is test w id ≡ true
+  kept_test : (test test' : Object → Bool) → ((o o' : Object) → IsAlike o o' → test o ≡ true → test' o' ≡ true) → (id : ℕ)
+      → object_is test w id ≡ true
       → object_is test' w' id ≡ true
   kept_test test test' each id h = of_one (object_at w.graph id) refl h
     where
@@ -263,7 +269,8 @@ module _ (w w' : World) (g : Grows w w') where
   pub manual_kept : (id : ℕ) → manual w id ≡ true → manual w' id ≡ true
   manual_kept id h = kept_test (λ o. not (is_automatic o)) (λ o. not (is_automatic o)) (λ o o' a k. ap not a.kind ∙ k) id h
 
-  pool_kept : (n : ℕ) (test test' : Pool → Bool) → ((p : Pool) → test p ≡ true → test' p ≡ true) → option_map_or test (pool_at w n) false ≡ true
+  pool_kept : (n : ℕ) (test test' : Pool → Bool) → ((p : Pool) → test p ≡ true → test' p ≡ true)
+      → option_map_or test (pool_at w n) false ≡ true
       → option_map_or test' (pool_at w' n) false ≡ true
   pool_kept n test test' each h = of_one (pool_at w n) refl h
     where
@@ -271,21 +278,26 @@ module _ (w w' : World) (g : Grows w w') where
       of_one None e k = absurd (false≢true k)
       of_one (Some p) e k = ap (λ x. option_map_or test' x false) (g.pools n p e) ∙ each p k
 
-  pub right_cells_kept : (p : Pool) (head : ℕ) (cells : List Cell) → are_right_cells w p head cells ≡ true → are_right_cells w' p head cells ≡ true
+  pub right_cells_kept : (p : Pool) (head : ℕ) (cells : List Cell) → are_right_cells w p head cells ≡ true
+      → are_right_cells w' p head cells ≡ true
   right_cells_kept p head cells h =
-      let parts = and_parts ((w.formats p.format).is_valid head && are_shaped (Rattle.mps_model.specs.Graph.new_cells (w.formats p.format) head) cells)
+      let parts = and_parts ((w.formats p.format).is_valid head && are_shaped
+      (Rattle.mps_model.specs.Graph.new_cells (w.formats p.format) head) cells)
       (list_all (auto w) (targets_of_cells cells)) h in
       and_from ((w'.formats p.format).is_valid head && are_shaped (Rattle.mps_model.specs.Graph.new_cells (w'.formats p.format) head) cells)
       (list_all (auto w') (targets_of_cells cells))
-      (subst (λ f. ((f p.format).is_valid head && are_shaped (Rattle.mps_model.specs.Graph.new_cells (f p.format) head) cells) ≡ true) (sym g.formats) parts.0)
+      (subst (λ f. ((f p.format).is_valid head && are_shaped (Rattle.mps_model.specs.Graph.new_cells (f p.format) head) cells) ≡ true)
+      (sym g.formats) parts.0)
       (all-weaker (auto w) (auto w') auto_kept (targets_of_cells cells) parts.1)
 
   right_body_kept : (p : Pool) (b : Body) → is_right_body w p b ≡ true → is_right_body w' p b ≡ true
   right_body_kept p (Manual words) h = h
   right_body_kept p (Automatic head cells is_weak) h =
-      let outer = and_parts (is_automatic_kind p.kind && are_right_cells w p head cells) (not is_weak || Rattle.mps_model.specs.World.is_weak_kind p.kind) h in
+      let outer = and_parts (is_automatic_kind p.kind && are_right_cells w p head cells)
+      (not is_weak || Rattle.mps_model.specs.World.is_weak_kind p.kind) h in
       let inner = and_parts (is_automatic_kind p.kind) (are_right_cells w p head cells) outer.0 in
-      and_from (is_automatic_kind p.kind && are_right_cells w' p head cells) (not is_weak || Rattle.mps_model.specs.World.is_weak_kind p.kind)
+      and_from (is_automatic_kind p.kind && are_right_cells w' p head cells)
+      (not is_weak || Rattle.mps_model.specs.World.is_weak_kind p.kind)
       (and_from (is_automatic_kind p.kind) (are_right_cells w' p head cells) inner.0 (right_cells_kept p head cells inner.1)) outer.1
 
   pub right_object_kept : (o : Object) → is_right_object w o ≡ true → is_right_object w' o ≡ true
@@ -351,7 +363,8 @@ module _ (w w' : World) (g : Grows w w') where
     pub registered : (w'.graph.registered ≡ w.graph.registered) ⊎ All (is_live_automatic w') w'.graph.registered
     pub messages : (w'.graph.messages ≡ w.graph.messages) ⊎ All (auto w') w'.graph.messages
 
-  pub live_auto_kept : ((id : ℕ) → is_live w id ≡ true → is_live w' id ≡ true) → (id : ℕ) → is_live_automatic w id ≡ true → is_live_automatic w' id ≡ true
+  pub live_auto_kept : ((id : ℕ) → is_live w id ≡ true → is_live w' id ≡ true) → (id : ℕ) → is_live_automatic w id ≡ true
+      → is_live_automatic w' id ≡ true
   live_auto_kept live id h =
       let parts = and_parts (is_live w id) (auto w id) h in
       and_from (is_live w' id) (auto w' id) (live id parts.0) (auto_kept id parts.1)
@@ -413,7 +426,8 @@ module _ (w w' : World) (g : Grows w w') where
   }
 
 -- where the objects are as they were, and there may be more pools
-pub grows_alike : (w w' : World) → w'.formats ≡ w.formats → ((n : ℕ) (p : Pool) → slice_get w.pools n ≡ Some p → slice_get w'.pools n ≡ Some p)
+pub grows_alike : (w w' : World) → w'.formats ≡ w.formats → ((n : ℕ) (p : Pool) → slice_get w.pools n ≡ Some p
+    → slice_get w'.pools n ≡ Some p)
     → w'.graph.objects ≡ w.graph.objects → Grows w w'
 grows_alike w w' formats pools objects = record {
   formats = formats;
@@ -424,7 +438,8 @@ grows_alike w w' formats pools objects = record {
 -- where nothing of the graph that matters was touched
 pub untouched : (w w' : World) → IsSoundGraph w → w'.formats ≡ w.formats
     → ((n : ℕ) (p : Pool) → slice_get w.pools n ≡ Some p → slice_get w'.pools n ≡ Some p) → w'.graph.objects ≡ w.graph.objects
-    → w'.graph.points ≡ w.graph.points → w'.graph.tables ≡ w.graph.tables → w'.graph.areas ≡ w.graph.areas → w'.graph.blocks ≡ w.graph.blocks
+    → w'.graph.points ≡ w.graph.points → w'.graph.tables ≡ w.graph.tables → w'.graph.areas ≡ w.graph.areas
+    → w'.graph.blocks ≡ w.graph.blocks
     → w'.graph.registered ≡ w.graph.registered → w'.graph.messages ≡ w.graph.messages → w'.addresses ≡ w.addresses → IsSoundGraph w'
 untouched w w' s formats pools objects points tables areas blocks registered messages addresses =
     edited w w' (grows_alike w w' formats pools objects) s (record {

@@ -54,7 +54,10 @@ own_well : (w : World) (ms : List Move) (number : Option ℕ) → IsSoundGraph w
 own_well w (moves.Seg base grains pool generation ∷ ms) (Some point) s = of_kind (is_copying_pool w pool)
   where
     of_kind : (b : Bool)
-        → IsMovedWell w (if b then record (holding w (record (segment_of_move base.0 grains pool generation) { rank = rank_of_point w point })) {
+        → IsMovedWell w (if b then record (holding w (record (segment_of_move base.0 grains pool generation) {
+          rank =
+              rank_of_point w point;
+        })) {
           point_memories = with_buffer w.point_memories point (words_of_segment (segment_of_move base.0 grains pool generation));
         } else holding w (record (segment_of_move base.0 grains pool generation) { rank = rank_of_point w point }))
         × ((if b then record (holding w (record (segment_of_move base.0 grains pool generation) { rank = rank_of_point w point })) {
@@ -66,7 +69,13 @@ own_well w (moves.Seg base grains pool generation ∷ ms) (Some point) s = of_ki
       }) s refl refl refl refl,
       refl,
     )
-    of_kind false = (quiet w (holding w (record (segment_of_move base.0 grains pool generation) { rank = rank_of_point w point })) s refl refl refl refl, refl)
+    of_kind false = (
+      quiet w (holding w (record (segment_of_move base.0 grains pool generation) {
+        rank =
+            rank_of_point w point;
+      })) s refl refl refl refl,
+      refl,
+    )
 own_well w _ _ s = (quiet w w s refl refl refl refl, refl)
 
 -- ---- the client's moves
@@ -79,7 +88,8 @@ commit_well w x answer s =
       | false ↦ same_well w s
     ]
   where
-    of_reservation : (p : Numbered Rattle.mps_model.specs.Graph.Point) (o : Option Reservation) → IsMovedWell w (world_after_moves w (commit_of w p o))
+    of_reservation : (p : Numbered Rattle.mps_model.specs.Graph.Point) (o : Option Reservation)
+        → IsMovedWell w (world_after_moves w (commit_of w p o))
     of_reservation p None = same_well w s
     of_reservation p (Some r) = same_well w s
 
@@ -109,7 +119,8 @@ alloc_well w x words answer s =
 given_back_well : (v : World) (o : Option Segment) → IsSoundGraph v → IsMovedWell v (world_after_moves v (give_back_empty v o))
 given_back_well v None s = same_well v s
 given_back_well v (Some t) s =
-    elim (pool_is is_any_size_kind v t.pool && is_empty_segment v t) as (λ b. IsMovedWell v (world_after_moves v (if b then moves.Unseg (at_address t.base) ∷ [] else []))) [
+    elim (pool_is is_any_size_kind v t.pool && is_empty_segment v t) as
+    (λ b. IsMovedWell v (world_after_moves v (if b then moves.Unseg (at_address t.base) ∷ [] else []))) [
       | true ↦ unseg_well v t.base s
       | false ↦ same_well v s
     ]
@@ -120,7 +131,8 @@ not_registered w id s h =
     elim (cases_Bool (contains w.graph.registered id)) [
       | inl is ↦
           absurd (never (object_at w.graph id)
-          (and_parts (is_live w id) (auto w id) (all-contains (Rattle.mps_model.specs.WellFormed.is_live_automatic w) w.graph.registered id s.registered is)).1 h)
+          (and_parts (is_live w id) (auto w id) (all-contains
+          (Rattle.mps_model.specs.WellFormed.is_live_automatic w) w.graph.registered id s.registered is)).1 h)
       | inr isnt ↦ isnt
     ]
   where
@@ -146,7 +158,8 @@ free_well limit w place answer laid live s =
       | false ↦ of_place (block_place_in w place) refl
     ]
   where
-    at_address_there : (id : ℕ) (o : Option ℕ) → entry_at w.addresses id ≡ o → is_live w id ≡ true → entry_at w.addresses id ≡ Some (option_map_or (λ at. at) o 0)
+    at_address_there : (id : ℕ) (o : Option ℕ) → entry_at w.addresses id ≡ o → is_live w id ≡ true
+        → entry_at w.addresses id ≡ Some (option_map_or (λ at. at) o 0)
     at_address_there id None e h = absurd (false≢true (sym (ap Rattle.std.specs.Prelude.is_some e) ∙ h))
     at_address_there id (Some at) e h = e
 
@@ -157,7 +170,8 @@ free_well limit w place answer laid live s =
         → IsMovedWell w (world_after_moves w (option_map_or (λ id. free_of w (address_or_null w id)) o []))
     of_value found None e f = same_well w s
     of_value found (Some id) e f =
-        let g = found_by (number_named w place.name Rattle.mps_model.specs.Checked.as_blocks) (λ n. slice_get w.graph.blocks n) place.index found e in
+        let g = found_by (number_named w place.name Rattle.mps_model.specs.Checked.as_blocks)
+        (λ n. slice_get w.graph.blocks n) place.index found e in
         let kind : manual w id ≡ true =
         subst (PassesOrNull (manual w)) f (entry-passes (manual w) found.list found.index found.value
         (all-at (manual w) Rattle.mps_model.specs.Graph.entries w.graph.blocks found.number found.list s.blocks g.0) g.1) in
@@ -165,7 +179,8 @@ free_well limit w place answer laid live s =
         let there = address_there id (block_is_live w place found id live e f) in
         let first = freed_one w at (id_at w at) (λ j h.
         subst (λ (k : ℕ). manual w k ≡ true)
-        (Rattle.mps_laws.proofs.LegalMoves.different limit (Rattle.mps_laws.proofs.Occupancy.occupancy_of w) laid id j at there (id_at-found w at j h)) kind) s in
+        (Rattle.mps_laws.proofs.LegalMoves.different limit (Rattle.mps_laws.proofs.Occupancy.occupancy_of w) laid id j at there
+        (id_at-found w at j h)) kind) s in
         let v = where_one w (id_at w at) (λ n. after_free w n at) in
         then_well w v (world_after_moves v (give_back_empty v (segment_of w at))) first (given_back_well v (segment_of w at) first.sound)
 
@@ -180,11 +195,13 @@ SlotsAreLive w = All (is_live w) (ids_in_slots w.graph)
 
 pub slots_held : (w : World) → HeldAreLive w → SlotsAreLive w
 slots_held w h =
-    let a = all-parts (is_live w) ((ids_in_slots w.graph ++ ids_in_holds w.graph) ++ w.graph.messages) (ids_in_reservations w.graph) h.client in
+    let a = all-parts (is_live w) ((ids_in_slots w.graph ++ ids_in_holds w.graph) ++ w.graph.messages)
+    (ids_in_reservations w.graph) h.client in
     let b = all-parts (is_live w) (ids_in_slots w.graph ++ ids_in_holds w.graph) w.graph.messages a.0 in
     (all-parts (is_live w) (ids_in_slots w.graph) (ids_in_holds w.graph) b.0).0
 
-module _ (limit line : ℕ) (w : World) (laid : Rattle.mps_laws.proofs.LegalMoves.HasLayout limit w) (live : Rattle.mps_laws.proofs.FreeSteps.BlocksAreLive w) (slots : SlotsAreLive w) (s : IsSoundGraph w) where
+module _ (limit line : ℕ) (w : World) (laid : Rattle.mps_laws.proofs.LegalMoves.HasLayout limit w)
+    (live : Rattle.mps_laws.proofs.FreeSteps.BlocksAreLive w) (slots : SlotsAreLive w) (s : IsSoundGraph w) where
   abbrev the_step : Call → List Move → Answer → Step
   the_step c ms answer = record { line = line; call = c; moves = ms; answer = answer }
 
@@ -194,14 +211,19 @@ module _ (limit line : ℕ) (w : World) (laid : Rattle.mps_laws.proofs.LegalMove
       → IsSoundGraph (world_after w (the_step c ms answer))
   finished c ms answer supported sound =
       let x = world_from (moved_world w c ms) (act (is_block answer) (judged_world w c ms) (moved_world w c ms) c) in
-      subst (λ b. IsSoundGraph (if b then w else with_client_remembered x)) (sym supported) (quiet x (with_client_remembered x) sound refl refl refl refl).sound
+      subst (λ b. IsSoundGraph (if b then w else with_client_remembered x)) (sym supported)
+      (quiet x (with_client_remembered x) sound refl refl refl refl).sound
 
-  acted : (marked : Bool) (v : World) (c : Call) → IsMovedWell w v → (is_finalize c ≡ true → All (is_live v) (ids_in_slots v.graph)) → is_reserve c ≡ false
+  acted : (marked : Bool) (v : World) (c : Call) → IsMovedWell w v → (is_finalize c ≡ true → All (is_live v) (ids_in_slots v.graph))
+      → is_reserve c ≡ false
       → IsSoundGraph (world_from v (act marked w v c))
-  acted marked v c m finalize plain = for_world IsSoundGraph v (act marked w v c) (act_sound marked w v s m.grown m.sound c finalize plain) m.sound
+  acted marked v c m finalize plain = for_world IsSoundGraph v (act marked w v c)
+      (act_sound marked w v s m.grown m.sound c finalize plain) m.sound
 
-  reserved : (name : Rattle.mps_base.specs.declared.names.Name.Name) (head : ℕ) (ms : List Move) (answer : Answer) → is_unsupported answer ≡ false
-      → IsAnsweredStep w (the_step (call.Reserve name head) ms answer) → IsSoundGraph (world_after w (the_step (call.Reserve name head) ms answer))
+  reserved : (name : Rattle.mps_base.specs.declared.names.Name.Name) (head : ℕ) (ms : List Move) (answer : Answer)
+      → is_unsupported answer ≡ false
+      → IsAnsweredStep w (the_step (call.Reserve name head) ms answer)
+      → IsSoundGraph (world_after w (the_step (call.Reserve name head) ms answer))
   reserved name head ms answer supported legal =
       let judged = world_after_moves w (moves_of_poll ms) in
       let poll = moves_well w None (moves_of_poll ms) s legal.moves_are_legal in

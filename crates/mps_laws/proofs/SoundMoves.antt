@@ -39,7 +39,8 @@ pub record IsMovedWell (w w' : World) : Type 0 where
   pub sound : IsSoundGraph w'
   pub grown : Grows w w'
 
-pub quiet : (w w' : World) → IsSoundGraph w → w'.formats ≡ w.formats → w'.pools ≡ w.pools → w'.graph ≡ w.graph → w'.addresses ≡ w.addresses → IsMovedWell w w'
+pub quiet : (w w' : World) → IsSoundGraph w → w'.formats ≡ w.formats → w'.pools ≡ w.pools → w'.graph ≡ w.graph
+    → w'.addresses ≡ w.addresses → IsMovedWell w w'
 quiet w w' s formats pools graph addresses = record {
   sound =
       untouched w w' s formats (λ n p e. ap (λ ps. slice_get ps n) pools ∙ e) (ap (λ (g : Graph). g.objects) graph)
@@ -56,7 +57,8 @@ with_live w w' s formats pools graph live =
     record {
       grown = grows;
       sound = record {
-        objects = λ id o h. Rattle.mps_laws.proofs.SoundGraph.right_object_kept w w' grows o (s.objects id o (sym (ap (λ g. object_at g id) graph) ∙ h));
+        objects = λ id o h. Rattle.mps_laws.proofs.SoundGraph.right_object_kept w w' grows o
+            (s.objects id o (sym (ap (λ g. object_at g id) graph) ∙ h));
         reservations = λ n p r h k.
             Rattle.mps_laws.proofs.SoundGraph.reservation_kept w w' grows p.pool r
             (s.reservations n p r (sym (ap (λ (g : Graph). entry_at g.points n) graph) ∙ h) k);
@@ -64,18 +66,23 @@ with_live w w' s formats pools graph live =
             let right = s.points n p (sym (ap (λ (g : Graph). entry_at g.points n) graph) ∙ h) in
             subst (λ ps. IsRightPoint ps p) (sym pools) right;
         slots =
-            all-weaker (auto w) (auto w') (Rattle.mps_laws.proofs.SoundGraph.auto_kept w w' grows) (Rattle.mps_model.specs.Graph.ids_in_slots w'.graph)
+            all-weaker (auto w) (auto w') (Rattle.mps_laws.proofs.SoundGraph.auto_kept w w' grows)
+            (Rattle.mps_model.specs.Graph.ids_in_slots w'.graph)
             (subst (λ (g : Graph). All (auto w) (Rattle.mps_model.specs.Graph.ids_in_slots g)) (sym graph) s.slots);
         words = λ n area h.
-            Rattle.mps_laws.proofs.SoundGraph.each-weaker (Rattle.mps_laws.proofs.SoundGraph.is_sound_word w) (Rattle.mps_laws.proofs.SoundGraph.is_sound_word w')
-            (Rattle.mps_laws.proofs.SoundGraph.word_kept w w' grows s.objects) area (s.words n area (sym (ap (λ (g : Graph). entry_at g.areas n) graph) ∙ h));
+            Rattle.mps_laws.proofs.SoundGraph.each-weaker (Rattle.mps_laws.proofs.SoundGraph.is_sound_word w)
+            (Rattle.mps_laws.proofs.SoundGraph.is_sound_word w')
+            (Rattle.mps_laws.proofs.SoundGraph.word_kept w w' grows s.objects) area
+            (s.words n area (sym (ap (λ (g : Graph). entry_at g.areas n) graph) ∙ h));
         blocks =
-            all-weaker (manual w) (manual w') (Rattle.mps_laws.proofs.SoundGraph.manual_kept w w' grows) (Rattle.mps_model.specs.Graph.ids_in_blocks w'.graph)
+            all-weaker (manual w) (manual w') (Rattle.mps_laws.proofs.SoundGraph.manual_kept w w' grows)
+            (Rattle.mps_model.specs.Graph.ids_in_blocks w'.graph)
             (subst (λ (g : Graph). All (manual w) (Rattle.mps_model.specs.Graph.ids_in_blocks g)) (sym graph) s.blocks);
         registered =
             subst (λ (g : Graph). All (is_live_automatic w') g.registered) (sym graph)
             (both (is_live w') (auto w') w.graph.registered live
-            (all-weaker (is_live_automatic w) (auto w') (λ id h. Rattle.mps_laws.proofs.SoundGraph.auto_kept w w' grows id (and_parts (is_live w id) (auto w id) h).1)
+            (all-weaker (is_live_automatic w) (auto w') (λ id h.
+            Rattle.mps_laws.proofs.SoundGraph.auto_kept w w' grows id (and_parts (is_live w id) (auto w id) h).1)
             w.graph.registered s.registered));
         messages =
             all-weaker (auto w) (auto w') (Rattle.mps_laws.proofs.SoundGraph.auto_kept w w' grows) w'.graph.messages
@@ -91,10 +98,12 @@ with_live w w' s formats pools graph live =
         and_from (p x && q x) (list_all (λ id. p id && q id) xs) (and_from (p x) (q x) a.0 b.0) (both p q xs a.1 b.1)
 
 registered_live : (w : World) → IsSoundGraph w → All (is_live w) w.graph.registered
-registered_live w s = all-weaker (is_live_automatic w) (is_live w) (λ id h. (and_parts (is_live w id) (auto w id) h).0) w.graph.registered s.registered
+registered_live w s = all-weaker (is_live_automatic w) (is_live w)
+    (λ id h. (and_parts (is_live w id) (auto w id) h).0) w.graph.registered s.registered
 
 -- what isn't an id keeps what it was
-all-but : (p q : ℕ → Bool) (id : ℕ) (ids : List ℕ) → ((j : ℕ) → id ≢ j → p j ≡ true → q j ≡ true) → contains ids id ≡ false → All p ids → All q ids
+all-but : (p q : ℕ → Bool) (id : ℕ) (ids : List ℕ) → ((j : ℕ) → id ≢ j → p j ≡ true → q j ≡ true) → contains ids id ≡ false → All p ids
+    → All q ids
 all-but p q id [] each c h = refl
 all-but p q id (x ∷ xs) each c h =
     let parts = and_parts (p x) (list_all p xs) h in
@@ -117,7 +126,8 @@ moved_well w id at to s e =
 
 pub freed_well : (w : World) (id at : ℕ) → IsSoundGraph w → contains w.graph.registered id ≡ false → IsMovedWell w (after_free w id at)
 freed_well w id at s none =
-    elim (object_is is_automatic w id) as (λ b. IsMovedWell w (if b then with_collection (with_address w id None) (reclaiming (segment_base_of w at))
+    elim (object_is is_automatic w id) as (λ b. IsMovedWell w
+    (if b then with_collection (with_address w id None) (reclaiming (segment_base_of w at))
     else with_address w id None)) [
       | true ↦ with_live w (with_collection (with_address w id None) (reclaiming (segment_base_of w at))) s refl refl refl still
       | false ↦ with_live w (with_address w id None) s refl refl refl still
@@ -130,9 +140,11 @@ freed_well w id at s none =
 
 pub segment_well : (w : World) (t : Segment) → IsSoundGraph w → IsMovedWell w (after_segment w t)
 segment_well w t s =
-    elim (is_copying_pool w t.pool) as (λ b. IsMovedWell w (if b then Rattle.mps_model.specs.World.with_tail (holding w t) t.pool t.generation (Rattle.mps_base.specs.Segment.words_of_segment t)
+    elim (is_copying_pool w t.pool) as (λ b. IsMovedWell w (if b then Rattle.mps_model.specs.World.with_tail
+    (holding w t) t.pool t.generation (Rattle.mps_base.specs.Segment.words_of_segment t)
     else holding w t)) [
-      | true ↦ quiet w (Rattle.mps_model.specs.World.with_tail (holding w t) t.pool t.generation (Rattle.mps_base.specs.Segment.words_of_segment t)) s refl refl refl refl
+      | true ↦ quiet w (Rattle.mps_model.specs.World.with_tail (holding w t) t.pool t.generation
+          (Rattle.mps_base.specs.Segment.words_of_segment t)) s refl refl refl refl
       | false ↦ quiet w (holding w t) s refl refl refl refl
     ]
 
@@ -140,7 +152,8 @@ pub unseg_well : (w : World) (base : Address) → IsSoundGraph w → IsMovedWell
 unseg_well w base s = quiet w (after_unseg w base) s refl refl refl refl
 
 -- reservations that are doomed keep their cells
-flipped_well : (w : World) (zones chain generation : ℕ) → IsSoundGraph w → IsMovedWell w (after_flip w zones (condemnation_of chain generation))
+flipped_well : (w : World) (zones chain generation : ℕ) → IsSoundGraph w
+    → IsMovedWell w (after_flip w zones (condemnation_of chain generation))
 flipped_well w zones chain generation s =
     let w' = after_flip w zones (condemnation_of chain generation) in
     let grows = grows_same w w' refl refl refl in
@@ -150,8 +163,10 @@ flipped_well w zones chain generation s =
           edited w w' grows s (record {
             live = λ id h. h;
             objects = λ id o h. inl h;
-            reservations = λ n p r h k. inl (of_entry n (slice_get w.graph.points n) refl p r (sym (ap opened (slice_get-map doomed w.graph.points n)) ∙ h) k);
-            points = λ n p h. inl (point_entry n (slice_get w.graph.points n) refl p (sym (ap opened (slice_get-map doomed w.graph.points n)) ∙ h));
+            reservations = λ n p r h k. inl (of_entry n (slice_get w.graph.points n) refl p r
+                (sym (ap opened (slice_get-map doomed w.graph.points n)) ∙ h) k);
+            points = λ n p h. inl (point_entry n (slice_get w.graph.points n) refl p
+                (sym (ap opened (slice_get-map doomed w.graph.points n)) ∙ h));
             slots = inl refl;
             words = inl refl;
             blocks = inl refl;
@@ -165,7 +180,8 @@ flipped_well w zones chain generation s =
         → is_sound_reservation w p.pool r ≡ true
     of_point n q p r None e f g k = absurd (none-some r (ap (λ (x : Point). x.reservation) g ∙ k))
     of_point n q p r (Some t) e f g k =
-        let same : record t { is_doomed = true } ≡ r = same_Some (record t { is_doomed = true }) r (ap (λ (x : Point). x.reservation) g ∙ k) in
+        let same : record t { is_doomed = true } ≡ r = same_Some (record t { is_doomed = true }) r
+        (ap (λ (x : Point). x.reservation) g ∙ k) in
         subst (λ (x : Point). is_sound_reservation w x.pool r ≡ true) g
         (subst (λ (x : Reservation). is_sound_reservation w q.pool x ≡ true) same (s.reservations n q t e f))
 
@@ -198,7 +214,10 @@ splatted_well w id cell s = of_object (object_at w.graph id) refl
     of_object None e =
         after (with_graph w (graph_with_cells w.graph id (λ cells. with_target_cell cells cell None)))
         (quiet w (with_graph w (graph_with_cells w.graph id (λ cells. with_target_cell cells cell None))) s refl refl
-        (ap (λ x. record w.graph { objects = option_map_or (λ o. slice_set w.graph.objects id (object_with_cells o (λ cells. with_target_cell cells cell None))) x w.graph.objects }) e) refl)
+        (ap (λ x. record w.graph {
+          objects = option_map_or (λ o.
+              slice_set w.graph.objects id (object_with_cells o (λ cells. with_target_cell cells cell None))) x w.graph.objects;
+        }) e) refl)
     of_object (Some o) e =
         after (with_graph w (graph_with_cells w.graph id (λ cells. with_target_cell cells cell None)))
         (record {
@@ -221,12 +240,14 @@ before_it (Some n) position e = (n, refl)
 first_is_in : (ids : List ℕ) (id position : ℕ) → position_of_first ids id ≡ Some position → contains ids id ≡ true
 first_is_in [] id position e = absurd (none-some position e)
 first_is_in (x ∷ xs) id position e =
-    elim (x == id) as (λ b. (if b then Some 0 else option_map (λ n. n + 1) (position_of_first xs id)) ≡ Some position → (b || contains xs id) ≡ true) [
+    elim (x == id) as (λ b. (if b then Some 0 else option_map (λ n. n + 1) (position_of_first xs id)) ≡ Some position
+    → (b || contains xs id) ≡ true) [
       | true ↦ (λ h. refl)
       | false ↦ (λ h. let n = before_it (position_of_first xs id) position h in first_is_in xs id n.0 n.1)
     ] e
 
-posted_well : (w : World) (id position : ℕ) → IsSoundGraph w → position_of_first w.graph.registered id ≡ Some position → IsMovedWell w (after_post w id)
+posted_well : (w : World) (id position : ℕ) → IsSoundGraph w → position_of_first w.graph.registered id ≡ Some position
+    → IsMovedWell w (after_post w id)
 posted_well w id position s e =
     let there = all-contains (is_live_automatic w) w.graph.registered id s.registered (first_is_in w.graph.registered id position e) in
     let u = with_graph w (graph_posted w.graph id) in
@@ -234,7 +255,11 @@ posted_well w id position s e =
     (inr (all-without (is_live_automatic w) w.graph.registered id s.registered))
     (inr (all-ended (auto w) w.graph.messages id s.messages (and_parts (is_live w id) (auto w id) there).1)) in
     let q = quiet u (with_collection u (posting id (registration_of w.graph id))) sound refl refl refl refl in
-    record { sound = q.sound; grown = grows_on w u (with_collection u (posting id (registration_of w.graph id))) (grows_same w u refl refl refl) q.grown }
+    record {
+      sound = q.sound;
+      grown = grows_on w u (with_collection u (posting id (registration_of w.graph id)))
+          (grows_same w u refl refl refl) q.grown;
+    }
 
 not_true : (b : Bool) → not b ≡ true → b ≡ false
 not_true true e = absurd (false≢true e)
@@ -268,9 +293,14 @@ move_well w before (moves.Free at) next s legal =
     subst (λ o. IsMovedWell w (where_one w o (λ id. after_free w id at.0))) (sym b.is_second)
     (freed_well w b.second at.0 s (not_true (contains w.graph.registered b.second) b.holds.not_registered))
 
-pub moves_well : (w : World) (before : Option Move) (ms : List Move) → IsSoundGraph w → AreLegalMoves w before ms → IsMovedWell w (world_after_moves w ms)
+pub moves_well : (w : World) (before : Option Move) (ms : List Move) → IsSoundGraph w → AreLegalMoves w before ms
+    → IsMovedWell w (world_after_moves w ms)
 moves_well w before [] s legal = record { sound = s; grown = grows_same w w refl refl refl }
 moves_well w before (m ∷ ms) s legal =
     let one = move_well w before m (first_move ms) s legal.0 in
     let rest = moves_well (world_after_move w m) (Some m) ms one.sound legal.1 in
-    record { sound = rest.sound; grown = grows_on w (world_after_move w m) (world_after_moves (world_after_move w m) ms) one.grown rest.grown }
+    record {
+      sound = rest.sound;
+      grown = grows_on w (world_after_move w m)
+          (world_after_moves (world_after_move w m) ms) one.grown rest.grown;
+    }

@@ -77,18 +77,21 @@ module _ (v : World) (s : IsSoundGraph v) where
       of_pool None k = absurd (false≢true k)
       of_pool (Some p) k =
           let f = v.formats p.format in
-          let parts = and_parts (f.is_valid r.head && are_shaped (new_cells f r.head) r.cells) (list_all (auto v) (targets_of_cells r.cells)) k in
+          let parts = and_parts (f.is_valid r.head && are_shaped (new_cells f r.head) r.cells)
+          (list_all (auto v) (targets_of_cells r.cells)) k in
           let first = and_parts (f.is_valid r.head) (are_shaped (new_cells f r.head) r.cells) parts.0 in
           let now = each (new_cells f r.head) (first.1, parts.1) in
           and_from (f.is_valid r.head && are_shaped (new_cells f r.head) cells) (list_all (auto v) (targets_of_cells cells))
           (and_from (f.is_valid r.head) (are_shaped (new_cells f r.head) cells) first.0 now.0) now.1
 
-  init_sound : (name : Name) (p : Numbered Point) (r : Reservation) (cells : List Cell) → point_named v name ≡ Ok p → p.value.reservation ≡ Some r
+  init_sound : (name : Name) (p : Numbered Point) (r : Reservation) (cells : List Cell) → point_named v name ≡ Ok p
+      → p.value.reservation ≡ Some r
       → ((likes : List Cell) → AreRight (auto v) likes r.cells → AreRight (auto v) likes cells)
       → ForAct IsSoundGraph (done (with_reserved_cells v p r cells))
   init_sound name p r cells e f each =
       let there = (point_named-is v name p e).1 in
-      elim (r.is_doomed) as (λ b. ForAct IsSoundGraph (done (if b then v else with_graph v (with_reservation v.graph p (Some (record r { cells = cells })))))) [
+      elim (r.is_doomed) as (λ b. ForAct IsSoundGraph (done (if b then v else with_graph v
+      (with_reservation v.graph p (Some (record r { cells = cells })))))) [
         | true ↦ accepted s
         | false ↦
             accepted (reservation_written v s p (Some (record r { cells = cells })) there (λ x k.
@@ -105,11 +108,19 @@ module _ (v : World) (s : IsSoundGraph v) where
   dropped : (name : Name) (o : Option Thing) (g : Graph) → graph_without_root v.graph name o ≡ Some g → IsSoundGraph (with_graph v g)
   dropped name (Some (TableThing n)) g e =
       subst (λ x. IsSoundGraph (with_graph v x)) (same_Some _ g e)
-      (held_written v s (record v.graph { tables = slice_set v.graph.tables n None; names = Rattle.mps_model.specs.Graph.without_name v.graph.names name }) refl refl
+      (held_written v s (record v.graph {
+        tables = slice_set v.graph.tables n None;
+        names =
+            Rattle.mps_model.specs.Graph.without_name v.graph.names name;
+      }) refl refl
       (inr (all-written (auto v) slots_of v.graph.tables n None s.slots refl)) (inl refl) (inl refl) (inl refl) (inl refl))
   dropped name (Some (AreaThing n)) g e =
       subst (λ x. IsSoundGraph (with_graph v x)) (same_Some _ g e)
-      (held_written v s (record v.graph { areas = slice_set v.graph.areas n None; names = Rattle.mps_model.specs.Graph.without_name v.graph.names name }) refl refl
+      (held_written v s (record v.graph {
+        areas = slice_set v.graph.areas n None;
+        names =
+            Rattle.mps_model.specs.Graph.without_name v.graph.names name;
+      }) refl refl
       (inl refl)
       (inr (λ k area h.
       elim (entry_within_set v.graph.areas n k area None h) [
@@ -129,7 +140,8 @@ module _ (v : World) (s : IsSoundGraph v) where
   new_table : (name : Name) (n : ℕ) → IsSoundGraph (with_graph v (graph_with_table v.graph name n))
   new_table name n =
       held_written v s (graph_with_table v.graph name n) refl refl
-      (inr (all-last (auto v) slots_of v.graph.tables (Some (replicate n None)) s.slots (entries-none (auto v) n))) (inl refl) (inl refl) (inl refl) (inl refl)
+      (inr (all-last (auto v) slots_of v.graph.tables (Some (replicate n None)) s.slots (entries-none (auto v) n))) (inl refl) (inl refl)
+      (inl refl) (inl refl)
 
   new_blocks : (name : Name) (n : ℕ) → IsSoundGraph (with_graph v (graph_with_blocks v.graph name n))
   new_blocks name n =
@@ -144,7 +156,8 @@ module _ (v : World) (s : IsSoundGraph v) where
         | inl e ↦
             subst (λ (x : List AreaWord). list_all (is_sound_word v) x ≡ true)
             (same_Some (replicate n (PlainWord 0)) area
-            (sym (ap (entry_at (with_last v.graph.areas (Some (replicate n (PlainWord 0))))) e ∙ entry_at-at_last v.graph.areas (Some (replicate n (PlainWord 0)))) ∙ h))
+            (sym (ap (entry_at (with_last v.graph.areas (Some (replicate n (PlainWord 0))))) e
+            ∙ entry_at-at_last v.graph.areas (Some (replicate n (PlainWord 0)))) ∙ h))
             (each-replicated (is_sound_word v) n (PlainWord 0) refl)
         | inr (inl low) ↦ s.words k area (sym (entry_at-last v.graph.areas (Some (replicate n (PlainWord 0))) k low) ∙ h)
         | inr (inr high) ↦ absurd (none-some area (sym (entry_at-after_last v.graph.areas (Some (replicate n (PlainWord 0))) k high) ∙ h))
@@ -154,11 +167,13 @@ module _ (v : World) (s : IsSoundGraph v) where
   new_pool : (name : Name) (p : Pool) → ForAct IsSoundGraph (make_pool v name p)
   new_pool name p =
       after_check (refuse_at_limit (length v.pools) most_pools)
-      (accepted (untouched v (Rattle.mps_model.specs.Making.with_pool v name p) s refl (λ n q e. slice_get-kept v.pools p q n e) refl refl refl refl refl refl refl refl))
+      (accepted (untouched v (Rattle.mps_model.specs.Making.with_pool v name p) s refl
+      (λ n q e. slice_get-kept v.pools p q n e) refl refl refl refl refl refl refl refl))
 
   -- ---- points
 
-  new_point : (name : Name) (pool : ℕ) (at_rank : Rank) → IsRightPoint v.pools (record { pool = pool; rank = at_rank; reservation = None }) → IsSoundGraph (with_point v name pool at_rank)
+  new_point : (name : Name) (pool : ℕ) (at_rank : Rank) → IsRightPoint v.pools
+      (record { pool = pool; rank = at_rank; reservation = None }) → IsSoundGraph (with_point v name pool at_rank)
   new_point name pool at_rank right =
       let w = with_point v name pool at_rank in
       let new : Point = record { pool = pool; rank = at_rank; reservation = None } in
@@ -169,7 +184,8 @@ module _ (v : World) (s : IsSoundGraph v) where
             elim (Rattle.std.proofs.lemmas.Bool.cases_order n (length v.graph.points)) [
               | inl e ↦
                   let same : new ≡ p =
-                  same_Some new p (sym (ap (entry_at (with_last v.graph.points (Some new))) e ∙ entry_at-at_last v.graph.points (Some new)) ∙ h) in
+                  same_Some new p (sym (ap (entry_at (with_last v.graph.points (Some new))) e
+                  ∙ entry_at-at_last v.graph.points (Some new)) ∙ h) in
                   absurd (none-some r (ap (λ (x : Point). x.reservation) same ∙ k))
               | inr (inl low) ↦ inl (s.reservations n p r (sym (entry_at-last v.graph.points (Some new) n low) ∙ h) k)
               | inr (inr high) ↦ absurd (none-some p (sym (entry_at-after_last v.graph.points (Some new) n high) ∙ h))
@@ -178,7 +194,8 @@ module _ (v : World) (s : IsSoundGraph v) where
             elim (Rattle.std.proofs.lemmas.Bool.cases_order n (length v.graph.points)) [
               | inl e ↦
                   inl (subst (IsRightPoint v.pools)
-                  (same_Some new p (sym (ap (entry_at (with_last v.graph.points (Some new))) e ∙ entry_at-at_last v.graph.points (Some new)) ∙ h)) right)
+                  (same_Some new p (sym (ap (entry_at (with_last v.graph.points (Some new))) e
+                  ∙ entry_at-at_last v.graph.points (Some new)) ∙ h)) right)
               | inr (inl low) ↦ inl (s.points n p (sym (entry_at-last v.graph.points (Some new) n low) ∙ h))
               | inr (inr high) ↦ absurd (none-some p (sym (entry_at-after_last v.graph.points (Some new) n high) ∙ h))
             ];
@@ -221,7 +238,8 @@ module _ (v : World) (s : IsSoundGraph v) where
   poked_sound place at id word AsMarked true e sound = accepted (word_written v s place at (hold_of v id word) e sound)
   poked_sound place at id word AsMarked false e sound = accepted (word_written v s place at (PlainWord word) e refl)
 
-  poke_sound : (place : Slot) (at : Found AreaWord) (word : ℕ) (marked : Bool) (o : Option ℕ) → word_in v place ≡ Ok at → block_of_word v word ≡ o
+  poke_sound : (place : Slot) (at : Found AreaWord) (word : ℕ) (marked : Bool) (o : Option ℕ) → word_in v place ≡ Ok at
+      → block_of_word v word ≡ o
       → ForAct IsSoundGraph (act_poke_in v at word marked o)
   poke_sound place at word marked None e f = accepted (word_written v s place at (PlainWord word) e refl)
   poke_sound place at word marked (Some id) e f =
@@ -235,10 +253,12 @@ module _ (v : World) (s : IsSoundGraph v) where
       let g = with_slot (record v.graph { messages = ids }) into (Some id) in
       accepted (held_written v s g refl refl
       (inr (all-written (auto v) slots_of v.graph.tables into.number (Some (slice_set into.list into.index (Some id))) s.slots
-      (entries-written (auto v) into.list into.index (Some id) (table_passes (auto v) v.graph.tables into.number into.list s.slots (slot_found v slot into e).0) parts.0)))
+      (entries-written (auto v) into.list into.index (Some id)
+      (table_passes (auto v) v.graph.tables into.number into.list s.slots (slot_found v slot into e).0) parts.0)))
       (inl refl) (inl refl) (inl refl) (inr parts.1))
 
-  object_of_slot : (slot : Slot) (from : Found (Option ℕ)) (object : Numbered Object) → slot_in v slot ≡ Ok from → object_in v from.value ≡ Ok object
+  object_of_slot : (slot : Slot) (from : Found (Option ℕ)) (object : Numbered Object) → slot_in v slot ≡ Ok from
+      → object_in v from.value ≡ Ok object
       → (auto v object.number ≡ true) × (object_at v.graph object.number ≡ Some object.value)
   object_of_slot slot from object e f =
       let o = object_found v from.value object f in
@@ -249,7 +269,8 @@ module _ (v : World) (s : IsSoundGraph v) where
   id_of_slot slot from id live e f =
       let t = slot_found v slot from e in
       subst (PassesOrNull (is_live v)) f
-      (entry-passes (is_live v) from.list from.index from.value (table_passes (is_live v) v.graph.tables from.number from.list live t.0) t.1)
+      (entry-passes (is_live v) from.list from.index from.value
+      (table_passes (is_live v) v.graph.tables from.number from.list live t.0) t.1)
 
   taken : (word : AreaWord) (id : ℕ) → held_in word ≡ Ok id → is_sound_word v word ≡ true → auto v id ≡ true
   taken (PlainWord n) id e h = absurd (cc)
@@ -282,7 +303,8 @@ module _ (marked : Bool) (judged v : World) (j : IsSoundGraph judged) (grown : G
   -- an object is made of a reservation
   committed_right : (p : Numbered Point) (r : Reservation) → entry_at v.graph.points p.number ≡ Some p.value → p.value.reservation ≡ Some r
       → is_right_object v (committed_object p.value r) ≡ true
-  committed_right p r there f = of_pool (pool_at v p.value.pool) refl (s.reservations p.number p.value r there f) (s.points p.number p.value there).0
+  committed_right p r there f = of_pool (pool_at v p.value.pool) refl (s.reservations p.number p.value r there f)
+      (s.points p.number p.value there).0
     where
       weak : is_weak_rank p.value.rank ≡ true → kind_in is_weak_kind v.pools p.value.pool ≡ true
       weak h = (s.points p.number p.value there).1 h
@@ -293,16 +315,20 @@ module _ (marked : Bool) (judged v : World) (j : IsSoundGraph judged) (grown : G
 
       of_pool : (x : Option Pool) → pool_at v p.value.pool ≡ x → option_map_or (λ of. are_right_cells v of r.head r.cells) x false ≡ true
           → option_map_or (λ q. is_automatic_kind q.kind) x false ≡ true
-          → option_map_or (λ q. Rattle.mps_model.specs.WellFormed.is_right_body v q (Automatic r.head r.cells (is_weak_rank p.value.rank))) x false ≡ true
+          → option_map_or (λ q. Rattle.mps_model.specs.WellFormed.is_right_body v q
+          (Automatic r.head r.cells (is_weak_rank p.value.rank))) x false ≡ true
       of_pool None e h k = absurd (false≢true h)
       of_pool (Some q) e h k =
           and_from (is_automatic_kind q.kind && are_right_cells v q r.head r.cells) (not (is_weak_rank p.value.rank) || is_weak_kind q.kind)
           (and_from (is_automatic_kind q.kind) (are_right_cells v q r.head r.cells) k h)
-          (weak_or (is_weak_rank p.value.rank) q (λ w. sym (ap (λ x. option_map_or (λ (y : Pool). is_weak_kind y.kind) x false) e) ∙ weak w))
+          (weak_or (is_weak_rank p.value.rank) q (λ w. sym (ap (λ x. option_map_or (λ (y : Pool). is_weak_kind y.kind) x false) e)
+          ∙ weak w))
 
-  committed_sound : (name : Name) (target : Slot) (p : Numbered Point) (slot : Found (Option ℕ)) (r : Reservation) → point_named v name ≡ Ok p
+  committed_sound : (name : Name) (target : Slot) (p : Numbered Point) (slot : Found (Option ℕ)) (r : Reservation)
+      → point_named v name ≡ Ok p
       → slot_in v target ≡ Ok slot → p.value.reservation ≡ Some r
-      → Sound (if r.is_doomed then says Rattle.mps_model.specs.declared.reply.Reply.TheVariants.Flipped (with_graph v (with_reservation v.graph p None))
+      → Sound (if r.is_doomed then says Rattle.mps_model.specs.declared.reply.Reply.TheVariants.Flipped
+      (with_graph v (with_reservation v.graph p None))
       else done (world_committed v p r slot))
   committed_sound name target p slot r e e' f =
       let there = (point_named-is v name p e).1 in
@@ -317,9 +343,11 @@ module _ (marked : Bool) (judged v : World) (j : IsSoundGraph judged) (grown : G
         addresses = with_last v.addresses (Some (reserved_address v p.number));
       } in
       let others = table_passes (auto v2) v2.graph.tables slot.number slot.list second.slots (slot_found v target slot e').0 in
-      let own : auto v2 (length v.graph.objects) ≡ true = ap (λ x. option_map_or is_automatic x false) (slice_get-at_last v.graph.objects o) in
+      let own : auto v2 (length v.graph.objects) ≡ true = ap (λ x. option_map_or is_automatic x false)
+      (slice_get-at_last v.graph.objects o) in
       let third = slot_written v2 second slot (Some (length v.graph.objects)) others own in
-      elim (r.is_doomed) as (λ b. Sound (if b then says Rattle.mps_model.specs.declared.reply.Reply.TheVariants.Flipped (with_graph v (with_reservation v.graph p None))
+      elim (r.is_doomed) as (λ b. Sound (if b then says Rattle.mps_model.specs.declared.reply.Reply.TheVariants.Flipped
+      (with_graph v (with_reservation v.graph p None))
       else done (world_committed v p r slot))) [
         | true ↦ accepted first
         | false ↦ accepted third
@@ -358,9 +386,11 @@ module _ (marked : Bool) (judged v : World) (j : IsSoundGraph judged) (grown : G
   not_not false h = absurd (true≢false h)
 
   may_is_automatic : (kind : PoolKind) (at_rank : Rank) → not (may_have_point kind at_rank) ≡ false → is_automatic_kind kind ≡ true
-  may_is_automatic kind at_rank h = (and_parts (is_automatic_kind kind) (not (is_weak_rank at_rank) || is_weak_kind kind) (not_not (may_have_point kind at_rank) h)).0
+  may_is_automatic kind at_rank h = (and_parts (is_automatic_kind kind) (not (is_weak_rank at_rank) || is_weak_kind kind)
+      (not_not (may_have_point kind at_rank) h)).0
 
-  may_is_weak : (kind : PoolKind) (at_rank : Rank) → not (may_have_point kind at_rank) ≡ false → is_weak_rank at_rank ≡ true → is_weak_kind kind ≡ true
+  may_is_weak : (kind : PoolKind) (at_rank : Rank) → not (may_have_point kind at_rank) ≡ false → is_weak_rank at_rank ≡ true
+      → is_weak_kind kind ≡ true
   may_is_weak kind at_rank h weak =
       of_rank (is_weak_rank at_rank) (is_weak_kind kind) weak
       (and_parts (is_automatic_kind kind) (not (is_weak_rank at_rank) || is_weak_kind kind) (not_not (may_have_point kind at_rank) h)).1
@@ -369,32 +399,38 @@ module _ (marked : Bool) (judged v : World) (j : IsSoundGraph judged) (grown : G
       of_rank true c e k = k
       of_rank false c e k = absurd (false≢true e)
 
-  registered_sound : (slot : Slot) (from : Found (Option ℕ)) (object : Numbered Object) → All (is_live v) (ids_in_slots v.graph) → slot_in v slot ≡ Ok from
+  registered_sound : (slot : Slot) (from : Found (Option ℕ)) (object : Numbered Object) → All (is_live v) (ids_in_slots v.graph)
+      → slot_in v slot ≡ Ok from
       → object_in v from.value ≡ Ok object
       → IsSoundGraph (with_graph v (record v.graph { registered = with_last v.graph.registered object.number }))
   registered_sound slot from object live e f =
       let o = object_of_slot v s slot from object e f in
       let alive = id_of_slot v s slot from object.number live e (object_found v from.value object f).0 in
-      held_written v s (record v.graph { registered = with_last v.graph.registered object.number }) refl refl (inl refl) (inl refl) (inl refl)
+      held_written v s (record v.graph { registered = with_last v.graph.registered object.number }) refl refl (inl refl) (inl refl)
+      (inl refl)
       (inr (all-ended (is_live_automatic v) v.graph.registered object.number s.registered
       (and_from (is_live v object.number) (auto v object.number) alive o.0)))
       (inl refl)
 
   -- a world of which nothing that matters was touched
   as_it_was : {w : World} → w.formats ≡ v.formats → w.pools ≡ v.pools → w.graph.objects ≡ v.graph.objects → w.graph.points ≡ v.graph.points
-      → w.graph.tables ≡ v.graph.tables → w.graph.areas ≡ v.graph.areas → w.graph.blocks ≡ v.graph.blocks → w.graph.registered ≡ v.graph.registered
+      → w.graph.tables ≡ v.graph.tables → w.graph.areas ≡ v.graph.areas → w.graph.blocks ≡ v.graph.blocks
+      → w.graph.registered ≡ v.graph.registered
       → w.graph.messages ≡ v.graph.messages → w.addresses ≡ v.addresses → IsSoundGraph w
   as_it_was {w} formats pools objects points tables areas blocks registered messages addresses =
-      untouched v w s formats (λ n p e. ap (λ ps. slice_get ps n) pools ∙ e) objects points tables areas blocks registered messages addresses
+      untouched v w s formats (λ n p e. ap (λ ps. slice_get ps n) pools
+      ∙ e) objects points tables areas blocks registered messages addresses
 
   with_checked : {A : Type 0} (x : Checked A) {y : Checked Act} → ((a : A) → x ≡ Ok a → Sound y) → Sound (x >> y)
   with_checked (Ok a) next = next a refl
   with_checked (Err why) next = refused
 
-  pub act_sound : (c : Call) → (is_finalize c ≡ true → All (is_live v) (ids_in_slots v.graph)) → Rattle.mps_laws.proofs.Steps.is_reserve c ≡ false → Sound (act marked judged v c)
+  pub act_sound : (c : Call) → (is_finalize c ≡ true → All (is_live v) (ids_in_slots v.graph))
+      → Rattle.mps_laws.proofs.Steps.is_reserve c ≡ false → Sound (act marked judged v c)
   act_sound (call.Arena grains most) live plain = accepted (as_it_was refl refl refl refl refl refl refl refl refl refl)
   act_sound (call.Limit most) live plain =
-      after_check (refuse_when (nat_lt most (committed v)) refusal.BelowCommitted) (accepted (as_it_was refl refl refl refl refl refl refl refl refl refl))
+      after_check (refuse_when (nat_lt most (committed v)) refusal.BelowCommitted)
+      (accepted (as_it_was refl refl refl refl refl refl refl refl refl refl))
   act_sound (call.Chain chain count capacities) live plain =
       after_check (refuse_taken v chain)
       (after_check (refuse_at_limit (length v.chains) most_chains) (accepted (as_it_was refl refl refl refl refl refl refl refl refl refl)))
@@ -402,14 +438,20 @@ module _ (marked : Bool) (judged v : World) (j : IsSoundGraph judged) (grown : G
       after_check (refuse_taken v pool) (new_pool v s pool (record { kind = Collected kind; format = format; chain = None }))
   act_sound (call.PoolOnChain pool kind format chain) live plain =
       after_check (refuse_taken v pool)
-      (with_value (chain_named v chain) (λ (on : Numbered (List ℕ)) e. new_pool v s pool (record { kind = Collected kind; format = format; chain = Some on.number })))
+      (with_value (chain_named v chain) (λ (on : Numbered (List ℕ)) e.
+      new_pool v s pool (record { kind = Collected kind; format = format; chain = Some on.number })))
   act_sound (call.PoolMfs pool words) live plain =
       after_check (refuse_taken v pool)
-      (after_check (refuse_when (not (is_block_size words)) refusal.BadSize) (new_pool v s pool (record { kind = OneSize words; format = 0; chain = None })))
-  act_sound (call.PoolMvff pool) live plain = after_check (refuse_taken v pool) (new_pool v s pool (record { kind = AnySize; format = 0; chain = None }))
-  act_sound (call.Table table count) live plain = after_check (refuse_taken v table) (after_check (refuse_root v count) (accepted (new_table v s table count)))
-  act_sound (call.Area area count) live plain = after_check (refuse_taken v area) (after_check (refuse_root v count) (accepted (new_area v s area count)))
-  act_sound (call.Blocks blocks count) live plain = after_check (refuse_taken v blocks) (after_check (refuse_root v count) (accepted (new_blocks v s blocks count)))
+      (after_check (refuse_when (not (is_block_size words)) refusal.BadSize)
+      (new_pool v s pool (record { kind = OneSize words; format = 0; chain = None })))
+  act_sound (call.PoolMvff pool) live plain = after_check (refuse_taken v pool)
+      (new_pool v s pool (record { kind = AnySize; format = 0; chain = None }))
+  act_sound (call.Table table count) live plain = after_check (refuse_taken v table)
+      (after_check (refuse_root v count) (accepted (new_table v s table count)))
+  act_sound (call.Area area count) live plain = after_check (refuse_taken v area)
+      (after_check (refuse_root v count) (accepted (new_area v s area count)))
+  act_sound (call.Blocks blocks count) live plain = after_check (refuse_taken v blocks)
+      (after_check (refuse_root v count) (accepted (new_blocks v s blocks count)))
   act_sound (call.DropRoot root) live plain =
       with_value (required (graph_without_root v.graph root (thing_named v.graph root)) refusal.BadName)
       (λ (g : Graph) e. accepted (dropped v s root (thing_named v.graph root) g
@@ -421,14 +463,16 @@ module _ (marked : Bool) (judged v : World) (j : IsSoundGraph judged) (grown : G
       after_check (refuse_at_limit (live_points v.graph) most_points)
       (accepted (new_point v s point of.number at_rank (
         kind_of_pool is_automatic_kind v.pools of.number of.value (pool_named-is v pool of e) (may_is_automatic of.value.kind at_rank may),
-        (λ weak. kind_of_pool is_weak_kind v.pools of.number of.value (pool_named-is v pool of e) (may_is_weak of.value.kind at_rank may weak)),
+        (λ weak. kind_of_pool is_weak_kind v.pools of.number of.value (pool_named-is v pool of e)
+            (may_is_weak of.value.kind at_rank may weak)),
       ))))))
   act_sound (call.DropPoint point) live plain =
       with_value (point_named v point) (λ (p : Numbered Point) e.
       after_check (refuse_when (is_some p.value.reservation) refusal.Open) (accepted (no_point v s point p.number)))
   act_sound (call.Dependency dependency) live plain =
       after_check (refuse_taken v dependency)
-      (after_check (refuse_at_limit (length v.dependencies) most_dependencies) (accepted (as_it_was refl refl refl refl refl refl refl refl refl refl)))
+      (after_check (refuse_at_limit (length v.dependencies) most_dependencies)
+      (accepted (as_it_was refl refl refl refl refl refl refl refl refl refl)))
   act_sound (call.Reserve point head) live plain = absurd (true≢false plain)
   act_sound (call.InitNumber point cell value) live plain =
       with_value (point_named v point) (λ (p : Numbered Point) e.
@@ -484,9 +528,11 @@ module _ (marked : Bool) (judged v : World) (j : IsSoundGraph judged) (grown : G
       with_value (slot_in v source) (λ (from : Found (Option ℕ)) e'.
       with_value (object_in v into.value) (λ (object : Numbered Object) f.
       after_check (reference_at (cells_of_body object.value.body) cell)
-      (accepted (cells_changed v s object.number object.value (λ cells. with_target_cell cells cell from.value) (object_found v into.value object f).1
+      (accepted (cells_changed v s object.number object.value (λ cells. with_target_cell cells cell from.value)
+      (object_found v into.value object f).1
       (length-with_target_cell (cells_of_body object.value.body) cell from.value)
-      (λ likes h. right_target_cell (auto v) likes (cells_of_body object.value.body) cell from.value (slot_passes v s source from e') h))))))
+      (λ likes h. right_target_cell (auto v) likes (cells_of_body object.value.body) cell from.value
+      (slot_passes v s source from e') h))))))
   act_sound (call.Number slot cell) live plain =
       with_value (slot_in v slot) (λ (from : Found (Option ℕ)) e.
       with_value (object_in v from.value) (λ (object : Numbered Object) f.
@@ -495,7 +541,8 @@ module _ (marked : Bool) (judged v : World) (j : IsSoundGraph judged) (grown : G
       with_value (slot_in v slot) (λ (into : Found (Option ℕ)) e.
       with_value (object_in v into.value) (λ (object : Numbered Object) f.
       with_checked (number_at (cells_of_body object.value.body) cell) (λ n g.
-      accepted (cells_changed v s object.number object.value (λ cells. slice_set cells cell (NumberCell value)) (object_found v into.value object f).1
+      accepted (cells_changed v s object.number object.value (λ cells. slice_set cells cell (NumberCell value))
+      (object_found v into.value object f).1
       (Rattle.mps_laws.proofs.Lookups.length-slice_set (cells_of_body object.value.body) cell (NumberCell value))
       (λ likes h. right_number_cell (auto v) likes (cells_of_body object.value.body) cell n value
       (number_found (cells_of_body object.value.body) cell n g) h)))))
@@ -510,9 +557,11 @@ module _ (marked : Bool) (judged v : World) (j : IsSoundGraph judged) (grown : G
       with_value (slot_in v other) (λ (two : Found (Option ℕ)) e'. told v s (same_target one.value two.value)))
   act_sound (call.Null slot) live plain = with_value (slot_in v slot) (λ (from : Found (Option ℕ)) e. told v s (is_none from.value))
   act_sound (call.Head slot) live plain =
-      with_value (slot_in v slot) (λ (from : Found (Option ℕ)) e. with_value (object_in v from.value) (λ (object : Numbered Object) f. accepted s))
+      with_value (slot_in v slot) (λ (from : Found (Option ℕ)) e.
+      with_value (object_in v from.value) (λ (object : Numbered Object) f. accepted s))
   act_sound (call.Address slot) live plain =
-      with_value (slot_in v slot) (λ (from : Found (Option ℕ)) e. with_value (object_in v from.value) (λ (object : Numbered Object) f. accepted s))
+      with_value (slot_in v slot) (λ (from : Found (Option ℕ)) e.
+      with_value (object_in v from.value) (λ (object : Numbered Object) f. accepted s))
   act_sound (call.Poke word value) live plain =
       with_value (word_in v word) (λ (at : Found AreaWord) e. poke_sound v s word at value marked (block_of_word v value) e refl)
   act_sound (call.Peek word) live plain = with_value (word_in v word) (λ (at : Found AreaWord) e. accepted s)
@@ -534,11 +583,13 @@ module _ (marked : Bool) (judged v : World) (j : IsSoundGraph judged) (grown : G
   act_sound (call.StartChain chain generation) live plain =
       with_value (chain_named judged chain) (λ (on : Numbered (List ℕ)) e.
       after_check (refuse_when (nat_le (length on.value) generation) refusal.BadIndex)
-      (after_check (refuse_when (is_running judged) refusal.Running) (accepted (as_it_was refl refl refl refl refl refl refl refl refl refl))))
+      (after_check (refuse_when (is_running judged) refusal.Running)
+      (accepted (as_it_was refl refl refl refl refl refl refl refl refl refl))))
   act_sound (call.Finalize slot) live plain =
       with_value (slot_in v slot) (λ (from : Found (Option ℕ)) e.
       with_value (object_in v from.value) (λ (object : Numbered Object) f.
-      after_check (refuse_when (nat_le most_registrations (length v.graph.registered + length v.graph.messages)) (refusal.TooMany most_registrations))
+      after_check (refuse_when (nat_le most_registrations (length v.graph.registered + length v.graph.messages))
+      (refusal.TooMany most_registrations))
       (accepted (registered_sound slot from object (live refl) e f))))
   act_sound (call.Definalize slot) live plain =
       with_value (slot_in v slot) (λ (from : Found (Option ℕ)) e.
@@ -549,20 +600,24 @@ module _ (marked : Bool) (judged v : World) (j : IsSoundGraph judged) (grown : G
         graph = record v.graph { registered = without_first v.graph.registered object.number };
         collection = option_map (without_registration position) v.collection;
       })
-      (held_written v s (record v.graph { registered = without_first v.graph.registered object.number }) refl refl (inl refl) (inl refl) (inl refl)
+      (held_written v s (record v.graph { registered = without_first v.graph.registered object.number }) refl refl (inl refl) (inl refl)
+      (inl refl)
       (inr (all-without (is_live_automatic v) v.graph.registered object.number s.registered)) (inl refl))
       refl (λ n p h. h) refl refl refl refl refl refl refl refl))))
   act_sound (call.Message slot) live plain =
       with_value (slot_in v slot) (λ (into : Found (Option ℕ)) e. message_sound v s slot into v.graph.messages e refl)
   act_sound (call.DependencyReset dependency) live plain =
-      with_value (dependency_named v dependency) (λ (d : Numbered Dependency) e. accepted (as_it_was refl refl refl refl refl refl refl refl refl refl))
+      with_value (dependency_named v dependency) (λ (d : Numbered Dependency) e.
+      accepted (as_it_was refl refl refl refl refl refl refl refl refl refl))
   act_sound (call.DependencyAdd dependency slot) live plain =
       with_value (dependency_named v dependency) (λ (d : Numbered Dependency) e.
       with_value (slot_in v slot) (λ (from : Found (Option ℕ)) e'.
-      with_value (object_in v from.value) (λ (object : Numbered Object) f. accepted (as_it_was refl refl refl refl refl refl refl refl refl refl))))
+      with_value (object_in v from.value) (λ (object : Numbered Object) f.
+      accepted (as_it_was refl refl refl refl refl refl refl refl refl refl))))
   act_sound (call.DependencyMerge dependency source) live plain =
       with_value (dependency_named v dependency) (λ (d : Numbered Dependency) e.
-      with_value (dependency_named v source) (λ (d' : Numbered Dependency) e'. accepted (as_it_was refl refl refl refl refl refl refl refl refl refl)))
+      with_value (dependency_named v source) (λ (d' : Numbered Dependency) e'.
+      accepted (as_it_was refl refl refl refl refl refl refl refl refl refl)))
   act_sound (call.DependencyStale dependency) live plain =
       with_value (dependency_named v dependency) (λ (d : Numbered Dependency) e. told v s (is_stale v.flips d.value.epoch d.value.zones))
   act_sound (call.Dump at) live plain =
@@ -589,14 +644,16 @@ module _ (judged : World) (name : Name) (head : ℕ) where
   valid_head : (pool : Pool) → not (takes_head judged pool head) ≡ false → (layout_of judged pool).is_valid head ≡ true
   valid_head pool h =
       (and_parts ((layout_of judged pool).is_valid head)
-      (not (Rattle.mps_model.specs.World.is_leaf_kind pool.kind && Rattle.mps_model.specs.Graph.has_references (layout_of judged pool) head))
+      (not (Rattle.mps_model.specs.World.is_leaf_kind pool.kind && Rattle.mps_model.specs.Graph.has_references
+      (layout_of judged pool) head))
       (not_false (takes_head judged pool head) h)).0
     where
       not_false : (b : Bool) → not b ≡ false → b ≡ true
       not_false true h = refl
       not_false false h = absurd (true≢false h)
 
-  of_checks : (p : Numbered Point) (pool : Pool) (b c : Bool) (r : Reserving) → point_named judged name ≡ Ok p → pool_at judged p.value.pool ≡ Some pool
+  of_checks : (p : Numbered Point) (pool : Pool) (b c : Bool) (r : Reserving) → point_named judged name ≡ Ok p
+      → pool_at judged p.value.pool ≡ Some pool
       → not (takes_head judged pool head) ≡ b
       → (refuse_when b refusal.BadHead >> (refuse_when c refusal.Open >> Ok (made_of p pool))) ≡ Ok r → IsCheckedReserve judged name head r
   of_checks p pool true c r e f g h = absurd (cc)
@@ -620,13 +677,15 @@ module _ (judged : World) (name : Name) (head : ℕ) where
   checked_reserve r h = of_point (point_named judged name) refl h
     where
       of_point : (x : Checked (Numbered Point)) → point_named judged name ≡ x
-          → (x >>= (λ p. required (pool_at judged p.value.pool) refusal.BadName >>= (λ pool. refuse_when (not (takes_head judged pool head)) refusal.BadHead
+          → (x >>= (λ p. required (pool_at judged p.value.pool) refusal.BadName >>=
+          (λ pool. refuse_when (not (takes_head judged pool head)) refusal.BadHead
           >> (refuse_when (is_some p.value.reservation) refusal.Open >> Ok (made_of p pool))))) ≡ Ok r → IsCheckedReserve judged name head r
       of_point (Err why) e h = absurd (cc)
       of_point (Ok p) e h = of_pool p (pool_at judged p.value.pool) r e refl h
 
   -- it takes effect in a world with the graph in which it was judged
-  pub reserve_sound : (v : World) → Grows judged v → IsSoundGraph v → v.graph ≡ judged.graph → ForAct IsSoundGraph (act_reserve judged v name head)
+  pub reserve_sound : (v : World) → Grows judged v → IsSoundGraph v → v.graph ≡ judged.graph
+      → ForAct IsSoundGraph (act_reserve judged v name head)
   reserve_sound v grown s graph =
       with_value (check_reserve judged name head) (λ (r : Reserving) e.
       after_check (refuse_without_place (placement_of judged (ForReserve r.point.number (length r.cells))))

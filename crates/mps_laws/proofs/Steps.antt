@@ -74,7 +74,8 @@ quiet_command store pools c answer line =
     ]
 
 -- where the moves' records make of the live blocks those of a world, so do the step's
-pub with_command : (limit pools : ℕ) (s : Step) (w w' : World) → IsReplayed limit w w' (replay_from (blocks_of (occupancy_of w)) (records_of s.moves s.line))
+pub with_command : (limit pools : ℕ) (s : Step) (w w' : World)
+    → IsReplayed limit w w' (replay_from (blocks_of (occupancy_of w)) (records_of s.moves s.line))
     → IsReplayed limit w w' (replay_from (blocks_of (occupancy_of w)) (records_of_step pools s))
 with_command limit pools s w w' r = record {
   layout = r.layout;
@@ -107,8 +108,10 @@ answered_step limit pools line w c ms answer supported r =
     let s : Step = record { line = line; call = c; moves = ms; answer = answer } in
     let x = world_from (moved_world w c ms) (act (is_block answer) (judged_world w c ms) (moved_world w c ms) c) in
     with_command limit pools s w (world_after w s)
-    (subst (λ b. IsReplayed limit w (if b then w else with_client_remembered x) (replay_from (blocks_of (occupancy_of w)) (records_of ms line))) (sym supported)
-    (as_replayed limit w x (with_client_remembered x) (replay_from (blocks_of (occupancy_of w)) (records_of ms line)) (remembered_kept x) r))
+    (subst (λ b. IsReplayed limit w (if b then w else with_client_remembered x)
+    (replay_from (blocks_of (occupancy_of w)) (records_of ms line))) (sym supported)
+    (as_replayed limit w x (with_client_remembered x) (replay_from (blocks_of (occupancy_of w)) (records_of ms line))
+    (remembered_kept x) r))
 
 -- a step whose call neither reserves nor makes a block nor the arena: where its moves are replayed, so is the step
 pub plain_step : (limit pools line : ℕ) (w : World) (c : Call) (ms : List Move) (answer : Answer) → is_unsupported answer ≡ false
@@ -121,7 +124,8 @@ plain_step limit pools line w c ms answer supported plain r =
     answered_step limit pools line w c ms answer supported
     (changed_replayed limit w v (world_from v x) (replay_from (blocks_of (occupancy_of w)) (records_of ms line))
     (for_world (Changes limit v) v x (act_changes limit (is_block answer) (judged_world w c ms) v c plain) (nothing refl))
-    (as_replayed limit w (world_after_moves w ms) v (replay_from (blocks_of (occupancy_of w)) (records_of ms line)) (moved_kept w c ms (not_reserve c plain)) r))
+    (as_replayed limit w (world_after_moves w ms) v (replay_from (blocks_of (occupancy_of w)) (records_of ms line))
+    (moved_kept w c ms (not_reserve c plain)) r))
   where
     not_reserve : (c : Call) → is_placing c ≡ false → is_reserve c ≡ false
     not_reserve (call.Reserve point head) h = absurd (true≢false h)
@@ -139,23 +143,28 @@ data CommitCase (w : World) (point : Name) : Checked Act → Type 0 where
 
 commit_last : (w : World) (point : Name) (p : Numbered Point) (slot : Found (Option ℕ)) (r : Reservation) → point_named w point ≡ Ok p
     → p.value.reservation ≡ Some r
-    → CommitCase w point (if r.is_doomed then says reply.Flipped (with_graph w (with_reservation w.graph p None)) else done (world_committed w p r slot))
+    → CommitCase w point (if r.is_doomed then says reply.Flipped (with_graph w (with_reservation w.graph p None)) else done
+    (world_committed w p r slot))
 commit_last w point p slot r e f =
     elim (r.is_doomed) as (λ b. r.is_doomed ≡ b
-    → CommitCase w point (if b then says reply.Flipped (with_graph w (with_reservation w.graph p None)) else done (world_committed w p r slot))) [
+    → CommitCase w point (if b then says reply.Flipped (with_graph w (with_reservation w.graph p None)) else done
+    (world_committed w p r slot))) [
       | true ↦ (λ is. flips p r e f is)
       | false ↦ (λ isnt. makes p r slot e f isnt)
     ] refl
 
-commit_slot : (w : World) (point : Name) (p : Numbered Point) (slot : Found (Option ℕ)) (o : Option Reservation) → point_named w point ≡ Ok p
+commit_slot : (w : World) (point : Name) (p : Numbered Point) (slot : Found (Option ℕ)) (o : Option Reservation)
+    → point_named w point ≡ Ok p
     → p.value.reservation ≡ o
-    → CommitCase w point (required o refusal.NotOpen >>= (λ r. if r.is_doomed then says reply.Flipped (with_graph w (with_reservation w.graph p None)) else done (world_committed w p r slot)))
+    → CommitCase w point (required o refusal.NotOpen >>= (λ r.
+    if r.is_doomed then says reply.Flipped (with_graph w (with_reservation w.graph p None)) else done (world_committed w p r slot)))
 commit_slot w point p slot None e f = is_refusal
 commit_slot w point p slot (Some r) e f = commit_last w point p slot r e f
 
 commit_point : (w : World) (point : Name) (p : Numbered Point) (x : Checked (Found (Option ℕ))) → point_named w point ≡ Ok p
     → CommitCase w point (x >>= (λ slot. required p.value.reservation refusal.NotOpen
-    >>= (λ r. if r.is_doomed then says reply.Flipped (with_graph w (with_reservation w.graph p None)) else done (world_committed w p r slot))))
+    >>= (λ r. if r.is_doomed then says reply.Flipped (with_graph w (with_reservation w.graph p None)) else done
+    (world_committed w p r slot))))
 commit_point w point p (Err why) e = is_refusal
 commit_point w point p (Ok slot) e = commit_slot w point p slot p.value.reservation e refl
 
@@ -164,7 +173,8 @@ commit_case w point target = of_point (point_named w point) refl
   where
     of_point : (x : Checked (Numbered Point)) → point_named w point ≡ x
         → CommitCase w point (x >>= (λ p. slot_in w target >>= (λ slot. required p.value.reservation refusal.NotOpen
-        >>= (λ r. if r.is_doomed then says reply.Flipped (with_graph w (with_reservation w.graph p None)) else done (world_committed w p r slot)))))
+        >>= (λ r. if r.is_doomed then says reply.Flipped (with_graph w (with_reservation w.graph p None)) else done
+        (world_committed w p r slot)))))
     of_point (Err why) e = is_refusal
     of_point (Ok p) e = commit_point w point p (slot_in w target) e
 
@@ -183,11 +193,13 @@ module _ (limit pools line : ℕ) (w : World) (point : Name) (laid : HasLayout l
       → occupancy_of (with_graph w (with_reservation w.graph p None)) ≡ occupancy_of w
   flipped_kept p r e f is =
       ap (λ ps. record (occupancy_of w) { points = ps })
-      (Rattle.mps_laws.proofs.Acts.point_written limit w p.number p.value (record p.value { reservation = None }) (point_named-is w point p e).1
+      (Rattle.mps_laws.proofs.Acts.point_written limit w p.number p.value (record p.value { reservation = None })
+      (point_named-is w point p e).1
       (ap (shaped p.value) (sym (doomed_words r is)) ∙ ap (λ o. shaped p.value (reserved_words o)) (sym f)))
 
   -- a reservation becomes a block
-  made_replayed : (p : Numbered Point) (r : Reservation) (slot : Found (Option ℕ)) → point_named w point ≡ Ok p → p.value.reservation ≡ Some r
+  made_replayed : (p : Numbered Point) (r : Reservation) (slot : Found (Option ℕ)) → point_named w point ≡ Ok p
+      → p.value.reservation ≡ Some r
       → r.is_doomed ≡ false
       → IsReplayed limit w (world_committed w p r slot)
       (replay_from (blocks_of (occupancy_of w)) (records_of (commit_of w p (Some r)) line))
@@ -195,7 +207,8 @@ module _ (limit pools line : ℕ) (w : World) (point : Name) (laid : HasLayout l
       let there = (point_named-is w point p e).1 in
       let shape : entry_at (map shape_of_point w.graph.points) p.number ≡ shape_of_point (Some p.value) =
       ap (λ o. option_and_then (λ entry. entry) o)
-      (slice_get-map shape_of_point w.graph.points p.number ∙ ap (option_map shape_of_point) (entry_is_there w.graph.points p.number p.value there)) in
+      (slice_get-map shape_of_point w.graph.points p.number ∙ ap (option_map shape_of_point)
+      (entry_is_there w.graph.points p.number p.value there)) in
       let reserved : reserved_words p.value.reservation ≡ Some (length r.cells) = ap reserved_words f ∙ live_words r live in
       let m = there_is w.point_memories p.number
       (omega (arith, laid.memories, length-map w.graph.points shape_of_point, entry_within w.graph.points p.number p.value there)) in
@@ -208,7 +221,8 @@ module _ (limit pools line : ℕ) (w : World) (point : Name) (laid : HasLayout l
         addresses = with_last w.addresses (Some (m.0).reserved_at);
         points = slice_set (map shape_of_point w.graph.points) p.number (shape_of_point (Some (record p.value { reservation = None })));
       } =
-      ap (λ ss. record (occupancy_of (world_committed w p r slot)) { shapes = ss }) (map-with_last shape_of w.graph.objects (committed_object p.value r))
+      ap (λ ss. record (occupancy_of (world_committed w p r slot)) { shapes = ss })
+      (map-with_last shape_of w.graph.objects (committed_object p.value r))
       ∙ ap (λ ps. record (occupancy_of w) {
         shapes = with_last (map shape_of w.graph.objects) (shape_of (committed_object p.value r));
         addresses = with_last w.addresses (Some (reserved_address w p.number));
@@ -224,7 +238,8 @@ module _ (limit pools line : ℕ) (w : World) (point : Name) (laid : HasLayout l
         blocks =
             ap (λ n. option_and_then (λ s. Some s) (after_making (blocks_of (occupancy_of w)) n (length r.cells) p.value.pool)) at
             ∙ ap (λ o. option_and_then (λ s. Some s) o)
-            (replay-made (map shape_of w.graph.objects) w.addresses (shape_of (committed_object p.value r)) (m.0).reserved_at laid.lengths free)
+            (replay-made (map shape_of w.graph.objects) w.addresses (shape_of (committed_object p.value r))
+            (m.0).reserved_at laid.lengths free)
             ∙ ap (λ x. Some (blocks_of x)) (sym is);
       }
 
@@ -234,7 +249,8 @@ module _ (limit pools line : ℕ) (w : World) (point : Name) (laid : HasLayout l
   was_accepted : (answer : Answer) → is_accepted answer ≡ true → (ms : List Move) → if_accepted answer ms ≡ ms
   was_accepted answer e ms = ap (λ b. if b then ms else []) e
 
-  kept_replayed : (v : World) → occupancy_of v ≡ occupancy_of w → IsReplayed limit w v (replay_from (blocks_of (occupancy_of w)) (records_of [] line))
+  kept_replayed : (v : World) → occupancy_of v ≡ occupancy_of w
+      → IsReplayed limit w v (replay_from (blocks_of (occupancy_of w)) (records_of [] line))
   kept_replayed v e = record { layout = subst (IsLaidOut limit) (sym e) laid; blocks = ap (λ x. Some (blocks_of x)) (sym e) }
 
   -- what a commit comes to is replayed with the moves that are due
@@ -244,7 +260,8 @@ module _ (limit pools line : ℕ) (w : World) (point : Name) (laid : HasLayout l
   commit_replayed (Err why) is_refusal = kept_replayed w refl
   commit_replayed (Ok _) (flips p r e f is) = kept_replayed (with_graph w (with_reservation w.graph p None)) (flipped_kept p r e f is)
   commit_replayed (Ok _) (makes p r slot e f live) =
-      subst (λ (ms : List Move). IsReplayed limit w (world_committed w p r slot) (replay_from (blocks_of (occupancy_of w)) (records_of ms line)))
+      subst (λ (ms : List Move). IsReplayed limit w (world_committed w p r slot)
+      (replay_from (blocks_of (occupancy_of w)) (records_of ms line)))
       (sym (ap (λ x. moves_of_commit w x) e ∙ ap (commit_of w p) f)) (made_replayed p r slot e f live)
 
   -- its moves change no world
@@ -267,13 +284,16 @@ module _ (limit pools line : ℕ) (w : World) (point : Name) (laid : HasLayout l
       → ms ≡ if_accepted answer (moves_of_commit w (point_named w point))
       → answer ≡ answer_from (act_commit (world_after_moves w ms) point target)
       → IsReplayed limit w (world_after w (record { line = line; call = call.Commit point target; moves = ms; answer = answer }))
-      (replay_from (blocks_of (occupancy_of w)) (records_of_step pools (record { line = line; call = call.Commit point target; moves = ms; answer = answer })))
+      (replay_from (blocks_of (occupancy_of w)) (records_of_step pools
+      (record { line = line; call = call.Commit point target; moves = ms; answer = answer })))
   commit_step target ms answer supported due is =
       let stays : world_after_moves w ms ≡ w = ap (world_after_moves w) due ∙ commit_moves (point_named w point) answer in
       let answered : answer ≡ answer_from (act_commit w point target) = is ∙ ap (λ v. answer_from (act_commit v point target)) stays in
       let all : ms ≡ if_accepted (answer_from (act_commit w point target)) (moves_of_commit w (point_named w point)) =
       due ∙ ap (λ a. if_accepted a (moves_of_commit w (point_named w point))) answered in
       answered_step limit pools line w (call.Commit point target) ms answer supported
-      (subst (λ v. IsReplayed limit w (world_from v (act_commit v point target)) (replay_from (blocks_of (occupancy_of w)) (records_of ms line))) (sym stays)
-      (subst (λ (ns : List Move). IsReplayed limit w (world_from w (act_commit w point target)) (replay_from (blocks_of (occupancy_of w)) (records_of ns line))) (sym all)
+      (subst (λ v. IsReplayed limit w (world_from v (act_commit v point target))
+      (replay_from (blocks_of (occupancy_of w)) (records_of ms line))) (sym stays)
+      (subst (λ (ns : List Move). IsReplayed limit w (world_from w (act_commit w point target))
+      (replay_from (blocks_of (occupancy_of w)) (records_of ns line))) (sym all)
       (commit_replayed (act_commit w point target) (commit_case w point target))))

@@ -92,7 +92,8 @@ none_left : (p g : ℕ) (ts : List Tail) → AllByRecursion (λ (u : Tail). is_t
 none_left p g [] = tt
 none_left p g (t ∷ ts) =
     elim (is_tail_of p g t) as (λ b. is_tail_of p g t ≡ b
-    → AllByRecursion (λ (u : Tail). is_tail_of p g u ≡ false) (if not b then t ∷ filter (λ u. not (is_tail_of p g u)) ts else filter (λ u. not (is_tail_of p g u)) ts)) [
+    → AllByRecursion (λ (u : Tail). is_tail_of p g u ≡ false)
+    (if not b then t ∷ filter (λ u. not (is_tail_of p g u)) ts else filter (λ u. not (is_tail_of p g u)) ts)) [
       | true ↦ (λ is. none_left p g ts)
       | false ↦ (λ isnt. (isnt, none_left p g ts))
     ] refl

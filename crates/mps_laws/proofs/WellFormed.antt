@@ -27,7 +27,8 @@ ClientIsLive w = All (is_live w) (ids_of_client w.graph)
 -- ---- points
 
 module _ (limit : ℕ) (w : World) (laid : HasLayout limit w) (s : IsSoundGraph w) where
-  shape_there : (n : ℕ) (p : Point) → entry_at w.graph.points n ≡ Some p → entry_at (map shape_of_point w.graph.points) n ≡ shape_of_point (Some p)
+  shape_there : (n : ℕ) (p : Point) → entry_at w.graph.points n ≡ Some p
+      → entry_at (map shape_of_point w.graph.points) n ≡ shape_of_point (Some p)
   shape_there n p e =
       ap (λ o. option_and_then (λ entry. entry) o)
       (slice_get-map shape_of_point w.graph.points n ∙ ap (option_map shape_of_point) (entry_is_there w.graph.points n p e))
@@ -50,17 +51,21 @@ module _ (limit : ℕ) (w : World) (laid : HasLayout limit w) (s : IsSoundGraph 
           let reserved : reserved_words p.reservation ≡ Some (length r.cells) =
           ap reserved_words k ∙ ap (λ b. if b then None else Some (length r.cells)) isnt in
           let run : run_of g (OfReservation n) ≡ extent m.reserved_at (length r.cells) =
-          ap (λ o. run_of_reservation o (slice_get w.point_memories n)) shape ∙ ap (λ o. run_of_reserved o (slice_get w.point_memories n)) reserved
+          ap (λ o. run_of_reservation o (slice_get w.point_memories n)) shape
+          ∙ ap (λ o. run_of_reserved o (slice_get w.point_memories n)) reserved
           ∙ ap (run_of_reserved (Some (length r.cells))) f in
           let q : PointShape = record { pool = p.pool; rank = p.rank; reserved = reserved_words p.reservation } in
           let some = (laid.points n q shape).some (length r.cells) reserved in
           let home = laid.placed.homes (OfReservation n) (subst (λ (x : Run). 0 < x.count) (sym run) some) in
-          home_is w (OfReservation n) p.pool (is_weak_rank p.rank) p.rank (extent m.reserved_at (length r.cells)) (sym (rank_where-weak p.rank))
+          home_is w (OfReservation n) p.pool (is_weak_rank p.rank) p.rank (extent m.reserved_at (length r.cells))
+          (sym (rank_where-weak p.rank))
           (subst (λ (x : ℕ). Home w.segments w.pools g.condemned (OfReservation n) x p.rank (extent m.reserved_at (length r.cells)))
           (ap (λ o. option_map_or (λ (y : PointShape). y.pool) o 0) shape)
-          (subst (λ x. Home w.segments w.pools g.condemned (OfReservation n) (pool_of_occupant g (OfReservation n)) x (extent m.reserved_at (length r.cells)))
+          (subst (λ x. Home w.segments w.pools g.condemned (OfReservation n) (pool_of_occupant g (OfReservation n)) x
+          (extent m.reserved_at (length r.cells)))
           (ap (λ o. option_map_or (λ (y : PointShape). y.rank) o Rattle.mps_base.specs.declared.names.Rank.TheVariants.Exact) shape)
-          (subst (Home w.segments w.pools g.condemned (OfReservation n) (pool_of_occupant g (OfReservation n)) (rank_of_occupant g (OfReservation n))) run home)))
+          (subst (Home w.segments w.pools g.condemned (OfReservation n) (pool_of_occupant g (OfReservation n))
+          (rank_of_occupant g (OfReservation n))) run home)))
 
   buffer_right : (n : ℕ) (p : Point) (m : PointMemory) → entry_at w.graph.points n ≡ Some p → slice_get w.point_memories n ≡ Some m
       → is_right_at_hand w p.pool m.buffer ≡ true
@@ -76,7 +81,8 @@ module _ (limit : ℕ) (w : World) (laid : HasLayout limit w) (s : IsSoundGraph 
   point_right : (n : ℕ) (p : Point) (m : PointMemory) → entry_at w.graph.points n ≡ Some p → slice_get w.point_memories n ≡ Some m
       → is_right_point w p m ≡ true
   point_right n p m e f =
-      and_from (option_map_or (is_right_reservation w p m) p.reservation true) (is_right_at_hand w p.pool m.buffer) (of_one p.reservation refl)
+      and_from (option_map_or (is_right_reservation w p m) p.reservation true) (is_right_at_hand w p.pool m.buffer)
+      (of_one p.reservation refl)
       (buffer_right n p m e f)
     where
       of_one : (o : Option Reservation) → p.reservation ≡ o → option_map_or (is_right_reservation w p m) o true ≡ true
@@ -102,13 +108,15 @@ module _ (limit : ℕ) (w : World) (laid : HasLayout limit w) (s : IsSoundGraph 
 module _ (w : World) (s : IsSoundGraph w) (live : ClientIsLive w) where
   holds_live : All (is_live w) (ids_in_holds w.graph)
   holds_live =
-      let a = all-parts (is_live w) ((ids_in_slots w.graph ++ ids_in_holds w.graph) ++ w.graph.messages) (ids_in_reservations w.graph) live in
+      let a = all-parts (is_live w) ((ids_in_slots w.graph ++ ids_in_holds w.graph) ++ w.graph.messages)
+      (ids_in_reservations w.graph) live in
       let b = all-parts (is_live w) (ids_in_slots w.graph ++ ids_in_holds w.graph) w.graph.messages a.0 in
       (all-parts (is_live w) (ids_in_slots w.graph) (ids_in_holds w.graph) b.0).1
 
   messages_live : All (is_live w) w.graph.messages
   messages_live =
-      let a = all-parts (is_live w) ((ids_in_slots w.graph ++ ids_in_holds w.graph) ++ w.graph.messages) (ids_in_reservations w.graph) live in
+      let a = all-parts (is_live w) ((ids_in_slots w.graph ++ ids_in_holds w.graph) ++ w.graph.messages)
+      (ids_in_reservations w.graph) live in
       (all-parts (is_live w) (ids_in_slots w.graph ++ ids_in_holds w.graph) w.graph.messages a.0).1
 
   both : (p q : ℕ → Bool) (ids : List ℕ) → All p ids → All q ids → All (λ id. p id && q id) ids
@@ -131,11 +139,14 @@ module _ (w : World) (s : IsSoundGraph w) (live : ClientIsLive w) where
   word_right (PlainWord number) h l = refl
   word_right (Hold id offset) h l =
       let parts = and_parts (auto w id) (if is_copying_object w id then nat_lt offset (8 * words_of w id) else offset == 0) h in
-      and_from (auto w id) (is_live_and (λ at. is_word_in (is_copying_object w id) at (words_of w id) (shown_word w (Hold id offset))) w id) parts.0
+      and_from (auto w id) (is_live_and (λ at. is_word_in (is_copying_object w id) at (words_of w id)
+      (shown_word w (Hold id offset))) w id) parts.0
       (of_address (entry_at w.addresses id) l parts.1)
     where
-      of_address : (o : Option ℕ) → is_some o ≡ true → (if is_copying_object w id then nat_lt offset (8 * words_of w id) else offset == 0) ≡ true
-          → option_map_or (λ at. is_word_in (is_copying_object w id) at (words_of w id) (option_map_or (λ a. a + offset) o 0)) o false ≡ true
+      of_address : (o : Option ℕ) → is_some o ≡ true → (if is_copying_object w id then nat_lt offset (8 * words_of w id) else offset == 0)
+          ≡ true
+          → option_map_or (λ at. is_word_in (is_copying_object w id) at (words_of w id) (option_map_or (λ a. a + offset) o 0)) o false
+          ≡ true
       of_address None k g = absurd (false≢true k)
       of_address (Some at) k g = in_it (is_copying_object w id) at (words_of w id) offset g
 

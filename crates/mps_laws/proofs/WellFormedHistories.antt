@@ -36,7 +36,8 @@ use Rattle.mps_laws.proofs.WellFormed.{ClientIsLive, well_formed}
 
 -- ---- grains after moves
 
-one_grains : (w : World) (o : Option ℕ) (change : ℕ → World) → ((id : ℕ) → (change id).grains ≡ w.grains) → (where_one w o change).grains ≡ w.grains
+one_grains : (w : World) (o : Option ℕ) (change : ℕ → World) → ((id : ℕ) → (change id).grains ≡ w.grains)
+    → (where_one w o change).grains ≡ w.grains
 one_grains w None change each = refl
 one_grains w (Some id) change each = each id
 
@@ -50,7 +51,8 @@ free_grains w id at =
 
 segment_grains : (w : World) (s : Segment) → (after_segment w s).grains ≡ w.grains
 segment_grains w s =
-    elim (is_copying_pool w s.pool) as (λ b. (if b then with_tail (holding w s) s.pool s.generation (words_of_segment s) else holding w s).grains ≡ w.grains) [
+    elim (is_copying_pool w s.pool) as (λ b. (if b then with_tail (holding w s) s.pool s.generation (words_of_segment s)
+    else holding w s).grains ≡ w.grains) [
       | true ↦ refl
       | false ↦ refl
     ]
@@ -78,7 +80,8 @@ asked_grains (Some units) w = refl
 
 own_grains : (w : World) (ms : List Move) (number : Option ℕ) → (after_own_segment w ms number).grains ≡ w.grains
 own_grains w (moves.Seg base grains pool generation ∷ ms) (Some point) =
-    elim (is_copying_pool w pool) as (λ b. (if b then record (holding w (record (segment_of_move base.0 grains pool generation) { rank = rank_of_point w point })) {
+    elim (is_copying_pool w pool) as (λ b. (if b then record (holding w
+    (record (segment_of_move base.0 grains pool generation) { rank = rank_of_point w point })) {
       point_memories = with_buffer w.point_memories point (words_of_segment (segment_of_move base.0 grains pool generation));
     } else holding w (record (segment_of_move base.0 grains pool generation) { rank = rank_of_point w point })).grains ≡ w.grains) [
       | true ↦ refl
@@ -89,8 +92,10 @@ own_grains w _ _ = refl
 moved_grains : (w : World) (c : Call) (ms : List Move) → (moved_world w c ms).grains ≡ w.grains
 moved_grains w (call.Reserve name head) ms =
     asked_grains (units_asked w (call.Reserve name head))
-    (after_own_segment (world_after_moves w (moves_of_poll ms)) (own_segment ms) (Rattle.mps_model.specs.Checked.number_named w name Rattle.mps_model.specs.Checked.as_point))
-    ∙ own_grains (world_after_moves w (moves_of_poll ms)) (own_segment ms) (Rattle.mps_model.specs.Checked.number_named w name Rattle.mps_model.specs.Checked.as_point)
+    (after_own_segment (world_after_moves w (moves_of_poll ms)) (own_segment ms)
+    (Rattle.mps_model.specs.Checked.number_named w name Rattle.mps_model.specs.Checked.as_point))
+    ∙ own_grains (world_after_moves w (moves_of_poll ms)) (own_segment ms)
+    (Rattle.mps_model.specs.Checked.number_named w name Rattle.mps_model.specs.Checked.as_point)
     ∙ moves_grains w (moves_of_poll ms)
 moved_grains w (call.Step units) ms = asked_grains (units_asked w (call.Step units)) (world_after_moves w ms) ∙ moves_grains w ms
 moved_grains w _ ms = moves_grains w ms
@@ -117,7 +122,8 @@ commit_grains v name target =
     with_value (point_named v name) (λ p e.
     with_value (slot_in v target) (λ slot e'.
     with_value (required p.value.reservation refusal.NotOpen) (λ (r : Reservation) f.
-    elim (r.is_doomed) as (λ b. ForAct (KeepsGrains v) (if b then says reply.Flipped (with_graph v (with_reservation v.graph p None)) else done (world_committed v p r slot))) [
+    elim (r.is_doomed) as (λ b. ForAct (KeepsGrains v) (if b then says reply.Flipped (with_graph v (with_reservation v.graph p None))
+    else done (world_committed v p r slot))) [
       | true ↦ accepted refl
       | false ↦ accepted refl
     ])))
@@ -131,10 +137,13 @@ alloc_grains judged v pool words place =
     (after_check (refuse_when (Rattle.std.specs.Prelude.is_some into.value) refusal.NameTaken)
     (after_check (refuse_without_place (placement_of judged (ForAlloc p.number words))) (accepted refl))))))
 
-act_grains : (marked : Bool) (judged v : World) (c : Call) → makes_arena c ≡ false → (world_from v (act marked judged v c)).grains ≡ v.grains
+act_grains : (marked : Bool) (judged v : World) (c : Call) → makes_arena c ≡ false
+    → (world_from v (act marked judged v c)).grains ≡ v.grains
 act_grains marked judged v (call.Arena grains most) h = absurd (true≢false h)
-act_grains marked judged v (call.Reserve name head) h = for_world (KeepsGrains v) v (act_reserve judged v name head) (reserve_grains judged v name head) refl
-act_grains marked judged v (call.Commit point target) h = for_world (KeepsGrains v) v (act_commit v point target) (commit_grains v point target) refl
+act_grains marked judged v (call.Reserve name head) h = for_world (KeepsGrains v) v (act_reserve judged v name head)
+    (reserve_grains judged v name head) refl
+act_grains marked judged v (call.Commit point target) h = for_world (KeepsGrains v) v (act_commit v point target)
+    (commit_grains v point target) refl
 act_grains marked judged v (call.Alloc pool words place) h =
     for_world (KeepsGrains v) v (act_alloc judged v pool words place) (alloc_grains judged v pool words place) refl
 act_grains marked judged v c h =
@@ -147,7 +156,8 @@ module _ (line : ℕ) (w : World) where
   abbrev the_step : Call → List Move → Answer → Step
   the_step c ms answer = record { line = line; call = c; moves = ms; answer = answer }
 
-  step_grains : (c : Call) (ms : List Move) (answer : Answer) → makes_arena c ≡ false → (world_after w (the_step c ms answer)).grains ≡ w.grains
+  step_grains : (c : Call) (ms : List Move) (answer : Answer) → makes_arena c ≡ false
+      → (world_after w (the_step c ms answer)).grains ≡ w.grains
   step_grains c ms answer h =
       elim (is_unsupported answer) as (λ b. (if b then w else world_after_call w c ms answer).grains ≡ w.grains) [
         | true ↦ refl
@@ -194,7 +204,8 @@ steps_kept : (w : World) (h : History) → list_any (λ (later : Step). makes_ar
     → IsKeptWell (world_after_steps w h)
 steps_kept w [] none k legal = k
 steps_kept w (s ∷ ss) none k legal =
-    let parts = Rattle.mps_laws.proofs.Covered.or_false (makes_arena s.call) (list_any (λ (later : Step). makes_arena later.call) ss) none in
+    let parts = Rattle.mps_laws.proofs.Covered.or_false (makes_arena s.call)
+    (list_any (λ (later : Step). makes_arena later.call) ss) none in
     steps_kept (world_after w s) ss parts.1 (step_kept w s parts.0 k legal.0) legal.1
 
 -- ---- from the empty world on
@@ -233,20 +244,28 @@ first_arena formats line grains most ms answer legal =
     }
   where
     limited : (b : Bool) → is_unsupported answer ≡ b
-        → HasLayout (max 1 (grains + 1)) (if is_unsupported answer then empty_world_of formats else world_after_call (empty_world_of formats) (call.Arena grains most) ms answer)
-        → HasLayout ((if is_unsupported answer then empty_world_of formats else world_after_call (empty_world_of formats) (call.Arena grains most) ms answer).grains + 1)
-        (if is_unsupported answer then empty_world_of formats else world_after_call (empty_world_of formats) (call.Arena grains most) ms answer)
+        → HasLayout (max 1 (grains + 1)) (if is_unsupported answer then empty_world_of formats else world_after_call
+        (empty_world_of formats) (call.Arena grains most) ms answer)
+        → HasLayout ((if is_unsupported answer then empty_world_of formats else world_after_call (empty_world_of formats)
+        (call.Arena grains most) ms answer).grains + 1)
+        (if is_unsupported answer then empty_world_of formats else world_after_call (empty_world_of formats)
+        (call.Arena grains most) ms answer)
     limited true e laid =
-        subst (λ b. HasLayout ((if b then empty_world_of formats else world_after_call (empty_world_of formats) (call.Arena grains most) ms answer).grains + 1)
-        (if b then empty_world_of formats else world_after_call (empty_world_of formats) (call.Arena grains most) ms answer)) (sym e) (empty_layout formats)
+        subst (λ b. HasLayout ((if b then empty_world_of formats else world_after_call (empty_world_of formats)
+        (call.Arena grains most) ms answer).grains + 1)
+        (if b then empty_world_of formats else world_after_call (empty_world_of formats) (call.Arena grains most) ms answer)) (sym e)
+        (empty_layout formats)
     limited false e laid =
-        subst (λ b. HasLayout ((if b then empty_world_of formats else world_after_call (empty_world_of formats) (call.Arena grains most) ms answer).grains + 1)
+        subst (λ b. HasLayout ((if b then empty_world_of formats else world_after_call (empty_world_of formats)
+        (call.Arena grains most) ms answer).grains + 1)
         (if b then empty_world_of formats else world_after_call (empty_world_of formats) (call.Arena grains most) ms answer)) (sym e)
         (subst (λ (n : ℕ). HasLayout n (world_after_call (empty_world_of formats) (call.Arena grains most) ms answer))
         (let same : max 1 (grains + 1) ≡ grains + 1 = omega arith in same)
-        (subst (λ b. HasLayout (max 1 (grains + 1)) (if b then empty_world_of formats else world_after_call (empty_world_of formats) (call.Arena grains most) ms answer)) e laid))
+        (subst (λ b. HasLayout (max 1 (grains + 1)) (if b then empty_world_of formats else world_after_call (empty_world_of formats)
+        (call.Arena grains most) ms answer)) e laid))
 
-first_kept : (formats : ℕ → Layout) (s : Step) → IsLegalStep (empty_world_of formats) s → IsKeptWell (world_after (empty_world_of formats) s)
+first_kept : (formats : ℕ → Layout) (s : Step) → IsLegalStep (empty_world_of formats) s
+    → IsKeptWell (world_after (empty_world_of formats) s)
 first_kept formats s legal = of_call s.call s.line s.moves s.answer legal
   where
     of_call : (c : Call) (line : ℕ) (ms : List Move) (answer : Answer)

@@ -30,7 +30,8 @@ pub ascending_apart : (low high : ℕ) (rs : List Run) → IsAscending low high 
 ascending_apart low high [] asc = refl
 ascending_apart low high (r ∷ []) asc = refl
 ascending_apart low high (r ∷ s ∷ rs) asc =
-    and_from (nat_le (end_of r) s.from) (are_apart (s ∷ rs)) (le-leb (end_of r) s.from (asc.2).0) (ascending_apart (end_of r) high (s ∷ rs) asc.2)
+    and_from (nat_le (end_of r) s.from) (are_apart (s ∷ rs)) (le-leb (end_of r) s.from (asc.2).0)
+    (ascending_apart (end_of r) high (s ∷ rs) asc.2)
 
 ascending_all_apart : (low high : ℕ) (rs : List Run) → IsAscending low high rs → AreAllApart rs
 ascending_all_apart low high [] asc = tt
@@ -46,19 +47,24 @@ any_among p [] x h k = absurd h
 any_among p (y ∷ ys) x (inl e) k = or_left (p y) (list_any p ys) (subst (λ z. p z ≡ true) (sym e) k)
 any_among p (y ∷ ys) x (inr h) k = or_right (p y) (list_any p ys) (any_among p ys x h k)
 
-pub segments_right : (w : World) (ss : List Segment) (low : ℕ) → 0 < low → IsAscending low (w.grains + 1) (map grains_of_segment ss) → AreAligned ss
+pub segments_right : (w : World) (ss : List Segment) (low : ℕ) → 0 < low → IsAscending low (w.grains + 1) (map grains_of_segment ss)
+    → AreAligned ss
     → AllByRecursion (IsRightlyRanked w.pools) ss → list_all (is_right_segment w) ss ≡ true
 segments_right w [] low some asc aligned ranked = refl
 segments_right w (s ∷ ss) low some asc aligned ranked =
     let a = aligned.0 in
     let bounds = segment_bounds low (w.grains + 1) (s ∷ ss) s asc (inl refl) in
     and_from (is_right_segment w s) (list_all (is_right_segment w) ss)
-    (and_from (address_of_grain (grains_of_segment s).from == s.base && nat_lt 0 s.grains && lies_within (record { from = 1; count = w.grains }) (grains_of_segment s))
+    (and_from (address_of_grain (grains_of_segment s).from ==
+    s.base && nat_lt 0 s.grains && lies_within (record { from = 1; count = w.grains }) (grains_of_segment s))
     (not (is_weak_rank s.rank) || pool_is is_weak_kind w s.pool)
-    (and_from (address_of_grain (grains_of_segment s).from == s.base && nat_lt 0 s.grains) (lies_within (record { from = 1; count = w.grains }) (grains_of_segment s))
-    (and_from (address_of_grain (grains_of_segment s).from == s.base) (nat_lt 0 s.grains) (eq-eqb (address_of_grain (grains_of_segment s).from) s.base a)
+    (and_from (address_of_grain (grains_of_segment s).from == s.base && nat_lt 0 s.grains)
+    (lies_within (record { from = 1; count = w.grains }) (grains_of_segment s))
+    (and_from (address_of_grain (grains_of_segment s).from == s.base) (nat_lt 0 s.grains)
+    (eq-eqb (address_of_grain (grains_of_segment s).from) s.base a)
     (lt-ltb 0 s.grains bounds.1))
-    (and_from (nat_le 1 (grain_of s.base)) (nat_le (grain_of s.base + s.grains) (1 + w.grains)) (le-leb 1 (grain_of s.base) (omega (arith, some, bounds.0)))
+    (and_from (nat_le 1 (grain_of s.base)) (nat_le (grain_of s.base + s.grains) (1 + w.grains))
+    (le-leb 1 (grain_of s.base) (omega (arith, some, bounds.0)))
     (le-leb (grain_of s.base + s.grains) (1 + w.grains) (omega (arith, bounds.2)))))
     (ranked_or (is_weak_rank s.rank) (pool_is is_weak_kind w s.pool) ranked.0))
     (segments_right w ss (end_of (grains_of_segment s)) (omega (arith, some, bounds.0, bounds.1)) asc.2 aligned.1 ranked.1)
@@ -78,7 +84,8 @@ buffer_in m = m.buffer
 abbrev words_in : Tail → Run
 words_in t = t.words
 
-all_somewhere : (P : Run → Type 0) (rs : List Run) → AllByRecursion (λ (r : Run). 0 < r.count → P r) rs → AllByRecursion P (filter has_some rs)
+all_somewhere : (P : Run → Type 0) (rs : List Run) → AllByRecursion (λ (r : Run). 0 < r.count → P r) rs
+    → AllByRecursion P (filter has_some rs)
 all_somewhere P [] all = tt
 all_somewhere P (r ∷ rs) all =
     elim (has_some r) as (λ b. has_some r ≡ b → AllByRecursion P (if b then r ∷ filter has_some rs else filter has_some rs)) [
@@ -119,16 +126,19 @@ module _ (limit : ℕ) (g : Occupancy) (laid : IsLaidOut limit g) where
   abbrev IsFound : Tail → Type 0
   IsFound t = run_of_tail g.tails t.pool t.generation ≡ t.words
 
-  skipped : (ts : List Tail) (t u : Tail) → is_tail_of t.pool t.generation u ≡ false → find (is_tail_of u.pool u.generation) (t ∷ ts) ≡ find (is_tail_of u.pool u.generation) ts
+  skipped : (ts : List Tail) (t u : Tail) → is_tail_of t.pool t.generation u ≡ false
+      → find (is_tail_of u.pool u.generation) (t ∷ ts) ≡ find (is_tail_of u.pool u.generation) ts
   skipped ts t u h =
       ap (λ b. if b then Some t else find (is_tail_of u.pool u.generation) ts) (other (cases_Bool (is_tail_of u.pool u.generation t)))
     where
-      other : (is_tail_of u.pool u.generation t ≡ true) ⊎ (is_tail_of u.pool u.generation t ≡ false) → is_tail_of u.pool u.generation t ≡ false
+      other : (is_tail_of u.pool u.generation t ≡ true) ⊎ (is_tail_of u.pool u.generation t ≡ false)
+          → is_tail_of u.pool u.generation t ≡ false
       other (inr isnt) = isnt
       other (inl is) =
           let parts = and_parts (t.pool == u.pool) (t.generation == u.generation) is in
           absurd (false≢true (sym h ∙ and_from (u.pool == t.pool) (u.generation == t.generation)
-          (eq-eqb u.pool t.pool (sym (eqb-true t.pool u.pool parts.0))) (eq-eqb u.generation t.generation (sym (eqb-true t.generation u.generation parts.1)))))
+          (eq-eqb u.pool t.pool (sym (eqb-true t.pool u.pool parts.0)))
+          (eq-eqb u.generation t.generation (sym (eqb-true t.generation u.generation parts.1)))))
 
   found_in : (ts : List Tail) → AreKeyed ts → AllByRecursion (λ (t : Tail). find (is_tail_of t.pool t.generation) ts ≡ Some t) ts
   found_in [] keyed = tt
@@ -170,7 +180,8 @@ module _ (limit : ℕ) (g : Occupancy) (laid : IsLaidOut limit g) where
   all_tails P [] all = tt
   all_tails P (t ∷ ts) all = (all.0, all_tails P ts all.1)
 
-  both : (P Q R : Tail → Type 0) (ts : List Tail) → ((t : Tail) → P t → Q t → R t) → AllByRecursion P ts → AllByRecursion Q ts → AllByRecursion R ts
+  both : (P Q R : Tail → Type 0) (ts : List Tail) → ((t : Tail) → P t → Q t → R t) → AllByRecursion P ts → AllByRecursion Q ts
+      → AllByRecursion R ts
   both P Q R [] f all all' = tt
   both P Q R (t ∷ ts) f all all' = (f t all.0 all'.0, both P Q R ts f all.1 all'.1)
 
@@ -178,10 +189,12 @@ module _ (limit : ℕ) (g : Occupancy) (laid : IsLaidOut limit g) where
   tails_apart [] keyed found = tt
   tails_apart (t ∷ ts) keyed found = (
     (λ some. all_tails (λ (s : Run). 0 < s.count → AreApart t.words s) ts
-        (both (λ (u : Tail). is_tail_of t.pool t.generation u ≡ false) IsFound (λ (u : Tail). 0 < u.words.count → AreApart t.words u.words) ts
+        (both (λ (u : Tail). is_tail_of t.pool t.generation u ≡ false) IsFound
+        (λ (u : Tail). 0 < u.words.count → AreApart t.words u.words) ts
         (λ u other e some'. apart_by (OfTail t.pool t.generation) (OfTail u.pool u.generation) t.words u.words found.0 e
         (λ same. false≢true (sym other ∙ and_from (u.pool == t.pool) (u.generation == t.generation)
-        (eq-eqb u.pool t.pool (sym (ap pool_in same))) (eq-eqb u.generation t.generation (sym (ap generation_in same)))))) keyed.0 found.1)),
+        (eq-eqb u.pool t.pool (sym (ap pool_in same))) (eq-eqb u.generation t.generation
+        (sym (ap generation_in same)))))) keyed.0 found.1)),
     tails_apart ts keyed.1 found.1,
   )
 
@@ -189,7 +202,8 @@ module _ (limit : ℕ) (g : Occupancy) (laid : IsLaidOut limit g) where
   hand_list = filter has_some (map buffer_in g.memories ++ map words_in g.tails)
 
   -- what holds of the words at hand of each occupant holds of all of the list
-  all_hand : (P : Run → Type 0) → ((o : Occupant) → is_at_hand o ≡ true → 0 < (run_of g o).count → P (run_of g o)) → AllByRecursion P hand_list
+  all_hand : (P : Run → Type 0) → ((o : Occupant) → is_at_hand o ≡ true → 0 < (run_of g o).count → P (run_of g o))
+      → AllByRecursion P hand_list
   all_hand P each =
       all_somewhere P (map buffer_in g.memories ++ map words_in g.tails)
       (all_append (λ (r : Run). 0 < r.count → P r) (map buffer_in g.memories) (map words_in g.tails)
@@ -208,7 +222,8 @@ module _ (limit : ℕ) (g : Occupancy) (laid : IsLaidOut limit g) where
       apart_by (OfBuffer i) (OfBuffer j) m.buffer k.buffer (ap run_of_buffer e) (ap run_of_buffer f) (λ h. n (ap generation_in h)))))
       (some_apart (map words_in g.tails) (tails_apart g.tails laid.keyed all_found))
       (all_somewhere (λ x. AllByRecursion (AreApart x) (filter has_some (map words_in g.tails))) (map buffer_in g.memories)
-      (all_buffers (λ (x : Run). 0 < x.count → AllByRecursion (AreApart x) (filter has_some (map words_in g.tails))) g.memories (λ n m e some.
+      (all_buffers (λ (x : Run). 0 < x.count → AllByRecursion (AreApart x) (filter has_some (map words_in g.tails))) g.memories
+      (λ n m e some.
       all_somewhere (AreApart m.buffer) (map words_in g.tails)
       (all_tails (λ (r : Run). 0 < r.count → AreApart m.buffer r) g.tails
       (all_weaker IsFound (λ (t : Tail). 0 < t.words.count → AreApart m.buffer t.words) g.tails
@@ -222,7 +237,8 @@ module _ (limit : ℕ) (g : Occupancy) (laid : IsLaidOut limit g) where
       ascending_apart 0 high (in_order (covered_in g ++ hand_list))
       (ascending_in_order high (covered_in g ++ hand_list)
       (all_append (IsRunWithin 0 high) (covered_in g) hand_list
-      (all_in_order (IsRunWithin 0 high) (listed limit g laid) (all_listed limit g laid (IsRunWithin 0 high) (λ o h some. occupant_within limit g laid o some)))
+      (all_in_order (IsRunWithin 0 high) (listed limit g laid)
+      (all_listed limit g laid (IsRunWithin 0 high) (λ o h some. occupant_within limit g laid o some)))
       (all_hand (IsRunWithin 0 high) (λ o h some. occupant_within limit g laid o some)))
       (apart_append (covered_in g) hand_list (ascending_all_apart 0 high (covered_in g) (covered_ascending limit g laid)) hand_apart
       (all_in_order (λ x. AllByRecursion (AreApart x) hand_list) (listed limit g laid)
@@ -233,9 +249,11 @@ module _ (limit : ℕ) (g : Occupancy) (laid : IsLaidOut limit g) where
 -- ---- homes
 
 module _ (w : World) where
-  within : (s : Segment) (r : Run) → (words_of_segment s).from ≤ r.from → end_of r ≤ end_of (words_of_segment s) → lies_within (words_of_segment s) r ≡ true
+  within : (s : Segment) (r : Run) → (words_of_segment s).from ≤ r.from → end_of r ≤ end_of (words_of_segment s)
+      → lies_within (words_of_segment s) r ≡ true
   within s r above below =
-      and_from (nat_le (words_of_segment s).from r.from) (nat_le (end_of r) (end_of (words_of_segment s))) (le-leb (words_of_segment s).from r.from above)
+      and_from (nat_le (words_of_segment s).from r.from) (nat_le (end_of r) (end_of (words_of_segment s)))
+      (le-leb (words_of_segment s).from r.from above)
       (le-leb (end_of r) (end_of (words_of_segment s)) below)
 
   same_as : (s : Rank) (b : Bool) → s ≡ rank_where b → same_rank s (if b then rank.Weak else rank.Exact) ≡ true
@@ -246,9 +264,12 @@ module _ (w : World) where
   pub home_is : (o : Occupant) (pool : ℕ) (b : Bool) (at_rank : Rank) (r : Run) {condemned : List ℕ} → at_rank ≡ rank_where b
       → Home w.segments w.pools condemned o pool at_rank r → is_home w pool b r ≡ true
   home_is o pool b at_rank r e home =
-      any_among (λ s. s.pool == pool && same_rank s.rank (if b then rank.Weak else rank.Exact) && lies_within (words_of_segment s) r) w.segments home.segment home.held
-      (and_from (home.segment.pool == pool && same_rank home.segment.rank (if b then rank.Weak else rank.Exact)) (lies_within (words_of_segment home.segment) r)
-      (and_from (home.segment.pool == pool) (same_rank home.segment.rank (if b then rank.Weak else rank.Exact)) (eq-eqb home.segment.pool pool home.of_pool)
+      any_among (λ s. s.pool == pool && same_rank s.rank (if b then rank.Weak else rank.Exact) && lies_within
+      (words_of_segment s) r) w.segments home.segment home.held
+      (and_from (home.segment.pool == pool && same_rank home.segment.rank (if b then rank.Weak else rank.Exact))
+      (lies_within (words_of_segment home.segment) r)
+      (and_from (home.segment.pool == pool) (same_rank home.segment.rank (if b then rank.Weak else rank.Exact))
+      (eq-eqb home.segment.pool pool home.of_pool)
       (same_as home.segment.rank b (home.of_rank ∙ e)))
       (within home.segment r home.above home.below))
 
@@ -282,7 +303,8 @@ module _ (limit : ℕ) (w : World) (laid : HasLayout limit w) where
       ap (λ o. run_of_block o (entry_at w.addresses id)) x.shape ∙ ap (run_of_block (Some (shape_of x.object))) e
       ∙ ap (λ o. extent at (option_map_or size_of o 0)) (sym x.there) in
       let some : 0 < (run_of (occupancy_of w) (OfBlock id)).count =
-      subst (λ (r : Run). 0 < r.count) (sym (ap (λ o. run_of_block o (entry_at w.addresses id)) x.shape ∙ ap (run_of_block (Some (shape_of x.object))) e))
+      subst (λ (r : Run). 0 < r.count) (sym (ap (λ o. run_of_block o (entry_at w.addresses id)) x.shape
+      ∙ ap (run_of_block (Some (shape_of x.object))) e))
       (laid.shapes id (shape_of x.object) x.shape).some in
       let home = laid.placed.homes (OfBlock id) some in
       let pool : pool_of_occupant (occupancy_of w) (OfBlock id) ≡ pool_of w id =
@@ -291,20 +313,25 @@ module _ (limit : ℕ) (w : World) (laid : HasLayout limit w) where
       ap (λ o. option_map_or (λ s. rank_where s.is_weak) o rank.Exact) x.shape
       ∙ sym (ap (λ o. rank_where (option_map_or is_weak_object o false)) x.there) in
       ap (λ o. option_map_or (λ a. is_home w (pool_of w id) (object_is is_weak_object w id) (extent a (words_of w id))) o false) e
-      ∙ home_is w (OfBlock id) (pool_of w id) (object_is is_weak_object w id) (rank_of_occupant (occupancy_of w) (OfBlock id)) (extent at (words_of w id)) ranked
-      (subst (λ (p : ℕ). Home w.segments w.pools (occupancy_of w).condemned (OfBlock id) p (rank_of_occupant (occupancy_of w) (OfBlock id)) (extent at (words_of w id))) pool
-      (subst (Home w.segments w.pools (occupancy_of w).condemned (OfBlock id) (pool_of_occupant (occupancy_of w) (OfBlock id)) (rank_of_occupant (occupancy_of w) (OfBlock id))) run home))
+      ∙ home_is w (OfBlock id) (pool_of w id) (object_is is_weak_object w id) (rank_of_occupant (occupancy_of w) (OfBlock id))
+      (extent at (words_of w id)) ranked
+      (subst (λ (p : ℕ). Home w.segments w.pools (occupancy_of w).condemned (OfBlock id) p
+      (rank_of_occupant (occupancy_of w) (OfBlock id)) (extent at (words_of w id))) pool
+      (subst (Home w.segments w.pools (occupancy_of w).condemned (OfBlock id) (pool_of_occupant (occupancy_of w) (OfBlock id))
+      (rank_of_occupant (occupancy_of w) (OfBlock id))) run home))
 
   -- a fact of each number whose entry passes holds of all of them
   all_numbers : (p : ℕ → Bool) (xs : List (Option ℕ)) (first : ℕ) → ((i at : ℕ) → entry_at xs i ≡ Some at → p (first + i) ≡ true)
       → list_all p (numbers_of is_some first xs) ≡ true
   all_numbers p [] first each = refl
   all_numbers p (None ∷ xs) first each =
-      all_numbers p xs (first + 1) (λ i at e. subst (λ (n : ℕ). p n ≡ true) (let f : first + suc i ≡ first + 1 + i = omega arith in f) (each (suc i) at e))
+      all_numbers p xs (first + 1) (λ i at e. subst (λ (n : ℕ). p n ≡ true) (let f : first + suc i ≡ first + 1 + i = omega arith in f)
+      (each (suc i) at e))
   all_numbers p (Some a ∷ xs) first each =
       and_from (p first) (list_all p (numbers_of is_some (first + 1) xs))
       (subst (λ (n : ℕ). p n ≡ true) (let f : first + 0 ≡ first = omega arith in f) (each zero a refl))
-      (all_numbers p xs (first + 1) (λ i at e. subst (λ (n : ℕ). p n ≡ true) (let f : first + suc i ≡ first + 1 + i = omega arith in f) (each (suc i) at e)))
+      (all_numbers p xs (first + 1) (λ i at e. subst (λ (n : ℕ). p n ≡ true) (let f : first + suc i ≡ first + 1 + i = omega arith in f)
+      (each (suc i) at e)))
 
   pub places_right : list_all (is_right_place w) (live_ids w) ≡ true
   places_right =
@@ -324,7 +351,8 @@ module _ (limit : ℕ) (w : World) (laid : HasLayout limit w) where
           → list_all (λ (t : Tail). is_right_at_hand w t.pool t.words) ts ≡ true
       each_tail [] all = refl
       each_tail (t ∷ ts) all =
-          and_from (is_right_at_hand w t.pool t.words) (list_all (λ (u : Tail). is_right_at_hand w u.pool u.words) ts) (tail_right t all.0) (each_tail ts all.1)
+          and_from (is_right_at_hand w t.pool t.words) (list_all (λ (u : Tail). is_right_at_hand w u.pool u.words) ts)
+          (tail_right t all.0) (each_tail ts all.1)
 
   pub apart_right : are_apart (in_order (covered w ++ at_hand w)) ≡ true
   apart_right = ap (λ rs. are_apart (in_order (rs ++ at_hand w))) (covered-shapes w) ∙ all_apart limit (occupancy_of w) laid
