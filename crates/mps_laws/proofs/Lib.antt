@@ -58,3 +58,4 @@ pub mod SoundHistories
 pub mod WellPlaced
 pub mod WellFormed
 pub mod WellFormedHistories
+pub mod MadeAgain

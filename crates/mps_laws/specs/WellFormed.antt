@@ -1,7 +1,12 @@
 -- Worlds that legal histories reach are well-formed, where the arena is made once.
-use Rattle.std.specs.Prelude.{◌≡◌, ℕ, Bool, true, false, not, IsTrue, [], ◌∷◌, refl}
+use Rattle.std.specs.Prelude.{◌≡◌, ℕ, Bool, true, false, not, IsTrue, List, [], ◌∷◌, replicate, refl}
 use Rattle.std.specs.List.{list_any}
+use Rattle.mps_base.specs.declared.address.Addr.{Addr}
+use Rattle.mps_base.specs.declared.moves.Move.{Move}
+use Rattle.mps_base.specs.declared.moves.Move.TheVariants as moves
+use Rattle.mps_base.specs.declared.names.Name.{Name}
 use Rattle.mps_format.specs.Layout.{Layout}
+use Rattle.mps_format.specs.Any.{numbered_layout}
 use Rattle.mps_model.specs.declared.call.Call.{Call}
 use Rattle.mps_model.specs.declared.call.Call.TheVariants as call
 use Rattle.mps_model.specs.declared.reply.Reply.TheVariants as reply
@@ -26,13 +31,36 @@ ReachedWorldsAreWellFormed =
     (formats : ℕ → Layout) (history : History) → IsTrue (is_arena_made_once history) → IsLegalHistoryOf formats history
     → IsWellFormed (reached formats history)
 
+-- ---- an arena that is made again
+
+abbrev accepted : (line : ℕ) → Call → List Move → Step
+accepted line call moves = record { line = line; call = call; moves = moves; answer = Replied reply.Ok }
+
+abbrev one_letter : (code : ℕ) → Name
+one_letter code = record { len = 1; bytes = code ∷ replicate 15 0 }
+
+abbrev at : (address : ℕ) → Addr
+at address = record { 0 = address }
+
+-- a manual block takes the one grain of an arena, which is then made again without grains
+abbrev pub made_again : History
+made_again =
+    accepted 1 (call.Arena 1 1) []
+    ∷ accepted 2 (call.PoolMvff (one_letter 118)) []
+    ∷ accepted 3 (call.Blocks (one_letter 98) 1) []
+    ∷ accepted 4 (call.Alloc (one_letter 118) 1 (record { name = one_letter 98; index = 0 }))
+    (moves.Seg (at 0x1000) 1 0 0 ∷ moves.Alloc (at 0x1000) 1 0 ∷ [])
+    ∷ accepted 5 (call.Arena 0 0) []
+    ∷ []
+
+-- the premise is needed: this history is legal, and a segment lies outside the arena that it leaves
+abbrev pub ArenaMadeAgainLeavesSegments : Type 0
+ArenaMadeAgainLeavesSegments = IsLegalHistoryOf numbered_layout made_again × (IsWellFormed (reached numbered_layout made_again) → ⊥)
+
 -- ---- vectors
 
-abbrev arena_of : (line grains : ℕ) → Step
-arena_of line grains = record { line = line; call = call.Arena grains grains; moves = []; answer = Replied reply.Ok }
-
-pub the_first_makes_it : is_arena_made_once (arena_of 1 4 ∷ record { line = 2; call = call.Clamp; moves = []; answer = Replied reply.Ok } ∷ []) ≡ true
+pub the_first_makes_it : is_arena_made_once (accepted 1 (call.Arena 4 4) [] ∷ accepted 2 call.Clamp [] ∷ []) ≡ true
 the_first_makes_it = refl
 
-pub no_later_one_does : is_arena_made_once (arena_of 1 4 ∷ arena_of 2 1 ∷ []) ≡ false
+pub no_later_one_does : is_arena_made_once made_again ≡ false
 no_later_one_does = refl

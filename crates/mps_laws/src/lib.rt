@@ -7,7 +7,7 @@ ghost use Rattle.mps_laws.specs.Held.{HeldObjectsAreLive, GetsReachLiveObjects};
 ghost use Rattle.mps_laws.specs.Staying.{HeldBlocksStay, AddressesStayRight};
 ghost use Rattle.mps_laws.specs.Depending.{FreshDependenciesHold};
 ghost use Rattle.mps_laws.specs.Replay.{StepReplaysToLiveBlocks, LogReplaysToLiveBlocks};
-ghost use Rattle.mps_laws.specs.WellFormed.{ReachedWorldsAreWellFormed};
+ghost use Rattle.mps_laws.specs.WellFormed.{ReachedWorldsAreWellFormed, ArenaMadeAgainLeavesSegments};
 
 /// Commands with their lines, their answers and the log determine the history: no two histories have one log.
 pub fn a_log_tells_one_history()
@@ -53,7 +53,9 @@ pub fn fresh_dependencies_hold()
 
 /// Each world that a legal history reaches is well-formed, where no command but the first makes an arena, as in any script:
 /// objects have the cells of their formats, whatever lies in the arena lies apart in held segments of its pool, and what the
-/// client holds is of the right kind.
+/// client holds is of the right kind. The premise is needed: in a legal history that makes the arena again, a segment lies
+/// outside the arena that it leaves.
 pub fn reached_worlds_are_well_formed()
-    ensures { ReachedWorldsAreWellFormed }
+    ensures well_formed { ReachedWorldsAreWellFormed }
+    ensures premise { ArenaMadeAgainLeavesSegments }
 {}

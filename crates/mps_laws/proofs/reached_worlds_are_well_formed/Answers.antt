@@ -1,5 +1,6 @@
+use Rattle.mps_laws.proofs.MadeAgain.{leaves_segments}
 use Rattle.mps_laws.proofs.WellFormedHistories.{reached_are_well_formed}
 use Rattle.mps_laws.proofs.reached_worlds_are_well_formed.Goals as goal
 
 pub returns : goal.returns
-returns c = reached_are_well_formed
+returns c = record { well_formed = reached_are_well_formed; premise = leaves_segments }
