@@ -1,22 +1,20 @@
 -- Changes of what the client holds, and of what no collection moves.
-use Rattle.std.proofs.Common.{◌≡◌, ◌∙◌, ◌⊎◌, ℕ, Bool, true, false, refl, sym, ap, List, [], ◌∷◌, ◌++◌, Option, Some, None, subst, inl, inr, arith}
-use Rattle.std.proofs.lemmas.Bool.{false≢true}
-use Rattle.std.specs.Prelude.{IsTrue, Result, Ok, Err, slice_get, slice_set}
-use Rattle.std.specs.List.{flat_map}
+use Rattle.std.proofs.Common.{◌≡◌, ◌∙◌, ◌⊎◌, ℕ, Bool, true, false, refl, ap, List, ◌++◌, Option, Some, None, subst, inl, inr, arith}
+use Rattle.std.specs.Prelude.{Ok, Err, slice_get}
 use Rattle.mps_base.specs.Address.{Id, Address}
 use Rattle.mps_base.specs.declared.names.Name.{Name}
 use Rattle.mps_base.specs.declared.names.Slot.{Slot}
 use Rattle.mps_base.specs.declared.refusal.Refusal.{Refusal}
 use Rattle.mps_base.specs.declared.refusal.Refusal.TheVariants as refusal
-use Rattle.mps_model.specs.Graph.{Graph, AreaWord, Point, contains, entries, entry_at, ids_of_client, ids_in_slots, ids_in_holds, ids_in_reservations, slots_of, holds_of}
-use Rattle.mps_model.specs.Collection.{Collection, is_condemned}
+use Rattle.mps_model.specs.Graph.{Graph, AreaWord, Point, contains, entry_at, ids_of_client, ids_in_slots, ids_in_holds, ids_in_reservations, slots_of}
+use Rattle.mps_model.specs.Collection.{is_condemned}
 use Rattle.mps_model.specs.World.{World, is_live, is_copying_object, is_automatic_kind, pool_is}
 use Rattle.mps_model.specs.LegalMove.{holds_something}
 use Rattle.mps_model.specs.Checked.{Act, Checked, Found, Numbered, ◌>>=◌, ◌>>◌, required, refuse_when, numbered, entry_in, number_named, as_table, as_area, as_point, slot_in, word_in, point_named}
 use Rattle.mps_model.specs.Reply.{world_from}
 use Rattle.mps_colours.specs.Collecting.{Collecting, Running, is_white_in}
 use Rattle.mps_colours.proofs.Lists.{contains_append, contains_left, contains_right}
-use Rattle.mps_colours.proofs.ClientChange.{IsChange, IsUsed, change_keeps}
+use Rattle.mps_colours.proofs.ClientChange.{IsChange, change_keeps}
 use Rattle.mps_colours.proofs.ClientLists.{among_all, among_entries, entry_is}
 
 -- ---- worlds with the same objects, addresses, segments, registrations and collection

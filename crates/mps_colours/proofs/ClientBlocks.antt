@@ -1,45 +1,38 @@
 -- Objects and manual blocks made by calls: commit and alloc.
-use Rattle.std.proofs.Common.{◌≡◌, ◌∙◌, ◌⊎◌, ℕ, Bool, true, false, refl, sym, ap, List, [], ◌∷◌, ◌++◌, length, Option, Some, None, subst, inl, inr}
-use Rattle.std.proofs.lemmas.Bool.{false≢true, true≢false, or_cases}
-use Rattle.std.proofs.lemmas.Option.{none-some, same_Some}
-use Rattle.std.specs.Prelude.{Result, Ok, Err, slice_get, slice_set, if◌then◌else◌, not, is_some, replicate}
+use Rattle.std.proofs.Common.{◌≡◌, ◌∙◌, ℕ, Bool, true, false, refl, sym, ap, List, [], ◌∷◌, length, Option, Some, None, subst, inl, inr}
+use Rattle.std.proofs.lemmas.Bool.{false≢true, or_cases}
+use Rattle.std.proofs.lemmas.Option.{same_Some}
+use Rattle.std.specs.Prelude.{Ok, Err, slice_get, slice_set, if◌then◌else◌, not, is_some, replicate}
 use Rattle.std.specs.List.{list_any}
 use Rattle.std.specs.Option.{option_map_or}
-use Rattle.mps_base.specs.Address.{Id, Address, address_of_grain}
+use Rattle.mps_base.specs.Address.{Id, address_of_grain}
 use Rattle.mps_base.specs.Placement.{Placement, Place, NewSegment, OverLimit, NoFreeRun}
 use Rattle.mps_base.specs.Run.{Run}
 use Rattle.mps_base.specs.Segment.{Segment, with_segment, words_of_segment}
-use Rattle.mps_base.specs.declared.moves.Move.{Move}
-use Rattle.mps_base.specs.declared.moves.Move.TheVariants as moves
 use Rattle.mps_base.specs.declared.names.Name.{Name}
 use Rattle.mps_base.specs.declared.names.Slot.{Slot}
 use Rattle.mps_base.specs.declared.refusal.Refusal.TheVariants as refusal
 use Rattle.mps_model.specs.declared.reply.Reply.TheVariants as reply
 use Rattle.mps_model.specs.Answer.{Answer, is_refused}
-use Rattle.mps_model.specs.Graph.{Graph, Object, Manual, Point, Reservation, contains, entry_at, with_last, targets_of, targets_of_cells, targets_of_point, targets_of_reservation, size_of, ids_of_client, ids_in_slots, ids_in_holds, ids_in_reservations}
-use Rattle.mps_model.specs.World.{World, PointMemory, Pool, Tail, extent, extents_of, extent_of_reservation, is_copying_pool, is_automatic_kind, with_tail}
+use Rattle.mps_model.specs.Graph.{Object, Manual, Point, Reservation, contains, entry_at, with_last, targets_of_cells, targets_of_point, targets_of_reservation, ids_of_client, ids_in_slots, ids_in_holds, ids_in_reservations}
+use Rattle.mps_model.specs.World.{World, PointMemory, Pool, Tail, extent, extents_of, extent_of_reservation, is_copying_pool, is_automatic_kind, with_tail, is_live}
 use Rattle.mps_model.specs.Placement.{ForAlloc, placement_of}
 use Rattle.mps_model.specs.Checked.{Act, Checked, Found, Numbered, ◌>>=◌, ◌>>◌, required, refuse_when, done, says, point_named, pool_named, slot_in, block_place_in, with_graph}
 use Rattle.mps_model.specs.Allocating.{with_reservation, reserved_address, committed_object, world_committed, act_commit, act_alloc, allows_size, refuse_without_place, graph_allocated, address_of_placement}
-use Rattle.mps_model.specs.Effect.{after_segment, holding, segment_of_move, world_after_moves}
-use Rattle.mps_model.specs.Flip.{at_address}
-use Rattle.mps_model.specs.History.{segment_taken, alloc_at, moves_of_alloc, unless_refused}
+use Rattle.mps_model.specs.Effect.{holding, segment_of_move, world_after_moves}
+use Rattle.mps_model.specs.History.{alloc_at, moves_of_alloc, unless_refused}
 use Rattle.mps_model.specs.Reply.{world_from}
 use Rattle.mps_model.specs.WellFormed.{IsWellFormed}
 use Rattle.mps_colours.specs.Colours.{AreDifferent}
 use Rattle.mps_colours.specs.Collecting.{Collecting, Running, is_white_in}
-use Rattle.mps_colours.proofs.HeldSegments.{AreOrdered, IsAmong}
+use Rattle.mps_colours.proofs.HeldSegments.{AreOrdered}
 use Rattle.mps_colours.proofs.ClientLists.{among_all, entry_is}
 use Rattle.mps_colours.proofs.ClientCovered.{extent_of_last}
-use Rattle.mps_colours.proofs.ClientBeside.{in_reservations, held_so, bind_keeps, then_keeps, same_Ok, not_Ok, IsFound, slot_found, point_found}
+use Rattle.mps_colours.proofs.ClientBeside.{in_reservations, held_so, bind_keeps, then_keeps, IsFound, slot_found, point_found}
 use Rattle.mps_colours.proofs.ClientRoots.{slot_keeps}
-use Rattle.mps_colours.proofs.ClientPoints.{ended_keeps}
+use Rattle.mps_colours.proofs.ClientPoints.{open_is, ended_keeps}
 use Rattle.mps_colours.proofs.ClientThings.{aside_keeps}
 use Rattle.mps_colours.proofs.ClientMaking.{made_keeps, made_black, made_live, segments_keep, among_with}
-
-open_is : (o : Option Reservation) (r : Reservation) → required o refusal.NotOpen ≡ Ok r → o ≡ Some r
-open_is None r e = absurd (not_Ok refusal.NotOpen r e)
-open_is (Some q) r e = ap Some (same_Ok q r e)
 
 module _ (x : Collecting) (run : Running x) (formed : IsWellFormed x.world) where
   abbrev w : World
@@ -106,7 +99,7 @@ module _ (x : Collecting) (run : Running x) (formed : IsWellFormed x.world) wher
 
       committed_keeps : P (world_committed w point r slot)
       committed_keeps = slot_keeps ended ended_runs slot (Some (length w.graph.objects)) slot_there
-          (λ id same. inr (subst (λ n. (Rattle.mps_model.specs.World.is_live ended.world n ≡ true) × (is_white_in ended n ≡ false))
+          (λ id same. inr (subst (λ n. (is_live ended.world n ≡ true) × (is_white_in ended n ≡ false))
             (same_Some (length w.graph.objects) id same)
             (made_live x run new (reserved_address w point.number) formed.addresses different held,
             made_black x run new (reserved_address w point.number) formed.addresses different held)))

@@ -1,10 +1,8 @@
 -- Every call of the client keeps the invariant: call by call, and then the whole step.
-use Rattle.std.proofs.Common.{◌≡◌, ◌∙◌, ◌⊎◌, ℕ, Bool, true, false, refl, sym, ap, List, [], ◌∷◌, length, Option, Some, None, subst, inl, inr}
-use Rattle.std.specs.Prelude.{Result, Ok, Err, IsTrue, slice_get, if◌then◌else◌, is_none, nat_le}
+use Rattle.std.proofs.Common.{◌≡◌, ◌∙◌, ℕ, Bool, true, false, refl, sym, ap, List, [], length, Option, Some, None, subst}
+use Rattle.std.specs.Prelude.{Ok, Err, slice_get, if◌then◌else◌, is_none, nat_le, option_map}
 use Rattle.std.specs.List.{list_all}
-use Rattle.mps_base.specs.Address.{Id}
 use Rattle.mps_base.specs.declared.moves.Move.{Move}
-use Rattle.mps_base.specs.declared.moves.Move.TheVariants as moves
 use Rattle.mps_base.specs.declared.names.Name.{Name}
 use Rattle.mps_base.specs.declared.names.Slot.{Slot}
 use Rattle.mps_base.specs.declared.refusal.Refusal.TheVariants as refusal
@@ -12,22 +10,21 @@ use Rattle.mps_model.specs.declared.call.Call.{Call}
 use Rattle.mps_model.specs.declared.call.Call.TheVariants as call
 use Rattle.mps_model.specs.declared.reply.Reply.TheVariants as reply
 use Rattle.mps_model.specs.Answer.{Answer, Dumped, is_accepted, is_block}
-use Rattle.mps_model.specs.Step.{Step}
-use Rattle.mps_model.specs.Graph.{Graph, Object, Point, Reservation, position_of_first, without_first, ids_of_client, ids_in_blocks}
+use Rattle.mps_model.specs.Graph.{Object, Point, Reservation, position_of_first, without_first, ids_of_client, ids_in_blocks}
 use Rattle.mps_model.specs.World.{World, Unclamped, Clamped, Parked, is_live, is_running, id_at, shown_word}
 use Rattle.mps_model.specs.WellFormed.{IsWellFormed}
 use Rattle.mps_model.specs.Image.{image_of}
 use Rattle.mps_model.specs.Checked.{Act, Checked, Found, Numbered, ◌>>=◌, ◌>>◌, required, refuse_when, says, done, tells, slot_in, word_in, object_in, block_place_in, pool_named, chain_named, point_named, number_named, as_point, number_at, cells_of_body, head_of_body}
 use Rattle.mps_model.specs.Allocating.{block_in, words_at, act_alloc, act_free, act_load}
-use Rattle.mps_model.specs.Accessing.{act_number, act_same, act_null, act_head, act_address, act_peek, same_target, address_or_null}
-use Rattle.mps_model.specs.Collecting.{act_start, act_start_chain, act_definalize, act_dump, with_state, without_registration, without_position}
+use Rattle.mps_model.specs.Accessing.{act_number, act_same, act_null, act_head, act_address, act_peek, same_target, address_or_null, act_get, act_poke}
+use Rattle.mps_model.specs.Collecting.{act_start, act_start_chain, act_definalize, act_dump, with_state, without_registration}
 use Rattle.mps_model.specs.Effect.{world_after_moves}
 use Rattle.mps_model.specs.Policy.{units_asked}
 use Rattle.mps_model.specs.Reply.{act, act_in, world_from}
-use Rattle.mps_model.specs.History.{moves_of_collector, moves_of_poll, own_segment, after_own_segment, judged_world, moved_world, asking, remembering, with_client_remembered, world_after, world_after_call, AreMovesOf, moves_of_commit, commit_of, if_accepted, unless_refused, moves_of_alloc, moves_of_free}
+use Rattle.mps_model.specs.History.{moves_of_collector, moves_of_poll, own_segment, after_own_segment, judged_world, moved_world, asking, remembering, with_client_remembered, world_after, world_after_call, AreMovesOf, moves_of_commit, commit_of, unless_refused, moves_of_alloc, moves_of_free}
 use Rattle.mps_colours.specs.Colours.{AreDifferent}
 use Rattle.mps_colours.specs.Collecting.{Collecting, Running}
-use Rattle.mps_colours.specs.ClientLaws.{collected_world, position_taken, collection_without, next_without, after_client, IsMarkedKept, IsReadKept, IsClientStep, ClientsKeepRunning}
+use Rattle.mps_colours.specs.ClientLaws.{position_taken, collection_without, next_without, IsMarkedKept, IsReadKept, ClientsKeepRunning}
 use Rattle.mps_colours.proofs.HeldSegments.{AreOrdered, segments_ordered}
 use Rattle.mps_colours.proofs.ClientBeside.{bind_keeps, then_keeps}
 use Rattle.mps_colours.proofs.ClientRoots.{copy_keeps, clear_keeps, take_keeps, pin_keeps, poke_keeps, message_keeps, table_keeps, area_keeps, blocks_keeps, drop_root_keeps}
@@ -35,7 +32,7 @@ use Rattle.mps_colours.proofs.ClientPoints.{point_keeps, drop_point_keeps, init_
 use Rattle.mps_colours.proofs.ClientObjects.{put_keeps, set_number_keeps, store_keeps}
 use Rattle.mps_colours.proofs.ClientThings.{state_keeps, arena_keeps, limit_keeps, chain_keeps, dependency_keeps, dependency_reset_keeps, dependency_add_keeps, dependency_merge_keeps, dependency_stale_keeps, tells_keeps, pool_keeps, pool_on_chain_keeps, pool_mfs_keeps, pool_mvff_keeps}
 use Rattle.mps_colours.proofs.ClientRegistrations.{first_stands, finalize_keeps, definalized_keeps, remembered_keeps}
-use Rattle.mps_colours.proofs.ClientBlocks.{commit_keeps, alloc_keeps, alloc_segments, alloc_moves_more, more_keeps}
+use Rattle.mps_colours.proofs.ClientBlocks.{MayHoldMore, commit_keeps, alloc_keeps, alloc_segments, alloc_moves_more, more_keeps}
 use Rattle.mps_colours.proofs.ClientFrees.{freeing_keeps, free_act_keeps, free_act_segments}
 use Rattle.mps_colours.proofs.ClientReserves.{MayOwn, own_segment_owned, owned_asking, reserve_keeps}
 use Rattle.mps_colours.proofs.ClientReads.{HasTables, moves_leave, get_keeps}
@@ -119,7 +116,7 @@ module _ (x : Collecting) (run : Running x) where
     abbrev taken_away : Numbered Object → ℕ → World
     taken_away object position = record w {
       graph = record w.graph { registered = without_first w.graph.registered object.number };
-      collection = Rattle.std.specs.Prelude.option_map (without_registration position) w.collection;
+      collection = option_map (without_registration position) w.collection;
     }
 
     abbrev state_after : Checked Act → Checked ℕ → Collecting
@@ -153,7 +150,7 @@ module _ (x : Collecting) (run : Running x) where
       → P (world_from (world_after_moves w ms) (act_alloc w (world_after_moves w ms) pool words into))
   alloc_case formed ms answer pool words into due fine =
       let more = more_keeps x run (world_after_moves w ms)
-          (subst (λ those. Rattle.mps_colours.proofs.ClientBlocks.MayHoldMore w (world_after_moves w those)) (sym due)
+          (subst (λ those. MayHoldMore w (world_after_moves w those)) (sym due)
             (alloc_moves_more w (pool_named w pool) words answer))
           (subst (λ ss. AreOrdered 1 ss) (alloc_segments w (world_after_moves w ms) words into pool) fine.ordered) in
       alloc_keeps (record x { world = world_after_moves w ms }) more.0 (more.1 ∙ (formed.addresses ∙ sym more.2)) w pool words into fine.different
@@ -248,7 +245,7 @@ module _ (w : World) (x : Collecting) (run : Running x) (formed : IsWellFormed x
   call_keeps (call.Store place word value) ms answer led due marked read fine =
       plain (call.Store place word value) (world_after_moves w ms) led (store_keeps x run place word value)
   call_keeps (call.Get target source cell) ms answer led due marked read fine =
-      subst (λ v. Running (record x { world = world_from v (Rattle.mps_model.specs.Accessing.act_get w v target source cell) })) (sym led)
+      subst (λ v. Running (record x { world = world_from v (act_get w v target source cell) })) (sym led)
       (get_keeps x run w (subst (λ v. HasTables w v) led (moves_leave w ms)) target source cell read)
   call_keeps (call.Put target cell source) ms answer led due marked read fine =
       plain (call.Put target cell source) (world_after_moves w ms) led (put_keeps x run target cell source)
@@ -262,7 +259,7 @@ module _ (w : World) (x : Collecting) (run : Running x) (formed : IsWellFormed x
   call_keeps (call.Head slot) ms answer led due marked read fine = plain (call.Head slot) (world_after_moves w ms) led (head_keeps x run slot)
   call_keeps (call.Address slot) ms answer led due marked read fine = plain (call.Address slot) (world_after_moves w ms) led (address_keeps x run slot)
   call_keeps (call.Poke word value) ms answer led due marked read fine =
-      subst (λ v. Running (record x { world = world_from v (Rattle.mps_model.specs.Accessing.act_poke (is_block answer) v word value) })) (sym led)
+      subst (λ v. Running (record x { world = world_from v (act_poke (is_block answer) v word value) })) (sym led)
       (poke_keeps x run (is_block answer) word value marked)
   call_keeps (call.Peek word) ms answer led due marked read fine = plain (call.Peek word) (world_after_moves w ms) led (peek_keeps x run word)
   call_keeps (call.Pin word slot) ms answer led due marked read fine = plain (call.Pin word slot) (world_after_moves w ms) led (pin_keeps x run word slot)

@@ -1,21 +1,20 @@
 -- What a call of the client may change while a collection runs, and that the invariant still holds.
-use Rattle.std.proofs.Common.{◌≡◌, ◌∙◌, ◌⊎◌, ℕ, zero, suc, ◌+◌, ◌-◌, ◌<◌, ◌≤◌, Bool, true, false, cond, refl, sym, ap, List, [], ◌∷◌, length, Option, Some, None, subst, inl, inr, arith}
+use Rattle.std.proofs.Common.{◌≡◌, ◌∙◌, ◌⊎◌, ℕ, suc, ◌+◌, ◌<◌, ◌≤◌, Bool, true, false, cond, refl, sym, ap, List, [], ◌∷◌, length, Option, Some, None, subst, inl, inr, arith}
 use Rattle.std.proofs.lemmas.Bool.{false≢true, true≢false, or_cases, cases_Bool}
 use Rattle.std.proofs.lemmas.List.Sums.{sum_by-cons}
-use Rattle.std.proofs.lemmas.Option.{none-some}
-use Rattle.std.specs.Prelude.{◌==◌, ◌&&◌, ◌||◌, not, is_some, IsTrue, count_by, slice_get}
+use Rattle.std.specs.Prelude.{is_some, IsTrue, count_by, slice_get}
 use Rattle.std.specs.Option.{option_map_or}
 use Rattle.mps_base.specs.Address.{Id, Address}
 use Rattle.mps_base.specs.Segment.{Segment}
 use Rattle.mps_model.specs.Graph.{Graph, Object, contains, entry_at, targets, targets_of, object_at, ids_of_client, is_automatic, is_weak_object}
-use Rattle.mps_model.specs.Collection.{Collection, is_condemned}
+use Rattle.mps_model.specs.Collection.{is_condemned}
 use Rattle.mps_model.specs.World.{World, is_live, live_ids, numbers_of, segment_at, object_is, is_copying_object, is_automatic_kind, pool_is}
 use Rattle.mps_model.specs.Effect.{segment_base_of}
 use Rattle.mps_model.specs.LegalMove.{ForOne, holds_something}
-use Rattle.mps_colours.specs.Colours.{Colours, is_white, is_grey, is_to_scan, Survives, AreDifferent}
-use Rattle.mps_colours.specs.Collecting.{Collecting, Running, is_white_in, units_left, objects_left}
+use Rattle.mps_colours.specs.Colours.{is_grey, is_to_scan, Survives, AreDifferent}
+use Rattle.mps_colours.specs.Collecting.{Collecting, Running, is_white_in, objects_left}
 use Rattle.mps_colours.proofs.Lists.{index_below}
-use Rattle.mps_colours.proofs.Keeping.{is_condemned_if_white, not_white_outside}
+use Rattle.mps_colours.proofs.Keeping.{is_condemned_if_white}
 use Rattle.mps_colours.proofs.KeptRunning.{one_that_is}
 use Rattle.mps_colours.proofs.Joining.{for_some}
 

@@ -1,36 +1,18 @@
 -- What is covered after a change: a segment that holds something goes on to hold it.
-use Rattle.std.proofs.Common.{◌≡◌, ◌∙◌, ◌⊎◌, ℕ, zero, suc, ◌<◌, ◌≤◌, Bool, true, false, refl, sym, ap, List, [], ◌∷◌, ◌++◌, length, Option, Some, None, subst, inl, inr, arith}
+use Rattle.std.proofs.Common.{◌≡◌, ◌∙◌, ◌⊎◌, ℕ, zero, suc, Bool, true, false, refl, sym, ap, List, [], ◌∷◌, ◌++◌, length, Option, Some, None, inl, inr, arith}
 use Rattle.std.proofs.lemmas.Bool.{false≢true, or_cases, or_left, or_right}
 use Rattle.std.proofs.lemmas.List.Folds.{list_any-append}
 use Rattle.std.proofs.lemmas.Option.{none-some, same_Some}
-use Rattle.std.specs.Prelude.{◌||◌, not, if◌then◌else◌, nat_lt, slice_get, slice_set}
+use Rattle.std.specs.Prelude.{not, slice_get, slice_set}
 use Rattle.std.specs.List.{list_any}
 use Rattle.std.specs.Option.{option_map_or}
-use Rattle.mps_base.specs.Address.{Id, Address}
-use Rattle.mps_base.specs.Put.{put}
-use Rattle.mps_base.specs.Run.{Run, in_order, with_run}
+use Rattle.mps_base.specs.Address.{Address}
+use Rattle.mps_base.specs.Run.{Run}
 use Rattle.mps_base.specs.Segment.{Segment}
 use Rattle.mps_model.specs.Graph.{Object, Point, with_last, size_of, entry_at}
 use Rattle.mps_model.specs.World.{World, PointMemory, extent, extents_of, extent_of_reservation, reserved_extents, covered, begins_in, segment_at}
 use Rattle.mps_model.specs.LegalMove.{holds_something}
-
--- ---- in order
-
-any_put : (p : Run → Bool) (r : Run) (rs : List Run) → list_any p (with_run r rs) ≡ (p r || list_any p rs)
-any_put p r [] = refl
-any_put p r (s ∷ rs) = elim (nat_lt r.from s.from) as (λ b. list_any p (if b then r ∷ s ∷ rs else s ∷ with_run r rs) ≡ (p r || list_any p (s ∷ rs))) [
-  true ↦ refl
-  | false ↦ ap (λ b. p s || b) (any_put p r rs) ∙ either_first (p s) (p r) (list_any p rs)
-]
-  where
-    either_first : (a b c : Bool) → (a || (b || c)) ≡ (b || (a || c))
-    either_first true true c = refl
-    either_first true false c = refl
-    either_first false b c = refl
-
-pub any_in_order : (p : Run → Bool) (rs : List Run) → list_any p (in_order rs) ≡ list_any p rs
-any_in_order p [] = refl
-any_in_order p (r ∷ rs) = any_put p r (in_order rs) ∙ ap (λ b. p r || b) (any_in_order p rs)
+use Rattle.mps_colours.proofs.Covering.{list_any-in_order}
 
 -- ---- lists that are joined
 
@@ -64,9 +46,9 @@ holds_still w v base same more h = of_segment (segment_at w base) refl h
         → holds_something v base ≡ true
     of_segment None e g = absurd (false≢true g)
     of_segment (Some s) e g =
-        let before = sym (any_in_order (begins_in s) (extents_of w.graph.objects w.addresses ++ reserved_extents w.graph.points w.point_memories))
+        let before = sym (list_any-in_order (begins_in s) (extents_of w.graph.objects w.addresses ++ reserved_extents w.graph.points w.point_memories))
             ∙ not_empty (list_any (begins_in s) (covered w)) g in
-        let after = any_in_order (begins_in s) (extents_of v.graph.objects v.addresses ++ reserved_extents v.graph.points v.point_memories) ∙ more s e before in
+        let after = list_any-in_order (begins_in s) (extents_of v.graph.objects v.addresses ++ reserved_extents v.graph.points v.point_memories) ∙ more s e before in
         ap (λ o. option_map_or (λ s. not (not (list_any (begins_in s) (covered v)))) o false) (same ∙ e)
         ∙ is_not_empty (list_any (begins_in s) (covered v)) after
 

@@ -1,41 +1,36 @@
 -- A manual block is freed by the client, and its segment given back where nothing is left in it.
-use Rattle.std.proofs.Common.{◌≡◌, ◌∙◌, ◌⊎◌, ℕ, ◌+◌, ◌*◌, ◌/◌, ◌<◌, ◌≤◌, Bool, true, false, refl, sym, ap, List, [], ◌∷◌, ◌++◌, length, Option, Some, None, subst, inl, inr, arith}
-use Rattle.std.proofs.lemmas.Bool.{false≢true, true≢false, and_parts, or_cases, eqb-true, leb-true, cases_Bool}
-use Rattle.std.proofs.lemmas.Option.{none-some, same_Some}
-use Rattle.std.specs.Prelude.{◌&&◌, ◌||◌, ◌==◌, not, nat_le, nat_lt, if◌then◌else◌, option_map, option_and_then, Result, Ok, Err, slice_get, slice_set, IsTrue, is_some}
+use Rattle.std.proofs.Common.{◌≡◌, ◌∙◌, ℕ, ◌≤◌, Bool, true, false, refl, sym, ap, List, [], ◌∷◌, length, Option, Some, None, subst, inl, inr}
+use Rattle.std.proofs.lemmas.Bool.{false≢true, true≢false, and_parts, or_cases, leb-true, cases_Bool}
+use Rattle.std.proofs.lemmas.Option.{same_Some}
+use Rattle.std.specs.Prelude.{◌&&◌, ◌||◌, ◌==◌, not, nat_le, if◌then◌else◌, option_map, Ok, Err, slice_get, slice_set, IsTrue}
 use Rattle.std.specs.List.{list_any, list_all, flat_map}
 use Rattle.std.specs.Option.{option_map_or}
 use Rattle.mps_base.specs.Address.{Id, Address, word_of, address_of_word}
-use Rattle.mps_base.specs.Run.{Run, end_of}
-use Rattle.mps_base.specs.Segment.{Segment, is_in_segment, segment_over, without_segment, words_of_segment, end_of_segment, same_rank}
-use Rattle.mps_base.specs.declared.moves.Move.{Move}
+use Rattle.mps_base.specs.Segment.{Segment, is_in_segment, without_segment}
 use Rattle.mps_base.specs.declared.moves.Move.TheVariants as moves
-use Rattle.mps_base.specs.declared.names.Rank.TheVariants as rank
 use Rattle.mps_base.specs.declared.names.Slot.{Slot}
 use Rattle.mps_model.specs.Answer.{Answer, is_refused}
-use Rattle.mps_model.specs.Graph.{Graph, Object, Body, Automatic, Manual, Cell, Point, Reservation, contains, entries, entry_at, object_at, targets, targets_of, targets_of_body, targets_of_cells, targets_of_point, targets_of_reservation, is_automatic, is_weak_object, size_of, ids_of_client, ids_in_slots, ids_in_holds, ids_in_reservations, ids_in_blocks}
-use Rattle.mps_model.specs.Collection.{Collection, is_condemned}
-use Rattle.mps_model.specs.World.{World, Pool, PoolKind, Collected, OneSize, AnySize, PointMemory, extent, address_of, is_live, is_live_and, live_ids, object_is, pool_of, words_of, pool_at, pool_is, is_automatic_kind, is_any_size_kind, segment_at, segment_of, id_at, begins_in, lies_in, is_empty_segment, has_area_word, area_words, shown_words}
+use Rattle.mps_model.specs.Graph.{Object, Body, Automatic, Manual, Cell, Point, Reservation, contains, entries, entry_at, object_at, targets, targets_of, targets_of_body, targets_of_cells, targets_of_point, targets_of_reservation, is_automatic, size_of, ids_in_slots, ids_in_holds, ids_in_reservations, ids_in_blocks, is_automatic_body, new_cells, size_of_body, without_first}
+use Rattle.mps_model.specs.World.{World, Pool, PoolKind, Collected, OneSize, AnySize, PointMemory, extent, is_live, is_live_and, object_is, words_of, pool_at, pool_is, is_automatic_kind, is_any_size_kind, segment_at, segment_of, begins_in, lies_in, is_empty_segment, shown_words, is_copying_object, is_weak_kind, is_word_in}
 use Rattle.mps_model.specs.Accessing.{address_or_null}
-use Rattle.mps_model.specs.Effect.{after_free, after_unseg, giving_back, with_address, where_one, world_after_moves}
+use Rattle.mps_model.specs.Effect.{after_free, after_unseg, giving_back, with_address, where_one, world_after_moves, reclaiming, segment_base_of, with_collection}
 use Rattle.mps_model.specs.Flip.{at_address}
-use Rattle.mps_model.specs.LegalMove.{ForOne}
-use Rattle.mps_model.specs.Checked.{Act, Checked, Found, ◌>>=◌, ◌>>◌, done, block_place_in, with_graph, number_named, as_blocks}
+use Rattle.mps_model.specs.Checked.{Checked, Found, ◌>>◌, done, block_place_in, with_graph, number_named, as_blocks}
 use Rattle.mps_model.specs.Allocating.{act_free, block_in, with_block_place}
 use Rattle.mps_model.specs.History.{free_at, free_of, give_back_empty, moves_of_free, unless_refused}
 use Rattle.mps_model.specs.Reply.{world_from}
-use Rattle.mps_model.specs.WellFormed.{IsWellFormed, is_live_automatic, is_right_object, is_right_body, is_right_place, is_right_point, is_right_reservation, are_right_points, are_right_cells, is_right_at_hand, is_home, lies_within, are_shaped}
+use Rattle.mps_model.specs.WellFormed.{IsWellFormed, is_live_automatic, is_right_object, is_right_body, is_right_point, is_right_reservation, are_right_points, are_right_cells, is_right_at_hand, is_home, are_shaped}
 use Rattle.mps_model.specs.Making.{is_block_size, is_weak_rank}
 use Rattle.mps_model.proofs.Reaching.{list_all-contains}
 use Rattle.mps_colours.specs.Collecting.{Collecting, Running}
 use Rattle.mps_colours.proofs.Lists.{contains_append}
-use Rattle.mps_colours.proofs.Addresses.{id_at-live, live_is_listed, address_of-live}
+use Rattle.mps_colours.proofs.Addresses.{id_at-live}
 use Rattle.mps_colours.proofs.Joining.{from_some}
-use Rattle.mps_colours.proofs.HeldSegments.{AreOrdered, IsAmong, segments_ordered, segment_has_grains, over_among, held_among, any_among}
+use Rattle.mps_colours.proofs.HeldSegments.{AreOrdered, IsAmong, segments_ordered, over_among, held_among}
 use Rattle.mps_colours.proofs.Homes.{lies_at}
 use Rattle.mps_colours.proofs.FlipLists.{holds_show}
 use Rattle.mps_colours.proofs.ClientLists.{among_all, among_entries}
-use Rattle.mps_colours.proofs.ClientBeside.{IsHeldIn, in_slots, in_holds, in_messages, in_reservations, held_where, bind_keeps, then_keeps, same_Ok, not_Ok, IsFound, found}
+use Rattle.mps_colours.proofs.ClientBeside.{IsHeldIn, in_slots, in_holds, in_messages, in_reservations, held_where, bind_keeps, then_keeps, found}
 use Rattle.mps_colours.proofs.ClientChange.{IsUsed, held_by_client, referred_to, is_registered, is_to_be_scanned}
 use Rattle.mps_colours.proofs.ClientThings.{aside_keeps, list_all-at}
 use Rattle.mps_colours.proofs.ClientMaking.{freed_keeps, segments_keep, among_without, find_among}
@@ -45,13 +40,13 @@ use Rattle.mps_colours.proofs.ClientMaking.{freed_keeps, segments_keep, among_wi
 cells_automatic : (w : World) (p : Pool) (head : ℕ) (cells : List Cell) (id : Id) → are_right_cells w p head cells ≡ true
     → contains (targets_of_cells cells) id ≡ true → object_is is_automatic w id ≡ true
 cells_automatic w p head cells id right h = list_all-contains (object_is is_automatic w) (targets_of_cells cells) id
-    (and_parts ((w.formats p.format).is_valid head && are_shaped (Rattle.mps_model.specs.Graph.new_cells (w.formats p.format) head) cells)
+    (and_parts ((w.formats p.format).is_valid head && are_shaped (new_cells (w.formats p.format) head) cells)
       (list_all (object_is is_automatic w) (targets_of_cells cells)) right).1 h
 
 body_automatic : (w : World) (p : Pool) (b : Body) (id : Id) → is_right_body w p b ≡ true → contains (targets_of_body b) id ≡ true
     → object_is is_automatic w id ≡ true
 body_automatic w p (Automatic head cells is_weak) id right h =
-    let parts = and_parts (is_automatic_kind p.kind && are_right_cells w p head cells) (not is_weak || Rattle.mps_model.specs.World.is_weak_kind p.kind) right in
+    let parts = and_parts (is_automatic_kind p.kind && are_right_cells w p head cells) (not is_weak || is_weak_kind p.kind) right in
     cells_automatic w p head cells id (and_parts (is_automatic_kind p.kind) (are_right_cells w p head cells) parts.0).1 h
 body_automatic w p (Manual words) id right h = absurd (false≢true h)
 
@@ -112,8 +107,8 @@ points_automatic w (Some p ∷ ps) (m ∷ ms) id right h =
 any_automatic : (w : World) (words : List ℕ) (id : Id) → list_any (λ word. lies_in w word id) words ≡ true → object_is is_automatic w id ≡ true
 any_automatic w [] id h = absurd (false≢true h)
 any_automatic w (word ∷ words) id h = elim (or_cases (lies_in w word id) (list_any (λ word. lies_in w word id) words) h) [
-  inl e ↦ (and_parts (object_is is_automatic w id) (is_live_and (λ at. Rattle.mps_model.specs.World.is_word_in
-      (Rattle.mps_model.specs.World.is_copying_object w id) at (words_of w id) word) w id) e).0
+  inl e ↦ (and_parts (object_is is_automatic w id) (is_live_and (λ at. is_word_in
+      (is_copying_object w id) at (words_of w id) word) w id) e).0
   | inr e ↦ any_automatic w words id e
 ]
 
@@ -161,14 +156,14 @@ manual_object w o right manual = of_pool (pool_at w o.pool) refl right
     of_not true g = absurd (false≢true g)
     of_not false g = refl
     of_body : (p : Pool) (b : Body) → o.body ≡ b → pool_at w o.pool ≡ Some p → is_right_body w p b ≡ true
-        → Rattle.mps_model.specs.Graph.is_automatic_body b ≡ false → IsManual w o
+        → is_automatic_body b ≡ false → IsManual w o
     of_body p (Automatic head cells is_weak) same e g m = absurd (true≢false m)
     of_body p (Manual words) same e g m =
         let parts = and_parts (not (is_automatic_kind p.kind)) (is_block_size (length words)) g in
         let least = leb-true 1 (length words) (and_parts (nat_le 1 (length words)) (nat_le (length words) 65536) parts.1).0 in
         record {
           pool = ap (λ q. option_map_or (λ (p : Pool). is_automatic_kind p.kind) q false) e ∙ of_not (is_automatic_kind p.kind) parts.0;
-          some_words = subst (λ body. 1 ≤ Rattle.mps_model.specs.Graph.size_of_body body) (sym same) least;
+          some_words = subst (λ body. 1 ≤ size_of_body body) (sym same) least;
         }
     of_pool : (q : Option Pool) → pool_at w o.pool ≡ q → option_map_or (λ p. is_right_body w p o.body) q false ≡ true → IsManual w o
     of_pool None e g = absurd (false≢true g)
@@ -230,8 +225,8 @@ module _ (x : Collecting) (run : Running x) (in_order : AreOrdered 1 x.world.seg
     where
       fix : (base : Address) → contains x.running.condemned_segments base ≡ false → option_map (giving_back base) x.world.collection ≡ x.world.collection
       fix base outside = ap (option_map (giving_back base)) run.runs
-          ∙ (ap (λ b. Some (if b then Rattle.mps_model.specs.Effect.reclaiming base (record x.running {
-            condemned_segments = Rattle.mps_model.specs.Graph.without_first x.running.condemned_segments base;
+          ∙ (ap (λ b. Some (if b then reclaiming base (record x.running {
+            condemned_segments = without_first x.running.condemned_segments base;
           }) else x.running)) outside ∙ sym run.runs)
 
   pub give_back_keeps : (o : Option Segment) → ((s : Segment) → o ≡ Some s → IsAmong s x.world.segments)
@@ -264,8 +259,8 @@ module _ (x : Collecting) (run : Running x) (formed : IsWellFormed x.world) wher
       at = address_or_null x.world id
       leads : world_after_moves x.world (free_at (address_or_null x.world id)) ≡ with_address x.world id None
       leads = ap (λ found. where_one x.world found (λ n. after_free x.world n (address_or_null x.world id))) (id_at-live x.world id run.different live)
-          ∙ ap (λ b. if b then Rattle.mps_model.specs.Effect.with_collection (with_address x.world id None)
-              (Rattle.mps_model.specs.Effect.reclaiming (Rattle.mps_model.specs.Effect.segment_base_of x.world (address_or_null x.world id)))
+          ∙ ap (λ b. if b then with_collection (with_address x.world id None)
+              (reclaiming (segment_base_of x.world (address_or_null x.world id)))
               else with_address x.world id None) manual
 
   -- the moves of a free

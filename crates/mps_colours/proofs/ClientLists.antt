@@ -1,8 +1,8 @@
 -- What the client's lists have after something was written into them.
-use Rattle.std.proofs.Common.{◌≡◌, ◌∙◌, ◌⊎◌, ℕ, zero, suc, Bool, true, false, refl, sym, ap, List, [], ◌∷◌, ◌++◌, map, Option, Some, None, subst, inl, inr}
-use Rattle.std.proofs.lemmas.Bool.{false≢true, eq-eqb, or_left}
+use Rattle.std.proofs.Common.{◌≡◌, ◌∙◌, ◌⊎◌, ℕ, zero, suc, ◌+◌, true, false, refl, sym, ap, List, [], ◌∷◌, length, map, arith, Option, Some, None, subst, inl, inr}
+use Rattle.std.proofs.lemmas.Bool.{false≢true}
 use Rattle.std.proofs.lemmas.Option.{none-some, same_Some}
-use Rattle.std.specs.Prelude.{◌==◌, ◌||◌, slice_get, slice_set, replicate}
+use Rattle.std.specs.Prelude.{slice_get, slice_set, replicate}
 use Rattle.std.specs.List.{flat_map}
 use Rattle.mps_model.specs.Graph.{contains, entries, entry_at, with_last}
 use Rattle.mps_colours.proofs.Lists.{contains_here, contains_later, contains_cases, contains_append, contains_left, contains_right}
@@ -96,3 +96,34 @@ map-slice_get f (y ∷ ys) (suc i) x e = map-slice_get f ys i x e
 pub map-replicate : {X Y : Type 0} (f : X → Y) (count : ℕ) (x : X) → map f (replicate count x) ≡ replicate count (f x)
 map-replicate f zero x = refl
 map-replicate f (suc count) x = ap (λ rest. f x ∷ rest) (map-replicate f count x)
+
+-- ---- lists with one more
+
+pub length_last : {X : Type 0} (xs : List X) (x : X) → length (with_last xs x) ≡ length xs + 1
+length_last [] x = refl
+length_last (y ∷ ys) x = ap suc (length_last ys x) ∙ (let e : suc (length ys + 1) ≡ suc (length ys) + 1 = omega arith in e)
+
+-- what stands in it
+pub last_cases : {X : Type 0} (xs : List X) (x : X) (i : ℕ) (y : X) → slice_get (with_last xs x) i ≡ Some y
+    → (slice_get xs i ≡ Some y) ⊎ ((i ≡ length xs) × (x ≡ y))
+last_cases [] x zero y e = inr (refl, same_Some x y e)
+last_cases [] x (suc i) y e = absurd (none-some y e)
+last_cases (z ∷ zs) x zero y e = inl e
+last_cases (z ∷ zs) x (suc i) y e = elim (last_cases zs x i y e) [ inl old ↦ inl old | inr new ↦ inr (ap suc new.0, new.1) ]
+
+pub entry_last_cases : {X : Type 0} (xs : List (Option X)) (x : Option X) (i : ℕ) (y : X) → entry_at (with_last xs x) i ≡ Some y
+    → (entry_at xs i ≡ Some y) ⊎ ((i ≡ length xs) × (x ≡ Some y))
+entry_last_cases [] x zero y e = inr (refl, e)
+entry_last_cases [] x (suc i) y e = absurd (none-some y e)
+entry_last_cases (z ∷ zs) x zero y e = inl e
+entry_last_cases (z ∷ zs) x (suc i) y e = elim (entry_last_cases zs x i y e) [ inl old ↦ inl old | inr new ↦ inr (ap suc new.0, new.1) ]
+
+pub entry_last : {X : Type 0} (xs : List (Option X)) (x : Option X) (i : ℕ) (y : X) → entry_at xs i ≡ Some y → entry_at (with_last xs x) i ≡ Some y
+entry_last [] x i y e = absurd (none-some y e)
+entry_last (z ∷ zs) x zero y e = e
+entry_last (z ∷ zs) x (suc i) y e = entry_last zs x i y e
+
+pub entry_of_last : {X : Type 0} (xs : List (Option X)) (x : X) → entry_at (with_last xs (Some x)) (length xs) ≡ Some x
+entry_of_last [] x = refl
+entry_of_last (z ∷ zs) x = entry_of_last zs x
+

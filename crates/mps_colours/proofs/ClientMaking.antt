@@ -1,60 +1,26 @@
 -- Objects made and freed, segments taken and given back, by calls of the client.
-use Rattle.std.proofs.Common.{◌≡◌, ◌∙◌, ◌⊎◌, ℕ, zero, suc, ◌+◌, ◌*◌, ◌/◌, ◌<◌, ◌≤◌, Bool, true, false, refl, sym, ap, List, [], ◌∷◌, ◌++◌, length, Option, Some, None, subst, inl, inr, arith}
-use Rattle.std.proofs.lemmas.Bool.{false≢true, true≢false, eqb-true, cases_Bool, ne_eqb}
+use Rattle.std.proofs.Common.{◌≡◌, ◌∙◌, ◌⊎◌, ◌<◌, ◌≤◌, Bool, true, false, refl, sym, ap, List, [], ◌∷◌, length, Option, Some, None, subst, inl, inr, arith}
+use Rattle.std.proofs.lemmas.Bool.{false≢true, eqb-true, cases_Bool}
 use Rattle.std.proofs.lemmas.Option.{none-some, same_Some}
-use Rattle.std.specs.Prelude.{◌==◌, not, if◌then◌else◌, is_some, find, filter, nat_lt, slice_get, slice_set, IsTrue}
-use Rattle.std.specs.List.{list_any}
+use Rattle.std.specs.Prelude.{◌==◌, not, if◌then◌else◌, is_some, find, nat_lt, slice_get, slice_set, IsTrue}
 use Rattle.std.specs.Option.{option_map_or}
 use Rattle.mps_base.specs.Address.{Id, Address}
 use Rattle.mps_base.specs.Segment.{Segment, is_in_segment, segment_over, with_segment, without_segment}
-use Rattle.mps_model.specs.Graph.{Graph, Object, contains, entry_at, object_at, targets, targets_of, is_automatic, is_weak_object, ids_of_client, with_last, size_of}
-use Rattle.mps_model.specs.Collection.{Collection, is_condemned}
-use Rattle.mps_model.specs.World.{World, Tail, is_live, segment_at, object_is, is_copying_pool, is_copying_object, is_automatic_kind, pool_is, begins_in, extent, extents_of, reserved_extents}
+use Rattle.mps_model.specs.Graph.{Object, contains, entry_at, object_at, targets, targets_of, is_automatic, is_weak_object, ids_of_client, with_last, size_of}
+use Rattle.mps_model.specs.Collection.{is_condemned}
+use Rattle.mps_model.specs.World.{World, Tail, is_live, segment_at, is_copying_pool, is_automatic_kind, pool_is, begins_in, extent, extents_of, reserved_extents}
 use Rattle.mps_model.specs.Effect.{segment_base_of}
-use Rattle.mps_model.specs.LegalMove.{ForOne, holds_something}
 use Rattle.mps_colours.specs.Colours.{AreDifferent}
 use Rattle.mps_colours.specs.Collecting.{Collecting, Running, is_white_in}
-use Rattle.mps_colours.proofs.Lists.{index_below, entry_below, entry_at-set_cases, entry_at-set_other}
+use Rattle.mps_colours.proofs.Lists.{index_below, entry_that_is, entry_at-set_cases, entry_at-set_other}
 use Rattle.mps_colours.proofs.Sweeping.{contains-above}
 use Rattle.mps_colours.proofs.KeptRunning.{one_that_is}
 use Rattle.mps_colours.proofs.HeldSegments.{AreOrdered, IsAmong, over_among, held_among}
+use Rattle.mps_colours.proofs.ClientLists.{length_last, last_cases, entry_last_cases, entry_last, entry_of_last}
 use Rattle.mps_colours.proofs.ClientThings.{slice_get-last}
 use Rattle.mps_colours.proofs.ClientChange.{IsChange, IsUsed, change_keeps}
 use Rattle.mps_colours.proofs.ClientCovered.{holds_still, any_cases, any_left, any_right, extents_last, extents_freed}
-
--- ---- lists with one more
-
-length_last : {X : Type 0} (xs : List X) (x : X) → length (with_last xs x) ≡ length xs + 1
-length_last [] x = refl
-length_last (y ∷ ys) x = ap suc (length_last ys x) ∙ (let e : suc (length ys + 1) ≡ suc (length ys) + 1 = omega arith in e)
-
--- what stands in it
-last_cases : {X : Type 0} (xs : List X) (x : X) (i : ℕ) (y : X) → slice_get (with_last xs x) i ≡ Some y
-    → (slice_get xs i ≡ Some y) ⊎ ((i ≡ length xs) × (x ≡ y))
-last_cases [] x zero y e = inr (refl, same_Some x y e)
-last_cases [] x (suc i) y e = absurd (none-some y e)
-last_cases (z ∷ zs) x zero y e = inl e
-last_cases (z ∷ zs) x (suc i) y e = elim (last_cases zs x i y e) [ inl old ↦ inl old | inr new ↦ inr (ap suc new.0, new.1) ]
-
-pub entry_last_cases : {X : Type 0} (xs : List (Option X)) (x : Option X) (i : ℕ) (y : X) → entry_at (with_last xs x) i ≡ Some y
-    → (entry_at xs i ≡ Some y) ⊎ ((i ≡ length xs) × (x ≡ Some y))
-entry_last_cases [] x zero y e = inr (refl, e)
-entry_last_cases [] x (suc i) y e = absurd (none-some y e)
-entry_last_cases (z ∷ zs) x zero y e = inl e
-entry_last_cases (z ∷ zs) x (suc i) y e = elim (entry_last_cases zs x i y e) [ inl old ↦ inl old | inr new ↦ inr (ap suc new.0, new.1) ]
-
-entry_last : {X : Type 0} (xs : List (Option X)) (x : Option X) (i : ℕ) (y : X) → entry_at xs i ≡ Some y → entry_at (with_last xs x) i ≡ Some y
-entry_last [] x i y e = absurd (none-some y e)
-entry_last (z ∷ zs) x zero y e = e
-entry_last (z ∷ zs) x (suc i) y e = entry_last zs x i y e
-
-pub entry_of_last : {X : Type 0} (xs : List (Option X)) (x : X) → entry_at (with_last xs (Some x)) (length xs) ≡ Some x
-entry_of_last [] x = refl
-entry_of_last (z ∷ zs) x = entry_of_last zs x
-
-some_of : {X : Type 0} (o : Option X) → is_some o ≡ true → (x : X) × (o ≡ Some x)
-some_of None h = absurd (false≢true h)
-some_of (Some x) h = (x, refl)
+use Rattle.mps_colours.proofs.Keeping.{not_white_outside}
 
 -- an object that passes a test passes it still
 still_passes : (test : Object → Bool) (os : List Object) (o : Object) (id : Id) → option_map_or test (slice_get os id) false ≡ true
@@ -150,7 +116,7 @@ module _ (x : Collecting) (run : Running x) where
 
     was_live : (id : Id) → is_live made id ≡ true → (is_live w id ≡ true) ⊎ (length w.graph.objects ≤ id)
     was_live id h =
-        let some = some_of (entry_at (with_last w.addresses (Some at)) id) h in
+        let some = entry_that_is (entry_at (with_last w.addresses (Some at)) id) h in
         elim (entry_last_cases w.addresses (Some at) id some.0 some.1) [
           inl old ↦ inl (ap is_some old)
           | inr new ↦ inr (let e = new.0 in omega (arith, e, as_many))
@@ -158,7 +124,7 @@ module _ (x : Collecting) (run : Running x) where
 
     live_now : (id : Id) → is_live w id ≡ true → is_live made id ≡ true
     live_now id h =
-        let some = some_of (entry_at w.addresses id) h in
+        let some = entry_that_is (entry_at w.addresses id) h in
         ap is_some (entry_last w.addresses (Some at) id some.0 some.1)
 
     made_refers : (id t : Id) → is_live made id ≡ true → contains (targets made.graph id) t ≡ true
@@ -204,7 +170,7 @@ module _ (x : Collecting) (run : Running x) where
 
     -- it isn't white
     pub made_black : is_white_in x (length w.graph.objects) ≡ false
-    made_black = Rattle.mps_colours.proofs.Keeping.not_white_outside x.running.condemned x.colours (length w.graph.objects)
+    made_black = not_white_outside x.running.condemned x.colours (length w.graph.objects)
         (elim (cases_Bool (is_condemned x.running (length w.graph.objects))) [
           inl is ↦ absurd (let there = condemned_there (length w.graph.objects) is in omega (arith, there))
           | inr isnt ↦ isnt
@@ -230,7 +196,7 @@ module _ (x : Collecting) (run : Running x) where
 
     live_before : (id : Id) → is_live freed id ≡ true → is_live w id ≡ true
     live_before id h =
-        let some = some_of (entry_at (slice_set w.addresses n None) id) h in
+        let some = entry_that_is (entry_at (slice_set w.addresses n None) id) h in
         ap is_some (address_before id some.0 some.1)
 
     freed_change : IsChange x freed

@@ -1,27 +1,25 @@
 -- The calls that write into objects and manual blocks.
-use Rattle.std.proofs.Common.{◌≡◌, ◌∙◌, ◌⊎◌, ℕ, ◌<◌, ◌≤◌, Bool, true, false, refl, sym, ap, List, [], ◌∷◌, ◌++◌, length, Option, Some, None, subst, inl, inr, arith}
-use Rattle.std.proofs.lemmas.Bool.{false≢true, cases_eq}
-use Rattle.std.proofs.lemmas.Option.{none-some, same_Some}
-use Rattle.std.specs.Prelude.{Result, Ok, Err, slice_get, slice_set}
+use Rattle.std.proofs.Common.{◌≡◌, ◌∙◌, ◌⊎◌, ℕ, true, false, refl, sym, ap, List, [], ◌++◌, length, Option, Some, None, subst, inl, inr, arith}
+use Rattle.std.proofs.lemmas.Bool.{cases_eq}
+use Rattle.std.proofs.lemmas.Option.{none-some}
+use Rattle.std.specs.Prelude.{slice_get, slice_set}
 use Rattle.std.specs.List.{list_any}
 use Rattle.std.specs.Option.{option_map_or}
-use Rattle.mps_base.specs.Address.{Id, Address}
-use Rattle.mps_base.specs.Segment.{Segment}
+use Rattle.mps_base.specs.Address.{Id}
 use Rattle.mps_base.specs.declared.names.Slot.{Slot}
 use Rattle.mps_base.specs.declared.refusal.Refusal.TheVariants as refusal
-use Rattle.mps_model.specs.Graph.{Graph, Object, Body, Automatic, Manual, Cell, NumberCell, contains, object_at, targets, targets_of, targets_of_cells, targets_of_body, is_automatic, is_automatic_body, is_weak_object, is_weak_body, size_of, size_of_body, ids_of_client, body_with_cells, object_with_cells, graph_with_cells, with_target_cell, entry_at}
-use Rattle.mps_model.specs.World.{World, is_copying_pool, begins_in, extents_of, reserved_extents}
-use Rattle.mps_model.specs.LegalMove.{holds_something}
-use Rattle.mps_model.specs.Checked.{Act, Checked, Found, Numbered, ◌>>=◌, ◌>>◌, required, done, slot_in, block_place_in, object_in, cells_of_body, number_at, reference_at, with_graph}
+use Rattle.mps_model.specs.Graph.{Object, Body, Automatic, Manual, Cell, NumberCell, contains, object_at, targets, targets_of, targets_of_cells, targets_of_body, is_automatic, is_automatic_body, is_weak_object, is_weak_body, size_of, size_of_body, ids_of_client, body_with_cells, object_with_cells, graph_with_cells, with_target_cell}
+use Rattle.mps_model.specs.World.{World, is_copying_pool, begins_in, reserved_extents}
+use Rattle.mps_model.specs.Checked.{◌>>=◌, ◌>>◌, required, done, slot_in, block_place_in, object_in, cells_of_body, number_at, reference_at, with_graph}
 use Rattle.mps_model.specs.Allocating.{block_in, words_at, body_with_word, graph_with_word, act_store}
 use Rattle.mps_model.specs.Accessing.{act_put, act_set_number}
 use Rattle.mps_model.specs.Reply.{world_from}
 use Rattle.mps_colours.specs.Collecting.{Collecting, Running}
 use Rattle.mps_colours.proofs.Lists.{slice_get-set_same, slice_get-set_other, index_below}
-use Rattle.mps_colours.proofs.ClientChange.{IsChange, IsUsed, change_keeps}
+use Rattle.mps_colours.proofs.ClientChange.{IsChange, change_keeps}
 use Rattle.mps_colours.proofs.ClientCells.{length_set, length_with_target, targets_written, targets_retargeted}
 use Rattle.mps_colours.proofs.ClientCovered.{holds_still, extents_same}
-use Rattle.mps_colours.proofs.ClientBeside.{bind_keeps, then_keeps, same_Ok, not_Ok, slot_found, slot_held}
+use Rattle.mps_colours.proofs.ClientBeside.{bind_keeps, then_keeps, slot_found, slot_held}
 
 -- an object as it was, but for what it refers to and for its numbers
 pub record IsRewritten (held : Id → Type 0) (o q : Object) : Type 0 where

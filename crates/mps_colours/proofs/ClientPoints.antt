@@ -1,21 +1,19 @@
 -- The calls on allocation points: made and dropped, reservations made, written and ended.
-use Rattle.std.proofs.Common.{◌≡◌, ◌∙◌, ◌⊎◌, ℕ, ◌<◌, Bool, true, false, refl, sym, ap, List, [], ◌∷◌, ◌++◌, length, Option, Some, None, subst, inl, inr}
+use Rattle.std.proofs.Common.{◌≡◌, ◌∙◌, ◌⊎◌, ℕ, Bool, true, false, refl, sym, ap, List, [], ◌∷◌, length, Option, Some, None, inl, inr}
 use Rattle.std.proofs.lemmas.Bool.{false≢true, true≢false}
 use Rattle.std.proofs.lemmas.Option.{none-some, same_Some}
-use Rattle.std.specs.Prelude.{Result, Ok, Err, slice_get, slice_set, is_some, if◌then◌else◌, not, nat_le}
+use Rattle.std.specs.Prelude.{Ok, slice_get, slice_set, is_some, if◌then◌else◌, not}
 use Rattle.std.specs.List.{flat_map, list_any}
 use Rattle.std.specs.Option.{option_map_or}
 use Rattle.mps_base.specs.Address.{Id, Address}
 use Rattle.mps_base.specs.Run.{Run}
-use Rattle.mps_base.specs.Segment.{Segment}
 use Rattle.mps_base.specs.declared.names.Name.{Name}
 use Rattle.mps_base.specs.declared.names.Rank.{Rank}
 use Rattle.mps_base.specs.declared.names.Slot.{Slot}
 use Rattle.mps_base.specs.declared.refusal.Refusal.TheVariants as refusal
-use Rattle.mps_model.specs.Graph.{Graph, Point, Reservation, NumberCell, Cell, PointThing, NamedThing, contains, entry_at, with_last, with_target_cell, targets_of_cells, targets_of_point, targets_of_reservation, without_name, ids_of_client, ids_in_reservations, ids_in_slots, ids_in_holds}
-use Rattle.mps_model.specs.World.{World, PointMemory, Pool, begins_in, extent, extents_of, extent_of_reservation, reserved_extents, segment_at, empty_run}
-use Rattle.mps_model.specs.LegalMove.{holds_something}
-use Rattle.mps_model.specs.Checked.{Act, Checked, Found, Numbered, ◌>>=◌, ◌>>◌, required, refuse_when, done, says, point_named, pool_named, slot_in, number_at, reference_at, with_graph, named}
+use Rattle.mps_model.specs.Graph.{Point, Reservation, NumberCell, Cell, PointThing, NamedThing, contains, entry_at, with_last, with_target_cell, targets_of_cells, targets_of_point, targets_of_reservation, without_name, ids_of_client, ids_in_reservations, ids_in_slots, ids_in_holds}
+use Rattle.mps_model.specs.World.{World, PointMemory, begins_in, extent, extents_of, extent_of_reservation, reserved_extents, empty_run}
+use Rattle.mps_model.specs.Checked.{Numbered, ◌>>=◌, ◌>>◌, required, refuse_when, done, point_named, pool_named, slot_in, number_at, reference_at, with_graph}
 use Rattle.mps_model.specs.Making.{act_point, act_drop_point, with_point, without_point, refuse_taken, refuse_at_limit, live_points, most_points, may_have_point}
 use Rattle.mps_model.specs.Allocating.{with_reservation, with_reserved, with_reserved_cells, buffer_after, act_init_number, act_init_reference}
 use Rattle.mps_model.specs.Reply.{world_from}
@@ -23,8 +21,13 @@ use Rattle.mps_colours.specs.Collecting.{Collecting, Running}
 use Rattle.mps_colours.proofs.Lists.{slice_get-set_same, index_below}
 use Rattle.mps_colours.proofs.ClientLists.{among_all, written_among, last_among, entry_is}
 use Rattle.mps_colours.proofs.ClientCells.{length_set, length_with_target, targets_written, targets_retargeted}
-use Rattle.mps_colours.proofs.ClientCovered.{holds_still, any_cases, any_left, any_right, extent_at_point, PassesAt, reserved_written, reserved_point_written, reserved_at_point, reserved_last}
-use Rattle.mps_colours.proofs.ClientBeside.{beside, beside_keeps, IsRightlyHeld, IsHeldIn, in_slots, in_holds, in_messages, in_reservations, held_where, held_so, bind_keeps, then_keeps, refuse_keeps, slot_found, slot_held, point_found}
+use Rattle.mps_colours.proofs.ClientCovered.{holds_still, any_cases, any_left, any_right, extent_at_point, reserved_written, reserved_point_written, reserved_at_point, reserved_last}
+use Rattle.mps_colours.proofs.ClientBeside.{beside_keeps, IsRightlyHeld, IsHeldIn, in_slots, in_holds, in_messages, in_reservations, held_where, held_so, bind_keeps, then_keeps, refuse_keeps, same_Ok, not_Ok, slot_found, slot_held, point_found}
+
+-- an open reservation
+pub open_is : (o : Option Reservation) (r : Reservation) → required o refusal.NotOpen ≡ Ok r → o ≡ Some r
+open_is None r e = absurd (not_Ok refusal.NotOpen r e)
+open_is (Some q) r e = ap Some (same_Ok q r e)
 
 module _ (x : Collecting) (run : Running x) where
   abbrev w : World
@@ -225,14 +228,6 @@ module _ (x : Collecting) (run : Running x) where
         of_doomed true e = run
         of_doomed false e = written_keeps e
 
-  open_reservation : (point : Numbered Point) (r : Reservation) → required point.value.reservation refusal.NotOpen ≡ Ok r
-      → point.value.reservation ≡ Some r
-  open_reservation point r h = of_option point.value.reservation h
-    where
-      of_option : (o : Option Reservation) → required o refusal.NotOpen ≡ Ok r → o ≡ Some r
-      of_option None e = absurd (Rattle.mps_colours.proofs.ClientBeside.not_Ok refusal.NotOpen r e)
-      of_option (Some q) e = ap Some (Rattle.mps_colours.proofs.ClientBeside.same_Ok q r e)
-
   pub init_number_keeps : (name : Name) (k value : ℕ) → P (world_from w (act_init_number w name k value))
   init_number_keeps name k value =
       bind_keeps P w (point_named w name) (λ point. required point.value.reservation refusal.NotOpen
@@ -240,7 +235,7 @@ module _ (x : Collecting) (run : Running x) where
       (λ point e. bind_keeps P w (required point.value.reservation refusal.NotOpen)
         (λ r. number_at r.cells k >> done (with_reserved_cells w point r (slice_set r.cells k (NumberCell value)))) run
         (λ r f. then_keeps P w (number_at r.cells k) (done (with_reserved_cells w point r (slice_set r.cells k (NumberCell value)))) run
-          (cells_keep point (point_found w name point e) r (open_reservation point r f) (slice_set r.cells k (NumberCell value))
+          (cells_keep point (point_found w name point e) r (open_is point.value.reservation r f) (slice_set r.cells k (NumberCell value))
             (length_set r.cells k (NumberCell value))
             (λ id h. elim (targets_written r.cells k (NumberCell value) id h) [ inl old ↦ inl old | inr none ↦ absurd (none-some id none) ]))))
 
@@ -253,7 +248,7 @@ module _ (x : Collecting) (run : Running x) where
         (λ from g. bind_keeps P w (required point.value.reservation refusal.NotOpen)
           (λ r. reference_at r.cells k >> done (with_reserved_cells w point r (with_target_cell r.cells k from.value))) run
           (λ r f. then_keeps P w (reference_at r.cells k) (done (with_reserved_cells w point r (with_target_cell r.cells k from.value))) run
-            (cells_keep point (point_found w name point e) r (open_reservation point r f) (with_target_cell r.cells k from.value)
+            (cells_keep point (point_found w name point e) r (open_is point.value.reservation r f) (with_target_cell r.cells k from.value)
               (length_with_target r.cells k from.value)
               (λ id h. elim (targets_retargeted r.cells k from.value id h) [
                 inl old ↦ inl old

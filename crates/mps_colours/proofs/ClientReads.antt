@@ -1,17 +1,15 @@
 -- A get: what the client reads after a read barrier. No move of a collection changes a table or a name.
-use Rattle.std.proofs.Common.{◌≡◌, ◌∙◌, ◌⊎◌, ℕ, Bool, true, false, refl, sym, ap, List, [], ◌∷◌, map, Option, Some, None, subst, inl, inr}
-use Rattle.std.proofs.lemmas.Bool.{false≢true}
-use Rattle.std.proofs.lemmas.Option.{none-some, same_Some}
-use Rattle.std.specs.Prelude.{Result, Ok, Err, slice_get, if◌then◌else◌, option_and_then}
+use Rattle.std.proofs.Common.{◌≡◌, ◌∙◌, ℕ, Bool, true, false, refl, ap, List, [], ◌∷◌, map, Option, Some, None, subst, inr}
+use Rattle.std.specs.Prelude.{Ok, slice_get, if◌then◌else◌, option_and_then}
 use Rattle.std.specs.Option.{option_map_or}
-use Rattle.mps_base.specs.Address.{Id, Address}
+use Rattle.mps_base.specs.Address.{Id}
 use Rattle.mps_base.specs.Segment.{Segment, words_of_segment}
 use Rattle.mps_base.specs.declared.moves.Move.{Move}
 use Rattle.mps_base.specs.declared.moves.Move.TheVariants as moves
 use Rattle.mps_base.specs.declared.names.Slot.{Slot}
 use Rattle.mps_base.specs.declared.refusal.Refusal.TheVariants as refusal
-use Rattle.mps_model.specs.Graph.{Graph, Cell, HeadCell, NumberCell, ReferenceCell, Body, Automatic, Manual, Object, NamedThing, Slots, contains, entry_at, thing_in, object_at, targets, targets_of, targets_of_body, targets_of_cells, target_of_cell, is_automatic}
-use Rattle.mps_model.specs.World.{World, is_copying_pool, with_tail, id_at, object_is}
+use Rattle.mps_model.specs.Graph.{Cell, HeadCell, NumberCell, ReferenceCell, Body, Automatic, Manual, Object, NamedThing, Slots, contains, entry_at, thing_in, object_at, targets, targets_of, targets_of_body, targets_of_cells, target_of_cell, is_automatic}
+use Rattle.mps_model.specs.World.{World, is_copying_pool, with_tail, id_at, object_is, is_live}
 use Rattle.mps_model.specs.Checked.{Act, Checked, Found, Numbered, ◌>>=◌, ◌>>◌, required, done, slot_in, numbered, entry_in, as_table, object_in, cells_of_body, reference_at, reference_in, with_graph}
 use Rattle.mps_model.specs.Allocating.{with_slot}
 use Rattle.mps_model.specs.Accessing.{act_get}
@@ -123,7 +121,7 @@ module _ (x : Collecting) (run : Running x) (judged : World) (tables : HasTables
 
   read_right : (from : Found (Option ℕ)) (now : Numbered Object) (reference : Option ℕ) → slot_in x.world source ≡ Ok from
       → object_in x.world from.value ≡ Ok now → reference_at (cells_of_body now.value.body) k ≡ Ok reference → (id : Id) → reference ≡ Some id
-      → (Rattle.mps_model.specs.World.is_live x.world id ≡ true) × (is_white_in x id ≡ false)
+      → (is_live x.world id ≡ true) × (is_white_in x id ≡ false)
   read_right from now reference e f g id is =
       let it = object_found x.world from.value now f in
       let refers = ap (λ o. contains (option_map_or targets_of o []) id) (object_value x.world from.value now f)

@@ -1,24 +1,23 @@
 -- Registrations made and taken away by the client, and what is remembered of what it holds.
 use Rattle.std.proofs.Common.{◌≡◌, ◌∙◌, ◌⊎◌, ℕ, zero, suc, ◌+◌, ◌-◌, ◌<◌, ◌≤◌, Bool, true, false, refl, sym, ap, List, [], ◌∷◌, ◌++◌, length, Option, Some, None, subst, inl, inr, arith}
-use Rattle.std.proofs.lemmas.Bool.{false≢true, or_cases, or_left, or_right, eqb-true, cases_Bool, cases_lt, lt-ltb, le-ltb, ltb-true, ltb-false}
+use Rattle.std.proofs.lemmas.Bool.{false≢true, or_cases, or_left, or_right, eqb-true, cases_lt, lt-ltb, le-ltb, eq-eqb}
 use Rattle.std.proofs.lemmas.Option.{none-some, same_Some}
-use Rattle.std.specs.Prelude.{◌==◌, ◌||◌, if◌then◌else◌, slice_get, option_map, nat_lt, nat_le, Result, Ok, Err}
+use Rattle.std.specs.Prelude.{◌==◌, ◌||◌, if◌then◌else◌, slice_get, option_map, nat_le}
 use Rattle.mps_base.specs.Address.{Id}
 use Rattle.mps_base.specs.declared.names.Slot.{Slot}
-use Rattle.mps_base.specs.declared.refusal.Refusal.{Refusal}
 use Rattle.mps_base.specs.declared.refusal.Refusal.TheVariants as refusal
-use Rattle.mps_model.specs.Graph.{Graph, contains, position_of_first, without_first, with_last, ids_of_client}
+use Rattle.mps_model.specs.Graph.{contains, position_of_first, without_first, with_last, ids_of_client}
 use Rattle.mps_model.specs.Collection.{Collection, is_settled}
 use Rattle.mps_model.specs.World.{World, is_live}
-use Rattle.mps_model.specs.Checked.{Act, Checked, Found, Numbered, ◌>>=◌, ◌>>◌, required, refuse_when, done, slot_in, object_in, with_graph}
-use Rattle.mps_model.specs.Collecting.{act_finalize, act_definalize, without_position, without_registration, most_registrations}
+use Rattle.mps_model.specs.Checked.{◌>>=◌, ◌>>◌, refuse_when, done, slot_in, object_in, with_graph}
+use Rattle.mps_model.specs.Collecting.{act_finalize, without_position, without_registration, most_registrations}
 use Rattle.mps_model.specs.History.{remembering, with_client_remembered}
 use Rattle.mps_model.specs.Reply.{world_from}
-use Rattle.mps_colours.specs.Colours.{is_white, AreSettled, AreSurvivors}
 use Rattle.mps_colours.specs.Collecting.{Collecting, Running, AreExamined, is_white_in}
 use Rattle.mps_colours.proofs.Lists.{contains_append, contains_cases, index_below}
 use Rattle.mps_colours.proofs.Registrations.{StandsFirst, contains-without_first, length-without_first, slice_get-without_before, slice_get-without_after}
-use Rattle.mps_colours.proofs.ClientBeside.{bind_keeps, refuse_keeps, same_Ok, not_Ok, slot_found, slot_held}
+use Rattle.mps_colours.proofs.ClientBeside.{bind_keeps, refuse_keeps, slot_found, slot_held}
+use Rattle.mps_colours.proofs.ClientLists.{length_last, last_cases}
 use Rattle.mps_colours.proofs.ClientRoots.{object_found}
 
 -- ---- where a number first stands
@@ -31,7 +30,7 @@ first_later x xs n q position other s e =
     })
   where
     not_so : (before : ℕ) → before < suc q → slice_get (x ∷ xs) before ≡ Some n → ⊥
-    not_so zero less there = false≢true (sym other ∙ Rattle.std.proofs.lemmas.Bool.eq-eqb x n (same_Some x n there))
+    not_so zero less there = false≢true (sym other ∙ eq-eqb x n (same_Some x n there))
     not_so (suc before) less there = s.not_before before (omega (arith, less)) there
 
 pub first_stands : (xs : List ℕ) (n position : ℕ) → position_of_first xs n ≡ Some position → StandsFirst xs n position
@@ -49,18 +48,6 @@ first_stands (x ∷ xs) n position e = of_test (x == n) refl (λ q h. first_stan
       not_before = λ before less there. absurd (omega (arith, less));
     })
     of_test false other each g = of_rest other (position_of_first xs n) each g
-
--- ---- one more at the end
-
-at_last : (xs : List ℕ) (x i n : ℕ) → slice_get (with_last xs x) i ≡ Some n → (slice_get xs i ≡ Some n) ⊎ ((i ≡ length xs) × (x ≡ n))
-at_last [] x zero n e = inr (refl, same_Some x n e)
-at_last [] x (suc i) n e = absurd (none-some n e)
-at_last (y ∷ ys) x zero n e = inl e
-at_last (y ∷ ys) x (suc i) n e = elim (at_last ys x i n e) [ inl old ↦ inl old | inr new ↦ inr (ap suc new.0, new.1) ]
-
-length_last : (xs : List ℕ) (x : ℕ) → length (with_last xs x) ≡ length xs + 1
-length_last [] x = refl
-length_last (y ∷ ys) x = ap suc (length_last ys x) ∙ (let e : suc (length ys + 1) ≡ suc (length ys) + 1 = omega arith in e)
 
 -- ---- one less, by numbers
 
@@ -137,7 +124,7 @@ module _ (x : Collecting) (run : Running x) where
         from = run.examined.from;
         up_to = run.examined.up_to;
         existing = let h = run.examined.existing in let e = length_last w.graph.registered id in omega (arith, h, e);
-        examined = λ position n there part. elim (at_last w.graph.registered id position n there) [
+        examined = λ position n there part. elim (last_cases w.graph.registered id position n there) [
           inl old ↦ run.examined.examined position n old part
           | inr new ↦ subst (λ m. is_white_in x m ≡ false) new.1 (run.coloured.held id held)
         ];

@@ -1,31 +1,28 @@
 -- A reserve: the segment that it takes for itself, and its reservation.
-use Rattle.std.proofs.Common.{◌≡◌, ◌∙◌, ◌⊎◌, ℕ, zero, suc, Bool, true, false, refl, sym, ap, List, [], ◌∷◌, ◌++◌, length, Option, Some, None, subst, inl, inr}
-use Rattle.std.proofs.lemmas.Bool.{false≢true, true≢false}
+use Rattle.std.proofs.Common.{◌≡◌, ◌∙◌, ℕ, zero, suc, Bool, true, false, refl, sym, ap, List, [], ◌∷◌, ◌++◌, length, Option, Some, None, subst, inl, inr}
 use Rattle.std.proofs.lemmas.Option.{none-some, same_Some}
-use Rattle.std.specs.Prelude.{Result, Ok, Err, slice_get, slice_set, is_some, not, if◌then◌else◌, option_and_then}
-use Rattle.std.specs.List.{list_any, flat_map}
+use Rattle.std.specs.Prelude.{Ok, Err, slice_get, slice_set, is_some, not, if◌then◌else◌, option_and_then}
+use Rattle.std.specs.List.{list_any}
 use Rattle.std.specs.Option.{option_map_or}
-use Rattle.mps_base.specs.Address.{Id, Address}
 use Rattle.mps_base.specs.Run.{Run}
 use Rattle.mps_base.specs.Segment.{Segment, with_segment, words_of_segment}
 use Rattle.mps_base.specs.declared.moves.Move.{Move}
 use Rattle.mps_base.specs.declared.moves.Move.TheVariants as moves
 use Rattle.mps_base.specs.declared.names.Name.{Name}
 use Rattle.mps_base.specs.declared.refusal.Refusal.TheVariants as refusal
-use Rattle.mps_model.specs.Graph.{Graph, Point, Reservation, contains, entry_at, thing_in, targets_of_cells, targets_of_point, new_cells}
+use Rattle.mps_model.specs.Graph.{Graph, Point, Reservation, contains, entry_at, thing_in, targets_of_cells, new_cells, ids_in_holds, ids_in_reservations, ids_in_slots}
 use Rattle.mps_model.specs.World.{World, PointMemory, Pool, extent_of_reservation, reserved_extents, is_copying_pool, pool_at}
 use Rattle.mps_model.specs.Placement.{ForReserve, placement_of}
 use Rattle.mps_model.specs.Checked.{Act, Checked, Numbered, ◌>>=◌, ◌>>◌, required, refuse_when, done, point_named, numbered, as_point}
 use Rattle.mps_model.specs.Allocating.{Reserving, check_reserve, takes_head, layout_of, refuse_without_place, with_reserved, address_of_placement, act_reserve}
 use Rattle.mps_model.specs.Effect.{holding, segment_of_move}
-use Rattle.mps_model.specs.History.{rank_of_point, with_buffer, with_segment_for_point, after_own_segment, asking}
+use Rattle.mps_model.specs.History.{rank_of_point, with_buffer, after_own_segment, asking}
 use Rattle.mps_model.specs.Reply.{world_from}
 use Rattle.mps_colours.specs.Collecting.{Collecting, Running}
-use Rattle.mps_colours.proofs.HeldSegments.{AreOrdered, IsAmong}
-use Rattle.mps_colours.proofs.ClientLists.{among_all}
+use Rattle.mps_colours.proofs.HeldSegments.{AreOrdered}
 use Rattle.mps_colours.proofs.ClientCells.{no_targets_yet}
 use Rattle.mps_colours.proofs.ClientCovered.{extent_at_point}
-use Rattle.mps_colours.proofs.ClientBeside.{IsRightlyHeld, held_so, in_reservations, bind_keeps, then_keeps, same_Ok, not_Ok, point_found}
+use Rattle.mps_colours.proofs.ClientBeside.{held_so, in_reservations, bind_keeps, then_keeps, same_Ok, not_Ok, point_found}
 use Rattle.mps_colours.proofs.ClientPoints.{points_keep, with_reserved_keeps}
 use Rattle.mps_colours.proofs.ClientMaking.{segments_keep, among_with}
 
@@ -115,8 +112,8 @@ owned_keeps x run v (owns_segment s memories same) in_order =
     let held = record x { world = record x.world { segments = with_segment s x.world.segments } } in
     points_keep held (segments_keep x run (with_segment s x.world.segments) x.world.tails in_order (λ t h is. among_with s t x.world.segments h))
     x.world.graph.points memories x.world.graph.names
-    (λ id h. inl (held_so (Rattle.mps_model.specs.Graph.ids_in_slots x.world.graph) (Rattle.mps_model.specs.Graph.ids_in_holds x.world.graph)
-      x.world.graph.messages (Rattle.mps_model.specs.Graph.ids_in_reservations x.world.graph) id (in_reservations h)))
+    (λ id h. inl (held_so (ids_in_slots x.world.graph) (ids_in_holds x.world.graph)
+      x.world.graph.messages (ids_in_reservations x.world.graph) id (in_reservations h)))
     (λ p h. inr (ap (list_any p) same ∙ h))
 
 -- ---- what a reserve checks

@@ -1,23 +1,22 @@
 -- The calls that change what the client holds in slots, areas and messages, and those that make and drop tables.
-use Rattle.std.proofs.Common.{◌≡◌, ◌∙◌, ◌⊎◌, ℕ, Bool, true, false, refl, sym, ap, List, [], ◌∷◌, ◌++◌, map, Option, Some, None, subst, inl, inr}
-use Rattle.std.proofs.lemmas.Bool.{false≢true, true≢false, eq-eqb, or_left, cases_Bool}
+use Rattle.std.proofs.Common.{◌≡◌, ◌∙◌, ℕ, Bool, true, false, refl, sym, ap, List, [], ◌∷◌, map, Option, Some, None, subst, inl, inr}
+use Rattle.std.proofs.lemmas.Bool.{false≢true, true≢false}
 use Rattle.std.proofs.lemmas.Option.{none-some, same_Some}
-use Rattle.std.specs.Prelude.{Result, Ok, Err, slice_get, slice_set, replicate, option_and_then, IsTrue, ◌&&◌, ◌||◌, not, if◌then◌else◌, find}
+use Rattle.std.specs.Prelude.{Ok, slice_set, replicate, ◌||◌, not, if◌then◌else◌, find}
 use Rattle.std.specs.List.{flat_map}
-use Rattle.mps_base.specs.Address.{Id, Address}
+use Rattle.mps_base.specs.Address.{Id}
 use Rattle.mps_base.specs.declared.names.Name.{Name}
 use Rattle.mps_base.specs.declared.names.Slot.{Slot}
 use Rattle.mps_base.specs.declared.refusal.Refusal.TheVariants as refusal
-use Rattle.mps_model.specs.Graph.{Graph, Slots, AreaWord, PlainWord, Hold, Thing, ChainThing, PoolThing, TableThing, AreaThing, BlocksThing, PointThing, DependencyThing, TransformThing, CacheThing, Object, contains, entries, entry_at, with_last, held_by_word, slots_of, holds_of, ids_of_client, ids_in_slots, ids_in_holds, ids_in_reservations, object_at, thing_named}
-use Rattle.mps_model.specs.Collection.{Collection, is_condemned, is_settled}
-use Rattle.mps_model.specs.World.{World, is_live, is_copying_object, lies_in, live_ids, block_of_word, object_is}
-use Rattle.mps_model.specs.Checked.{Act, Checked, Found, Numbered, ◌>>=◌, ◌>>◌, required, refuse_when, done, says, slot_in, word_in, object_in, with_graph, named}
+use Rattle.mps_model.specs.Graph.{Slots, AreaWord, PlainWord, Hold, Thing, ChainThing, PoolThing, TableThing, AreaThing, BlocksThing, PointThing, DependencyThing, TransformThing, CacheThing, Object, contains, entries, entry_at, with_last, held_by_word, slots_of, holds_of, ids_of_client, ids_in_slots, ids_in_holds, ids_in_reservations, object_at, thing_named, without_name}
+use Rattle.mps_model.specs.Collection.{is_condemned, is_settled}
+use Rattle.mps_model.specs.World.{World, is_live, is_copying_object, lies_in, live_ids, block_of_word}
+use Rattle.mps_model.specs.Checked.{Found, Numbered, ◌>>=◌, ◌>>◌, required, done, slot_in, word_in, object_in, with_graph}
 use Rattle.mps_model.specs.Allocating.{with_slot}
 use Rattle.mps_model.specs.Accessing.{Poked, AsBlock, AsNumber, AsMarked, poked, poked_in, hold_of, with_word, held_in, act_copy, act_clear, act_take, act_poke, act_poke_in, act_poked, act_pin}
 use Rattle.mps_model.specs.Making.{graph_with_table, graph_with_area, graph_with_blocks, act_table, act_area, act_blocks, act_drop_root, graph_without_root, refuse_taken, refuse_root}
 use Rattle.mps_model.specs.Collecting.{act_message, act_message_in}
 use Rattle.mps_model.specs.Reply.{world_from}
-use Rattle.mps_colours.specs.Colours.{is_white}
 use Rattle.mps_colours.specs.Collecting.{Collecting, Running, is_white_in}
 use Rattle.mps_colours.proofs.Lists.{contains_here, contains_later}
 use Rattle.mps_colours.proofs.Keeping.{not_white_outside}
@@ -279,11 +278,11 @@ module _ (x : Collecting) (run : Running x) where
   drop_keeps name None = run
   drop_keeps name (Some (TableThing number)) = roots_keep x run (record w.graph {
     tables = slice_set w.graph.tables number None;
-    names = Rattle.mps_model.specs.Graph.without_name w.graph.names name;
+    names = without_name w.graph.names name;
   }) (held_by_parts (slice_set w.graph.tables number None) w.graph.areas w.graph.messages (dropped_table number) still_holds still_messages)
   drop_keeps name (Some (AreaThing number)) = roots_keep x run (record w.graph {
     areas = slice_set w.graph.areas number None;
-    names = Rattle.mps_model.specs.Graph.without_name w.graph.names name;
+    names = without_name w.graph.names name;
   }) (held_by_parts w.graph.tables (slice_set w.graph.areas number None) w.graph.messages still_slots (dropped_area number) still_messages)
   drop_keeps name (Some (ChainThing number)) = run
   drop_keeps name (Some (PoolThing number)) = run

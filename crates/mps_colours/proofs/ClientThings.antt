@@ -1,25 +1,26 @@
 -- The calls that make chains, pools and dependencies, and those on the arena itself.
-use Rattle.std.proofs.Common.{◌≡◌, ◌∙◌, ◌⊎◌, ℕ, zero, suc, ◌+◌, Bool, true, false, refl, sym, ap, List, [], ◌∷◌, ◌++◌, length, Option, Some, None, subst, inl, inr}
+use Rattle.std.proofs.Common.{◌≡◌, ◌∙◌, ℕ, zero, suc, Bool, true, false, refl, sym, ap, List, [], ◌∷◌, length, Option, Some, None, subst, inl}
 use Rattle.std.proofs.lemmas.Bool.{false≢true, and_parts}
 use Rattle.std.proofs.lemmas.Option.{none-some, same_Some}
-use Rattle.std.specs.Prelude.{◌&&◌, Result, Ok, Err, slice_get, slice_set, take, nat_lt, nat_le, not, ◌==◌}
+use Rattle.std.specs.Prelude.{slice_get, slice_set, take, nat_lt, not}
 use Rattle.std.specs.List.{list_all}
 use Rattle.std.specs.Option.{option_map_or}
-use Rattle.mps_base.specs.Address.{Id, Address}
+use Rattle.mps_base.specs.Address.{Id}
 use Rattle.mps_base.specs.declared.names.Kind.{Kind}
 use Rattle.mps_base.specs.declared.names.Name.{Name}
 use Rattle.mps_base.specs.declared.names.Slot.{Slot}
 use Rattle.mps_base.specs.declared.refusal.Refusal.TheVariants as refusal
-use Rattle.mps_model.specs.Graph.{Graph, Object, NamedThing, Slots, ChainThing, PoolThing, DependencyThing, with_last, object_at}
-use Rattle.mps_model.specs.World.{World, Pool, PoolKind, Collected, OneSize, AnySize, ArenaState, Clamped, Unclamped, Dependency, is_automatic_kind, is_copying_kind, pool_at, pool_is, is_copying_pool, is_copying_object, committed}
-use Rattle.mps_model.specs.Checked.{Act, Checked, Numbered, ◌>>=◌, ◌>>◌, refuse_when, done, tells, chain_named, dependency_named, slot_in, object_in, named}
-use Rattle.mps_model.specs.Making.{act_arena, act_limit, act_chain, act_pool, act_pool_on_chain, act_pool_mfs, act_pool_mvff, with_pool, make_pool, refuse_taken, refuse_at_limit, most_chains, most_pools, is_block_size}
+use Rattle.mps_model.specs.Graph.{Object, NamedThing, Slots, ChainThing, DependencyThing, with_last, object_at}
+use Rattle.mps_model.specs.World.{World, Pool, PoolKind, Collected, OneSize, AnySize, ArenaState, Dependency, is_automatic_kind, is_copying_kind, is_copying_pool, is_copying_object, committed}
+use Rattle.mps_model.specs.Checked.{◌>>=◌, ◌>>◌, refuse_when, done, tells, chain_named, dependency_named, slot_in, object_in, named}
+use Rattle.mps_model.specs.Making.{act_arena, act_limit, act_chain, act_pool, act_pool_on_chain, act_pool_mfs, act_pool_mvff, with_pool, make_pool, refuse_taken, refuse_at_limit, most_chains, most_pools, is_block_size, most_dependencies}
 use Rattle.mps_model.specs.Dependency.{act_dependency, act_dependency_reset, act_dependency_add, act_dependency_merge, act_dependency_stale, with_dependency, with_added, merged}
 use Rattle.mps_model.specs.Accessing.{address_or_null}
 use Rattle.mps_model.specs.Reply.{world_from}
 use Rattle.mps_model.specs.WellFormed.{IsWellFormed, is_right_object, is_right_body}
 use Rattle.mps_colours.specs.Collecting.{Collecting, Running}
 use Rattle.mps_colours.proofs.ClientBeside.{beside_keeps, bind_keeps, then_keeps}
+use Rattle.mps_base.specs.Staleness.{is_stale}
 
 -- ---- lists
 
@@ -122,11 +123,11 @@ module _ (x : Collecting) (run : Running x) where
 
   pub dependency_keeps : (name : Name) → P (world_from w (act_dependency w name))
   dependency_keeps name =
-      then_keeps P w (refuse_taken w name) (refuse_at_limit (length w.dependencies) Rattle.mps_model.specs.Making.most_dependencies >> done (record w {
+      then_keeps P w (refuse_taken w name) (refuse_at_limit (length w.dependencies) most_dependencies >> done (record w {
         graph = named w.graph name (DependencyThing (length w.dependencies));
         dependencies = with_last w.dependencies (record { epoch = length w.flips; zones = 0; blocks = [] });
       })) run
-      (then_keeps P w (refuse_at_limit (length w.dependencies) Rattle.mps_model.specs.Making.most_dependencies) (done (record w {
+      (then_keeps P w (refuse_at_limit (length w.dependencies) most_dependencies) (done (record w {
         graph = named w.graph name (DependencyThing (length w.dependencies));
         dependencies = with_last w.dependencies (record { epoch = length w.flips; zones = 0; blocks = [] });
       })) run
@@ -165,8 +166,8 @@ module _ (x : Collecting) (run : Running x) where
 
   pub dependency_stale_keeps : (name : Name) → P (world_from w (act_dependency_stale w name))
   dependency_stale_keeps name = bind_keeps P w (dependency_named w name)
-      (λ d. tells (Rattle.mps_base.specs.Staleness.is_stale w.flips d.value.epoch d.value.zones) w) run
-      (λ d e. tells_keeps (Rattle.mps_base.specs.Staleness.is_stale w.flips d.value.epoch d.value.zones))
+      (λ d. tells (is_stale w.flips d.value.epoch d.value.zones) w) run
+      (λ d e. tells_keeps (is_stale w.flips d.value.epoch d.value.zones))
 
   -- ---- pools
 

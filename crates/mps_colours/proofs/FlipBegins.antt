@@ -19,7 +19,7 @@ use Rattle.mps_model.specs.Flip.{moves_to, fix, fix_all, flip_of, end_where, is_
 use Rattle.mps_colours.specs.Colours.{AllReferredLive}
 use Rattle.mps_colours.specs.Collecting.{Collecting, Running, is_white_in}
 use Rattle.mps_colours.specs.FlipLaws.{IsAtRest, IsNumbered, flipped, AreRemembered, FixesHeld, IsFlipDone, IsFlipEnded, AFlipBeginsRunning}
-use Rattle.mps_colours.proofs.Lists.{contains_append, contains_left, contains_right, contains-filter}
+use Rattle.mps_colours.proofs.Lists.{contains_append, contains_left, contains_right, contains_filtered}
 use Rattle.mps_colours.proofs.Keeping.{not_white_if_kept, not_white_outside}
 use Rattle.mps_colours.proofs.Joining.{legal_alone}
 use Rattle.mps_colours.proofs.FlipLists.{holds_show}
@@ -77,7 +77,7 @@ client_cases g id none h = elim (contains_append ((ids_in_slots g ++ ids_in_hold
   | inr e ↦ absurd (false≢true (subst (λ (ids : List Id). contains ids id ≡ true) none e))
 ]
 
-client_of_fixed : (g : Graph) (id : Id) → contains (ids_in_slots g ++ g.messages) id ≡ true → contains (ids_of_client g) id ≡ true
+pub client_of_fixed : (g : Graph) (id : Id) → contains (ids_in_slots g ++ g.messages) id ≡ true → contains (ids_of_client g) id ≡ true
 client_of_fixed g id h = contains_left ((ids_in_slots g ++ ids_in_holds g) ++ g.messages) (ids_in_reservations g) id
     (elim (contains_append (ids_in_slots g) g.messages id h) [
       | inl slot ↦ contains_left (ids_in_slots g ++ ids_in_holds g) g.messages id (contains_left (ids_in_slots g) (ids_in_holds g) id slot)
@@ -135,7 +135,7 @@ module _ (w : World) (what : Condemnation) (others : List Id) (ms : List Move) (
   -- what an area word holds is pinned, or wasn't condemned
   hold_kept : (id : Id) → contains (ids_in_holds w.graph) id ≡ true → is_white_in x id ≡ false
   hold_kept id h = elim (cases_Bool (is_condemned x.running id)) [
-    | inl is ↦ not_white_if_kept x.running.condemned x.colours id (Rattle.mps_colours.proofs.Lists.contains_filtered (has_area_word w) x.running.condemned id
+    | inl is ↦ not_white_if_kept x.running.condemned x.colours id (contains_filtered (has_area_word w) x.running.condemned id
         (holds_show w w.graph.areas id rest.well_formed.words h) is)
     | inr isnt ↦ not_white_outside x.running.condemned x.colours id isnt
   ]

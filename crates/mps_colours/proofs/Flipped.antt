@@ -4,8 +4,8 @@ use Rattle.std.proofs.Common.{◌≡◌, ◌∙◌, ◌⊎◌, ℕ, ◌<◌, ◌
 use Rattle.std.proofs.lemmas.Bool.{false≢true, true≢false, and_parts, or_cases, or_left, cases_Bool}
 use Rattle.std.proofs.lemmas.List.{length-map}
 use Rattle.std.proofs.lemmas.List.Sums.{count_by-le-length}
-use Rattle.std.specs.Prelude.{◌==◌, ◌&&◌, ◌||◌, not, filter, is_some, IsTrue, count_by, nat_le, nat_lt, option_map, slice_get}
-use Rattle.std.specs.List.{flat_map, list_any}
+use Rattle.std.specs.Prelude.{◌==◌, not, filter, nat_le, option_map, slice_get, find}
+use Rattle.std.specs.List.{flat_map}
 use Rattle.std.specs.Option.{option_map_or}
 use Rattle.mps_base.specs.Address.{Id, Address}
 use Rattle.mps_base.specs.Segment.{Segment, is_in_segment}
@@ -144,12 +144,12 @@ module _ (w : World) (what : Condemnation) (others : List Id) (rest : IsAtRest w
       subst (λ n. 1 ≤ n) of.has_base (among_from 1 of.segment w.segments in_order (among_filtered passes of.segment w.segments of.among).0)
 
   held_condemned : (base : Address) → contains x.running.condemned_segments base ≡ true
-      → ForOne (Rattle.std.specs.Prelude.find (λ s. s.base == base) w.segments) (λ s. pool_is is_automatic_kind w s.pool ≡ true)
+      → ForOne (find (λ s. s.base == base) w.segments) (λ s. pool_is is_automatic_kind w s.pool ≡ true)
   held_condemned base h =
       let of = base_of base h in
       let among = among_filtered passes of.segment w.segments of.among in
-      for_some (λ (s : Segment). pool_is is_automatic_kind w s.pool ≡ true) (Rattle.std.specs.Prelude.find (λ s. s.base == base) w.segments) of.segment
-      (subst (λ n. Rattle.std.specs.Prelude.find (λ s. s.base == n) w.segments ≡ Some of.segment) of.has_base
+      for_some (λ (s : Segment). pool_is is_automatic_kind w s.pool ≡ true) (find (λ s. s.base == base) w.segments) of.segment
+      (subst (λ n. find (λ s. s.base == n) w.segments ≡ Some of.segment) of.has_base
       (held_among 1 of.segment w.segments in_order among.0))
       (condemned_automatic (world_flipped w (condemned_zones w what)) what of.segment rest.on_chains among.1)
 

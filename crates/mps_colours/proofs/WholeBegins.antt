@@ -1,23 +1,22 @@
 -- A flip that condemns everything, and its act, begin a whole collection: what is kept then are roots.
-use Rattle.std.proofs.Common.{◌≡◌, ◌∙◌, ◌⊎◌, ℕ, ◌+◌, ◌≤◌, Bool, true, false, refl, sym, ap, List, [], ◌∷◌, ◌++◌, length, Option, Some, None, subst, inl, inr, arith}
-use Rattle.std.proofs.lemmas.Bool.{false≢true, true≢false, and_parts, or_left, or_right, cases_Bool}
+use Rattle.std.proofs.Common.{◌≡◌, ◌∙◌, ◌⊎◌, ◌+◌, ◌≤◌, Bool, true, false, refl, sym, ap, List, [], ◌∷◌, ◌++◌, length, Option, Some, None, subst, inl, inr, arith}
+use Rattle.std.proofs.lemmas.Bool.{false≢true, true≢false, and_parts, or_left, or_right}
 use Rattle.std.proofs.lemmas.List.{append-nil}
-use Rattle.std.specs.Prelude.{◌&&◌, ◌||◌, not, if◌then◌else◌, filter, is_some}
+use Rattle.std.specs.Prelude.{◌-◌, ◌&&◌, ◌||◌, not, if◌then◌else◌, filter}
 use Rattle.std.specs.List.{list_any, list_all}
 use Rattle.std.specs.Option.{option_map_or}
-use Rattle.mps_base.specs.Address.{Id, Address}
+use Rattle.mps_base.specs.Address.{Id}
 use Rattle.mps_base.specs.Segment.{Segment, is_in_segment}
 use Rattle.mps_base.specs.declared.moves.Move.{Move}
-use Rattle.mps_model.specs.Graph.{Graph, Cell, Object, Body, Automatic, Manual, contains, entry_at, object_at, targets, strong_targets, is_automatic, is_automatic_body, size_of, size_of_body, new_cells, ids_of_client, ids_in_slots}
+use Rattle.mps_model.specs.Graph.{Graph, Cell, HeadCell, Object, Body, Automatic, Manual, contains, object_at, strong_targets, is_automatic, is_automatic_body, size_of, size_of_body, new_cells, ids_of_client, ids_in_slots, new_cells_from, targets_of_cells}
 use Rattle.mps_model.specs.Reachable.{begins}
 use Rattle.mps_model.specs.Collection.{is_condemned}
-use Rattle.mps_model.specs.World.{World, Pool, is_live, is_live_and, live_ids, live_automatic_ids, object_is, has_area_word, ids_of_area_words, is_automatic_kind, is_weak_kind, pool_at, pool_is, address_of}
-use Rattle.mps_model.specs.WellFormed.{IsWellFormed, is_right_object, is_right_body, are_right_cells, are_shaped, is_live_automatic}
-use Rattle.mps_model.specs.Effect.{Everything, condemned_by, lies_in_one, condemned_zones, world_flipped}
+use Rattle.mps_model.specs.World.{World, Pool, is_live, is_live_and, live_ids, live_automatic_ids, object_is, has_area_word, ids_of_area_words, is_automatic_kind, is_weak_kind, pool_at, pool_is}
+use Rattle.mps_model.specs.WellFormed.{is_right_object, is_right_body, are_right_cells, are_shaped, is_live_automatic}
+use Rattle.mps_model.specs.Effect.{Everything, condemned_by, lies_in_one}
 use Rattle.mps_model.specs.Flip.{is_nothing}
 use Rattle.mps_model.proofs.Reaching.{list_all-contains}
-use Rattle.mps_colours.specs.Colours.{is_white}
-use Rattle.mps_colours.specs.Collecting.{Collecting, Running, is_white_in}
+use Rattle.mps_colours.specs.Collecting.{Collecting, Running}
 use Rattle.mps_colours.specs.Fixing.{Fixes, fixes_no_more, passes, keeps}
 use Rattle.mps_colours.specs.FlipLaws.{IsAtRest, flipped, AreRemembered, FixesHeld}
 use Rattle.mps_colours.specs.WholeLaws.{roots_of, IsWholeSoFar}
@@ -28,9 +27,10 @@ use Rattle.mps_colours.proofs.HeldSegments.{IsAmong}
 use Rattle.mps_colours.proofs.Homes.{lies_at}
 use Rattle.mps_colours.proofs.Flipped.{refers_automatic}
 use Rattle.mps_colours.proofs.Flipping.{AreFixed}
-use Rattle.mps_colours.proofs.FlipBegins.{all, flip_done}
+use Rattle.mps_colours.proofs.FlipBegins.{all, client_of_fixed, flip_done}
 use Rattle.mps_colours.proofs.ClientThings.{list_all-at}
 use Rattle.mps_colours.proofs.WholePaths.{fixed_kept, fixed_grey, fixed_same}
+use Rattle.mps_model.specs.Accessing.{address_or_null}
 
 -- ---- segments that pass
 
@@ -70,13 +70,13 @@ automatic_here w o right automatic = of_pool (pool_at w o.pool) refl right
         let parts = and_parts (is_automatic_kind p.kind && are_right_cells w p head cells) (not is_weak || is_weak_kind p.kind) g in
         let both = and_parts (is_automatic_kind p.kind) (are_right_cells w p head cells) parts.0 in
         let cells_right = and_parts ((w.formats p.format).is_valid head && are_shaped (new_cells (w.formats p.format) head) cells)
-            (list_all (object_is is_automatic w) (Rattle.mps_model.specs.Graph.targets_of_cells cells)) both.1 in
+            (list_all (object_is is_automatic w) (targets_of_cells cells)) both.1 in
         let shaped = (and_parts ((w.formats p.format).is_valid head) (are_shaped (new_cells (w.formats p.format) head) cells) cells_right.0).1 in
         record {
           pool = ap (λ q. option_map_or (λ (p : Pool). is_automatic_kind p.kind) q false) e ∙ both.0;
           some_words = subst (λ body. 1 ≤ size_of_body body) (sym same)
-              (some_shaped Rattle.mps_model.specs.Graph.HeadCell
-                (Rattle.mps_model.specs.Graph.new_cells_from (w.formats p.format) head 1 (Rattle.std.specs.Prelude.◌-◌ ((w.formats p.format).size head) 1)) cells shaped);
+              (some_shaped HeadCell
+                (new_cells_from (w.formats p.format) head 1 ((w.formats p.format).size head - 1)) cells shaped);
         }
     of_pool : (q : Option Pool) → pool_at w o.pool ≡ q → option_map_or (λ p. is_right_body w p o.body) q false ≡ true → IsAutomaticHere w o
     of_pool None e g = absurd (false≢true g)
@@ -95,7 +95,7 @@ module _ (w : World) (rest : IsAtRest w) where
       of_object None e g = absurd (false≢true g)
       of_object (Some o) e g =
           let here = automatic_here w o (list_all-at (is_right_object w) w.graph.objects id o rest.well_formed.objects e) g in
-          let at = Rattle.mps_model.specs.Accessing.address_or_null w id in
+          let at = address_or_null w id in
           let lying = address_of-live w id live in
           let home = lies_at w rest.well_formed id o at e lying here.some_words in
           contains_filtered (lies_in_one x.world (condemned_by x.world Everything)) (live_automatic_ids w) id
@@ -131,15 +131,6 @@ fixed_next : {x y : Collecting} {ids : List Id} {ms : List Move} → Fixes x ids
 fixed_next fixes_no_more = refl
 fixed_next (passes black rest) = fixed_next rest
 fixed_next (keeps white keep rest) = fixed_next rest
-
-held_by_client : (g : Graph) (id : Id) → contains (ids_in_slots g ++ g.messages) id ≡ true → contains (ids_of_client g) id ≡ true
-held_by_client g id h = contains_left ((ids_in_slots g ++ Rattle.mps_model.specs.Graph.ids_in_holds g) ++ g.messages)
-    (Rattle.mps_model.specs.Graph.ids_in_reservations g) id
-    (elim (contains_append (ids_in_slots g) g.messages id h) [
-      inl slot ↦ contains_left (ids_in_slots g ++ Rattle.mps_model.specs.Graph.ids_in_holds g) g.messages id
-          (contains_left (ids_in_slots g) (Rattle.mps_model.specs.Graph.ids_in_holds g) id slot)
-      | inr message ↦ contains_right (ids_in_slots g ++ Rattle.mps_model.specs.Graph.ids_in_holds g) g.messages id message
-    ])
 
 module _ (w : World) (first : List Move) (y : Collecting) (rest : IsAtRest w) (some : is_nothing (condemned_by w Everything) ≡ false)
     (fixed : FixesHeld w (flipped w Everything []) first y) where
@@ -186,7 +177,7 @@ module _ (w : World) (first : List Move) (y : Collecting) (rest : IsAtRest w) (s
         inl pinned ↦ begins (contains_right (ids_of_client begun.world.graph) (ids_of_area_words begun.world ++ []) id
             (contains_left (ids_of_area_words begun.world) [] id (pinned_words w rest id pinned)))
         | inr held ↦ begins (contains_left (ids_of_client begun.world.graph) (ids_of_area_words begun.world ++ []) id
-            (held_by_client begun.world.graph id held))
+            (client_of_fixed begun.world.graph id held))
       ];
       grey = fixed_grey fixed (λ id h. elim (contains_append begun.running.pinned [] id h) [ inl pinned ↦ pinned | inr none ↦ absurd (false≢true none) ]);
     };

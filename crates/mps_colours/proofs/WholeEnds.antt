@@ -1,26 +1,24 @@
 -- The end of a whole collection: what was posted, and what is left, is exact.
-use Rattle.std.proofs.Common.{◌≡◌, ◌∙◌, ◌⊎◌, ℕ, ◌+◌, Bool, true, false, refl, sym, ap, List, [], ◌∷◌, ◌++◌, length, Option, Some, None, subst, inl, inr, arith}
+use Rattle.std.proofs.Common.{◌≡◌, ◌∙◌, ℕ, Bool, true, false, refl, sym, ap, List, [], ◌∷◌, ◌++◌, length, Some, None, subst, arith}
 use Rattle.std.proofs.lemmas.Bool.{false≢true, true≢false, and_parts}
 use Rattle.std.proofs.lemmas.List.{append-nil}
-use Rattle.std.specs.Prelude.{MatchBool, is_some, IsTrue}
-use Rattle.std.specs.List.{AllByRecursion}
+use Rattle.std.specs.Prelude.{MatchBool, is_some}
 use Rattle.mps_base.specs.Address.{Id, Address}
 use Rattle.mps_base.specs.Segment.{Segment}
 use Rattle.mps_base.specs.declared.moves.Move.{Move}
-use Rattle.mps_base.specs.declared.moves.Move.TheVariants as moves
-use Rattle.mps_model.specs.Graph.{Graph, contains, is_automatic}
-use Rattle.mps_model.specs.World.{World, is_live, is_running, live_automatic_ids, object_is}
+use Rattle.mps_model.specs.Graph.{contains, is_automatic}
+use Rattle.mps_model.specs.World.{World, is_live, live_automatic_ids, object_is}
 use Rattle.mps_model.specs.Posts.{IsWidelyReachableWith, ArePostsExact, AreWholePosts, IsDecided, IsWhole}
 use Rattle.mps_model.specs.Effect.{Everything, condemned_by, condemned_zones, after_flip, world_after_moves}
-use Rattle.mps_model.specs.Flip.{flip_of, flip_act, is_nothing, world_at_flip}
+use Rattle.mps_model.specs.Flip.{flip_of, flip_act, is_nothing}
 use Rattle.mps_model.specs.LegalMove.{AreLegalMoves, first_move}
 use Rattle.mps_model.specs.Units.{is_last_condemned, AreUnitsToEnd}
-use Rattle.mps_model.specs.History.{IsFullCollection, FinishesCollection}
+use Rattle.mps_model.specs.History.{FinishesCollection}
 use Rattle.mps_model.specs.WellFormed.{is_live_automatic}
 use Rattle.mps_model.proofs.Cutting.{world_after_moves-append}
 use Rattle.mps_model.proofs.Reaching.{list_all-contains}
-use Rattle.mps_colours.specs.Collecting.{Collecting, Running, IsDrainedIn, is_white_in}
-use Rattle.mps_colours.specs.Units.{IsReclaimedNext, reclaim_by, IsLastUnit, reclaims_last, GoesOn, Ends, by_last}
+use Rattle.mps_colours.specs.Collecting.{Collecting, Running, IsDrainedIn}
+use Rattle.mps_colours.specs.Units.{IsReclaimedNext, reclaim_by, IsLastUnit, reclaims_last, Ends, by_last}
 use Rattle.mps_colours.specs.FlipLaws.{IsAtRest, flipped, FixesHeld}
 use Rattle.mps_colours.specs.WholeLaws.{IsWholeSoFar, IsWholeDone, AWholeCollectionIsExact}
 use Rattle.mps_colours.proofs.Lists.{all_members, contains_here}

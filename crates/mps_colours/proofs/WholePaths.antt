@@ -1,18 +1,18 @@
 -- Paths in whole collections: what is kept is reached, and once drained what is reached is kept.
-use Rattle.std.proofs.Common.{◌≡◌, ◌∙◌, ◌⊎◌, ℕ, Bool, true, false, refl, sym, ap, List, [], ◌∷◌, ◌++◌, Option, Some, None, subst, inl, inr}
-use Rattle.std.proofs.lemmas.Bool.{false≢true, cases_Bool}
-use Rattle.std.specs.Prelude.{if◌then◌else◌, MatchBool}
+use Rattle.std.proofs.Common.{◌≡◌, ◌∙◌, ◌⊎◌, true, false, refl, sym, ap, List, [], ◌∷◌, ◌++◌, Option, Some, None, subst, inl, inr}
+use Rattle.std.proofs.lemmas.Bool.{false≢true}
+use Rattle.std.specs.Prelude.{if◌then◌else◌}
 use Rattle.std.specs.Option.{option_map_or}
 use Rattle.mps_base.specs.Address.{Id}
 use Rattle.mps_base.specs.declared.moves.Move.{Move}
-use Rattle.mps_model.specs.Graph.{Graph, Object, contains, targets, targets_of, strong_targets, strong_targets_of, is_weak_object, object_at, ids_of_client}
-use Rattle.mps_model.specs.Reachable.{PathLeads, begins, goes_on}
+use Rattle.mps_model.specs.Graph.{Object, contains, targets, targets_of, strong_targets, strong_targets_of, is_weak_object, object_at, ids_of_client}
+use Rattle.mps_model.specs.Reachable.{begins, goes_on}
 use Rattle.mps_model.specs.Collection.{Collection, is_condemned}
 use Rattle.mps_model.specs.World.{World, is_live, object_is, ids_of_area_words}
 use Rattle.mps_model.specs.Posts.{IsWidelyReachableWith}
-use Rattle.mps_colours.specs.Colours.{Colours, is_white, is_grey}
+use Rattle.mps_colours.specs.Colours.{is_grey}
 use Rattle.mps_colours.specs.Collecting.{Collecting, Running, IsDrainedIn, is_white_in}
-use Rattle.mps_colours.specs.Fixing.{Keeps, marks, moves_to_place, moves_to_segment, stays, kept_by, Fixes, fixes_no_more, passes, keeps}
+use Rattle.mps_colours.specs.Fixing.{Keeps, marks, moves_to_place, moves_to_segment, stays, Fixes, fixes_no_more, passes, keeps}
 use Rattle.mps_colours.specs.WholeLaws.{roots_of, IsAlike, AreReached, AreRootsKept}
 use Rattle.mps_colours.proofs.Lists.{contains_here, contains_later, contains_cases, contains_append, contains_left, contains_right}
 use Rattle.mps_colours.proofs.Posting.{leads_more}

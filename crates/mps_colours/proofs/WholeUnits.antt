@@ -1,35 +1,36 @@
 -- Each unit of a whole collection keeps what is known of it.
-use Rattle.std.proofs.Common.{◌≡◌, ◌∙◌, ◌⊎◌, ℕ, zero, suc, ◌+◌, ◌-◌, ◌<◌, ◌≤◌, Bool, true, false, refl, sym, ap, List, [], ◌∷◌, ◌++◌, length, Option, Some, None, subst, inl, inr, arith, append_assoc}
-use Rattle.std.proofs.lemmas.Bool.{false≢true, true≢false, eq-eqb, ne_eqb, cases_Bool, cases_eq, or_left, or_right}
+use Rattle.std.proofs.Common.{◌≡◌, ◌∙◌, ℕ, suc, ◌+◌, ◌<◌, Bool, true, false, refl, sym, ap, List, [], ◌∷◌, ◌++◌, length, Option, Some, None, subst, inl, inr, arith, append_assoc}
+use Rattle.std.proofs.lemmas.Bool.{false≢true, true≢false, eq-eqb, cases_Bool, or_parts}
 use Rattle.std.proofs.lemmas.List.Folds.{list_any-append}
 use Rattle.std.proofs.lemmas.Option.{none-some, same_Some}
-use Rattle.std.specs.Prelude.{◌||◌, ◌==◌, if◌then◌else◌, slice_get, filter, not}
+use Rattle.std.specs.Prelude.{◌||◌, ◌==◌, if◌then◌else◌, slice_get, slice_set}
 use Rattle.std.specs.Option.{option_map_or}
 use Rattle.mps_base.specs.Address.{Id, Address}
 use Rattle.mps_base.specs.Segment.{Segment}
 use Rattle.mps_base.specs.declared.moves.Move.{Move}
-use Rattle.mps_model.specs.Graph.{Graph, Cell, Object, Body, Automatic, Manual, contains, without_first, with_last, targets, targets_of, strong_targets, strong_targets_of, is_weak_object, is_weak_body, object_at, body_with_cells, object_with_cells, graph_with_cells, with_target_cell}
+use Rattle.mps_model.specs.Graph.{Graph, Cell, Object, Body, Automatic, Manual, contains, without_first, targets, targets_of, strong_targets, strong_targets_of, is_weak_object, is_weak_body, object_at, body_with_cells, object_with_cells, graph_with_cells, with_target_cell, ids_of_client}
 use Rattle.mps_model.specs.Reachable.{begins}
-use Rattle.mps_model.specs.Collection.{Collection, is_condemned}
-use Rattle.mps_model.specs.World.{World, is_live, object_is, live_automatic_ids, ids_of_area_words}
-use Rattle.mps_model.specs.Effect.{world_after_moves, after_post, posting}
+use Rattle.mps_model.specs.Collection.{Collection}
+use Rattle.mps_model.specs.World.{World, is_live, object_is, ids_of_area_words}
+use Rattle.mps_model.specs.Effect.{world_after_moves}
 use Rattle.mps_model.specs.Posts.{IsWidelyReachableWith, ArePostsExact}
 use Rattle.mps_model.specs.Units.{is_last_condemned}
-use Rattle.mps_colours.specs.Colours.{Colours, is_white, is_grey, blackened, keeping}
-use Rattle.mps_colours.specs.Collecting.{Final, Weak, Collecting, Running, IsDrainedIn, is_white_in}
+use Rattle.mps_colours.specs.Colours.{is_white, is_grey, keeping}
+use Rattle.mps_colours.specs.Collecting.{Final, Weak, Collecting, Running, is_white_in}
 use Rattle.mps_colours.specs.Fixing.{Keeps, Fixes, kept_by}
 use Rattle.mps_colours.specs.Units.{scanned, splatted, Splats, splats_no_more, splats_cell, IsExaminedNext, posted, IsReclaimedNext, reclaim_by, reclaimed, IsUnit, scans, examines, posts, splats, reclaims, GoesOn, begun, by_one_more}
-use Rattle.mps_colours.specs.WholeLaws.{roots_of, AreReached, AreRootsKept, IsAlike, AreInTurn, IsWholeSoFar}
-use Rattle.mps_colours.proofs.Lists.{contains_here, contains_later, contains_cases, contains-filter, contains_right, contains_at, index_below}
-use Rattle.mps_colours.proofs.Kept.{IsKept, keeps_leaves}
+use Rattle.mps_colours.specs.WholeLaws.{AreInTurn, IsWholeSoFar}
+use Rattle.mps_colours.proofs.Lists.{contains_here, contains_later, contains_cases, contains_right, contains_at}
+use Rattle.mps_colours.proofs.Kept.{keeps_leaves}
 use Rattle.mps_colours.proofs.Keeping.{it_is_kept, still_kept, grey_still}
 use Rattle.mps_colours.proofs.Registrations.{contains-without_first}
 use Rattle.mps_colours.proofs.UnitScans.{scanned_rightly, strong_is_tracing}
 use Rattle.mps_colours.proofs.Reclaiming.{goes_on_leads}
-use Rattle.mps_colours.proofs.Reclaimed.{final_world, final_collection, black_left}
-use Rattle.mps_colours.proofs.Rows.{unit_shown, units_shown}
+use Rattle.mps_colours.proofs.Reclaimed.{final_collection, black_left}
+use Rattle.mps_colours.proofs.Rows.{units_shown}
 use Rattle.mps_colours.proofs.ClientObjects.{written_passes}
 use Rattle.mps_colours.proofs.WholePaths.{root_cases, reached_more, fixed_kept, fixed_grey, fixed_same, keep_same, target_reached, white_unreached, kept_reached}
+use Rattle.mps_colours.proofs.Cells.{for_object-with_cells}
 
 -- ---- lists
 
@@ -44,7 +45,7 @@ none_at_end (x ∷ xs) = none_at_end xs
 without_after : (xs ys : List ℕ) (y : ℕ) → contains xs y ≡ false → without_first (xs ++ (y ∷ ys)) y ≡ xs ++ ys
 without_after [] ys y h = ap (λ b. if b then ys else y ∷ without_first ys y) (eq-eqb y y refl)
 without_after (x ∷ xs) ys y h =
-    let parts = Rattle.std.proofs.lemmas.Bool.or_parts (x == y) (contains xs y) h in
+    let parts = or_parts (x == y) (contains xs y) h in
     ap (λ b. if b then xs ++ (y ∷ ys) else x ∷ without_first (xs ++ (y ∷ ys)) y) parts.0 ∙ ap (λ zs. x ∷ zs) (without_after xs ys y parts.1)
 
 -- where something among the first ones stands
@@ -81,7 +82,7 @@ weak_alike g holder n change weak = of_object (object_at g holder) refl weak
     none_strong : (o : Object) → is_weak_object o ≡ true → strong_targets_of o ≡ []
     none_strong o h = ap (λ b. if b then [] else targets_of o) h
     of_object : (o : Option Object) → object_at g holder ≡ o → option_map_or is_weak_object o false ≡ true
-        → option_map_or strong_targets_of (slice_get (option_map_or (λ p. Rattle.std.specs.Prelude.slice_set g.objects holder (object_with_cells p change)) o g.objects) n) []
+        → option_map_or strong_targets_of (slice_get (option_map_or (λ p. slice_set g.objects holder (object_with_cells p change)) o g.objects) n) []
         ≡ strong_targets g n
     of_object None e h = refl
     of_object (Some o) e h = written_passes strong_targets_of [] g.objects holder n o (object_with_cells o change) e
@@ -226,7 +227,7 @@ module _ (flipped : World) where
         reached = record {
           kept = λ n h. elim (contains_cases id x.colours.kept n h) [
             inl it ↦ subst (λ m. IsWidelyReachableWith flipped (id ∷ p.posted) m) it
-                (begins (contains_right (Rattle.mps_model.specs.Graph.ids_of_client flipped.graph) (ids_of_area_words flipped ++ (id ∷ p.posted)) id
+                (begins (contains_right (ids_of_client flipped.graph) (ids_of_area_words flipped ++ (id ∷ p.posted)) id
                   (contains_right (ids_of_area_words flipped) (id ∷ p.posted) id (contains_here id p.posted))))
             | inr old ↦ reached_more flipped p.posted (id ∷ p.posted) (λ m g. contains_later id p.posted m g) (p.reached.kept n old)
           ];
@@ -270,7 +271,7 @@ module _ (flipped : World) where
   weak_still : (x : Collecting) (holder cell : ℕ) → object_is is_weak_object x.world holder ≡ true
       → object_is is_weak_object (splatted x holder cell).world holder ≡ true
   weak_still x holder cell weak =
-      Rattle.mps_colours.proofs.Cells.for_object-with_cells x.world.graph holder holder (λ cells. with_target_cell cells cell None) is_weak_object false
+      for_object-with_cells x.world.graph holder holder (λ cells. with_target_cell cells cell None) is_weak_object false
         (λ o. of_body o.body) ∙ weak
     where
       of_body : (b : Body) → is_weak_body (body_with_cells b (λ cells. with_target_cell cells cell None)) ≡ is_weak_body b

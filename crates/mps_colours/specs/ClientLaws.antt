@@ -1,5 +1,5 @@
 -- What is shown of the calls of the client while a collection runs: each keeps the invariant.
-use Rattle.std.specs.Prelude.{◌≡◌, ℕ, false, IsTrue, Option, Some, Result, Ok, Err}
+use Rattle.std.specs.Prelude.{◌≡◌, ℕ, false, IsTrue, Option, Some, Ok, Err}
 use Rattle.std.specs.List.{list_all}
 use Rattle.mps_base.specs.Address.{Id}
 use Rattle.mps_base.specs.declared.refusal.Refusal.TheVariants as refusal
