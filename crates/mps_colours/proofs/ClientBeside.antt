@@ -88,8 +88,8 @@ pub data IsHeldIn (slots holds messages reservations : List Id) (id : Id) : Type
 module _ (slots holds messages reservations : List Id) (id : Id) where
   pub held_where : contains (slots ++ holds ++ messages ++ reservations) id ≡ true → IsHeldIn slots holds messages reservations id
   held_where h = elim (contains_append ((slots ++ holds) ++ messages) reservations id h) [
-    inl e ↦ elim (contains_append (slots ++ holds) messages id e) [
-      inl f ↦ elim (contains_append slots holds id f) [ inl g ↦ in_slots g | inr g ↦ in_holds g ]
+    | inl e ↦ elim (contains_append (slots ++ holds) messages id e) [
+      | inl f ↦ elim (contains_append slots holds id f) [ inl g ↦ in_slots g | inr g ↦ in_holds g ]
       | inr f ↦ in_messages f
     ]
     | inr e ↦ in_reservations e

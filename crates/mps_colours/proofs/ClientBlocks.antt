@@ -52,7 +52,7 @@ module _ (x : Collecting) (run : Running x) (formed : IsWellFormed x.world) wher
     flipped_keeps : r.is_doomed ≡ true → P (with_graph w (with_reservation w.graph point None))
     flipped_keeps doomed = ended_keeps x run point found
         (λ p memory there passes. absurd (false≢true (sym (ap (λ o. list_any p (extent_of_reservation o memory)) is_open
-          ∙ ap (λ b. list_any p (if (if b then false else true) then extent memory.reserved_at (length r.cells) ∷ [] else [])) doomed) ∙ passes)))
+        ∙ ap (λ b. list_any p (if (if b then false else true) then extent memory.reserved_at (length r.cells) ∷ [] else [])) doomed) ∙ passes)))
 
     module _ (live : r.is_doomed ≡ false) (slot : Found (Option ℕ)) (slot_there : IsFound (entry_at w.graph.tables) slot)
         (different : AreDifferent (with_last w.addresses (Some (reserved_address w point.number)))) where
@@ -62,9 +62,9 @@ module _ (x : Collecting) (run : Running x) (formed : IsWellFormed x.world) wher
       held : (t : Id) → contains (targets_of_cells r.cells) t ≡ true → contains (ids_of_client w.graph) t ≡ true
       held t h = held_so (ids_in_slots w.graph) (ids_in_holds w.graph) w.graph.messages (ids_in_reservations w.graph) t
           (in_reservations (among_all targets_of_point w.graph.points point.number (Some point.value) t
-            (entry_is w.graph.points point.number point.value found)
-            (ap (λ o. contains (option_map_or targets_of_reservation o []) t) is_open
-            ∙ (ap (λ b. contains (if b then [] else targets_of_cells r.cells) t) live ∙ h))))
+          (entry_is w.graph.points point.number point.value found)
+          (ap (λ o. contains (option_map_or targets_of_reservation o []) t) is_open
+          ∙ (ap (λ b. contains (if b then [] else targets_of_cells r.cells) t) live ∙ h))))
 
       abbrev with_new : Collecting
       with_new = record x {
@@ -84,9 +84,9 @@ module _ (x : Collecting) (run : Running x) (formed : IsWellFormed x.world) wher
       covers p memory there passes =
           let at = ap (λ o. option_map_or (λ (m : PointMemory). m.reserved_at) o 0) there in
           let of_live = sym (ap (λ o. list_any p (extent_of_reservation o memory)) is_open
-              ∙ ap (λ b. list_any p (if (if b then false else true) then extent memory.reserved_at (length r.cells) ∷ [] else [])) live) ∙ passes in
+          ∙ ap (λ b. list_any p (if (if b then false else true) then extent memory.reserved_at (length r.cells) ∷ [] else [])) live) ∙ passes in
           elim (or_cases (p (extent memory.reserved_at (length r.cells))) false of_live) [
-            inl it ↦ extent_of_last p w.graph.objects w.addresses new (reserved_address w point.number) formed.addresses
+            | inl it ↦ extent_of_last p w.graph.objects w.addresses new (reserved_address w point.number) formed.addresses
                 (ap (λ n. p (extent n (length r.cells))) at ∙ it)
             | inr none ↦ absurd (false≢true none)
           ]
@@ -100,13 +100,14 @@ module _ (x : Collecting) (run : Running x) (formed : IsWellFormed x.world) wher
       committed_keeps : P (world_committed w point r slot)
       committed_keeps = slot_keeps ended ended_runs slot (Some (length w.graph.objects)) slot_there
           (λ id same. inr (subst (λ n. (is_live ended.world n ≡ true) × (is_white_in ended n ≡ false))
-            (same_Some (length w.graph.objects) id same)
-            (made_live x run new (reserved_address w point.number) formed.addresses different held,
-            made_black x run new (reserved_address w point.number) formed.addresses different held)))
+          (same_Some (length w.graph.objects) id same) (
+            made_live x run new (reserved_address w point.number) formed.addresses different held,
+            made_black x run new (reserved_address w point.number) formed.addresses different held,
+          )))
 
     ends_keeps : (slot : Found (Option ℕ)) → IsFound (entry_at w.graph.tables) slot
         → Q (world_from w (if r.is_doomed then says reply.Flipped (with_graph w (with_reservation w.graph point None))
-            else done (world_committed w point r slot)))
+        else done (world_committed w point r slot)))
     ends_keeps slot there = of_doomed r.is_doomed refl
       where
         of_doomed : (b : Bool) → r.is_doomed ≡ b
@@ -117,15 +118,15 @@ module _ (x : Collecting) (run : Running x) (formed : IsWellFormed x.world) wher
   pub commit_keeps : (name : Name) (target : Slot) → Q (world_from w (act_commit w name target))
   commit_keeps name target =
       bind_keeps Q w (point_named w name) (λ point. slot_in w target >>= (λ slot. required point.value.reservation refusal.NotOpen
-        >>= (λ r. if r.is_doomed then says reply.Flipped (with_graph w (with_reservation w.graph point None))
-          else done (world_committed w point r slot)))) (λ different. run)
+      >>= (λ r. if r.is_doomed then says reply.Flipped (with_graph w (with_reservation w.graph point None))
+      else done (world_committed w point r slot)))) (λ different. run)
       (λ point e. bind_keeps Q w (slot_in w target) (λ slot. required point.value.reservation refusal.NotOpen
-          >>= (λ r. if r.is_doomed then says reply.Flipped (with_graph w (with_reservation w.graph point None))
-            else done (world_committed w point r slot))) (λ different. run)
-        (λ slot f. bind_keeps Q w (required point.value.reservation refusal.NotOpen)
-          (λ r. if r.is_doomed then says reply.Flipped (with_graph w (with_reservation w.graph point None))
-            else done (world_committed w point r slot)) (λ different. run)
-          (λ r g. ends_keeps point (point_found w name point e) r (open_is point.value.reservation r g) slot (slot_found w target slot f))))
+      >>= (λ r. if r.is_doomed then says reply.Flipped (with_graph w (with_reservation w.graph point None))
+      else done (world_committed w point r slot))) (λ different. run)
+      (λ slot f. bind_keeps Q w (required point.value.reservation refusal.NotOpen)
+      (λ r. if r.is_doomed then says reply.Flipped (with_graph w (with_reservation w.graph point None))
+      else done (world_committed w point r slot)) (λ different. run)
+      (λ r g. ends_keeps point (point_found w name point e) r (open_is point.value.reservation r g) slot (slot_found w target slot f))))
 
 -- ---- alloc
 
@@ -177,11 +178,11 @@ module _ (judged after : World) (words : ℕ) (into : Slot) where
   allocated_so R pool base each =
       bind_keeps R after (pool_named judged pool) (λ from. kind_checked from) base
       (λ from e. then_keeps R after (refuse_when (is_automatic_kind from.value.kind) refusal.WrongPool) (placed from) base
-        (bind_keeps R after (block_place_in judged into) (λ place. sized from place) base
-          (λ place f. then_keeps R after (refuse_when (not (allows_size from.value.kind words)) refusal.BadSize) (empty_place from place) base
-            (then_keeps R after (refuse_when (is_some place.value) refusal.NameTaken) (roomy from place) base
-              (then_keeps R after (refuse_without_place (placement_of judged (ForAlloc from.number words))) (done (world_allocated from place)) base
-                (each from place))))))
+      (bind_keeps R after (block_place_in judged into) (λ place. sized from place) base
+      (λ place f. then_keeps R after (refuse_when (not (allows_size from.value.kind words)) refusal.BadSize) (empty_place from place) base
+      (then_keeps R after (refuse_when (is_some place.value) refusal.NameTaken) (roomy from place) base
+      (then_keeps R after (refuse_without_place (placement_of judged (ForAlloc from.number words))) (done (world_allocated from place)) base
+      (each from place))))))
 
   -- an alloc leaves the segments that it finds
   pub alloc_segments : (pool : Name) → (world_from after (act_alloc judged after pool words into)).segments ≡ after.segments
@@ -193,7 +194,7 @@ pub alloc_keeps : (x : Collecting) → Running x → length x.world.addresses �
 alloc_keeps x run as_many judged pool words into =
     allocated_so judged x.world words into (λ v. AreDifferent v.addresses → Running (record x { world = v })) pool (λ different. run)
     (λ from place different. allocated_keeps x run as_many from.number words
-      (address_of_placement (placement_of judged (ForAlloc from.number words))) place different)
+    (address_of_placement (placement_of judged (ForAlloc from.number words))) place different)
 
 -- ---- the segment that an alloc takes
 

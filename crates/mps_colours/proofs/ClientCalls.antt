@@ -54,24 +54,24 @@ module _ (x : Collecting) (run : Running x) where
   load_keeps : (place : Slot) (k : ℕ) → P (world_from w (act_load w place k))
   load_keeps place k =
       bind_keeps P w (block_place_in w place) (λ at. block_in at >>= (λ id. required (slice_get (words_at w.graph id) k) refusal.BadIndex
-        >>= (λ word. says (reply.Number word) w))) run
+      >>= (λ word. says (reply.Number word) w))) run
       (λ at e. bind_keeps P w (block_in at) (λ id. required (slice_get (words_at w.graph id) k) refusal.BadIndex
-          >>= (λ word. says (reply.Number word) w)) run
-        (λ id f. bind_keeps P w (required (slice_get (words_at w.graph id) k) refusal.BadIndex) (λ word. says (reply.Number word) w) run (λ word g. run)))
+      >>= (λ word. says (reply.Number word) w)) run
+      (λ id f. bind_keeps P w (required (slice_get (words_at w.graph id) k) refusal.BadIndex) (λ word. says (reply.Number word) w) run (λ word g. run)))
 
   number_keeps : (slot : Slot) (k : ℕ) → P (world_from w (act_number w slot k))
   number_keeps slot k =
       bind_keeps P w (slot_in w slot) (λ from. object_in w from.value >>= (λ object. number_at (cells_of_body object.value.body) k
-        >>= (λ number. says (reply.Number number) w))) run
+      >>= (λ number. says (reply.Number number) w))) run
       (λ from e. bind_keeps P w (object_in w from.value) (λ object. number_at (cells_of_body object.value.body) k
-          >>= (λ number. says (reply.Number number) w)) run
-        (λ object f. bind_keeps P w (number_at (cells_of_body object.value.body) k) (λ number. says (reply.Number number) w) run (λ number g. run)))
+      >>= (λ number. says (reply.Number number) w)) run
+      (λ object f. bind_keeps P w (number_at (cells_of_body object.value.body) k) (λ number. says (reply.Number number) w) run (λ number g. run)))
 
   same_keeps : (slot other : Slot) → P (world_from w (act_same w slot other))
   same_keeps slot other =
       bind_keeps P w (slot_in w slot) (λ one. slot_in w other >>= (λ two. tells (same_target one.value two.value) w)) run
       (λ one e. bind_keeps P w (slot_in w other) (λ two. tells (same_target one.value two.value) w) run
-        (λ two f. tells_keeps x run (same_target one.value two.value)))
+      (λ two f. tells_keeps x run (same_target one.value two.value)))
 
   null_keeps : (slot : Slot) → P (world_from w (act_null w slot))
   null_keeps slot = bind_keeps P w (slot_in w slot) (λ from. tells (is_none from.value) w) run (λ from e. tells_keeps x run (is_none from.value))
@@ -92,7 +92,7 @@ module _ (x : Collecting) (run : Running x) where
   dump_keeps : (address : ℕ) → P (world_from w (act_dump w address))
   dump_keeps address =
       then_keeps P w (refuse_when (is_running w) refusal.Running) (required (id_at w address) refusal.NotABlock
-        >>= (λ id. Ok (record { answer = Dumped (image_of w id); world = w }))) run
+      >>= (λ id. Ok (record { answer = Dumped (image_of w id); world = w }))) run
       (bind_keeps P w (required (id_at w address) refusal.NotABlock) (λ id. Ok (record { answer = Dumped (image_of w id); world = w })) run (λ id e. run))
 
   -- ---- calls of collection, after their moves
@@ -103,9 +103,9 @@ module _ (x : Collecting) (run : Running x) where
   start_chain_keeps : (judged : World) (chain : Name) (generation : ℕ) → P (world_from w (act_start_chain judged w chain generation))
   start_chain_keeps judged chain generation =
       bind_keeps P w (chain_named judged chain) (λ on. refuse_when (nat_le (length on.value) generation) refusal.BadIndex
-        >> (refuse_when (is_running judged) refusal.Running >> done (with_state w Unclamped))) run
+      >> (refuse_when (is_running judged) refusal.Running >> done (with_state w Unclamped))) run
       (λ on e. then_keeps P w (refuse_when (nat_le (length on.value) generation) refusal.BadIndex)
-        (refuse_when (is_running judged) refusal.Running >> done (with_state w Unclamped)) run (start_keeps judged))
+      (refuse_when (is_running judged) refusal.Running >> done (with_state w Unclamped)) run (start_keeps judged))
 
   -- ---- a registration is taken away
 
@@ -135,7 +135,7 @@ module _ (x : Collecting) (run : Running x) where
 
     definalize_slot : (m : Checked (Found (Option ℕ)))
         → Running (state_after (m >>= (λ from. object_in w from.value >>= (λ object. position_of object >>= (λ position. done (taken_away object position)))))
-          (m >>= (λ from. object_in w from.value >>= (λ object. position_of object))))
+        (m >>= (λ from. object_in w from.value >>= (λ object. position_of object))))
     definalize_slot (Err why) = run
     definalize_slot (Ok from) = definalize_object (object_in w from.value)
 
@@ -150,9 +150,9 @@ module _ (x : Collecting) (run : Running x) where
       → P (world_from (world_after_moves w ms) (act_alloc w (world_after_moves w ms) pool words into))
   alloc_case formed ms answer pool words into due fine =
       let more = more_keeps x run (world_after_moves w ms)
-          (subst (λ those. MayHoldMore w (world_after_moves w those)) (sym due)
-            (alloc_moves_more w (pool_named w pool) words answer))
-          (subst (λ ss. AreOrdered 1 ss) (alloc_segments w (world_after_moves w ms) words into pool) fine.ordered) in
+      (subst (λ those. MayHoldMore w (world_after_moves w those)) (sym due)
+      (alloc_moves_more w (pool_named w pool) words answer))
+      (subst (λ ss. AreOrdered 1 ss) (alloc_segments w (world_after_moves w ms) words into pool) fine.ordered) in
       alloc_keeps (record x { world = world_after_moves w ms }) more.0 (more.1 ∙ (formed.addresses ∙ sym more.2)) w pool words into fine.different
 
   free_case : IsWellFormed w → list_all (is_live w) (ids_in_blocks w.graph) ≡ true → (ms : List Move) (answer : Answer) (place : Slot)
@@ -161,8 +161,8 @@ module _ (x : Collecting) (run : Running x) where
   free_case formed live ms answer place due fine =
       free_act_keeps (record x { world = world_after_moves w ms })
       (subst (λ those. AreOrdered 1 (world_after_moves w those).segments → Running (record x { world = world_after_moves w those })) (sym due)
-        (freeing_keeps x run formed live place answer)
-        (subst (λ ss. AreOrdered 1 ss) (free_act_segments (world_after_moves w ms) place) fine.ordered)) place
+      (freeing_keeps x run formed live place answer)
+      (subst (λ ss. AreOrdered 1 ss) (free_act_segments (world_after_moves w ms) place) fine.ordered)) place
 
 -- the moves of a commit change nothing
 commit_leaves : (w : World) (m : Checked (Numbered Point)) (b : Bool) → world_after_moves w (if b then moves_of_commit w m else []) ≡ w
@@ -220,9 +220,9 @@ module _ (w : World) (x : Collecting) (run : Running x) (formed : IsWellFormed x
       reserve_keeps x run (world_after_moves w (moves_of_poll ms)) (moved_world w (call.Reserve point head) ms) point head
       (sym (asked_graph (units_asked w (call.Reserve point head)) (world_after_moves w (moves_of_poll ms))) ∙ ap (λ (v : World). v.graph) led)
       (subst (λ v. MayOwn v (moved_world w (call.Reserve point head) ms)) led
-        (owned_asking (units_asked w (call.Reserve point head)) (world_after_moves w (moves_of_poll ms))
-          (after_own_segment (world_after_moves w (moves_of_poll ms)) (own_segment ms) (number_named w point as_point))
-          (own_segment_owned (world_after_moves w (moves_of_poll ms)) (own_segment ms) (number_named w point as_point)))) fine.ordered
+      (owned_asking (units_asked w (call.Reserve point head)) (world_after_moves w (moves_of_poll ms))
+      (after_own_segment (world_after_moves w (moves_of_poll ms)) (own_segment ms) (number_named w point as_point))
+      (own_segment_owned (world_after_moves w (moves_of_poll ms)) (own_segment ms) (number_named w point as_point)))) fine.ordered
   call_keeps (call.InitNumber point cell value) ms answer led due marked read fine =
       plain (call.InitNumber point cell value) (world_after_moves w ms) led (init_number_keeps x run point cell value)
   call_keeps (call.InitReference point cell source) ms answer led due marked read fine =
@@ -233,13 +233,13 @@ module _ (w : World) (x : Collecting) (run : Running x) (formed : IsWellFormed x
       (λ it. commit_keeps x run formed point target it.different) fine
   call_keeps (call.Alloc pool words place) ms answer led due marked read fine =
       subst (λ v. ms ≡ unless_refused answer (moves_of_alloc v (pool_named v pool) words)
-        → IsFine (world_from (world_after_moves v ms) (act_alloc v (world_after_moves v ms) pool words place))
-        → Running (record x { world = world_from (world_after_moves v ms) (act_alloc v (world_after_moves v ms) pool words place) })) (sym led)
+      → IsFine (world_from (world_after_moves v ms) (act_alloc v (world_after_moves v ms) pool words place))
+      → Running (record x { world = world_from (world_after_moves v ms) (act_alloc v (world_after_moves v ms) pool words place) })) (sym led)
       (alloc_case x run formed ms answer pool words place) due fine
   call_keeps (call.Free place) ms answer led due marked read fine =
       subst (λ v. ms ≡ unless_refused answer (moves_of_free v (block_place_in v place))
-        → IsFine (world_from (world_after_moves v ms) (act_free (world_after_moves v ms) place))
-        → Running (record x { world = world_from (world_after_moves v ms) (act_free (world_after_moves v ms) place) })) (sym led)
+      → IsFine (world_from (world_after_moves v ms) (act_free (world_after_moves v ms) place))
+      → Running (record x { world = world_from (world_after_moves v ms) (act_free (world_after_moves v ms) place) })) (sym led)
       (free_case x run formed live ms answer place) due fine
   call_keeps (call.Load place word) ms answer led due marked read fine = plain (call.Load place word) (world_after_moves w ms) led (load_keeps x run place word)
   call_keeps (call.Store place word value) ms answer led due marked read fine =
@@ -300,10 +300,10 @@ clients_keep w x s run step =
     let after = world_from (moved_world w s.call s.moves) (act (is_block s.answer) (judged_world w s.call s.moves) (moved_world w s.call s.moves) s.call) in
     let leads : world_after w s ≡ with_client_remembered after = ap (λ b. if b then w else world_after_call w s.call s.moves s.answer) step.supported in
     let middle = call_keeps w x run step.well_formed step.blocks_live s.call s.moves s.answer step.collected step.moves_are_due step.marked_kept
-        step.read_kept (record {
-          different = subst (λ (v : World). AreDifferent v.addresses) leads step.different_after;
-          ordered = subst (λ (v : World). AreOrdered 1 v.segments) leads (segments_ordered (world_after w s) step.well_formed_after);
-        }) in
+    step.read_kept (record {
+      different = subst (λ (v : World). AreDifferent v.addresses) leads step.different_after;
+      ordered = subst (λ (v : World). AreOrdered 1 v.segments) leads (segments_ordered (world_after w s) step.well_formed_after);
+    }) in
     subst (λ (v : World). Running (record x {
       world = v;
       running = remembering (ids_of_client v.graph) (collection_without (position_taken x.world s.call) x.running);

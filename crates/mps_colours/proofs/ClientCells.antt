@@ -39,7 +39,7 @@ targets_retargeted cells k target t h = of_cell (slice_get cells k) h
         → (contains (targets_of_cells cells) t ≡ true) ⊎ (target ≡ Some t)
     of_cell None e = inl e
     of_cell (Some c) e = elim (targets_written cells k (retargeted c target) t e) [
-      inl old ↦ inl old
+      | inl old ↦ inl old
       | inr new ↦ inr (target_of_retargeted c target t new)
     ]
 

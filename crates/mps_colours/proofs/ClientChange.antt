@@ -93,7 +93,7 @@ later_none p first x xs sub n h e = sub (suc n) h (ap p (let same : first + suc 
 fails_first : (p : ℕ → Bool) (first : ℕ) (at : Address) (xs ys : List (Option Address)) → AreThere p first (Some at ∷ xs) ys
     → is_some (entry_at ys 0) ≡ false → p first ≡ false
 fails_first p first at xs ys sub none = elim (cases_Bool (p first)) [
-  inl is ↦ absurd (true≢false (sym (sub 0 refl (ap p (let same : first + 0 ≡ first = omega arith in same) ∙ is)) ∙ none))
+  | inl is ↦ absurd (true≢false (sym (sub 0 refl (ap p (let same : first + 0 ≡ first = omega arith in same) ∙ is)) ∙ none))
   | inr isnt ↦ isnt
 ]
 
@@ -134,13 +134,13 @@ module _ (x : Collecting) (run : Running x) (w : World) (change : IsChange x w) 
   -- what was made isn't condemned, isn't grey and wasn't there at the flip
   new_not_condemned : (id : Id) → length x.world.graph.objects ≤ id → is_condemned x.running id ≡ false
   new_not_condemned id new = elim (cases_Bool (is_condemned x.running id)) [
-    inl is ↦ absurd (let h = there_is is_automatic x.world.graph.objects id (run.condemned.objects id is) in omega (arith, new, h))
+    | inl is ↦ absurd (let h = there_is is_automatic x.world.graph.objects id (run.condemned.objects id is) in omega (arith, new, h))
     | inr isnt ↦ isnt
   ]
 
   new_not_grey : (id : Id) → length x.world.graph.objects ≤ id → is_grey x.colours id ≡ false
   new_not_grey id new = elim (cases_Bool (is_grey x.colours id)) [
-    inl is ↦ absurd (let h = there_is is_automatic x.world.graph.objects id (run.grey.grey_automatic id is) in omega (arith, new, h))
+    | inl is ↦ absurd (let h = there_is is_automatic x.world.graph.objects id (run.grey.grey_automatic id is) in omega (arith, new, h))
     | inr isnt ↦ isnt
   ]
 
@@ -166,9 +166,9 @@ module _ (x : Collecting) (run : Running x) (w : World) (change : IsChange x w) 
 
   to_scan_was_live : (id : Id) → is_live w id ≡ true → is_to_scan x.running.condemned x.colours id ≡ true → is_live x.world id ≡ true
   to_scan_was_live id h scan = elim (change.live_before id h) [
-    inl before ↦ before
+    | inl before ↦ before
     | inr new ↦ elim (or_cases (is_white_in x id) (is_grey x.colours id) scan) [
-      inl white ↦ absurd (true≢false (sym (is_condemned_if_white x.running.condemned x.colours id white) ∙ new_not_condemned id new))
+      | inl white ↦ absurd (true≢false (sym (is_condemned_if_white x.running.condemned x.colours id white) ∙ new_not_condemned id new))
       | inr grey ↦ absurd (true≢false (sym grey ∙ new_not_grey id new))
     ]
   ]
@@ -180,7 +180,7 @@ module _ (x : Collecting) (run : Running x) (w : World) (change : IsChange x w) 
   referred_live : (id target : Id) → is_live w id ≡ true → is_white_in x id ≡ false → contains (targets w.graph id) target ≡ true
       → is_live w target ≡ true
   referred_live id target h black refers = elim (change.referred id target h refers) [
-    inl before ↦ change.live_still target (run.coloured.referred_live id target before.0 black before.1) (referred_to id before.1)
+    | inl before ↦ change.live_still target (run.coloured.referred_live id target before.0 black before.1) (referred_to id before.1)
     | inr held ↦ held_live target held
   ]
 
@@ -198,7 +198,7 @@ module _ (x : Collecting) (run : Running x) (w : World) (change : IsChange x w) 
       held = λ id h. elim (change.held id h) [ inl before ↦ run.coloured.held id before | inr new ↦ new.1 ];
       referred_live = referred_live;
       referred = λ id target h black grey refers. elim (change.referred id target h refers) [
-        inl before ↦ run.coloured.referred id target before.0 black grey before.1
+        | inl before ↦ run.coloured.referred id target before.0 black grey before.1
         | inr held ↦ run.coloured.held target held
       ];
     };
@@ -215,15 +215,15 @@ module _ (x : Collecting) (run : Running x) (w : World) (change : IsChange x w) 
       existing = let before : length x.running.graph_at_flip.objects ≤ length x.world.graph.objects = run.survivors.existing in
           let more = change.existing in omega (arith, before, more);
       kept = λ id h black. elim (change.live_before id h) [
-        inl before ↦ run.survivors.kept id before black
+        | inl before ↦ run.survivors.kept id before black
         | inr new ↦ inl (new_not_condemned id new)
       ];
       written = λ id target h refers. elim (change.referred id target h refers) [
-        inl before ↦ run.survivors.written id target before.0 before.1
+        | inl before ↦ run.survivors.written id target before.0 before.1
         | inr held ↦ inr (held_survives target held)
       ];
       outside = λ id target h out refers. elim (change.live_before id h) [
-        inl before ↦ run.survivors.outside id target before out refers
+        | inl before ↦ run.survivors.outside id target before out refers
         | inr new ↦ absurd (not_referring_then id target new refers)
       ];
     };
@@ -244,7 +244,7 @@ module _ (x : Collecting) (run : Running x) (w : World) (change : IsChange x w) 
       examined = run.band.examined;
       scanned = run.band.scanned;
       referred_live = λ before id target h refers. elim (change.referred id target h refers) [
-        inl was ↦ change.live_still target (run.band.referred_live before id target was.0 was.1) (referred_to id was.1)
+        | inl was ↦ change.live_still target (run.band.referred_live before id target was.0 was.1) (referred_to id was.1)
         | inr held ↦ held_live target held
       ];
       unswept = run.band.unswept;

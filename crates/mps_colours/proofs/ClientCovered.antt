@@ -37,8 +37,8 @@ is_not_empty b h = ap (λ t. not (not t)) h
 -- where what begins in it was covered and is
 pub holds_still : (w v : World) (base : Address) → segment_at v base ≡ segment_at w base
     → ((s : Segment) → segment_at w base ≡ Some s
-        → list_any (begins_in s) (extents_of w.graph.objects w.addresses ++ reserved_extents w.graph.points w.point_memories) ≡ true
-        → list_any (begins_in s) (extents_of v.graph.objects v.addresses ++ reserved_extents v.graph.points v.point_memories) ≡ true)
+    → list_any (begins_in s) (extents_of w.graph.objects w.addresses ++ reserved_extents w.graph.points w.point_memories) ≡ true
+    → list_any (begins_in s) (extents_of v.graph.objects v.addresses ++ reserved_extents v.graph.points v.point_memories) ≡ true)
     → holds_something w base ≡ true → holds_something v base ≡ true
 holds_still w v base same more h = of_segment (segment_at w base) refl h
   where
@@ -47,7 +47,7 @@ holds_still w v base same more h = of_segment (segment_at w base) refl h
     of_segment None e g = absurd (false≢true g)
     of_segment (Some s) e g =
         let before = sym (list_any-in_order (begins_in s) (extents_of w.graph.objects w.addresses ++ reserved_extents w.graph.points w.point_memories))
-            ∙ not_empty (list_any (begins_in s) (covered w)) g in
+        ∙ not_empty (list_any (begins_in s) (covered w)) g in
         let after = list_any-in_order (begins_in s) (extents_of v.graph.objects v.addresses ++ reserved_extents v.graph.points v.point_memories) ∙ more s e before in
         ap (λ o. option_map_or (λ s. not (not (list_any (begins_in s) (covered v)))) o false) (same ∙ e)
         ∙ is_not_empty (list_any (begins_in s) (covered v)) after
@@ -93,14 +93,14 @@ module _ (p : Run → Bool) where
       none_reserved (Some r) = refl
   reserved_written (o ∷ ps) (k ∷ ms) zero q m h =
       elim (any_cases p (extent_at_point o k) (reserved_extents ps ms) (sym (ap (list_any p) (reserved_cons o k ps ms)) ∙ h)) [
-        inl first ↦ inr (record { point = o; memory = k; is_point = refl; is_memory = refl; passes = first })
+        | inl first ↦ inr (record { point = o; memory = k; is_point = refl; is_memory = refl; passes = first })
         | inr later ↦ inl (later_reserved q m ps ms later)
       ]
   reserved_written (o ∷ ps) (k ∷ ms) (suc n) q m h =
       elim (any_cases p (extent_at_point o k) (reserved_extents ps ms) (sym (ap (list_any p) (reserved_cons o k ps ms)) ∙ h)) [
-        inl first ↦ inl (first_reserved o k (slice_set ps n q) (slice_set ms n m) first)
+        | inl first ↦ inl (first_reserved o k (slice_set ps n q) (slice_set ms n m) first)
         | inr later ↦ elim (reserved_written ps ms n q m later) [
-          inl still ↦ inl (later_reserved o k (slice_set ps n q) (slice_set ms n m) still)
+          | inl still ↦ inl (later_reserved o k (slice_set ps n q) (slice_set ms n m) still)
           | inr at ↦ inr (record { point = at.point; memory = at.memory; is_point = at.is_point; is_memory = at.is_memory; passes = at.passes })
         ]
       ]
@@ -116,14 +116,14 @@ module _ (p : Run → Bool) where
       none_reserved (Some r) = refl
   reserved_point_written (o ∷ ps) (k ∷ ms) zero q h =
       elim (any_cases p (extent_at_point o k) (reserved_extents ps ms) (sym (ap (list_any p) (reserved_cons o k ps ms)) ∙ h)) [
-        inl first ↦ inr (record { point = o; memory = k; is_point = refl; is_memory = refl; passes = first })
+        | inl first ↦ inr (record { point = o; memory = k; is_point = refl; is_memory = refl; passes = first })
         | inr later ↦ inl (later_reserved q k ps ms later)
       ]
   reserved_point_written (o ∷ ps) (k ∷ ms) (suc n) q h =
       elim (any_cases p (extent_at_point o k) (reserved_extents ps ms) (sym (ap (list_any p) (reserved_cons o k ps ms)) ∙ h)) [
-        inl first ↦ inl (first_reserved o k (slice_set ps n q) ms first)
+        | inl first ↦ inl (first_reserved o k (slice_set ps n q) ms first)
         | inr later ↦ elim (reserved_point_written ps ms n q later) [
-          inl still ↦ inl (later_reserved o k (slice_set ps n q) ms still)
+          | inl still ↦ inl (later_reserved o k (slice_set ps n q) ms still)
           | inr at ↦ inr (record { point = at.point; memory = at.memory; is_point = at.is_point; is_memory = at.is_memory; passes = at.passes })
         ]
       ]
@@ -148,7 +148,7 @@ module _ (p : Run → Bool) where
       none_reserved (Some r) = refl
   reserved_last (o ∷ ps) (k ∷ ms) q m h =
       elim (any_cases p (extent_at_point o k) (reserved_extents ps ms) (sym (ap (list_any p) (reserved_cons o k ps ms)) ∙ h)) [
-        inl first ↦ first_reserved o k (with_last ps q) (with_last ms m) first
+        | inl first ↦ first_reserved o k (with_last ps q) (with_last ms m) first
         | inr later ↦ later_reserved o k (with_last ps q) (with_last ms m) (reserved_last ps ms q m later)
       ]
 
@@ -170,7 +170,7 @@ module _ (p : Run → Bool) where
   extents_last (q ∷ os) [] o a h = absurd (false≢true h)
   extents_last (q ∷ os) (None ∷ addresses) o a h = extents_last os addresses o a h
   extents_last (q ∷ os) (Some at ∷ addresses) o a h = elim (or_cases (p (extent at (size_of q))) (list_any p (extents_of os addresses)) h) [
-    inl first ↦ first_extent q at (with_last os o) (with_last addresses a) first
+    | inl first ↦ first_extent q at (with_last os o) (with_last addresses a) first
     | inr later ↦ later_extent q (Some at) (with_last os o) (with_last addresses a) (extents_last os addresses o a later)
   ]
 
@@ -209,17 +209,17 @@ extents_freed p [] addresses n h = absurd (false≢true h)
 extents_freed p (o ∷ os) [] n h = absurd (false≢true h)
 extents_freed p (o ∷ os) (None ∷ addresses) zero h = inl h
 extents_freed p (o ∷ os) (Some at ∷ addresses) zero h = elim (or_cases (p (extent at (size_of o))) (list_any p (extents_of os addresses)) h) [
-  inl first ↦ inr (record { object = o; at = at; is_object = refl; is_at = refl; passes = first })
+  | inl first ↦ inr (record { object = o; at = at; is_object = refl; is_at = refl; passes = first })
   | inr later ↦ inl later
 ]
 extents_freed p (o ∷ os) (None ∷ addresses) (suc n) h = elim (extents_freed p os addresses n h) [
-  inl still ↦ inl still
+  | inl still ↦ inl still
   | inr gone ↦ inr (record { object = gone.object; at = gone.at; is_object = gone.is_object; is_at = gone.is_at; passes = gone.passes })
 ]
 extents_freed p (o ∷ os) (Some at ∷ addresses) (suc n) h = elim (or_cases (p (extent at (size_of o))) (list_any p (extents_of os addresses)) h) [
-  inl first ↦ inl (first_extent p o at os (slice_set addresses n None) first)
+  | inl first ↦ inl (first_extent p o at os (slice_set addresses n None) first)
   | inr later ↦ elim (extents_freed p os addresses n later) [
-    inl still ↦ inl (later_extent p o (Some at) os (slice_set addresses n None) still)
+    | inl still ↦ inl (later_extent p o (Some at) os (slice_set addresses n None) still)
     | inr gone ↦ inr (record { object = gone.object; at = gone.at; is_object = gone.is_object; is_at = gone.is_at; passes = gone.passes })
   ]
 ]

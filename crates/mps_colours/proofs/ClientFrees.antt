@@ -41,7 +41,7 @@ cells_automatic : (w : World) (p : Pool) (head : ℕ) (cells : List Cell) (id : 
     → contains (targets_of_cells cells) id ≡ true → object_is is_automatic w id ≡ true
 cells_automatic w p head cells id right h = list_all-contains (object_is is_automatic w) (targets_of_cells cells) id
     (and_parts ((w.formats p.format).is_valid head && are_shaped (new_cells (w.formats p.format) head) cells)
-      (list_all (object_is is_automatic w) (targets_of_cells cells)) right).1 h
+    (list_all (object_is is_automatic w) (targets_of_cells cells)) right).1 h
 
 body_automatic : (w : World) (p : Pool) (b : Body) (id : Id) → is_right_body w p b ≡ true → contains (targets_of_body b) id ≡ true
     → object_is is_automatic w id ≡ true
@@ -69,12 +69,13 @@ reservation_automatic : (w : World) (p : Point) (m : PointMemory) (r : Reservati
     → contains (targets_of_reservation r) id ≡ true → object_is is_automatic w id ≡ true
 reservation_automatic w p m r id right h =
     let cells = (and_parts (option_map_or (λ of. are_right_cells w of r.head r.cells) (pool_at w p.pool) false)
-        (r.is_doomed || is_home w p.pool (is_weak_rank p.rank) (extent m.reserved_at (length r.cells))) right).0 in
+    (r.is_doomed || is_home w p.pool (is_weak_rank p.rank) (extent m.reserved_at (length r.cells))) right).0 in
     of_pool (pool_at w p.pool) cells (of_doomed r.is_doomed h)
   where
     of_doomed : (b : Bool) → contains (if b then [] else targets_of_cells r.cells) id ≡ true → contains (targets_of_cells r.cells) id ≡ true
     of_doomed true g = absurd (false≢true g)
     of_doomed false g = g
+
     of_pool : (o : Option Pool) → option_map_or (λ of. are_right_cells w of r.head r.cells) o false ≡ true → contains (targets_of_cells r.cells) id ≡ true
         → object_is is_automatic w id ≡ true
     of_pool None e g = absurd (false≢true e)
@@ -99,7 +100,7 @@ points_automatic w (None ∷ ps) (m ∷ ms) id right h = points_automatic w ps m
 points_automatic w (Some p ∷ ps) (m ∷ ms) id right h =
     let parts = and_parts (is_right_point w p m) (are_right_points w ps ms) right in
     elim (contains_append (option_map_or targets_of_reservation p.reservation []) (flat_map targets_of_point ps) id h) [
-      inl here ↦ point_automatic w p m id parts.0 here
+      | inl here ↦ point_automatic w p m id parts.0 here
       | inr later ↦ points_automatic w ps ms id parts.1 later
     ]
 
@@ -107,7 +108,7 @@ points_automatic w (Some p ∷ ps) (m ∷ ms) id right h =
 any_automatic : (w : World) (words : List ℕ) (id : Id) → list_any (λ word. lies_in w word id) words ≡ true → object_is is_automatic w id ≡ true
 any_automatic w [] id h = absurd (false≢true h)
 any_automatic w (word ∷ words) id h = elim (or_cases (lies_in w word id) (list_any (λ word. lies_in w word id) words) h) [
-  inl e ↦ (and_parts (object_is is_automatic w id) (is_live_and (λ at. is_word_in
+  | inl e ↦ (and_parts (object_is is_automatic w id) (is_live_and (λ at. is_word_in
       (is_copying_object w id) at (words_of w id) word) w id) e).0
   | inr e ↦ any_automatic w words id e
 ]
@@ -140,6 +141,7 @@ manual_is w id h = of_object (object_at w.graph id) h
     of_automatic : (b : Bool) → not b ≡ true → b ≡ false
     of_automatic true g = absurd (false≢true g)
     of_automatic false g = refl
+
     of_object : (o : Option Object) → option_map_or (λ o. not (is_automatic o)) o false ≡ true → option_map_or is_automatic o false ≡ false
     of_object None g = absurd (false≢true g)
     of_object (Some o) g = of_automatic (is_automatic o) g
@@ -155,6 +157,7 @@ manual_object w o right manual = of_pool (pool_at w o.pool) refl right
     of_not : (b : Bool) → not b ≡ true → b ≡ false
     of_not true g = absurd (false≢true g)
     of_not false g = refl
+
     of_body : (p : Pool) (b : Body) → o.body ≡ b → pool_at w o.pool ≡ Some p → is_right_body w p b ≡ true
         → is_automatic_body b ≡ false → IsManual w o
     of_body p (Automatic head cells is_weak) same e g m = absurd (true≢false m)
@@ -165,6 +168,7 @@ manual_object w o right manual = of_pool (pool_at w o.pool) refl right
           pool = ap (λ q. option_map_or (λ (p : Pool). is_automatic_kind p.kind) q false) e ∙ of_not (is_automatic_kind p.kind) parts.0;
           some_words = subst (λ body. 1 ≤ size_of_body body) (sym same) least;
         }
+
     of_pool : (q : Option Pool) → pool_at w o.pool ≡ q → option_map_or (λ p. is_right_body w p o.body) q false ≡ true → IsManual w o
     of_pool None e g = absurd (false≢true g)
     of_pool (Some p) e g = of_body p o.body refl e g manual
@@ -177,12 +181,12 @@ module _ (x : Collecting) (run : Running x) (formed : IsWellFormed x.world) (id 
       → segment_at w base ≡ Some s → object_at w.graph id ≡ Some o → entry_at w.addresses id ≡ Some at → begins_in s (extent at (size_of o)) ≡ true → ⊥
   elsewhere base s o at is e there lying begins =
       let m = manual_object w o (list_all-at (is_right_object w) w.graph.objects id o formed.objects there)
-          (sym (ap (λ q. option_map_or is_automatic q false) there) ∙ manual) in
+      (sym (ap (λ q. option_map_or is_automatic q false) there) ∙ manual) in
       let l = lies_at w formed id o at there lying m.some_words in
       let in_order = segments_ordered w formed in
       let among = find_among (λ t. t.base == base) w.segments s e in
       let same = same_Some s l.segment (sym (over_among 1 s w.segments (address_of_word (word_of at)) in_order among.0 begins)
-          ∙ over_among 1 l.segment w.segments (address_of_word (word_of at)) in_order l.among l.word_inside) in
+      ∙ over_among 1 l.segment w.segments (address_of_word (word_of at)) in_order l.among l.word_inside) in
       let automatic = from_some (λ (t : Segment). IsTrue (pool_is is_automatic_kind w t.pool)) (segment_at w base) s e (run.condemned.segments base is) in
       true≢false (sym automatic ∙ (ap (λ (t : Segment). pool_is is_automatic_kind w t.pool) same ∙ (ap (pool_is is_automatic_kind w) l.of_pool ∙ m.pool)))
 
@@ -208,7 +212,7 @@ module _ (x : Collecting) (run : Running x) (in_order : AreOrdered 1 x.world.seg
   not_condemned : (s : Segment) → IsAmong s x.world.segments → pool_is is_any_size_kind x.world s.pool ≡ true
       → contains x.running.condemned_segments s.base ≡ false
   not_condemned s among any = elim (cases_Bool (contains x.running.condemned_segments s.base)) [
-    inl is ↦ absurd (pool_exclusive x.world s.pool any (from_some (λ (t : Segment). IsTrue (pool_is is_automatic_kind x.world t.pool))
+    | inl is ↦ absurd (pool_exclusive x.world s.pool any (from_some (λ (t : Segment). IsTrue (pool_is is_automatic_kind x.world t.pool))
         (segment_at x.world s.base) s (held_among 1 s x.world.segments in_order among) (run.condemned.segments s.base is)))
     | inr isnt ↦ isnt
   ]
@@ -221,7 +225,7 @@ module _ (x : Collecting) (run : Running x) (in_order : AreOrdered 1 x.world.seg
       subst (λ o. Running (record x { world = record x.world { segments = without_segment x.world.segments s.base; collection = o } }))
       (sym (fix s.base outside))
       (segments_keep x run (without_segment x.world.segments s.base) x.world.tails after
-        (λ t h is. among_without s.base t x.world.segments (λ e. true≢false (sym is ∙ (ap (contains x.running.condemned_segments) e ∙ outside))) h))
+      (λ t h is. among_without s.base t x.world.segments (λ e. true≢false (sym is ∙ (ap (contains x.running.condemned_segments) e ∙ outside))) h))
     where
       fix : (base : Address) → contains x.running.condemned_segments base ≡ false → option_map (giving_back base) x.world.collection ≡ x.world.collection
       fix base outside = ap (option_map (giving_back base)) run.runs
@@ -251,17 +255,18 @@ module _ (x : Collecting) (run : Running x) (formed : IsWellFormed x.world) wher
       → Running (record x { world = world_after_moves x.world (free_of x.world (address_or_null x.world id)) })
   free_of_keeps id live manual fine =
       subst (λ (v : World). AreOrdered 1 (world_after_moves v (give_back_empty v (segment_of x.world at))).segments
-        → Running (record x { world = world_after_moves v (give_back_empty v (segment_of x.world at)) })) (sym leads)
+      → Running (record x { world = world_after_moves v (give_back_empty v (segment_of x.world at)) })) (sym leads)
       (λ ordered. give_back_keeps (record x { world = with_address x.world id None }) (manual_freed_keeps x run formed id manual)
-        (segments_ordered x.world formed) (segment_of x.world at) (λ s e. (find_among (λ t. is_in_segment t at) x.world.segments s e).0) ordered) fine
+      (segments_ordered x.world formed) (segment_of x.world at) (λ s e. (find_among (λ t. is_in_segment t at) x.world.segments s e).0) ordered) fine
     where
       at : Address
       at = address_or_null x.world id
+
       leads : world_after_moves x.world (free_at (address_or_null x.world id)) ≡ with_address x.world id None
       leads = ap (λ found. where_one x.world found (λ n. after_free x.world n (address_or_null x.world id))) (id_at-live x.world id run.different live)
           ∙ ap (λ b. if b then with_collection (with_address x.world id None)
-              (reclaiming (segment_base_of x.world (address_or_null x.world id)))
-              else with_address x.world id None) manual
+          (reclaiming (segment_base_of x.world (address_or_null x.world id)))
+          else with_address x.world id None) manual
 
   -- the moves of a free
   free_moves_keeps : (m : Checked (Found (Option ℕ))) (refused : Bool)
@@ -283,9 +288,10 @@ module _ (x : Collecting) (run : Running x) (formed : IsWellFormed x.world) wher
       → block_place_in x.world place ≡ Ok f → f.value ≡ Some id → (is_live x.world id ≡ true) × (object_is is_automatic x.world id ≡ false)
   block_right live place f id e value =
       let there = found (slice_get x.world.graph.blocks) f (number_named x.world place.name as_blocks) place.index e in
-      let among = among_all entries x.world.graph.blocks f.number f.list id there.list (among_entries f.list f.index id (there.value ∙ ap Some value)) in
-      (list_all-contains (is_live x.world) (ids_in_blocks x.world.graph) id live among,
-      manual_is x.world id (list_all-contains (object_is (λ o. not (is_automatic o)) x.world) (ids_in_blocks x.world.graph) id formed.blocks among))
+      let among = among_all entries x.world.graph.blocks f.number f.list id there.list (among_entries f.list f.index id (there.value ∙ ap Some value)) in (
+        list_all-contains (is_live x.world) (ids_in_blocks x.world.graph) id live among,
+        manual_is x.world id (list_all-contains (object_is (λ o. not (is_automatic o)) x.world) (ids_in_blocks x.world.graph) id formed.blocks among),
+      )
 
   pub freeing_keeps : list_all (is_live x.world) (ids_in_blocks x.world.graph) ≡ true → (place : Slot) (answer : Answer)
       → AreOrdered 1 (world_after_moves x.world (unless_refused answer (moves_of_free x.world (block_place_in x.world place)))).segments
@@ -299,9 +305,9 @@ free_act_keeps x run place =
     bind_keeps (λ v. Running (record x { world = v })) x.world (block_place_in x.world place)
     (λ at. block_in at >> done (with_graph x.world (with_block_place x.world.graph at None))) run
     (λ at e. then_keeps (λ v. Running (record x { world = v })) x.world (block_in at)
-      (done (with_graph x.world (with_block_place x.world.graph at None))) run
-      (aside_keeps x run x.world.grains x.world.limit x.world.chains x.world.graph.names
-        (slice_set x.world.graph.blocks at.number (slice_set at.list at.index None)) x.world.state x.world.dependencies))
+    (done (with_graph x.world (with_block_place x.world.graph at None))) run
+    (aside_keeps x run x.world.grains x.world.limit x.world.chains x.world.graph.names
+    (slice_set x.world.graph.blocks at.number (slice_set at.list at.index None)) x.world.state x.world.dependencies))
 
 pub free_act_segments : (v : World) (place : Slot) → (world_from v (act_free v place)).segments ≡ v.segments
 free_act_segments v place =

@@ -19,13 +19,13 @@ module _ {X : Type 0} (f : X → List ℕ) where
       → (contains (flat_map f xs) n ≡ true) ⊎ (contains (f x) n ≡ true)
   written_among [] i x n h = inl h
   written_among (y ∷ ys) zero x n h = elim (contains_append (f x) (flat_map f ys) n h) [
-    inl new ↦ inr new
+    | inl new ↦ inr new
     | inr old ↦ inl (contains_right (f y) (flat_map f ys) n old)
   ]
   written_among (y ∷ ys) (suc i) x n h = elim (contains_append (f y) (flat_map f (slice_set ys i x)) n h) [
-    inl first ↦ inl (contains_left (f y) (flat_map f ys) n first)
+    | inl first ↦ inl (contains_left (f y) (flat_map f ys) n first)
     | inr rest ↦ elim (written_among ys i x n rest) [
-      inl old ↦ inl (contains_right (f y) (flat_map f ys) n old)
+      | inl old ↦ inl (contains_right (f y) (flat_map f ys) n old)
       | inr new ↦ inr new
     ]
   ]
@@ -35,9 +35,9 @@ module _ {X : Type 0} (f : X → List ℕ) where
       → (contains (flat_map f xs) n ≡ true) ⊎ (contains (f x) n ≡ true)
   last_among [] x n h = elim (contains_append (f x) [] n h) [ inl new ↦ inr new | inr none ↦ absurd (false≢true none) ]
   last_among (y ∷ ys) x n h = elim (contains_append (f y) (flat_map f (with_last ys x)) n h) [
-    inl first ↦ inl (contains_left (f y) (flat_map f ys) n first)
+    | inl first ↦ inl (contains_left (f y) (flat_map f ys) n first)
     | inr rest ↦ elim (last_among ys x n rest) [
-      inl old ↦ inl (contains_right (f y) (flat_map f ys) n old)
+      | inl old ↦ inl (contains_right (f y) (flat_map f ys) n old)
       | inr new ↦ inr new
     ]
   ]
@@ -74,7 +74,7 @@ pub written_entries : (os : List (Option ℕ)) (i : ℕ) (o : Option ℕ) (n : �
 written_entries [] i o n h = inl h
 written_entries (p ∷ os) zero o n h = elim (entry_cases o os n h) [ inl new ↦ inr new | inr old ↦ inl (entry_later p os n old) ]
 written_entries (p ∷ os) (suc i) o n h = elim (entry_cases p (slice_set os i o) n h) [
-  inl first ↦ inl (entry_first p os n first)
+  | inl first ↦ inl (entry_first p os n first)
   | inr rest ↦ elim (written_entries os i o n rest) [ inl old ↦ inl (entry_later p os n old) | inr new ↦ inr new ]
 ]
 
@@ -126,4 +126,3 @@ entry_last (z ∷ zs) x (suc i) y e = entry_last zs x i y e
 pub entry_of_last : {X : Type 0} (xs : List (Option X)) (x : X) → entry_at (with_last xs (Some x)) (length xs) ≡ Some x
 entry_of_last [] x = refl
 entry_of_last (z ∷ zs) x = entry_of_last zs x
-

@@ -57,7 +57,7 @@ refers_cases os o id t h = of_option (slice_get (with_last os o) id) refl h
         → (contains (option_map_or targets_of (slice_get os id) []) t ≡ true) ⊎ (contains (targets_of o) t ≡ true)
     of_option None e g = absurd (false≢true g)
     of_option (Some p) e g = elim (last_cases os o id p e) [
-      inl old ↦ inl (ap (λ r. contains (option_map_or targets_of r []) t) old ∙ g)
+      | inl old ↦ inl (ap (λ r. contains (option_map_or targets_of r []) t) old ∙ g)
       | inr new ↦ inr (ap (λ q. contains (targets_of q) t) new.1 ∙ g)
     ]
 
@@ -73,14 +73,14 @@ refers_below os id t h = of_option (slice_get os id) refl h
 pub find_among : (p : Segment → Bool) (ss : List Segment) (s : Segment) → find p ss ≡ Some s → IsAmong s ss × (p s ≡ true)
 find_among p [] s h = absurd (none-some s h)
 find_among p (t ∷ ts) s h = elim (p t) as (λ b. p t ≡ b → (if b then Some t else find p ts) ≡ Some s → IsAmong s (t ∷ ts) × (p s ≡ true)) [
-  true ↦ (λ e g. (inl (same_Some t s g), subst (λ u. p u ≡ true) (same_Some t s g) e))
+  | true ↦ (λ e g. (inl (same_Some t s g), subst (λ u. p u ≡ true) (same_Some t s g) e))
   | false ↦ (λ e g. let rest = find_among p ts s g in (inr rest.0, rest.1))
 ] refl h
 
 pub among_with : (s t : Segment) (ss : List Segment) → IsAmong t ss → IsAmong t (with_segment s ss)
 among_with s t [] h = absurd h
 among_with s t (u ∷ us) h = elim (nat_lt s.base u.base) as (λ b. IsAmong t (if b then s ∷ u ∷ us else u ∷ with_segment s us)) [
-  true ↦ inr h
+  | true ↦ inr h
   | false ↦ elim h [ inl e ↦ inl e | inr later ↦ inr (among_with s t us later) ]
 ]
 
@@ -88,8 +88,8 @@ pub among_without : (base : Address) (t : Segment) (ss : List Segment) → (t.ba
 among_without base t [] other h = h
 among_without base t (u ∷ us) other h =
     elim (u.base == base) as (λ b. (u.base == base) ≡ b → IsAmong t (if not b then u ∷ without_segment us base else without_segment us base)) [
-      true ↦ (λ is. elim h [
-        inl e ↦ absurd (other (ap (λ (s : Segment). s.base) (sym e) ∙ eqb-true u.base base is))
+      | true ↦ (λ is. elim h [
+        | inl e ↦ absurd (other (ap (λ (s : Segment). s.base) (sym e) ∙ eqb-true u.base base is))
         | inr later ↦ among_without base t us other later
       ])
       | false ↦ (λ isnt. elim h [ inl e ↦ inl e | inr later ↦ inr (among_without base t us other later) ])
@@ -118,7 +118,7 @@ module _ (x : Collecting) (run : Running x) where
     was_live id h =
         let some = entry_that_is (entry_at (with_last w.addresses (Some at)) id) h in
         elim (entry_last_cases w.addresses (Some at) id some.0 some.1) [
-          inl old ↦ inl (ap is_some old)
+          | inl old ↦ inl (ap is_some old)
           | inr new ↦ inr (let e = new.0 in omega (arith, e, as_many))
         ]
 
@@ -130,8 +130,8 @@ module _ (x : Collecting) (run : Running x) where
     made_refers : (id t : Id) → is_live made id ≡ true → contains (targets made.graph id) t ≡ true
         → ((is_live w id ≡ true) × (contains (targets w.graph id) t ≡ true)) ⊎ (contains (ids_of_client w.graph) t ≡ true)
     made_refers id t h refers = elim (refers_cases w.graph.objects o id t refers) [
-      inl old ↦ elim (was_live id h) [
-        inl live ↦ inl (live, old)
+      | inl old ↦ elim (was_live id h) [
+        | inl live ↦ inl (live, old)
         | inr new ↦ absurd (let there = refers_below w.graph.objects id t old in omega (arith, new, there))
       ]
       | inr new ↦ inr (held t new)
@@ -152,14 +152,14 @@ module _ (x : Collecting) (run : Running x) where
       held = λ id h. inl h;
       registered = refl;
       addresses = λ id a is e. elim (entry_last_cases w.addresses (Some at) id a e) [
-        inl old ↦ old
+        | inl old ↦ old
         | inr new ↦ absurd (let there = condemned_there id is in let same = new.0 in omega (arith, there, same, as_many))
       ];
       segments = λ base s is e. e;
       base_of = λ id a is e in_condemned. refl;
       holds = λ base is h. holds_still w made base refl
           (λ s e any. elim (any_cases (begins_in s) (extents_of w.graph.objects w.addresses) (reserved_extents w.graph.points w.point_memories) any) [
-            inl object ↦ any_left (begins_in s) (extents_of made.graph.objects made.addresses) (reserved_extents w.graph.points w.point_memories)
+            | inl object ↦ any_left (begins_in s) (extents_of made.graph.objects made.addresses) (reserved_extents w.graph.points w.point_memories)
                 (extents_last (begins_in s) w.graph.objects w.addresses o (Some at) object)
             | inr reserved ↦ any_right (begins_in s) (extents_of made.graph.objects made.addresses) (reserved_extents w.graph.points w.point_memories) reserved
           ]) h;
@@ -172,7 +172,7 @@ module _ (x : Collecting) (run : Running x) where
     pub made_black : is_white_in x (length w.graph.objects) ≡ false
     made_black = not_white_outside x.running.condemned x.colours (length w.graph.objects)
         (elim (cases_Bool (is_condemned x.running (length w.graph.objects))) [
-          inl is ↦ absurd (let there = condemned_there (length w.graph.objects) is in omega (arith, there))
+          | inl is ↦ absurd (let there = condemned_there (length w.graph.objects) is in omega (arith, there))
           | inr isnt ↦ isnt
         ])
 
@@ -183,14 +183,14 @@ module _ (x : Collecting) (run : Running x) where
 
   module _ (n : Id) (unused : IsUsed x n → ⊥)
       (elsewhere : (base : Address) (s : Segment) (o : Object) (at : Address) → contains x.running.condemned_segments base ≡ true
-        → segment_at w base ≡ Some s → object_at w.graph n ≡ Some o → entry_at w.addresses n ≡ Some at
-        → begins_in s (extent at (size_of o)) ≡ true → ⊥) where
+      → segment_at w base ≡ Some s → object_at w.graph n ≡ Some o → entry_at w.addresses n ≡ Some at
+      → begins_in s (extent at (size_of o)) ≡ true → ⊥) where
     abbrev freed : World
     freed = record w { addresses = slice_set w.addresses n None }
 
     address_before : (id : Id) (at : Address) → entry_at (slice_set w.addresses n None) id ≡ Some at → entry_at w.addresses id ≡ Some at
     address_before id at e = elim (entry_at-set_cases w.addresses n id None at e) [
-      inl new ↦ absurd (none-some at new.1)
+      | inl new ↦ absurd (none-some at new.1)
       | inr old ↦ old.1
     ]
 
@@ -219,8 +219,8 @@ module _ (x : Collecting) (run : Running x) where
       base_of = λ id at is e in_condemned. refl;
       holds = λ base is h. holds_still w freed base refl
           (λ s e any. elim (any_cases (begins_in s) (extents_of w.graph.objects w.addresses) (reserved_extents w.graph.points w.point_memories) any) [
-            inl object ↦ elim (extents_freed (begins_in s) w.graph.objects w.addresses n object) [
-              inl still ↦ any_left (begins_in s) (extents_of w.graph.objects freed.addresses) (reserved_extents w.graph.points w.point_memories) still
+            | inl object ↦ elim (extents_freed (begins_in s) w.graph.objects w.addresses n object) [
+              | inl still ↦ any_left (begins_in s) (extents_of w.graph.objects freed.addresses) (reserved_extents w.graph.points w.point_memories) still
               | inr gone ↦ absurd (elsewhere base s gone.object gone.at is e gone.is_object gone.is_at gone.passes)
             ]
             | inr reserved ↦ any_right (begins_in s) (extents_of w.graph.objects freed.addresses) (reserved_extents w.graph.points w.point_memories) reserved

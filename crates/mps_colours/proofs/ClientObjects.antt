@@ -33,7 +33,7 @@ pub record IsRewritten (held : Id → Type 0) (o q : Object) : Type 0 where
 pub written_passes : {A : Type 0} (test : Object → A) (otherwise : A) (os : List Object) (n id : Id) (o q : Object) → slice_get os n ≡ Some o
     → test q ≡ test o → option_map_or test (slice_get (slice_set os n q) id) otherwise ≡ option_map_or test (slice_get os id) otherwise
 written_passes test otherwise os n id o q e same = elim (cases_eq n id) [
-  inl it ↦ ap (λ p. option_map_or test p otherwise)
+  | inl it ↦ ap (λ p. option_map_or test p otherwise)
       (subst (λ m. slice_get (slice_set os n q) m ≡ Some q) it (slice_get-set_same os n q (index_below os n o e)))
       ∙ same ∙ ap (λ p. option_map_or test p otherwise) (sym (subst (λ m. slice_get os m ≡ Some o) it e))
   | inr other ↦ ap (λ p. option_map_or test p otherwise) (slice_get-set_other os n id q other)
@@ -55,12 +55,12 @@ module _ (x : Collecting) (run : Running x) where
 
     now_refers : (id t : Id) → contains (targets rewritten.graph id) t ≡ true → (contains (targets w.graph id) t ≡ true) ⊎ IsHeld t
     now_refers id t h = elim (cases_eq n id) [
-      inl it ↦ elim (r.referred t (ap (λ p. contains (option_map_or targets_of p []) t)
-            (sym (subst (λ m. slice_get (slice_set w.graph.objects n q) m ≡ Some q) it
-              (slice_get-set_same w.graph.objects n q (index_below w.graph.objects n o there)))) ∙ h)) [
-        inl old ↦ inl (ap (λ p. contains (option_map_or targets_of p []) t) (subst (λ m. slice_get w.graph.objects m ≡ Some o) it there) ∙ old)
-        | inr held ↦ inr held
-      ]
+      | inl it ↦ elim (r.referred t (ap (λ p. contains (option_map_or targets_of p []) t)
+          (sym (subst (λ m. slice_get (slice_set w.graph.objects n q) m ≡ Some q) it
+          (slice_get-set_same w.graph.objects n q (index_below w.graph.objects n o there)))) ∙ h)) [
+            | inl old ↦ inl (ap (λ p. contains (option_map_or targets_of p []) t) (subst (λ m. slice_get w.graph.objects m ≡ Some o) it there) ∙ old)
+            | inr held ↦ inr held
+          ]
       | inr other ↦ inl (ap (λ p. contains (option_map_or targets_of p []) t) (sym (slice_get-set_other w.graph.objects n id q other)) ∙ h)
     ]
 
@@ -83,7 +83,7 @@ module _ (x : Collecting) (run : Running x) where
       base_of = λ id at is e in_condemned. refl;
       holds = λ base is h. holds_still w rewritten base refl
           (λ s e any. ap (λ es. list_any (begins_in s) (es ++ reserved_extents w.graph.points w.point_memories))
-            (extents_same (begins_in s) w.graph.objects w.addresses n o q there r.size) ∙ any) h;
+          (extents_same (begins_in s) w.graph.objects w.addresses n o q there r.size) ∙ any) h;
     }
 
     pub rewritten_keeps : P rewritten
@@ -109,12 +109,15 @@ module _ (x : Collecting) (run : Running x) where
       automatic_so : (b : Body) → is_automatic_body (body_with_cells b change) ≡ is_automatic_body b
       automatic_so (Automatic head cells is_weak) = refl
       automatic_so (Manual words) = refl
+
       weak_so : (b : Body) → is_weak_body (body_with_cells b change) ≡ is_weak_body b
       weak_so (Automatic head cells is_weak) = refl
       weak_so (Manual words) = refl
+
       size_so : (b : Body) → size_of_body (body_with_cells b change) ≡ size_of_body b
       size_so (Automatic head cells is_weak) = right.as_many cells
       size_so (Manual words) = refl
+
       refers_so : (b : Body) (t : Id) → contains (targets_of_body (body_with_cells b change)) t ≡ true
           → (contains (targets_of_body b) t ≡ true) ⊎ IsHeld t
       refers_so (Automatic head cells is_weak) t h = right.referred cells t h
@@ -132,38 +135,38 @@ module _ (x : Collecting) (run : Running x) where
   pub put_keeps : (target : Slot) (k : ℕ) (source : Slot) → P (world_from w (act_put w target k source))
   put_keeps target k source =
       bind_keeps P w (slot_in w target) (λ into. slot_in w source >>= (λ from. object_in w into.value
-        >>= (λ object. reference_at (cells_of_body object.value.body) k
-        >> done (with_graph w (graph_with_cells w.graph object.number (λ cells. with_target_cell cells k from.value)))))) run
+      >>= (λ object. reference_at (cells_of_body object.value.body) k
+      >> done (with_graph w (graph_with_cells w.graph object.number (λ cells. with_target_cell cells k from.value)))))) run
       (λ into e. bind_keeps P w (slot_in w source) (λ from. object_in w into.value
-          >>= (λ object. reference_at (cells_of_body object.value.body) k
-          >> done (with_graph w (graph_with_cells w.graph object.number (λ cells. with_target_cell cells k from.value))))) run
-        (λ from f. bind_keeps P w (object_in w into.value) (λ object. reference_at (cells_of_body object.value.body) k
-            >> done (with_graph w (graph_with_cells w.graph object.number (λ cells. with_target_cell cells k from.value)))) run
-          (λ object g. then_keeps P w (reference_at (cells_of_body object.value.body) k)
-            (done (with_graph w (graph_with_cells w.graph object.number (λ cells. with_target_cell cells k from.value)))) run
-            (with_cells_keeps object.number (λ cells. with_target_cell cells k from.value) (record {
-              as_many = λ cells. length_with_target cells k from.value;
-              referred = λ cells t h. elim (targets_retargeted cells k from.value t h) [
-                inl old ↦ inl old
-                | inr new ↦ inr (slot_held w.graph from t (slot_found w source from f) new)
-              ];
-            })))))
+      >>= (λ object. reference_at (cells_of_body object.value.body) k
+      >> done (with_graph w (graph_with_cells w.graph object.number (λ cells. with_target_cell cells k from.value))))) run
+      (λ from f. bind_keeps P w (object_in w into.value) (λ object. reference_at (cells_of_body object.value.body) k
+      >> done (with_graph w (graph_with_cells w.graph object.number (λ cells. with_target_cell cells k from.value)))) run
+      (λ object g. then_keeps P w (reference_at (cells_of_body object.value.body) k)
+      (done (with_graph w (graph_with_cells w.graph object.number (λ cells. with_target_cell cells k from.value)))) run
+      (with_cells_keeps object.number (λ cells. with_target_cell cells k from.value) (record {
+        as_many = λ cells. length_with_target cells k from.value;
+        referred = λ cells t h. elim (targets_retargeted cells k from.value t h) [
+          | inl old ↦ inl old
+          | inr new ↦ inr (slot_held w.graph from t (slot_found w source from f) new)
+        ];
+      })))))
 
   pub set_number_keeps : (slot : Slot) (k value : ℕ) → P (world_from w (act_set_number w slot k value))
   set_number_keeps slot k value =
       bind_keeps P w (slot_in w slot) (λ into. object_in w into.value >>= (λ object. number_at (cells_of_body object.value.body) k
-        >> done (with_graph w (graph_with_cells w.graph object.number (λ cells. slice_set cells k (NumberCell value)))))) run
+      >> done (with_graph w (graph_with_cells w.graph object.number (λ cells. slice_set cells k (NumberCell value)))))) run
       (λ into e. bind_keeps P w (object_in w into.value) (λ object. number_at (cells_of_body object.value.body) k
-          >> done (with_graph w (graph_with_cells w.graph object.number (λ cells. slice_set cells k (NumberCell value))))) run
-        (λ object g. then_keeps P w (number_at (cells_of_body object.value.body) k)
-          (done (with_graph w (graph_with_cells w.graph object.number (λ cells. slice_set cells k (NumberCell value))))) run
-          (with_cells_keeps object.number (λ cells. slice_set cells k (NumberCell value)) (record {
-            as_many = λ cells. length_set cells k (NumberCell value);
-            referred = λ cells t h. elim (targets_written cells k (NumberCell value) t h) [
-              inl old ↦ inl old
-              | inr none ↦ absurd (none-some t none)
-            ];
-          }))))
+      >> done (with_graph w (graph_with_cells w.graph object.number (λ cells. slice_set cells k (NumberCell value))))) run
+      (λ object g. then_keeps P w (number_at (cells_of_body object.value.body) k)
+      (done (with_graph w (graph_with_cells w.graph object.number (λ cells. slice_set cells k (NumberCell value))))) run
+      (with_cells_keeps object.number (λ cells. slice_set cells k (NumberCell value)) (record {
+        as_many = λ cells. length_set cells k (NumberCell value);
+        referred = λ cells t h. elim (targets_written cells k (NumberCell value) t h) [
+          | inl old ↦ inl old
+          | inr none ↦ absurd (none-some t none)
+        ];
+      }))))
 
   -- ---- words of manual blocks
 
@@ -179,12 +182,15 @@ module _ (x : Collecting) (run : Running x) where
       automatic_so : (b : Body) → is_automatic_body (body_with_word b k value) ≡ is_automatic_body b
       automatic_so (Automatic head cells is_weak) = refl
       automatic_so (Manual words) = refl
+
       weak_so : (b : Body) → is_weak_body (body_with_word b k value) ≡ is_weak_body b
       weak_so (Automatic head cells is_weak) = refl
       weak_so (Manual words) = refl
+
       size_so : (b : Body) → size_of_body (body_with_word b k value) ≡ size_of_body b
       size_so (Automatic head cells is_weak) = refl
       size_so (Manual words) = length_set words k value
+
       refers_so : (b : Body) (t : Id) → contains (targets_of_body (body_with_word b k value)) t ≡ true → contains (targets_of_body b) t ≡ true
       refers_so (Automatic head cells is_weak) t h = h
       refers_so (Manual words) t h = h
@@ -202,8 +208,8 @@ module _ (x : Collecting) (run : Running x) where
   pub store_keeps : (place : Slot) (k value : ℕ) → P (world_from w (act_store w place k value))
   store_keeps place k value =
       bind_keeps P w (block_place_in w place) (λ at. block_in at >>= (λ id. required (slice_get (words_at w.graph id) k) refusal.BadIndex
-        >> done (with_graph w (graph_with_word w.graph id k value)))) run
+      >> done (with_graph w (graph_with_word w.graph id k value)))) run
       (λ at e. bind_keeps P w (block_in at) (λ id. required (slice_get (words_at w.graph id) k) refusal.BadIndex
-          >> done (with_graph w (graph_with_word w.graph id k value))) run
-        (λ id f. then_keeps P w (required (slice_get (words_at w.graph id) k) refusal.BadIndex)
-          (done (with_graph w (graph_with_word w.graph id k value))) run (with_word_keeps id k value)))
+      >> done (with_graph w (graph_with_word w.graph id k value))) run
+      (λ id f. then_keeps P w (required (slice_get (words_at w.graph id) k) refusal.BadIndex)
+      (done (with_graph w (graph_with_word w.graph id k value))) run (with_word_keeps id k value)))

@@ -50,6 +50,7 @@ module _ (x : Collecting) (run : Running x) where
     where
       so : IsHeldIn (ids_in_slots w.graph) (ids_in_holds w.graph) w.graph.messages (ids_in_reservations w.graph) id → IsRightlyHeld x id
       so part = inl (held_so (ids_in_slots w.graph) (ids_in_holds w.graph) w.graph.messages (ids_in_reservations w.graph) id part)
+
       of_part : IsHeldIn (ids_in_slots w.graph) (ids_in_holds w.graph) w.graph.messages (flat_map targets_of_point points) id → IsRightlyHeld x id
       of_part (in_slots e) = so (in_slots e)
       of_part (in_holds e) = so (in_holds e)
@@ -60,7 +61,7 @@ module _ (x : Collecting) (run : Running x) where
   pub points_keep : (points : List (Option Point)) (memories : List PointMemory) (names : List NamedThing)
       → ((id : Id) → contains (flat_map targets_of_point points) id ≡ true → IsRightlyHeld x id)
       → ((p : Run → Bool) → list_any p (reserved_extents w.graph.points w.point_memories) ≡ true
-          → (list_any p (extents_of w.graph.objects w.addresses) ≡ true) ⊎ (list_any p (reserved_extents points memories) ≡ true))
+      → (list_any p (extents_of w.graph.objects w.addresses) ≡ true) ⊎ (list_any p (reserved_extents points memories) ≡ true))
       → P (with_points points memories names)
   points_keep points memories names reserved more = beside_keeps x run (with_points points memories names) (record {
     copying = λ id is h. h;
@@ -68,9 +69,9 @@ module _ (x : Collecting) (run : Running x) where
     held = held_by_points points reserved;
     holds = λ base h. holds_still w (with_points points memories names) base refl
         (λ s e any. elim (any_cases (begins_in s) (extents_of w.graph.objects w.addresses) (reserved_extents w.graph.points w.point_memories) any) [
-          inl object ↦ any_left (begins_in s) (extents_of w.graph.objects w.addresses) (reserved_extents points memories) object
+          | inl object ↦ any_left (begins_in s) (extents_of w.graph.objects w.addresses) (reserved_extents points memories) object
           | inr was ↦ elim (more (begins_in s) was) [
-            inl object ↦ any_left (begins_in s) (extents_of w.graph.objects w.addresses) (reserved_extents points memories) object
+            | inl object ↦ any_left (begins_in s) (extents_of w.graph.objects w.addresses) (reserved_extents points memories) object
             | inr is ↦ any_right (begins_in s) (extents_of w.graph.objects w.addresses) (reserved_extents points memories) is
           ]
         ]) h;
@@ -84,22 +85,22 @@ module _ (x : Collecting) (run : Running x) where
       (with_last w.point_memories (record { reserved_at = 0; buffer = empty_run }))
       (with_last w.graph.names (record { name = name; thing = PointThing (length w.graph.points) }))
       (λ id h. elim (last_among targets_of_point w.graph.points (Some (record { pool = pool; rank = rank; reservation = None })) id h) [
-        inl old ↦ still_reserved id old
+        | inl old ↦ still_reserved id old
         | inr none ↦ absurd (false≢true none)
       ])
       (λ p h. inr (reserved_last p w.graph.points w.point_memories (Some (record { pool = pool; rank = rank; reservation = None }))
-        (record { reserved_at = 0; buffer = empty_run }) h))
+      (record { reserved_at = 0; buffer = empty_run }) h))
 
   pub point_keeps : (name pool : Name) (rank : Rank) → P (world_from w (act_point w name pool rank))
   point_keeps name pool rank =
       then_keeps P w (refuse_taken w name) (pool_named w pool >>= (λ of. refuse_when (not (may_have_point of.value.kind rank)) refusal.WrongPool
-        >> (refuse_at_limit (live_points w.graph) most_points >> done (with_point w name of.number rank)))) run
+      >> (refuse_at_limit (live_points w.graph) most_points >> done (with_point w name of.number rank)))) run
       (bind_keeps P w (pool_named w pool) (λ of. refuse_when (not (may_have_point of.value.kind rank)) refusal.WrongPool
-        >> (refuse_at_limit (live_points w.graph) most_points >> done (with_point w name of.number rank))) run
-        (λ of e. then_keeps P w (refuse_when (not (may_have_point of.value.kind rank)) refusal.WrongPool)
-          (refuse_at_limit (live_points w.graph) most_points >> done (with_point w name of.number rank)) run
-          (then_keeps P w (refuse_at_limit (live_points w.graph) most_points) (done (with_point w name of.number rank)) run
-            (with_point_keeps name of.number rank))))
+      >> (refuse_at_limit (live_points w.graph) most_points >> done (with_point w name of.number rank))) run
+      (λ of e. then_keeps P w (refuse_when (not (may_have_point of.value.kind rank)) refusal.WrongPool)
+      (refuse_at_limit (live_points w.graph) most_points >> done (with_point w name of.number rank)) run
+      (then_keeps P w (refuse_at_limit (live_points w.graph) most_points) (done (with_point w name of.number rank)) run
+      (with_point_keeps name of.number rank))))
 
   -- no extent of a point without a live reservation
   none_of : (p : Run → Bool) (o : Option Point) (value : Point) (memory : PointMemory) → o ≡ Some value
@@ -120,11 +121,11 @@ module _ (x : Collecting) (run : Running x) where
       points_keep (slice_set w.graph.points point.number None)
       (slice_set w.point_memories point.number (record { reserved_at = 0; buffer = empty_run })) (without_name w.graph.names name)
       (λ id h. elim (written_among targets_of_point w.graph.points point.number None id h) [
-        inl old ↦ still_reserved id old
+        | inl old ↦ still_reserved id old
         | inr none ↦ absurd (false≢true none)
       ])
       (λ p h. elim (reserved_written p w.graph.points w.point_memories point.number None (record { reserved_at = 0; buffer = empty_run }) h) [
-        inl still ↦ inr still
+        | inl still ↦ inr still
         | inr at ↦ absurd (none_of p at.point point.value at.memory (is_value point at.point found at.is_point)
             (no_reservation point.value.reservation at.memory closed) at.passes)
       ])
@@ -134,7 +135,7 @@ module _ (x : Collecting) (run : Running x) where
       bind_keeps P w (point_named w name)
       (λ point. refuse_when (is_some point.value.reservation) refusal.Open >> done (without_point w name point.number)) run
       (λ point e. refuse_keeps P w (is_some point.value.reservation) refusal.Open (done (without_point w name point.number)) run
-        (λ closed. without_point_keeps name point (point_found w name point e) closed))
+      (λ closed. without_point_keeps name point (point_found w name point e) closed))
 
   -- ---- reservations
 
@@ -148,16 +149,16 @@ module _ (x : Collecting) (run : Running x) where
   -- a reservation ends that a flip has ended already, or whose extent is an object's
   pub ended_keeps : (point : Numbered Point) → entry_at w.graph.points point.number ≡ Some point.value
       → ((p : Run → Bool) (memory : PointMemory) → slice_get w.point_memories point.number ≡ Some memory
-          → list_any p (extent_of_reservation point.value.reservation memory) ≡ true → list_any p (extents_of w.graph.objects w.addresses) ≡ true)
+      → list_any p (extent_of_reservation point.value.reservation memory) ≡ true → list_any p (extents_of w.graph.objects w.addresses) ≡ true)
       → P (with_graph w (with_reservation w.graph point None))
   ended_keeps point found covered =
       points_keep (slice_set w.graph.points point.number (Some (record point.value { reservation = None }))) w.point_memories w.graph.names
       (λ id h. elim (written_among targets_of_point w.graph.points point.number (Some (record point.value { reservation = None })) id h) [
-        inl old ↦ still_reserved id old
+        | inl old ↦ still_reserved id old
         | inr none ↦ absurd (false≢true none)
       ])
       (λ p h. elim (reserved_point_written p w.graph.points w.point_memories point.number (Some (record point.value { reservation = None })) h) [
-        inl still ↦ inr still
+        | inl still ↦ inr still
         | inr at ↦ inl (covered p at.memory at.is_memory
             (ap (λ q. list_any p (extent_at_point q at.memory)) (sym (is_value point at.point found at.is_point)) ∙ at.passes))
       ])
@@ -173,14 +174,14 @@ module _ (x : Collecting) (run : Running x) where
         buffer = buffer_after w point.number point.value (length r.cells);
       })) w.graph.names
       (λ id h. elim (written_among targets_of_point w.graph.points point.number (Some (record point.value { reservation = Some r })) id h) [
-        inl old ↦ still_reserved id old
+        | inl old ↦ still_reserved id old
         | inr new ↦ absurd (true≢false (sym new ∙ nothing id))
       ])
       (λ p h. elim (reserved_written p w.graph.points w.point_memories point.number (Some (record point.value { reservation = Some r })) (record {
         reserved_at = address;
         buffer = buffer_after w point.number point.value (length r.cells);
       }) h) [
-        inl still ↦ inr still
+        | inl still ↦ inr still
         | inr at ↦ absurd (none_of p at.point point.value at.memory (is_value point at.point found at.is_point)
             (no_reservation point.value.reservation at.memory closed) at.passes)
       ])
@@ -200,7 +201,7 @@ module _ (x : Collecting) (run : Running x) where
     rewritten_right : r.is_doomed ≡ false → (id : Id) → contains (targets_of_point rewritten) id ≡ true → IsRightlyHeld x id
     rewritten_right live id h =
         elim (right id (sym (ap (λ b. contains (if b then [] else targets_of_cells cells) id) live) ∙ h)) [
-          inl old ↦ still_reserved id (reserved_held point r id found open_there
+          | inl old ↦ still_reserved id (reserved_held point r id found open_there
               (ap (λ b. contains (if b then [] else targets_of_cells r.cells) id) live ∙ old))
           | inr new ↦ new
         ]
@@ -209,11 +210,11 @@ module _ (x : Collecting) (run : Running x) where
     written_keeps live =
         points_keep (slice_set w.graph.points point.number rewritten) w.point_memories w.graph.names
         (λ id h. elim (written_among targets_of_point w.graph.points point.number rewritten id h) [
-          inl old ↦ still_reserved id old
+          | inl old ↦ still_reserved id old
           | inr new ↦ rewritten_right live id new
         ])
         (λ p h. elim (reserved_point_written p w.graph.points w.point_memories point.number rewritten h) [
-          inl still ↦ inr still
+          | inl still ↦ inr still
           | inr at ↦ inr (reserved_at_point p (slice_set w.graph.points point.number rewritten) w.point_memories point.number rewritten at.memory
               (slice_get-set_same w.graph.points point.number rewritten (index_below w.graph.points point.number at.point at.is_point)) at.is_memory
               (ap (list_any p) (same_extent at.memory)
@@ -231,26 +232,26 @@ module _ (x : Collecting) (run : Running x) where
   pub init_number_keeps : (name : Name) (k value : ℕ) → P (world_from w (act_init_number w name k value))
   init_number_keeps name k value =
       bind_keeps P w (point_named w name) (λ point. required point.value.reservation refusal.NotOpen
-        >>= (λ r. number_at r.cells k >> done (with_reserved_cells w point r (slice_set r.cells k (NumberCell value))))) run
+      >>= (λ r. number_at r.cells k >> done (with_reserved_cells w point r (slice_set r.cells k (NumberCell value))))) run
       (λ point e. bind_keeps P w (required point.value.reservation refusal.NotOpen)
-        (λ r. number_at r.cells k >> done (with_reserved_cells w point r (slice_set r.cells k (NumberCell value)))) run
-        (λ r f. then_keeps P w (number_at r.cells k) (done (with_reserved_cells w point r (slice_set r.cells k (NumberCell value)))) run
-          (cells_keep point (point_found w name point e) r (open_is point.value.reservation r f) (slice_set r.cells k (NumberCell value))
-            (length_set r.cells k (NumberCell value))
-            (λ id h. elim (targets_written r.cells k (NumberCell value) id h) [ inl old ↦ inl old | inr none ↦ absurd (none-some id none) ]))))
+      (λ r. number_at r.cells k >> done (with_reserved_cells w point r (slice_set r.cells k (NumberCell value)))) run
+      (λ r f. then_keeps P w (number_at r.cells k) (done (with_reserved_cells w point r (slice_set r.cells k (NumberCell value)))) run
+      (cells_keep point (point_found w name point e) r (open_is point.value.reservation r f) (slice_set r.cells k (NumberCell value))
+      (length_set r.cells k (NumberCell value))
+      (λ id h. elim (targets_written r.cells k (NumberCell value) id h) [ inl old ↦ inl old | inr none ↦ absurd (none-some id none) ]))))
 
   pub init_reference_keeps : (name : Name) (k : ℕ) (source : Slot) → P (world_from w (act_init_reference w name k source))
   init_reference_keeps name k source =
       bind_keeps P w (point_named w name) (λ point. slot_in w source >>= (λ from. required point.value.reservation refusal.NotOpen
-        >>= (λ r. reference_at r.cells k >> done (with_reserved_cells w point r (with_target_cell r.cells k from.value))))) run
+      >>= (λ r. reference_at r.cells k >> done (with_reserved_cells w point r (with_target_cell r.cells k from.value))))) run
       (λ point e. bind_keeps P w (slot_in w source) (λ from. required point.value.reservation refusal.NotOpen
-        >>= (λ r. reference_at r.cells k >> done (with_reserved_cells w point r (with_target_cell r.cells k from.value)))) run
-        (λ from g. bind_keeps P w (required point.value.reservation refusal.NotOpen)
-          (λ r. reference_at r.cells k >> done (with_reserved_cells w point r (with_target_cell r.cells k from.value))) run
-          (λ r f. then_keeps P w (reference_at r.cells k) (done (with_reserved_cells w point r (with_target_cell r.cells k from.value))) run
-            (cells_keep point (point_found w name point e) r (open_is point.value.reservation r f) (with_target_cell r.cells k from.value)
-              (length_with_target r.cells k from.value)
-              (λ id h. elim (targets_retargeted r.cells k from.value id h) [
-                inl old ↦ inl old
-                | inr new ↦ inr (inl (slot_held w.graph from id (slot_found w source from g) new))
-              ])))))
+      >>= (λ r. reference_at r.cells k >> done (with_reserved_cells w point r (with_target_cell r.cells k from.value)))) run
+      (λ from g. bind_keeps P w (required point.value.reservation refusal.NotOpen)
+      (λ r. reference_at r.cells k >> done (with_reserved_cells w point r (with_target_cell r.cells k from.value))) run
+      (λ r f. then_keeps P w (reference_at r.cells k) (done (with_reserved_cells w point r (with_target_cell r.cells k from.value))) run
+      (cells_keep point (point_found w name point e) r (open_is point.value.reservation r f) (with_target_cell r.cells k from.value)
+      (length_with_target r.cells k from.value)
+      (λ id h. elim (targets_retargeted r.cells k from.value id h) [
+        | inl old ↦ inl old
+        | inr new ↦ inr (inl (slot_held w.graph from id (slot_found w source from g) new))
+      ])))))

@@ -106,7 +106,7 @@ object_value w (Some id) object h = of_object (object_at w.graph id) refl h
 
 module _ (x : Collecting) (run : Running x) (judged : World) (tables : HasTables judged x.world) (target source : Slot) (k : ℕ)
     (read_kept : (from : Found (Option ℕ)) (id read : Id) → slot_in x.world source ≡ Ok from → from.value ≡ Some id
-      → contains (targets x.world.graph id) read ≡ true → is_white_in x read ≡ false) where
+    → contains (targets x.world.graph id) read ≡ true → is_white_in x read ≡ false) where
   abbrev P : World → Type 0
   P v = Running (record x { world = v })
 
@@ -125,20 +125,21 @@ module _ (x : Collecting) (run : Running x) (judged : World) (tables : HasTables
   read_right from now reference e f g id is =
       let it = object_found x.world from.value now f in
       let refers = ap (λ o. contains (option_map_or targets_of o []) id) (object_value x.world from.value now f)
-          ∙ read_body now.value.body k reference g id is in
-      let held = slot_held x.world.graph from now.number (slot_found x.world source from e) it in
-      (run.coloured.referred_live now.number id (run.coloured.held_live now.number held) (run.coloured.held now.number held) refers,
-      read_kept from now.number id e it refers)
+      ∙ read_body now.value.body k reference g id is in
+      let held = slot_held x.world.graph from now.number (slot_found x.world source from e) it in (
+        run.coloured.referred_live now.number id (run.coloured.held_live now.number held) (run.coloured.held now.number held) refers,
+        read_kept from now.number id e it refers,
+      )
 
   pub get_keeps : P (world_from x.world (act_get judged x.world target source k))
   get_keeps =
       bind_keeps P x.world (slot_in judged target) (λ into. slot_in judged source >>= (λ from. object_in judged from.value
-        >>= (λ object. before into from object))) run
+      >>= (λ object. before into from object))) run
       (λ into e. bind_keeps P x.world (slot_in judged source) (λ from. object_in judged from.value >>= (λ object. before into from object)) run
-        (λ from f. bind_keeps P x.world (object_in judged from.value) (λ object. before into from object) run
-          (λ object g. then_keeps P x.world (reference_at (cells_of_body object.value.body) k) (after_barrier into from) run
-            (bind_keeps P x.world (object_in x.world from.value) (λ now. read into now) run
-              (λ now h. bind_keeps P x.world (reference_at (cells_of_body now.value.body) k)
-                (λ reference. done (with_graph x.world (with_slot x.world.graph into reference))) run
-                (λ reference i. slot_keeps x run into reference (slot_found x.world target into (slot_same judged x.world target tables ∙ e))
-                  (λ id is. inr (read_right from now reference (slot_same judged x.world source tables ∙ f) h i id is))))))))
+      (λ from f. bind_keeps P x.world (object_in judged from.value) (λ object. before into from object) run
+      (λ object g. then_keeps P x.world (reference_at (cells_of_body object.value.body) k) (after_barrier into from) run
+      (bind_keeps P x.world (object_in x.world from.value) (λ now. read into now) run
+      (λ now h. bind_keeps P x.world (reference_at (cells_of_body now.value.body) k)
+      (λ reference. done (with_graph x.world (with_slot x.world.graph into reference))) run
+      (λ reference i. slot_keeps x run into reference (slot_found x.world target into (slot_same judged x.world target tables ∙ e))
+      (λ id is. inr (read_right from now reference (slot_same judged x.world source tables ∙ f) h i id is))))))))

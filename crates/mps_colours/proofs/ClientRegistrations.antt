@@ -41,6 +41,7 @@ first_stands (x ∷ xs) n position e = of_test (x == n) refl (λ q h. first_stan
         → StandsFirst (x ∷ xs) n position
     of_rest other None each g = absurd (none-some position g)
     of_rest other (Some q) each g = first_later x xs n q position other (each q refl) (same_Some (q + 1) position g)
+
     of_test : (b : Bool) → (x == n) ≡ b → ((q : ℕ) → position_of_first xs n ≡ Some q → StandsFirst xs n q) → (if b then Some 0 else option_map (λ p. p + 1) (position_of_first xs n)) ≡ Some position
         → StandsFirst (x ∷ xs) n position
     of_test true same each g = subst (λ p. StandsFirst (x ∷ xs) n p) (same_Some 0 position g) (record {
@@ -115,9 +116,9 @@ module _ (x : Collecting) (run : Running x) where
   finalized_keeps id held =
       registered_keeps (with_last w.graph.registered id) w.collection x.running.registered_before x.running.examined x.next run.runs (record {
         live_registered = λ n h. elim (contains_append w.graph.registered (id ∷ []) n h) [
-          inl old ↦ run.examined.live_registered n old
+          | inl old ↦ run.examined.live_registered n old
           | inr new ↦ elim (contains_cases id [] n new) [
-            inl same ↦ subst (λ m. is_live w m ≡ true) same (run.coloured.held_live id held)
+            | inl same ↦ subst (λ m. is_live w m ≡ true) same (run.coloured.held_live id held)
             | inr none ↦ absurd (false≢true none)
           ]
         ];
@@ -125,7 +126,7 @@ module _ (x : Collecting) (run : Running x) where
         up_to = run.examined.up_to;
         existing = let h = run.examined.existing in let e = length_last w.graph.registered id in omega (arith, h, e);
         examined = λ position n there part. elim (last_cases w.graph.registered id position n there) [
-          inl old ↦ run.examined.examined position n old part
+          | inl old ↦ run.examined.examined position n old part
           | inr new ↦ subst (λ m. is_white_in x m ≡ false) new.1 (run.coloured.held id held)
         ];
       }) (λ h. h) (omega arith)
@@ -133,21 +134,21 @@ module _ (x : Collecting) (run : Running x) where
   pub finalize_keeps : (slot : Slot) → Running (record x { world = world_from w (act_finalize w slot) })
   finalize_keeps slot =
       bind_keeps P w (slot_in w slot) (λ from. object_in w from.value >>= (λ object. refuse_when (nat_le most_registrations
-          (length w.graph.registered + length w.graph.messages)) (refusal.TooMany most_registrations)
-          >> done (with_graph w (record w.graph { registered = with_last w.graph.registered object.number })))) run
+      (length w.graph.registered + length w.graph.messages)) (refusal.TooMany most_registrations)
+      >> done (with_graph w (record w.graph { registered = with_last w.graph.registered object.number })))) run
       (λ from e. bind_keeps P w (object_in w from.value) (λ object. refuse_when (nat_le most_registrations
-          (length w.graph.registered + length w.graph.messages)) (refusal.TooMany most_registrations)
-          >> done (with_graph w (record w.graph { registered = with_last w.graph.registered object.number }))) run
-        (λ object f. refuse_keeps P w (nat_le most_registrations (length w.graph.registered + length w.graph.messages))
-          (refusal.TooMany most_registrations) (done (with_graph w (record w.graph { registered = with_last w.graph.registered object.number }))) run
-          (λ room. finalized_keeps object.number (slot_held w.graph from object.number (slot_found w slot from e) (object_found w from.value object f)))))
+      (length w.graph.registered + length w.graph.messages)) (refusal.TooMany most_registrations)
+      >> done (with_graph w (record w.graph { registered = with_last w.graph.registered object.number }))) run
+      (λ object f. refuse_keeps P w (nat_le most_registrations (length w.graph.registered + length w.graph.messages))
+      (refusal.TooMany most_registrations) (done (with_graph w (record w.graph { registered = with_last w.graph.registered object.number }))) run
+      (λ room. finalized_keeps object.number (slot_held w.graph from object.number (slot_found w slot from e) (object_found w from.value object f)))))
 
   -- ---- one less
 
   module _ (id position : ℕ) (first : StandsFirst w.graph.registered id position) where
     count_cases : (count : ℕ) → ((position < count) × (without_position count position ≡ count - 1)) ⊎ ((count ≤ position) × (without_position count position ≡ count))
     count_cases count = elim (cases_lt position count) [
-      inl less ↦ inl (less, below count position less)
+      | inl less ↦ inl (less, below count position less)
       | inr most ↦ inr (most, not_below count position most)
     ]
 
@@ -157,25 +158,25 @@ module _ (x : Collecting) (run : Running x) where
     stood_examined i n there part =
         let up : x.next ≤ x.running.registered_before = run.examined.up_to in
         elim (cases_lt i position) [
-          inl less ↦ run.examined.examined i n (sym (slice_get-without_before w.graph.registered id position i first less) ∙ there)
+          | inl less ↦ run.examined.examined i n (sym (slice_get-without_before w.graph.registered id position i first less) ∙ there)
               (elim part [
-                inl before ↦ inl (elim (count_cases x.next) [
-                  inl a ↦ omega (arith, before, a.0, a.1)
+                | inl before ↦ inl (elim (count_cases x.next) [
+                  | inl a ↦ omega (arith, before, a.0, a.1)
                   | inr a ↦ omega (arith, before, a.1)
                 ])
                 | inr after ↦ elim (count_cases x.running.registered_before) [
-                  inl a ↦ absurd (omega (arith, after, a.0, a.1, less))
+                  | inl a ↦ absurd (omega (arith, after, a.0, a.1, less))
                   | inr a ↦ inr (omega (arith, after, a.1))
                 ]
               ])
           | inr most ↦ run.examined.examined (suc i) n (sym (slice_get-without_after w.graph.registered id position i first most) ∙ there)
               (elim part [
-                inl before ↦ elim (count_cases x.next) [
-                  inl a ↦ inl (omega (arith, before, a.0, a.1))
+                | inl before ↦ elim (count_cases x.next) [
+                  | inl a ↦ inl (omega (arith, before, a.0, a.1))
                   | inr a ↦ absurd (omega (arith, before, a.0, a.1, most))
                 ]
                 | inr after ↦ inr (elim (count_cases x.running.registered_before) [
-                  inl a ↦ omega (arith, after, a.0, a.1)
+                  | inl a ↦ omega (arith, after, a.0, a.1)
                   | inr a ↦ omega (arith, after, a.1)
                 ])
               ])
@@ -183,13 +184,13 @@ module _ (x : Collecting) (run : Running x) where
 
     from_still : without_position x.running.examined position ≤ without_position x.next position
     from_still = let h : x.running.examined ≤ x.next = run.examined.from in elim (count_cases x.running.examined) [
-      inl a ↦ elim (count_cases x.next) [ inl b ↦ omega (arith, h, a.0, a.1, b.0, b.1) | inr b ↦ omega (arith, h, a.0, a.1, b.0, b.1) ]
+      | inl a ↦ elim (count_cases x.next) [ inl b ↦ omega (arith, h, a.0, a.1, b.0, b.1) | inr b ↦ omega (arith, h, a.0, a.1, b.0, b.1) ]
       | inr a ↦ elim (count_cases x.next) [ inl b ↦ omega (arith, h, a.0, a.1, b.0, b.1) | inr b ↦ omega (arith, h, a.0, a.1, b.0, b.1) ]
     ]
 
     up_to_still : without_position x.next position ≤ without_position x.running.registered_before position
     up_to_still = let h : x.next ≤ x.running.registered_before = run.examined.up_to in elim (count_cases x.next) [
-      inl a ↦ elim (count_cases x.running.registered_before) [ inl b ↦ omega (arith, h, a.0, a.1, b.0, b.1) | inr b ↦ omega (arith, h, a.0, a.1, b.0, b.1) ]
+      | inl a ↦ elim (count_cases x.running.registered_before) [ inl b ↦ omega (arith, h, a.0, a.1, b.0, b.1) | inr b ↦ omega (arith, h, a.0, a.1, b.0, b.1) ]
       | inr a ↦ elim (count_cases x.running.registered_before) [ inl b ↦ omega (arith, h, a.0, a.1, b.0, b.1) | inr b ↦ omega (arith, h, a.0, a.1, b.0, b.1) ]
     ]
 
@@ -202,7 +203,7 @@ module _ (x : Collecting) (run : Running x) where
 
     fewer_left : without_position x.running.registered_before position - without_position x.next position ≤ x.running.registered_before - x.next
     fewer_left = let h : x.next ≤ x.running.registered_before = run.examined.up_to in elim (count_cases x.next) [
-      inl a ↦ elim (count_cases x.running.registered_before) [ inl b ↦ omega (arith, h, a.0, a.1, b.0, b.1) | inr b ↦ omega (arith, h, a.0, a.1, b.0, b.1) ]
+      | inl a ↦ elim (count_cases x.running.registered_before) [ inl b ↦ omega (arith, h, a.0, a.1, b.0, b.1) | inr b ↦ omega (arith, h, a.0, a.1, b.0, b.1) ]
       | inr a ↦ elim (count_cases x.running.registered_before) [ inl b ↦ omega (arith, h, a.0, a.1, b.0, b.1) | inr b ↦ omega (arith, h, a.0, a.1, b.0, b.1) ]
     ]
 
@@ -229,12 +230,12 @@ module _ (x : Collecting) (run : Running x) where
 
   settled_or_held : (held : List Id) (id : Id) → is_settled (remembering held x.running) id ≡ true → (is_settled x.running id ≡ true) ⊎ (contains held id ≡ true)
   settled_or_held held id h = elim (or_cases (contains x.running.pinned id) (contains x.running.placed id || contains (held ++ x.running.had) id) h) [
-    inl pinned ↦ inl (or_left (contains x.running.pinned id) (contains x.running.placed id || contains x.running.had id) pinned)
+    | inl pinned ↦ inl (or_left (contains x.running.pinned id) (contains x.running.placed id || contains x.running.had id) pinned)
     | inr rest ↦ elim (or_cases (contains x.running.placed id) (contains (held ++ x.running.had) id) rest) [
-      inl placed ↦ inl (or_right (contains x.running.pinned id) (contains x.running.placed id || contains x.running.had id)
+      | inl placed ↦ inl (or_right (contains x.running.pinned id) (contains x.running.placed id || contains x.running.had id)
           (or_left (contains x.running.placed id) (contains x.running.had id) placed))
       | inr had ↦ elim (contains_append held x.running.had id had) [
-        inl new ↦ inr new
+        | inl new ↦ inr new
         | inr old ↦ inl (or_right (contains x.running.pinned id) (contains x.running.placed id || contains x.running.had id)
             (or_right (contains x.running.placed id) (contains x.running.had id) old))
       ]
@@ -253,7 +254,7 @@ module _ (x : Collecting) (run : Running x) where
     grey = run.grey;
     settled = record {
       settled = λ id h. elim (settled_or_held (ids_of_client w.graph) id h) [
-        inl old ↦ run.settled.settled id old
+        | inl old ↦ run.settled.settled id old
         | inr held ↦ run.coloured.held id held
       ];
       in_place = run.settled.in_place;

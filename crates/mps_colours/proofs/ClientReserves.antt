@@ -71,7 +71,7 @@ pub data MayOwn (w : World) : World → Type 0 where
 
 segment_owned : (w : World) (s : Segment) (n : ℕ) (b : Bool)
     → MayOwn w (if b then record (holding w (record s { rank = rank_of_point w n })) { point_memories = with_buffer w.point_memories n (words_of_segment s) }
-      else holding w (record s { rank = rank_of_point w n }))
+    else holding w (record s { rank = rank_of_point w n }))
 segment_owned w s n true =
     owns_segment (record s { rank = rank_of_point w n }) (with_buffer w.point_memories n (words_of_segment s))
     (with_buffer_same w.graph.points w.point_memories n (words_of_segment s))
@@ -113,7 +113,7 @@ owned_keeps x run v (owns_segment s memories same) in_order =
     points_keep held (segments_keep x run (with_segment s x.world.segments) x.world.tails in_order (λ t h is. among_with s t x.world.segments h))
     x.world.graph.points memories x.world.graph.names
     (λ id h. inl (held_so (ids_in_slots x.world.graph) (ids_in_holds x.world.graph)
-      x.world.graph.messages (ids_in_reservations x.world.graph) id (in_reservations h)))
+    x.world.graph.messages (ids_in_reservations x.world.graph) id (in_reservations h)))
     (λ p h. inr (ap (list_any p) same ∙ h))
 
 -- ---- what a reserve checks
@@ -144,7 +144,7 @@ module _ (w : World) (name : Name) (head : ℕ) (r : Reserving) where
 
   checked_pool : (point : Numbered Point) (o : Option Pool) → point_named w name ≡ Ok point
       → (required o refusal.BadName >>= (λ pool. refuse_when (not (takes_head w pool head)) refusal.BadHead
-        >> (refuse_when (is_some point.value.reservation) refusal.Open >> Ok (reserving point pool)))) ≡ Ok r → IsChecked w name r
+      >> (refuse_when (is_some point.value.reservation) refusal.Open >> Ok (reserving point pool)))) ≡ Ok r → IsChecked w name r
   checked_pool point None e h = absurd (not_Ok refusal.BadName r h)
   checked_pool point (Some pool) e h = checked_head point pool (not (takes_head w pool head)) e h
 
@@ -153,7 +153,7 @@ module _ (w : World) (name : Name) (head : ℕ) (r : Reserving) where
     where
       of_point : (m : Checked (Numbered Point)) → point_named w name ≡ m
           → (m >>= (λ point. required (pool_at w point.value.pool) refusal.BadName >>= (λ pool. refuse_when (not (takes_head w pool head)) refusal.BadHead
-            >> (refuse_when (is_some point.value.reservation) refusal.Open >> Ok (reserving point pool))))) ≡ Ok r → IsChecked w name r
+          >> (refuse_when (is_some point.value.reservation) refusal.Open >> Ok (reserving point pool))))) ≡ Ok r → IsChecked w name r
       of_point (Err why) e g = absurd (not_Ok why r g)
       of_point (Ok point) e g = checked_pool point (pool_at w point.value.pool) e g
 
@@ -181,7 +181,7 @@ module _ (judged after : World) (name : Name) (head : ℕ) where
   reserved_so R base each =
       bind_keeps R after (check_reserve judged name head) (λ r. roomy r) base
       (λ r e. then_keeps R after (refuse_without_place (placement_of judged (ForReserve r.point.number (length r.cells)))) (reserved_at r) base
-        (bind_keeps R after (point_named after name) (λ point. done (with_new r point)) base (λ point f. each r point e f)))
+      (bind_keeps R after (point_named after name) (λ point. done (with_new r point)) base (λ point f. each r point e f)))
 
   pub reserve_segments : (world_from after (act_reserve judged after name head)).segments ≡ after.segments
   reserve_segments = reserved_so (λ v. v.segments ≡ after.segments) refl (λ r point e f. refl)
@@ -192,12 +192,12 @@ pub reserve_keeps : (x : Collecting) → Running x → (judged after : World) (n
     → Running (record x { world = world_from after (act_reserve judged after name head) })
 reserve_keeps x run judged after name head same owned fine =
     reserved_so judged after name head (λ v. Running (record x { world = v })) now (λ r point e f.
-      let checked = is_checked judged name head r e in
-      let it = same_Ok r.point point (sym checked.point ∙ (ap (λ g. point_in g name) (same ∙ sym (owned_graph x.world after owned)) ∙ f)) in
-      with_reserved_keeps (record x { world = after }) now point (point_found after name point f)
-        (subst (λ (p : Numbered Point). is_some p.value.reservation ≡ false) it checked.closed)
-        (record { head = head; cells = r.cells; is_doomed = false })
-        (address_of_placement (placement_of after (ForReserve point.number (length r.cells)))) checked.nothing)
+    let checked = is_checked judged name head r e in
+    let it = same_Ok r.point point (sym checked.point ∙ (ap (λ g. point_in g name) (same ∙ sym (owned_graph x.world after owned)) ∙ f)) in
+    with_reserved_keeps (record x { world = after }) now point (point_found after name point f)
+    (subst (λ (p : Numbered Point). is_some p.value.reservation ≡ false) it checked.closed)
+    (record { head = head; cells = r.cells; is_doomed = false })
+    (address_of_placement (placement_of after (ForReserve point.number (length r.cells)))) checked.nothing)
   where
     now : Running (record x { world = after })
     now = owned_keeps x run after owned (subst (λ ss. AreOrdered 1 ss) (reserve_segments judged after name head) fine)

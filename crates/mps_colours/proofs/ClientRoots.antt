@@ -82,9 +82,9 @@ module _ (x : Collecting) (run : Running x) where
       → contains (flat_map slots_of (slice_set w.graph.tables f.number (Some (slice_set f.list f.index target)))) id ≡ true → IsRightlyHeld x id
   slots_written f target found right id h =
       elim (written_among slots_of w.graph.tables f.number (Some (slice_set f.list f.index target)) id h) [
-        inl old ↦ still_slots id old
+        | inl old ↦ still_slots id old
         | inr new ↦ elim (written_entries f.list f.index target id new) [
-          inl old ↦ still_slots id (among_all slots_of w.graph.tables f.number (Some f.list) id (entry_is w.graph.tables f.number f.list found.list) old)
+          | inl old ↦ still_slots id (among_all slots_of w.graph.tables f.number (Some f.list) id (entry_is w.graph.tables f.number f.list found.list) old)
           | inr it ↦ right id it
         ]
       ]
@@ -94,7 +94,7 @@ module _ (x : Collecting) (run : Running x) where
       → ((id : Id) → target ≡ Some id → IsRightlyHeld x id) → P (with_graph w (with_slot w.graph f target))
   slot_keeps f target found right = roots_keep x run (with_slot w.graph f target)
       (held_by_parts (slice_set w.graph.tables f.number (Some (slice_set f.list f.index target))) w.graph.areas w.graph.messages
-        (slots_written f target found right) still_holds still_messages)
+      (slots_written f target found right) still_holds still_messages)
 
   slot_right : (f : Found (Option ℕ)) → IsFound (entry_at w.graph.tables) f → (id : Id) → f.value ≡ Some id → IsRightlyHeld x id
   slot_right f found id e = inl (slot_held w.graph f id found e)
@@ -103,7 +103,7 @@ module _ (x : Collecting) (run : Running x) where
   copy_keeps target source =
       bind_keeps P w (slot_in w target) (λ into. slot_in w source >>= (λ from. done (with_graph w (with_slot w.graph into from.value)))) run
       (λ into e. bind_keeps P w (slot_in w source) (λ from. done (with_graph w (with_slot w.graph into from.value))) run
-        (λ from f. slot_keeps into from.value (slot_found w target into e) (slot_right from (slot_found w source from f))))
+      (λ from f. slot_keeps into from.value (slot_found w target into e) (slot_right from (slot_found w source from f))))
 
   pub clear_keeps : (slot : Slot) → P (world_from w (act_clear w slot))
   clear_keeps slot =
@@ -122,22 +122,22 @@ module _ (x : Collecting) (run : Running x) where
       bind_keeps P w (slot_in w slot)
       (λ into. word_in w place >>= (λ at. held_in at.value >>= (λ id. done (with_graph w (with_slot w.graph into (Some id)))))) run
       (λ into e. bind_keeps P w (word_in w place) (λ at. held_in at.value >>= (λ id. done (with_graph w (with_slot w.graph into (Some id))))) run
-        (λ at f. bind_keeps P w (held_in at.value) (λ id. done (with_graph w (with_slot w.graph into (Some id)))) run
-          (λ id g. slot_keeps into (Some id) (slot_found w slot into e)
-            (λ n same. subst (λ m. IsRightlyHeld x m) (same_Some id n same)
-              (hold_right at (word_found w place at f) id (held_word at.value id g))))))
+      (λ at f. bind_keeps P w (held_in at.value) (λ id. done (with_graph w (with_slot w.graph into (Some id)))) run
+      (λ id g. slot_keeps into (Some id) (slot_found w slot into e)
+      (λ n same. subst (λ m. IsRightlyHeld x m) (same_Some id n same)
+      (hold_right at (word_found w place at f) id (held_word at.value id g))))))
 
   words_written : (f : Found AreaWord) (word : AreaWord) → IsFound (entry_at w.graph.areas) f
       → ((id : Id) → held_by_word word ≡ Some id → IsRightlyHeld x id) → (id : Id)
       → contains (flat_map holds_of (slice_set w.graph.areas f.number (Some (slice_set f.list f.index word)))) id ≡ true → IsRightlyHeld x id
   words_written f word found right id h =
       elim (written_among holds_of w.graph.areas f.number (Some (slice_set f.list f.index word)) id h) [
-        inl old ↦ still_holds id old
+        | inl old ↦ still_holds id old
         | inr new ↦ elim (written_entries (map held_by_word f.list) f.index (held_by_word word) id
             (subst (λ os. contains (entries os) id ≡ true) (map-slice_set held_by_word f.list f.index word) new)) [
-          inl old ↦ still_holds id (among_all holds_of w.graph.areas f.number (Some f.list) id (entry_is w.graph.areas f.number f.list found.list) old)
-          | inr it ↦ right id it
-        ]
+              | inl old ↦ still_holds id (among_all holds_of w.graph.areas f.number (Some f.list) id (entry_is w.graph.areas f.number f.list found.list) old)
+              | inr it ↦ right id it
+            ]
       ]
 
   -- a word is written
@@ -145,18 +145,18 @@ module _ (x : Collecting) (run : Running x) where
       → ((id : Id) → held_by_word word ≡ Some id → IsRightlyHeld x id) → P (with_graph w (with_word w.graph f word))
   word_keeps f word found right = roots_keep x run (with_word w.graph f word)
       (held_by_parts w.graph.tables (slice_set w.graph.areas f.number (Some (slice_set f.list f.index word))) w.graph.messages
-        still_slots (words_written f word found right) still_messages)
+      still_slots (words_written f word found right) still_messages)
 
   pub pin_keeps : (place slot : Slot) → P (world_from w (act_pin w place slot))
   pin_keeps place slot =
       bind_keeps P w (word_in w place)
       (λ at. slot_in w slot >>= (λ from. object_in w from.value >>= (λ object. done (with_graph w (with_word w.graph at (Hold object.number 0)))))) run
       (λ at e. bind_keeps P w (slot_in w slot)
-        (λ from. object_in w from.value >>= (λ object. done (with_graph w (with_word w.graph at (Hold object.number 0))))) run
-        (λ from f. bind_keeps P w (object_in w from.value) (λ object. done (with_graph w (with_word w.graph at (Hold object.number 0)))) run
-          (λ object g. word_keeps at (Hold object.number 0) (word_found w place at e)
-            (λ n same. subst (λ m. IsRightlyHeld x m) (same_Some object.number n same)
-              (slot_right from (slot_found w slot from f) object.number (object_found w from.value object g))))))
+      (λ from. object_in w from.value >>= (λ object. done (with_graph w (with_word w.graph at (Hold object.number 0))))) run
+      (λ from f. bind_keeps P w (object_in w from.value) (λ object. done (with_graph w (with_word w.graph at (Hold object.number 0)))) run
+      (λ object g. word_keeps at (Hold object.number 0) (word_found w place at e)
+      (λ n same. subst (λ m. IsRightlyHeld x m) (same_Some object.number n same)
+      (slot_right from (slot_found w slot from f) object.number (object_found w from.value object g))))))
 
   -- a number holds nothing
   plain_keeps : (f : Found AreaWord) (number : ℕ) → IsFound (entry_at w.graph.areas) f → P (with_graph w (with_word w.graph f (PlainWord number)))
@@ -199,13 +199,13 @@ module _ (x : Collecting) (run : Running x) where
   poke_keeps marked place word black =
       bind_keeps P w (word_in w place) (λ at. act_poke_in w at word marked (block_of_word w word)) run
       (λ at e. poke_in_keeps at word marked (block_of_word w word) refl (word_found w place at e)
-        (λ id h. listed_is_live w id (found_listed (λ n. lies_in w word n) (live_ids w) id h)) black)
+      (λ id h. listed_is_live w id (found_listed (λ n. lies_in w word n) (live_ids w) id h)) black)
     where
       found_listed : (p : ℕ → Bool) (ns : List ℕ) (id : Id) → find p ns ≡ Some id → contains ns id ≡ true
       found_listed p [] id h = absurd (none-some id h)
       found_listed p (n ∷ ns) id h =
           elim (p n) as (λ t. (if t then Some n else find p ns) ≡ Some id → contains (n ∷ ns) id ≡ true) [
-            true ↦ (λ g. subst (λ m. contains (n ∷ ns) m ≡ true) (same_Some n id g) (contains_here n ns))
+            | true ↦ (λ g. subst (λ m. contains (n ∷ ns) m ≡ true) (same_Some n id g) (contains_here n ns))
             | false ↦ (λ g. contains_later n ns id (found_listed p ns id g))
           ] h
 
@@ -216,9 +216,9 @@ module _ (x : Collecting) (run : Running x) where
   message_in_keeps into [] e found = run
   message_in_keeps into (id ∷ ids) e found = roots_keep x run (with_slot (record w.graph { messages = ids }) into (Some id))
       (held_by_parts (slice_set w.graph.tables into.number (Some (slice_set into.list into.index (Some id)))) w.graph.areas ids
-        (slots_written into (Some id) found (λ n same. still_messages n (ap (λ ns. contains ns n) e
-            ∙ subst (λ m. contains (id ∷ ids) m ≡ true) (same_Some id n same) (contains_here id ids))))
-        still_holds (λ n h. still_messages n (ap (λ ns. contains ns n) e ∙ contains_later id ids n h)))
+      (slots_written into (Some id) found (λ n same. still_messages n (ap (λ ns. contains ns n) e
+      ∙ subst (λ m. contains (id ∷ ids) m ≡ true) (same_Some id n same) (contains_here id ids))))
+      still_holds (λ n h. still_messages n (ap (λ ns. contains ns n) e ∙ contains_later id ids n h)))
 
   pub message_keeps : (slot : Slot) → P (world_from w (act_message w slot))
   message_keeps slot =
@@ -229,7 +229,7 @@ module _ (x : Collecting) (run : Running x) where
 
   new_table : (slots : ℕ) (id : Id) → contains (flat_map slots_of (with_last w.graph.tables (Some (replicate slots None)))) id ≡ true → IsRightlyHeld x id
   new_table slots id h = elim (last_among slots_of w.graph.tables (Some (replicate slots None)) id h) [
-    inl old ↦ still_slots id old
+    | inl old ↦ still_slots id old
     | inr new ↦ absurd (true≢false (sym new ∙ no_entries slots id))
   ]
 
@@ -237,13 +237,13 @@ module _ (x : Collecting) (run : Running x) where
   table_keeps name slots =
       then_keeps P w (refuse_taken w name) (refuse_root w slots >> done (with_graph w (graph_with_table w.graph name slots))) run
       (then_keeps P w (refuse_root w slots) (done (with_graph w (graph_with_table w.graph name slots))) run
-        (roots_keep x run (graph_with_table w.graph name slots)
-          (held_by_parts (with_last w.graph.tables (Some (replicate slots None))) w.graph.areas w.graph.messages (new_table slots) still_holds still_messages)))
+      (roots_keep x run (graph_with_table w.graph name slots)
+      (held_by_parts (with_last w.graph.tables (Some (replicate slots None))) w.graph.areas w.graph.messages (new_table slots) still_holds still_messages)))
 
   new_area : (words : ℕ) (id : Id) → contains (flat_map holds_of (with_last w.graph.areas (Some (replicate words (PlainWord 0))))) id ≡ true
       → IsRightlyHeld x id
   new_area words id h = elim (last_among holds_of w.graph.areas (Some (replicate words (PlainWord 0))) id h) [
-    inl old ↦ still_holds id old
+    | inl old ↦ still_holds id old
     | inr new ↦ absurd (true≢false (sym new ∙ ap (λ os. contains (entries os) id) (map-replicate held_by_word words (PlainWord 0)) ∙ no_entries words id))
   ]
 
@@ -251,25 +251,25 @@ module _ (x : Collecting) (run : Running x) where
   area_keeps name words =
       then_keeps P w (refuse_taken w name) (refuse_root w words >> done (with_graph w (graph_with_area w.graph name words))) run
       (then_keeps P w (refuse_root w words) (done (with_graph w (graph_with_area w.graph name words))) run
-        (roots_keep x run (graph_with_area w.graph name words)
-          (held_by_parts w.graph.tables (with_last w.graph.areas (Some (replicate words (PlainWord 0)))) w.graph.messages still_slots (new_area words) still_messages)))
+      (roots_keep x run (graph_with_area w.graph name words)
+      (held_by_parts w.graph.tables (with_last w.graph.areas (Some (replicate words (PlainWord 0)))) w.graph.messages still_slots (new_area words) still_messages)))
 
   pub blocks_keeps : (name : Name) (addresses : ℕ) → P (world_from w (act_blocks w name addresses))
   blocks_keeps name addresses =
       then_keeps P w (refuse_taken w name) (refuse_root w addresses >> done (with_graph w (graph_with_blocks w.graph name addresses))) run
       (then_keeps P w (refuse_root w addresses) (done (with_graph w (graph_with_blocks w.graph name addresses))) run
-        (roots_keep x run (graph_with_blocks w.graph name addresses)
-          (held_by_parts w.graph.tables w.graph.areas w.graph.messages still_slots still_holds still_messages)))
+      (roots_keep x run (graph_with_blocks w.graph name addresses)
+      (held_by_parts w.graph.tables w.graph.areas w.graph.messages still_slots still_holds still_messages)))
 
   dropped_table : (number : ℕ) (id : Id) → contains (flat_map slots_of (slice_set w.graph.tables number None)) id ≡ true → IsRightlyHeld x id
   dropped_table number id h = elim (written_among slots_of w.graph.tables number None id h) [
-    inl old ↦ still_slots id old
+    | inl old ↦ still_slots id old
     | inr none ↦ absurd (false≢true none)
   ]
 
   dropped_area : (number : ℕ) (id : Id) → contains (flat_map holds_of (slice_set w.graph.areas number None)) id ≡ true → IsRightlyHeld x id
   dropped_area number id h = elim (written_among holds_of w.graph.areas number None id h) [
-    inl old ↦ still_holds id old
+    | inl old ↦ still_holds id old
     | inr none ↦ absurd (false≢true none)
   ]
 

@@ -116,8 +116,8 @@ module _ (x : Collecting) (run : Running x) where
         graph = named w.graph name (ChainThing (length w.chains));
         chains = with_last w.chains (take count capacities);
       })) run
-        (aside_keeps w.grains w.limit (with_last w.chains (take count capacities))
-          (with_last w.graph.names (record { name = name; thing = ChainThing (length w.chains) })) w.graph.blocks w.state w.dependencies))
+      (aside_keeps w.grains w.limit (with_last w.chains (take count capacities))
+      (with_last w.graph.names (record { name = name; thing = ChainThing (length w.chains) })) w.graph.blocks w.state w.dependencies))
 
   -- ---- dependencies
 
@@ -131,8 +131,8 @@ module _ (x : Collecting) (run : Running x) where
         graph = named w.graph name (DependencyThing (length w.dependencies));
         dependencies = with_last w.dependencies (record { epoch = length w.flips; zones = 0; blocks = [] });
       })) run
-        (dependencies_keep (with_last w.graph.names (record { name = name; thing = DependencyThing (length w.dependencies) }))
-          (with_last w.dependencies (record { epoch = length w.flips; zones = 0; blocks = [] }))))
+      (dependencies_keep (with_last w.graph.names (record { name = name; thing = DependencyThing (length w.dependencies) }))
+      (with_last w.dependencies (record { epoch = length w.flips; zones = 0; blocks = [] }))))
 
   with_dependency_keeps : (number : ℕ) (d : Dependency) → P (with_dependency w number d)
   with_dependency_keeps number d = dependencies_keep w.graph.names (slice_set w.dependencies number d)
@@ -146,19 +146,19 @@ module _ (x : Collecting) (run : Running x) where
   pub dependency_add_keeps : (name : Name) (slot : Slot) → P (world_from w (act_dependency_add w name slot))
   dependency_add_keeps name slot =
       bind_keeps P w (dependency_named w name) (λ d. slot_in w slot >>= (λ from. object_in w from.value
-        >>= (λ object. done (with_dependency w d.number (with_added d.value object.number (address_or_null w object.number)))))) run
+      >>= (λ object. done (with_dependency w d.number (with_added d.value object.number (address_or_null w object.number)))))) run
       (λ d e. bind_keeps P w (slot_in w slot) (λ from. object_in w from.value
-          >>= (λ object. done (with_dependency w d.number (with_added d.value object.number (address_or_null w object.number))))) run
-        (λ from f. bind_keeps P w (object_in w from.value)
-          (λ object. done (with_dependency w d.number (with_added d.value object.number (address_or_null w object.number)))) run
-          (λ object g. with_dependency_keeps d.number (with_added d.value object.number (address_or_null w object.number)))))
+      >>= (λ object. done (with_dependency w d.number (with_added d.value object.number (address_or_null w object.number))))) run
+      (λ from f. bind_keeps P w (object_in w from.value)
+      (λ object. done (with_dependency w d.number (with_added d.value object.number (address_or_null w object.number)))) run
+      (λ object g. with_dependency_keeps d.number (with_added d.value object.number (address_or_null w object.number)))))
 
   pub dependency_merge_keeps : (name source : Name) → P (world_from w (act_dependency_merge w name source))
   dependency_merge_keeps name source =
       bind_keeps P w (dependency_named w name)
       (λ d. dependency_named w source >>= (λ e. done (with_dependency w d.number (merged d.value e.value)))) run
       (λ d f. bind_keeps P w (dependency_named w source) (λ e. done (with_dependency w d.number (merged d.value e.value))) run
-        (λ e g. with_dependency_keeps d.number (merged d.value e.value)))
+      (λ e g. with_dependency_keeps d.number (merged d.value e.value)))
 
   pub tells_keeps : (b : Bool) → P (world_from w (tells b w))
   tells_keeps true = run
@@ -205,15 +205,15 @@ module _ (x : Collecting) (run : Running x) where
         then_keeps P w (refuse_taken w name)
         (chain_named w chain >>= (λ on. make_pool w name (record { kind = Collected kind; format = format; chain = Some on.number }))) run
         (bind_keeps P w (chain_named w chain) (λ on. make_pool w name (record { kind = Collected kind; format = format; chain = Some on.number })) run
-          (λ on e. make_pool_keeps name (record { kind = Collected kind; format = format; chain = Some on.number })))
+        (λ on e. make_pool_keeps name (record { kind = Collected kind; format = format; chain = Some on.number })))
 
     pub pool_mfs_keeps : (name : Name) (words : ℕ) → P (world_from w (act_pool_mfs w name words))
     pool_mfs_keeps name words =
         then_keeps P w (refuse_taken w name) (refuse_when (not (is_block_size words)) refusal.BadSize
-          >> make_pool w name (record { kind = OneSize words; format = 0; chain = None })) run
+        >> make_pool w name (record { kind = OneSize words; format = 0; chain = None })) run
         (then_keeps P w (refuse_when (not (is_block_size words)) refusal.BadSize)
-          (make_pool w name (record { kind = OneSize words; format = 0; chain = None })) run
-          (make_pool_keeps name (record { kind = OneSize words; format = 0; chain = None })))
+        (make_pool w name (record { kind = OneSize words; format = 0; chain = None })) run
+        (make_pool_keeps name (record { kind = OneSize words; format = 0; chain = None })))
 
     pub pool_mvff_keeps : (name : Name) → P (world_from w (act_pool_mvff w name))
     pool_mvff_keeps name =

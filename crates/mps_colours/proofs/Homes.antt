@@ -27,15 +27,15 @@ pub lies_at : (w : World) → IsWellFormed w → (id : Id) (o : Object) (at : Ad
 lies_at w formed id o at there e least =
     let right = list_all-contains (is_right_place w) (live_ids w) id formed.places (live_is_listed w id (ap is_some e)) in
     let home : is_home w o.pool (object_is is_weak_object w id) (extent at (size_of o)) ≡ true =
-        sym (ap (λ q. option_map_or (λ a. is_home w (option_map_or (λ (b : Object). b.pool) q 0) (object_is is_weak_object w id)
-            (extent a (option_map_or size_of q 0))) (Some at) false) there)
-        ∙ (sym (ap (λ a. option_map_or (λ a. is_home w (pool_of w id) (object_is is_weak_object w id) (extent a (words_of w id))) a false) e) ∙ right) in
+    sym (ap (λ q. option_map_or (λ a. is_home w (option_map_or (λ (b : Object). b.pool) q 0) (object_is is_weak_object w id)
+    (extent a (option_map_or size_of q 0))) (Some at) false) there)
+    ∙ (sym (ap (λ a. option_map_or (λ a. is_home w (pool_of w id) (object_is is_weak_object w id) (extent a (words_of w id))) a false) e) ∙ right) in
     let one = any_among (λ t. t.pool == o.pool && same_rank t.rank (if object_is is_weak_object w id then rank.Weak else rank.Exact)
-        && lies_within (words_of_segment t) (extent at (size_of o))) w.segments home in
+    && lies_within (words_of_segment t) (extent at (size_of o))) w.segments home in
     let both = and_parts (one.segment.pool == o.pool && same_rank one.segment.rank (if object_is is_weak_object w id then rank.Weak else rank.Exact))
-        (lies_within (words_of_segment one.segment) (extent at (size_of o))) one.passes in
+    (lies_within (words_of_segment one.segment) (extent at (size_of o))) one.passes in
     let within = and_parts (nat_le (words_of_segment one.segment).from (word_of at))
-        (nat_le (end_of (extent at (size_of o))) (end_of (words_of_segment one.segment))) both.1 in
+    (nat_le (end_of (extent at (size_of o))) (end_of (words_of_segment one.segment))) both.1 in
     let low = leb-true (words_of_segment one.segment).from (word_of at) within.0 in
     let high = leb-true (end_of (extent at (size_of o))) (end_of (words_of_segment one.segment)) within.1 in
     let aligned = (segment_has_grains w formed one.segment one.among).aligned in

@@ -38,9 +38,9 @@ among_passing : (p : Segment → Bool) (s : Segment) (ss : List Segment) → IsA
 among_passing p s [] h e = absurd h
 among_passing p s (t ∷ ts) h e =
     elim (p t) as (λ b. p t ≡ b → IsAmong s (if b then t ∷ filter p ts else filter p ts)) [
-      true ↦ (λ is. elim h [ inl same ↦ inl same | inr later ↦ inr (among_passing p s ts later e) ])
+      | true ↦ (λ is. elim h [ inl same ↦ inl same | inr later ↦ inr (among_passing p s ts later e) ])
       | false ↦ (λ isnt. elim h [
-        inl same ↦ absurd (true≢false (sym e ∙ (ap p (sym same) ∙ isnt)))
+        | inl same ↦ absurd (true≢false (sym e ∙ (ap p (sym same) ∙ isnt)))
         | inr later ↦ among_passing p s ts later e
       ])
     ] refl
@@ -70,14 +70,15 @@ automatic_here w o right automatic = of_pool (pool_at w o.pool) refl right
         let parts = and_parts (is_automatic_kind p.kind && are_right_cells w p head cells) (not is_weak || is_weak_kind p.kind) g in
         let both = and_parts (is_automatic_kind p.kind) (are_right_cells w p head cells) parts.0 in
         let cells_right = and_parts ((w.formats p.format).is_valid head && are_shaped (new_cells (w.formats p.format) head) cells)
-            (list_all (object_is is_automatic w) (targets_of_cells cells)) both.1 in
+        (list_all (object_is is_automatic w) (targets_of_cells cells)) both.1 in
         let shaped = (and_parts ((w.formats p.format).is_valid head) (are_shaped (new_cells (w.formats p.format) head) cells) cells_right.0).1 in
         record {
           pool = ap (λ q. option_map_or (λ (p : Pool). is_automatic_kind p.kind) q false) e ∙ both.0;
           some_words = subst (λ body. 1 ≤ size_of_body body) (sym same)
               (some_shaped HeadCell
-                (new_cells_from (w.formats p.format) head 1 ((w.formats p.format).size head - 1)) cells shaped);
+              (new_cells_from (w.formats p.format) head 1 ((w.formats p.format).size head - 1)) cells shaped);
         }
+
     of_pool : (q : Option Pool) → pool_at w o.pool ≡ q → option_map_or (λ p. is_right_body w p o.body) q false ≡ true → IsAutomaticHere w o
     of_pool None e g = absurd (false≢true g)
     of_pool (Some p) e g = of_body p o.body refl e g automatic
@@ -91,6 +92,7 @@ module _ (w : World) (rest : IsAtRest w) where
     where
       live : is_live w id ≡ true
       live = automatic_is_live w id h
+
       of_object : (o : Option Object) → object_at w.graph id ≡ o → option_map_or is_automatic o false ≡ true → is_condemned x.running id ≡ true
       of_object None e g = absurd (false≢true g)
       of_object (Some o) e g =
@@ -100,9 +102,9 @@ module _ (w : World) (rest : IsAtRest w) where
           let home = lies_at w rest.well_formed id o at e lying here.some_words in
           contains_filtered (lies_in_one x.world (condemned_by x.world Everything)) (live_automatic_ids w) id
           (any_of (λ s. is_live_and (is_in_segment s) w id) home.segment (filter (λ s. pool_is is_automatic_kind w s.pool) w.segments)
-            (among_passing (λ s. pool_is is_automatic_kind w s.pool) home.segment w.segments home.among
-              (ap (pool_is is_automatic_kind w) home.of_pool ∙ here.pool))
-            (ap (λ a. option_map_or (is_in_segment home.segment) a false) lying ∙ home.inside)) h
+          (among_passing (λ s. pool_is is_automatic_kind w s.pool) home.segment w.segments home.among
+          (ap (pool_is is_automatic_kind w) home.of_pool ∙ here.pool))
+          (ap (λ a. option_map_or (is_in_segment home.segment) a false) lying ∙ home.inside)) h
 
   -- so nothing else is to be scanned
   pub nothing_remembered : AreRemembered x []
@@ -146,7 +148,7 @@ module _ (w : World) (first : List Move) (y : Collecting) (rest : IsAtRest w) (s
   root_cases : (id : Id) → contains (roots_of begun.world []) id ≡ true
       → (contains (ids_of_client begun.world.graph) id ≡ true) ⊎ (contains (ids_of_area_words begun.world) id ≡ true)
   root_cases id h = elim (contains_append (ids_of_client begun.world.graph) (ids_of_area_words begun.world ++ []) id h) [
-    inl e ↦ inl e
+    | inl e ↦ inl e
     | inr e ↦ elim (contains_append (ids_of_area_words begun.world) [] id e) [ inl g ↦ inr g | inr none ↦ absurd (false≢true none) ]
   ]
 
@@ -167,14 +169,14 @@ module _ (w : World) (first : List Move) (y : Collecting) (rest : IsAtRest w) (s
       before = (fixed_same fixed).registered_before ∙ (let e : length w.graph.registered ≡ 0 + length w.graph.registered = omega arith in e);
       condemned = λ id h. ap (λ ids. contains ids id) (fixed_same fixed).condemned ∙ everything w rest id (
           let there = and_parts (is_live w id) (object_is is_automatic w id) (list_all-contains (is_live_automatic w) w.graph.registered id
-              rest.well_formed.registered (subst (λ (g : Graph). contains g.registered id ≡ true) after.graph h)) in
+          rest.well_formed.registered (subst (λ (g : Graph). contains g.registered id ≡ true) after.graph h)) in
           is_listed_automatic w id there.0 there.1);
     };
     so_far = λ later exact. exact;
     alike = λ id. ap (λ (g : Graph). strong_targets g id) after.graph;
     reached = record {
       kept = λ id h. elim (fixed_kept fixed id h) [
-        inl pinned ↦ begins (contains_right (ids_of_client begun.world.graph) (ids_of_area_words begun.world ++ []) id
+        | inl pinned ↦ begins (contains_right (ids_of_client begun.world.graph) (ids_of_area_words begun.world ++ []) id
             (contains_left (ids_of_area_words begun.world) [] id (pinned_words w rest id pinned)))
         | inr held ↦ begins (contains_left (ids_of_client begun.world.graph) (ids_of_area_words begun.world ++ []) id
             (client_of_fixed begun.world.graph id held))
@@ -183,11 +185,11 @@ module _ (w : World) (first : List Move) (y : Collecting) (rest : IsAtRest w) (s
     };
     roots = record {
       live = λ id h. elim (root_cases id h) [
-        inl held ↦ begun_running.coloured.held_live id (client_now id held)
+        | inl held ↦ begun_running.coloured.held_live id (client_now id held)
         | inr word ↦ after.live id ∙ automatic_is_live w id (contains-filter (has_area_word begun.world) (live_automatic_ids w) id word).0
       ];
       kept = λ id h. elim (root_cases id h) [
-        inl held ↦ begun_running.coloured.held id (client_now id held)
+        | inl held ↦ begun_running.coloured.held id (client_now id held)
         | inr word ↦ after.black id (not_white_if_kept begun.running.condemned begun.colours id (words_pinned w rest id word))
       ];
     };

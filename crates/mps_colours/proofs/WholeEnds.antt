@@ -68,11 +68,11 @@ module _ (before flipped_world : World) (sent : flipped_world.graph.messages ≡
   is_decided : (id : Id) → contains (live_automatic_ids flipped_world) id ≡ true → IsDecided flipped_world ended p.posts id
   is_decided id h = decided (is_live ended id) (IsWidelyReachableWith flipped_world p.posts id)
       (λ live. reached_more flipped_world p.posted p.posts (λ n e. sym (p.same n) ∙ e)
-        (kept_reached flipped_world p.posted x id p.reached (p.condemned id h) (all_black x run s freed next last id (sym (live_then id) ∙ live))))
+      (kept_reached flipped_world p.posted x id p.reached (p.condemned id h) (all_black x run s freed next last id (sym (live_then id) ∙ live))))
       (λ dead path.
-        let kept = reached_is_kept flipped_world p.posted x run p.alike p.roots drained
-            (reached_more flipped_world p.posts p.posted (λ n e. p.same n ∙ e) path) in
-        false≢true (sym dead ∙ (live_then id ∙ black_left x run s freed next id kept.1 kept.0)))
+      let kept = reached_is_kept flipped_world p.posted x run p.alike p.roots drained
+      (reached_more flipped_world p.posts p.posted (λ n e. p.same n ∙ e) path) in
+      false≢true (sym dead ∙ (live_then id ∙ black_left x run s freed next id kept.1 kept.0)))
 
   whole_ended : IsWhole before flipped_world ended
   whole_ended = record {
@@ -116,14 +116,15 @@ module _ (w : World) (first : List Move) (y : Collecting) (rest : IsAtRest w) (s
   to_end count later ends =
       subst (λ (v : World). FinishesCollection v later) (sym act_leads)
       (subst (λ b. MatchBool b (AreUnitsToEnd y.world later) (later ≡ [])) (sym (ap is_some running.runs))
-        (last_units_done y count later running ends).are_to_end)
+      (last_units_done y count later running ends).are_to_end)
 
   legal_with : (later : List Move) → AreLegalAnywhere y.world later → AreLegalMoves w None (act ++ later)
   legal_with later legal =
-      subst (λ ms. AreLegalMoves w None (ms ++ later)) (sym act_is)
-      (flip_legal w Everything (first_move (first ++ later)) rest refl,
-      first_legal.go_on (Some (flip_of w Everything)) later
-        (λ before. subst (λ (v : World). AreLegalMoves v before later) (sym first_leads) (legal_alone y.world before later legal)))
+      subst (λ ms. AreLegalMoves w None (ms ++ later)) (sym act_is) (
+        flip_legal w Everything (first_move (first ++ later)) rest refl,
+        first_legal.go_on (Some (flip_of w Everything)) later
+            (λ before. subst (λ (v : World). AreLegalMoves v before later) (sym first_leads) (legal_alone y.world before later legal)),
+      )
 
   pub whole_done : (count : ℕ) (later : List Move) → Ends y count later → IsWholeDone w (act ++ later)
   whole_done count later ends = of_ends ends (to_end count later ends)
@@ -132,9 +133,9 @@ module _ (w : World) (first : List Move) (y : Collecting) (rest : IsAtRest w) (s
       of_ends (by_last {y = z} {done = done} {piece} row last) finishes =
           let shown = units_shown running row in
           let leads : world_after_moves w (act ++ (done ++ piece)) ≡ world_after_moves z.world piece =
-              world_after_moves-append w act (done ++ piece)
-              ∙ (ap (λ (v : World). world_after_moves v (done ++ piece)) act_leads
-              ∙ (world_after_moves-append y.world done piece ∙ ap (λ (v : World). world_after_moves v piece) shown.leads)) in
+          world_after_moves-append w act (done ++ piece)
+          ∙ (ap (λ (v : World). world_after_moves v (done ++ piece)) act_leads
+          ∙ (world_after_moves-append y.world done piece ∙ ap (λ (v : World). world_after_moves v piece) shown.leads)) in
           record {
             full = record {
               later = done ++ piece;
@@ -156,7 +157,7 @@ module _ (w : World) (rest : IsAtRest w) (nothing : is_nothing (condemned_by w E
   none_registered : w.graph.registered ≡ []
   none_registered = of_list w.graph.registered (λ id h.
       let there = and_parts (is_live w id) (object_is is_automatic w id)
-          (list_all-contains (is_live_automatic w) w.graph.registered id rest.well_formed.registered h) in
+      (list_all-contains (is_live_automatic w) w.graph.registered id rest.well_formed.registered h) in
       none_automatic id (is_listed_automatic w id there.0 there.1))
     where
       of_list : (ids : List Id) → ((id : Id) → contains ids id ≡ true → ⊥) → ids ≡ []
@@ -187,5 +188,7 @@ module _ (w : World) (rest : IsAtRest w) (nothing : is_nothing (condemned_by w E
   }
 
 pub a_whole_collection : AWholeCollectionIsExact
-a_whole_collection = ((λ w first later y count rest some fixed ends. whole_done w first y rest some fixed count later ends),
-    (λ w rest nothing. whole_of_nothing w rest nothing))
+a_whole_collection = (
+  (λ w first later y count rest some fixed ends. whole_done w first y rest some fixed count later ends),
+  (λ w rest nothing. whole_of_nothing w rest nothing),
+)

@@ -24,10 +24,10 @@ use Rattle.mps_colours.proofs.Keeping.{kept_if_not_white}
 pub roots_more : (flipped : World) (posted more : List Id) → ((id : Id) → contains posted id ≡ true → contains more id ≡ true) → (id : Id)
     → contains (roots_of flipped posted) id ≡ true → contains (roots_of flipped more) id ≡ true
 roots_more flipped posted more sub id h = elim (contains_append (ids_of_client flipped.graph) (ids_of_area_words flipped ++ posted) id h) [
-  inl e ↦ contains_left (ids_of_client flipped.graph) (ids_of_area_words flipped ++ more) id e
+  | inl e ↦ contains_left (ids_of_client flipped.graph) (ids_of_area_words flipped ++ more) id e
   | inr e ↦ contains_right (ids_of_client flipped.graph) (ids_of_area_words flipped ++ more) id
       (elim (contains_append (ids_of_area_words flipped) posted id e) [
-        inl f ↦ contains_left (ids_of_area_words flipped) more id f
+        | inl f ↦ contains_left (ids_of_area_words flipped) more id f
         | inr f ↦ contains_right (ids_of_area_words flipped) more id (sub id f)
       ])
 ]
@@ -41,11 +41,11 @@ reached_more flipped posted more sub path =
 pub root_cases : (flipped : World) (posted : List Id) (p id : Id) → contains (roots_of flipped (p ∷ posted)) id ≡ true
     → (p ≡ id) ⊎ (contains (roots_of flipped posted) id ≡ true)
 root_cases flipped posted p id h = elim (contains_append (ids_of_client flipped.graph) (ids_of_area_words flipped ++ (p ∷ posted)) id h) [
-  inl e ↦ inr (contains_left (ids_of_client flipped.graph) (ids_of_area_words flipped ++ posted) id e)
+  | inl e ↦ inr (contains_left (ids_of_client flipped.graph) (ids_of_area_words flipped ++ posted) id e)
   | inr e ↦ elim (contains_append (ids_of_area_words flipped) (p ∷ posted) id e) [
-    inl f ↦ inr (contains_right (ids_of_client flipped.graph) (ids_of_area_words flipped ++ posted) id (contains_left (ids_of_area_words flipped) posted id f))
+    | inl f ↦ inr (contains_right (ids_of_client flipped.graph) (ids_of_area_words flipped ++ posted) id (contains_left (ids_of_area_words flipped) posted id f))
     | inr f ↦ elim (contains_cases p posted id f) [
-      inl same ↦ inl same
+      | inl same ↦ inl same
       | inr g ↦ inr (contains_right (ids_of_client flipped.graph) (ids_of_area_words flipped ++ posted) id (contains_right (ids_of_area_words flipped) posted id g))
     ]
   ]
@@ -59,8 +59,8 @@ pub fixed_kept : {x y : Collecting} {ids : List Id} {ms : List Move} → Fixes x
 fixed_kept fixes_no_more n h = inl h
 fixed_kept (passes {id = id} {ids = ids} black rest) n h = elim (fixed_kept rest n h) [ inl old ↦ inl old | inr later ↦ inr (contains_later id ids n later) ]
 fixed_kept (keeps {x = x} {id = id} {ids = ids} white keep rest) n h = elim (fixed_kept rest n h) [
-  inl now ↦ elim (contains_cases id x.colours.kept n now) [
-    inl same ↦ inr (subst (λ m. contains (id ∷ ids) m ≡ true) same (contains_here id ids))
+  | inl now ↦ elim (contains_cases id x.colours.kept n now) [
+    | inl same ↦ inr (subst (λ m. contains (id ∷ ids) m ≡ true) same (contains_here id ids))
     | inr old ↦ inl old
   ]
   | inr later ↦ inr (contains_later id ids n later)
@@ -73,7 +73,7 @@ fixed_grey fixes_no_more all n h = all n h
 fixed_grey (passes black rest) all n h = fixed_grey rest all n h
 fixed_grey (keeps {x = x} {id = id} white keep rest) all n h =
     fixed_grey rest (λ m g. elim (contains_cases id x.colours.grey m g) [
-      inl same ↦ subst (λ k. contains (id ∷ x.colours.kept) k ≡ true) same (contains_here id x.colours.kept)
+      | inl same ↦ subst (λ k. contains (id ∷ x.colours.kept) k ≡ true) same (contains_here id x.colours.kept)
       | inr old ↦ contains_later id x.colours.kept m (all m old)
     ]) n h
 
@@ -117,9 +117,10 @@ module _ (flipped : World) (posted : List Id) (x : Collecting) (run : Running x)
   reached_is_kept (begins {id} h) = (roots.live id h, roots.kept id h)
   reached_is_kept (goes_on {from} {to} path h) =
       let before = reached_is_kept path in
-      let strong = strong_is_target x.world.graph from to (subst (λ (ids : List Id). contains ids to ≡ true) (sym (alike from)) h) in
-      (run.coloured.referred_live from to before.0 before.1 strong.0,
-      run.coloured.referred from to before.0 before.1 (not_grey (object_is is_weak_object x.world) x.colours from drained strong.1) strong.0)
+      let strong = strong_is_target x.world.graph from to (subst (λ (ids : List Id). contains ids to ≡ true) (sym (alike from)) h) in (
+        run.coloured.referred_live from to before.0 before.1 strong.0,
+        run.coloured.referred from to before.0 before.1 (not_grey (object_is is_weak_object x.world) x.colours from drained strong.1) strong.0,
+      )
 
   -- a white object isn't reached
   pub white_unreached : (id : Id) → is_white_in x id ≡ true → ¬ IsWidelyReachableWith flipped posted id

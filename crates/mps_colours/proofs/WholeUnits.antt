@@ -52,7 +52,7 @@ without_after (x ∷ xs) ys y h =
 stands_among : (xs ys : List ℕ) (n : ℕ) → contains xs n ≡ true → (i : ℕ) × (i < length xs) × (slice_get (xs ++ ys) i ≡ Some n)
 stands_among [] ys n h = absurd (false≢true h)
 stands_among (x ∷ xs) ys n h = elim (contains_cases x xs n h) [
-  inl same ↦ (0, omega arith, ap Some same)
+  | inl same ↦ (0, omega arith, ap Some same)
   | inr later ↦ let rest = stands_among xs ys n later in (suc rest.0, (let less = rest.1 in omega (arith, less)), rest.2)
 ]
 
@@ -79,8 +79,10 @@ weak_alike g holder n change weak = of_object (object_at g holder) refl weak
     weak_body : (b : Body) → is_weak_body (body_with_cells b change) ≡ is_weak_body b
     weak_body (Automatic head cells is_weak) = refl
     weak_body (Manual words) = refl
+
     none_strong : (o : Object) → is_weak_object o ≡ true → strong_targets_of o ≡ []
     none_strong o h = ap (λ b. if b then [] else targets_of o) h
+
     of_object : (o : Option Object) → object_at g holder ≡ o → option_map_or is_weak_object o false ≡ true
         → option_map_or strong_targets_of (slice_get (option_map_or (λ p. slice_set g.objects holder (object_with_cells p change)) o g.objects) n) []
         ≡ strong_targets g n
@@ -115,7 +117,7 @@ module _ (flipped : World) where
         alike = λ n. ap (λ (g : Graph). strong_targets g n) f.graph ∙ p.alike n;
         reached = record {
           kept = λ n h. elim (fixed_kept fixes n h) [
-            inl old ↦ p.reached.kept n old
+            | inl old ↦ p.reached.kept n old
             | inr target ↦ target_reached flipped p.posted x id p.alike p.reached grey strong n target
           ];
           grey = λ n h. fixed_grey fixes p.reached.grey n (grey_still x.running.condemned y.colours id n h);
@@ -146,7 +148,7 @@ module _ (flipped : World) where
           ∙ (ap (λ ids. slice_get ids x.next) (sym t.cut) ∙ h))))
       of_rest (m ∷ rest) t so =
           let same : m ≡ id = same_Some m id (sym (at_end p.passed rest m) ∙ (ap (λ n. slice_get (p.passed ++ (m ∷ rest)) n) (sym t.next)
-              ∙ (ap (λ ids. slice_get ids x.next) (sym t.cut) ∙ h))) in
+          ∙ (ap (λ ids. slice_get ids x.next) (sym t.cut) ∙ h))) in
           record {
             rest = rest;
             in_turn = subst (λ k. AreInTurn x p.passed (k ∷ rest)) same t;
@@ -173,8 +175,11 @@ module _ (flipped : World) where
           before = let b : x.running.registered_before ≡ length p.passed + suc (length f.rest) = t.before in omega (arith, b, more);
           condemned = t.condemned;
         };
-        so_far = λ later exact. f.so_far later (inr (kept_reached flipped p.posted x id p.reached
-            (t.condemned id (contains_at x.world.graph.registered x.next id due.registered)) black, exact));
+        so_far = λ later exact. f.so_far later (inr (
+          kept_reached flipped p.posted x id p.reached
+              (t.condemned id (contains_at x.world.graph.registered x.next id due.registered)) black,
+          exact,
+        ));
         alike = p.alike;
         reached = p.reached;
         roots = record { live = p.roots.live; kept = p.roots.kept };
@@ -186,7 +191,7 @@ module _ (flipped : World) where
   white_not_passed : (x : Collecting) (p : IsWholeSoFar flipped x) (id : Id) (rest : List Id) → Running x → AreInTurn x p.passed rest
       → is_white_in x id ≡ true → contains p.passed id ≡ false
   white_not_passed x p id rest run t white = elim (cases_Bool (contains p.passed id)) [
-    inl is ↦ absurd (
+    | inl is ↦ absurd (
         let there = stands_among p.passed rest id is in
         let below : there.0 < x.next = let less = there.1 in let n = t.next in omega (arith, less, n) in
         true≢false (sym white ∙ run.examined.examined there.0 id (ap (λ ids. slice_get ids there.0) t.cut ∙ there.2) (inl below)))
@@ -226,23 +231,23 @@ module _ (flipped : World) where
         alike = λ n. ap (λ (g : Graph). strong_targets g n) graph ∙ p.alike n;
         reached = record {
           kept = λ n h. elim (contains_cases id x.colours.kept n h) [
-            inl it ↦ subst (λ m. IsWidelyReachableWith flipped (id ∷ p.posted) m) it
+            | inl it ↦ subst (λ m. IsWidelyReachableWith flipped (id ∷ p.posted) m) it
                 (begins (contains_right (ids_of_client flipped.graph) (ids_of_area_words flipped ++ (id ∷ p.posted)) id
-                  (contains_right (ids_of_area_words flipped) (id ∷ p.posted) id (contains_here id p.posted))))
+                (contains_right (ids_of_area_words flipped) (id ∷ p.posted) id (contains_here id p.posted))))
             | inr old ↦ reached_more flipped p.posted (id ∷ p.posted) (λ m g. contains_later id p.posted m g) (p.reached.kept n old)
           ];
           grey = λ n h. elim (contains_cases id x.colours.grey n h) [
-            inl it ↦ subst (λ m. contains (id ∷ x.colours.kept) m ≡ true) it (contains_here id x.colours.kept)
+            | inl it ↦ subst (λ m. contains (id ∷ x.colours.kept) m ≡ true) it (contains_here id x.colours.kept)
             | inr old ↦ contains_later id x.colours.kept n (p.reached.grey n old)
           ];
         };
         roots = record {
           live = λ n h. still n ∙ elim (root_cases flipped p.posted id n h) [
-            inl it ↦ subst (λ m. is_live x.world m ≡ true) it live
+            | inl it ↦ subst (λ m. is_live x.world m ≡ true) it live
             | inr old ↦ p.roots.live n old
           ];
           kept = λ n h. ap (λ ids. is_white ids (keeping x.colours id) n) same.condemned ∙ elim (root_cases flipped p.posted id n h) [
-            inl it ↦ subst (λ m. is_white x.running.condemned (keeping x.colours id) m ≡ false) it (it_is_kept x.running.condemned x.colours id)
+            | inl it ↦ subst (λ m. is_white x.running.condemned (keeping x.colours id) m ≡ false) it (it_is_kept x.running.condemned x.colours id)
             | inr old ↦ still_kept x.running.condemned x.colours id n (p.roots.kept n old)
           ];
         };
@@ -272,7 +277,7 @@ module _ (flipped : World) where
       → object_is is_weak_object (splatted x holder cell).world holder ≡ true
   weak_still x holder cell weak =
       for_object-with_cells x.world.graph holder holder (λ cells. with_target_cell cells cell None) is_weak_object false
-        (λ o. of_body o.body) ∙ weak
+      (λ o. of_body o.body) ∙ weak
     where
       of_body : (b : Body) → is_weak_body (body_with_cells b (λ cells. with_target_cell cells cell None)) ≡ is_weak_body b
       of_body (Automatic head cells is_weak) = refl
@@ -324,7 +329,7 @@ module _ (flipped : World) where
   reclaimed_whole x s freed c run p next not_last runs =
       let leads = goes_on_leads x run s freed next not_last in
       let same : final_collection x run s freed next ≡ c =
-          same_Some (final_collection x run s freed next) c (sym (ap (λ (v : World). v.collection) leads) ∙ runs) in
+      same_Some (final_collection x run s freed next) c (sym (ap (λ (v : World). v.collection) leads) ∙ runs) in
       let condemned : (n : Id) → contains c.condemned n ≡ contains x.running.condemned n = λ n. ap (λ (d : Collection). contains d.condemned n) (sym same) in
       record {
         posted = p.posted;

@@ -73,5 +73,5 @@ pub record IsWholeDone (w : World) (moves : List Move) : Type 0 where
 abbrev pub AWholeCollectionIsExact : Type 0
 AWholeCollectionIsExact =
     ((w : World) (first later : List Move) (y : Collecting) (count : ℕ) → IsAtRest w → is_nothing (condemned_by w Everything) ≡ false
-        → FixesHeld w (flipped w Everything []) first y → Ends y count later → IsWholeDone w (flip_act w Everything ++ later))
+    → FixesHeld w (flipped w Everything []) first y → Ends y count later → IsWholeDone w (flip_act w Everything ++ later))
     × ((w : World) → IsAtRest w → IsTrue (is_nothing (condemned_by w Everything)) → IsWholeDone w (flip_act w Everything))

@@ -6,12 +6,12 @@ mod clients;
 mod flips;
 mod whole;
 
+ghost use Rattle.mps_colours.specs.DueLaws.{RunningIsLegal, WorkIsDue};
+ghost use Rattle.mps_colours.specs.Laws.{ReachableIsKept, AUnitKeepsRunning, UnitsRunOut, ABarrierKeepsRunning};
+
 pub use clients::clients_keep_running;
 pub use flips::a_flip_begins_running;
 pub use whole::a_whole_collection_is_exact;
-
-ghost use Rattle.mps_colours.specs.DueLaws.{RunningIsLegal, WorkIsDue};
-ghost use Rattle.mps_colours.specs.Laws.{ReachableIsKept, AUnitKeepsRunning, UnitsRunOut, ABarrierKeepsRunning};
 
 /// Once nothing but weak objects is grey, whatever is reachable from the client, or from what the collection is known to
 /// keep, is live and isn't white. So what is white then is garbage.
