@@ -32,7 +32,8 @@ abbrev pub IsRightlyHeld : Collecting → (id : Id) → Type 0
 IsRightlyHeld x id = (contains (ids_of_client x.world.graph) id ≡ true) ⊎ ((is_live x.world id ≡ true) × (is_white_in x id ≡ false))
 
 pub record IsBeside (x : Collecting) (v : World) : Type 0 where
-  pub copying : (id : Id) → is_condemned x.running id ≡ true → is_copying_object (beside x.world v) id ≡ true → is_copying_object x.world id ≡ true
+  pub copying : (id : Id) → is_condemned x.running id ≡ true → is_copying_object (beside x.world v) id ≡ true
+      → is_copying_object x.world id ≡ true
   pub automatic_pools : (pool : ℕ) → pool_is is_automatic_kind x.world pool ≡ true → pool_is is_automatic_kind v pool ≡ true
   pub held : (id : Id) → contains (ids_of_client v.graph) id ≡ true → IsRightlyHeld x id
   pub holds : (base : Address) → holds_something x.world base ≡ true → holds_something (beside x.world v) base ≡ true
@@ -62,7 +63,8 @@ module _ (x : Collecting) (run : Running x) where
   beside_keeps v b = change_keeps x run (beside x.world v) (beside_change v b)
 
   -- only what the client holds in tables, areas and messages changed, and names
-  pub roots_keep : (g : Graph) → ((id : Id) → contains (ids_of_client (record g { points = x.world.graph.points })) id ≡ true → IsRightlyHeld x id)
+  pub roots_keep : (g : Graph) → ((id : Id) → contains (ids_of_client (record g { points = x.world.graph.points })) id ≡ true
+      → IsRightlyHeld x id)
       → Running (record x {
         world = record x.world {
           graph = record g { objects = x.world.graph.objects; registered = x.world.graph.registered; points = x.world.graph.points };
@@ -97,9 +99,11 @@ module _ (slots holds messages reservations : List Id) (id : Id) where
 
   pub held_so : IsHeldIn slots holds messages reservations id → contains (slots ++ holds ++ messages ++ reservations) id ≡ true
   held_so (in_slots h) =
-      contains_left ((slots ++ holds) ++ messages) reservations id (contains_left (slots ++ holds) messages id (contains_left slots holds id h))
+      contains_left ((slots ++ holds) ++ messages) reservations id
+      (contains_left (slots ++ holds) messages id (contains_left slots holds id h))
   held_so (in_holds h) =
-      contains_left ((slots ++ holds) ++ messages) reservations id (contains_left (slots ++ holds) messages id (contains_right slots holds id h))
+      contains_left ((slots ++ holds) ++ messages) reservations id
+      (contains_left (slots ++ holds) messages id (contains_right slots holds id h))
   held_so (in_messages h) = contains_left ((slots ++ holds) ++ messages) reservations id (contains_right (slots ++ holds) messages id h)
   held_so (in_reservations h) = contains_right ((slots ++ holds) ++ messages) reservations id h
 
@@ -116,7 +120,8 @@ pub then_keeps : {A : Type 0} (P : World → Type 0) (w : World) (m : Checked A)
 then_keeps P w (Ok a) next base rest = rest
 then_keeps P w (Err why) next base rest = base
 
-pub refuse_keeps : (P : World → Type 0) (w : World) (b : Bool) (why : Refusal) (next : Checked Act) → P w → (b ≡ false → P (world_from w next))
+pub refuse_keeps : (P : World → Type 0) (w : World) (b : Bool) (why : Refusal) (next : Checked Act) → P w
+    → (b ≡ false → P (world_from w next))
     → P (world_from w (refuse_when b why >> next))
 refuse_keeps P w true why next base rest = base
 refuse_keeps P w false why next base rest = rest refl
@@ -140,13 +145,15 @@ pub record IsFound {A : Type 0} (lists : ℕ → Option (List A)) (f : Found A) 
 
 module _ {A : Type 0} (lists : ℕ → Option (List A)) (f : Found A) where
   found_value : (number : ℕ) (list : List A) (index : ℕ) (o : Option A) → lists number ≡ Some list → slice_get list index ≡ o
-      → (required o refusal.BadIndex >>= (λ value. Ok (record { number = number; list = list; index = index; value = value }))) ≡ Ok f → IsFound lists f
+      → (required o refusal.BadIndex >>= (λ value. Ok (record { number = number; list = list; index = index; value = value }))) ≡ Ok f
+      → IsFound lists f
   found_value number list index None there e h = absurd (not_Ok refusal.BadIndex f h)
   found_value number list index (Some value) there e h =
       subst (λ (g : Found A). IsFound lists g) (same_Ok (record { number = number; list = list; index = index; value = value }) f h)
       (record { list = there; value = e })
 
-  found_list : (number index : ℕ) (o : Option (List A)) → lists number ≡ o → (numbered number o >>= (λ t. entry_in t index)) ≡ Ok f → IsFound lists f
+  found_list : (number index : ℕ) (o : Option (List A)) → lists number ≡ o → (numbered number o >>= (λ t. entry_in t index)) ≡ Ok f
+      → IsFound lists f
   found_list number index None there h = absurd (not_Ok refusal.BadName f h)
   found_list number index (Some list) there h = found_value number list index (slice_get list index) there refl h
 
@@ -162,7 +169,8 @@ pub word_found : (w : World) (slot : Slot) (f : Found AreaWord) → word_in w sl
 word_found w slot f h = found (entry_at w.graph.areas) f (number_named w slot.name as_area) slot.index h
 
 -- what a slot holds the client holds
-pub slot_held : (g : Graph) (f : Found (Option ℕ)) (id : Id) → IsFound (entry_at g.tables) f → f.value ≡ Some id → contains (ids_of_client g) id ≡ true
+pub slot_held : (g : Graph) (f : Found (Option ℕ)) (id : Id) → IsFound (entry_at g.tables) f → f.value ≡ Some id
+    → contains (ids_of_client g) id ≡ true
 slot_held g f id found e = held_so (ids_in_slots g) (ids_in_holds g) g.messages (ids_in_reservations g) id
     (in_slots (among_all slots_of g.tables f.number (Some f.list) id (entry_is g.tables f.number f.list found.list)
     (among_entries f.list f.index id (found.value ∙ ap Some e))))
@@ -179,5 +187,6 @@ module _ {A : Type 0} (things : ℕ → Option A) (f : Numbered A) where
   numbered_found None h = absurd (not_Ok refusal.BadName f h)
   numbered_found (Some number) h = numbered_is number (things number) refl h
 
-pub point_found : (w : World) (name : Name) (p : Numbered Point) → point_named w name ≡ Ok p → entry_at w.graph.points p.number ≡ Some p.value
+pub point_found : (w : World) (name : Name) (p : Numbered Point) → point_named w name ≡ Ok p
+    → entry_at w.graph.points p.number ≡ Some p.value
 point_found w name p h = numbered_found (entry_at w.graph.points) p (number_named w name as_point) h

@@ -52,7 +52,8 @@ module _ (x : Collecting) (run : Running x) (formed : IsWellFormed x.world) wher
     flipped_keeps : r.is_doomed ≡ true → P (with_graph w (with_reservation w.graph point None))
     flipped_keeps doomed = ended_keeps x run point found
         (λ p memory there passes. absurd (false≢true (sym (ap (λ o. list_any p (extent_of_reservation o memory)) is_open
-        ∙ ap (λ b. list_any p (if (if b then false else true) then extent memory.reserved_at (length r.cells) ∷ [] else [])) doomed) ∙ passes)))
+        ∙ ap (λ b. list_any p (if (if b then false else true) then extent memory.reserved_at (length r.cells) ∷ [] else [])) doomed)
+        ∙ passes)))
 
     module _ (live : r.is_doomed ≡ false) (slot : Found (Option ℕ)) (slot_there : IsFound (entry_at w.graph.tables) slot)
         (different : AreDifferent (with_last w.addresses (Some (reserved_address w point.number)))) where
@@ -84,7 +85,8 @@ module _ (x : Collecting) (run : Running x) (formed : IsWellFormed x.world) wher
       covers p memory there passes =
           let at = ap (λ o. option_map_or (λ (m : PointMemory). m.reserved_at) o 0) there in
           let of_live = sym (ap (λ o. list_any p (extent_of_reservation o memory)) is_open
-          ∙ ap (λ b. list_any p (if (if b then false else true) then extent memory.reserved_at (length r.cells) ∷ [] else [])) live) ∙ passes in
+          ∙ ap (λ b. list_any p (if (if b then false else true) then extent memory.reserved_at (length r.cells) ∷ [] else [])) live)
+          ∙ passes in
           elim (or_cases (p (extent memory.reserved_at (length r.cells))) false of_live) [
             | inl it ↦ extent_of_last p w.graph.objects w.addresses new (reserved_address w point.number) formed.addresses
                 (ap (λ n. p (extent n (length r.cells))) at ∙ it)
@@ -111,7 +113,8 @@ module _ (x : Collecting) (run : Running x) (formed : IsWellFormed x.world) wher
     ends_keeps slot there = of_doomed r.is_doomed refl
       where
         of_doomed : (b : Bool) → r.is_doomed ≡ b
-            → Q (world_from w (if b then says reply.Flipped (with_graph w (with_reservation w.graph point None)) else done (world_committed w point r slot)))
+            → Q (world_from w (if b then says reply.Flipped (with_graph w (with_reservation w.graph point None)) else done
+            (world_committed w point r slot)))
         of_doomed true e = λ different. flipped_keeps e
         of_doomed false e = λ different. committed_keeps e slot there different
 
@@ -134,7 +137,11 @@ module _ (x : Collecting) (run : Running x) (formed : IsWellFormed x.world) wher
 module _ (x : Collecting) (run : Running x) (as_many : length x.world.addresses ≡ length x.world.graph.objects) where
   allocated_keeps : (pool words at : ℕ) (place : Found (Option ℕ)) → AreDifferent (with_last x.world.addresses (Some at))
       → Running (record x {
-        world = record x.world { graph = graph_allocated x.world.graph pool words place; addresses = with_last x.world.addresses (Some at) };
+        world = record x.world {
+          graph = graph_allocated x.world.graph pool words place;
+          addresses = with_last x.world.addresses
+              (Some at);
+        };
       })
   allocated_keeps pool words at place different =
       let new : Object = record { pool = pool; body = Manual (replicate words 0) } in
@@ -174,7 +181,8 @@ module _ (judged after : World) (words : ℕ) (into : Slot) where
 
   -- what holds of the world before the act and of the one after it
   allocated_so : (R : World → Type 0) (pool : Name) → R after
-      → ((from : Numbered Pool) (place : Found (Option ℕ)) → R (world_allocated from place)) → R (world_from after (act_alloc judged after pool words into))
+      → ((from : Numbered Pool) (place : Found (Option ℕ)) → R (world_allocated from place))
+      → R (world_from after (act_alloc judged after pool words into))
   allocated_so R pool base each =
       bind_keeps R after (pool_named judged pool) (λ from. kind_checked from) base
       (λ from e. then_keeps R after (refuse_when (is_automatic_kind from.value.kind) refusal.WrongPool) (placed from) base
@@ -188,7 +196,8 @@ module _ (judged after : World) (words : ℕ) (into : Slot) where
   pub alloc_segments : (pool : Name) → (world_from after (act_alloc judged after pool words into)).segments ≡ after.segments
   alloc_segments pool = allocated_so (λ v. v.segments ≡ after.segments) pool refl (λ from place. refl)
 
-pub alloc_keeps : (x : Collecting) → Running x → length x.world.addresses ≡ length x.world.graph.objects → (judged : World) (pool : Name) (words : ℕ)
+pub alloc_keeps : (x : Collecting) → Running x → length x.world.addresses ≡ length x.world.graph.objects
+    → (judged : World) (pool : Name) (words : ℕ)
     (into : Slot) → AreDifferent (world_from x.world (act_alloc judged x.world pool words into)).addresses
     → Running (record x { world = world_from x.world (act_alloc judged x.world pool words into) })
 alloc_keeps x run as_many judged pool words into =
@@ -210,7 +219,8 @@ segment_more w s false = holds_one_more s w.tails
 
 placed_more : (w : World) (pool words : ℕ) (p : Placement) → MayHoldMore w (world_after_moves w (alloc_at pool words p))
 placed_more w pool words (Place word) = holds_no_more
-placed_more w pool words (NewSegment grain grains) = segment_more w (segment_of_move (address_of_grain grain) grains pool 0) (is_copying_pool w pool)
+placed_more w pool words (NewSegment grain grains) = segment_more w (segment_of_move (address_of_grain grain) grains pool 0)
+    (is_copying_pool w pool)
 placed_more w pool words (OverLimit committed need limit) = holds_no_more
 placed_more w pool words (NoFreeRun need longest) = holds_no_more
 
@@ -226,7 +236,8 @@ alloc_moves_more w m words answer = moves_more w m words (is_refused answer)
 
 -- one more segment keeps the invariant
 pub more_keeps : (x : Collecting) → Running x → (after : World) → MayHoldMore x.world after → AreOrdered 1 after.segments
-    → Running (record x { world = after }) × (length after.addresses ≡ length x.world.addresses) × (length after.graph.objects ≡ length x.world.graph.objects)
+    → Running (record x { world = after }) × (length after.addresses ≡ length x.world.addresses) ×
+    (length after.graph.objects ≡ length x.world.graph.objects)
 more_keeps x run after holds_no_more in_order = (run, refl, refl)
 more_keeps x run after (holds_one_more s tails) in_order =
     (segments_keep x run (with_segment s x.world.segments) tails in_order (λ t h is. among_with s t x.world.segments h), refl, refl)

@@ -57,7 +57,8 @@ module _ (x : Collecting) (run : Running x) where
       >>= (λ word. says (reply.Number word) w))) run
       (λ at e. bind_keeps P w (block_in at) (λ id. required (slice_get (words_at w.graph id) k) refusal.BadIndex
       >>= (λ word. says (reply.Number word) w)) run
-      (λ id f. bind_keeps P w (required (slice_get (words_at w.graph id) k) refusal.BadIndex) (λ word. says (reply.Number word) w) run (λ word g. run)))
+      (λ id f. bind_keeps P w (required (slice_get (words_at w.graph id) k) refusal.BadIndex) (λ word. says (reply.Number word) w) run
+      (λ word g. run)))
 
   number_keeps : (slot : Slot) (k : ℕ) → P (world_from w (act_number w slot k))
   number_keeps slot k =
@@ -65,7 +66,8 @@ module _ (x : Collecting) (run : Running x) where
       >>= (λ number. says (reply.Number number) w))) run
       (λ from e. bind_keeps P w (object_in w from.value) (λ object. number_at (cells_of_body object.value.body) k
       >>= (λ number. says (reply.Number number) w)) run
-      (λ object f. bind_keeps P w (number_at (cells_of_body object.value.body) k) (λ number. says (reply.Number number) w) run (λ number g. run)))
+      (λ object f. bind_keeps P w (number_at (cells_of_body object.value.body) k) (λ number. says (reply.Number number) w) run
+      (λ number g. run)))
 
   same_keeps : (slot other : Slot) → P (world_from w (act_same w slot other))
   same_keeps slot other =
@@ -74,17 +76,22 @@ module _ (x : Collecting) (run : Running x) where
       (λ two f. tells_keeps x run (same_target one.value two.value)))
 
   null_keeps : (slot : Slot) → P (world_from w (act_null w slot))
-  null_keeps slot = bind_keeps P w (slot_in w slot) (λ from. tells (is_none from.value) w) run (λ from e. tells_keeps x run (is_none from.value))
+  null_keeps slot = bind_keeps P w (slot_in w slot) (λ from. tells (is_none from.value) w) run
+      (λ from e. tells_keeps x run (is_none from.value))
 
   head_keeps : (slot : Slot) → P (world_from w (act_head w slot))
   head_keeps slot =
-      bind_keeps P w (slot_in w slot) (λ from. object_in w from.value >>= (λ object. says (reply.Head (head_of_body object.value.body)) w)) run
-      (λ from e. bind_keeps P w (object_in w from.value) (λ object. says (reply.Head (head_of_body object.value.body)) w) run (λ object f. run))
+      bind_keeps P w (slot_in w slot) (λ from. object_in w from.value >>=
+      (λ object. says (reply.Head (head_of_body object.value.body)) w)) run
+      (λ from e. bind_keeps P w (object_in w from.value) (λ object. says (reply.Head (head_of_body object.value.body)) w) run
+      (λ object f. run))
 
   address_keeps : (slot : Slot) → P (world_from w (act_address w slot))
   address_keeps slot =
-      bind_keeps P w (slot_in w slot) (λ from. object_in w from.value >>= (λ object. says (reply.Word (address_or_null w object.number)) w)) run
-      (λ from e. bind_keeps P w (object_in w from.value) (λ object. says (reply.Word (address_or_null w object.number)) w) run (λ object f. run))
+      bind_keeps P w (slot_in w slot) (λ from. object_in w from.value >>=
+      (λ object. says (reply.Word (address_or_null w object.number)) w)) run
+      (λ from e. bind_keeps P w (object_in w from.value) (λ object. says (reply.Word (address_or_null w object.number)) w) run
+      (λ object f. run))
 
   peek_keeps : (place : Slot) → P (world_from w (act_peek w place))
   peek_keeps place = bind_keeps P w (word_in w place) (λ at. says (reply.Word (shown_word w at.value)) w) run (λ at e. run)
@@ -93,12 +100,14 @@ module _ (x : Collecting) (run : Running x) where
   dump_keeps address =
       then_keeps P w (refuse_when (is_running w) refusal.Running) (required (id_at w address) refusal.NotABlock
       >>= (λ id. Ok (record { answer = Dumped (image_of w id); world = w }))) run
-      (bind_keeps P w (required (id_at w address) refusal.NotABlock) (λ id. Ok (record { answer = Dumped (image_of w id); world = w })) run (λ id e. run))
+      (bind_keeps P w (required (id_at w address) refusal.NotABlock)
+      (λ id. Ok (record { answer = Dumped (image_of w id); world = w })) run (λ id e. run))
 
   -- ---- calls of collection, after their moves
 
   start_keeps : (judged : World) → P (world_from w (act_start judged w))
-  start_keeps judged = then_keeps P w (refuse_when (is_running judged) refusal.Running) (done (with_state w Unclamped)) run (state_keeps x run Unclamped)
+  start_keeps judged = then_keeps P w (refuse_when (is_running judged) refusal.Running) (done (with_state w Unclamped)) run
+      (state_keeps x run Unclamped)
 
   start_chain_keeps : (judged : World) (chain : Name) (generation : ℕ) → P (world_from w (act_start_chain judged w chain generation))
   start_chain_keeps judged chain generation =
@@ -120,21 +129,29 @@ module _ (x : Collecting) (run : Running x) where
     }
 
     abbrev state_after : Checked Act → Checked ℕ → Collecting
-    state_after a taken = record x { world = world_from w a; running = collection_without taken x.running; next = next_without taken x.next }
+    state_after a taken = record x {
+      world = world_from w a;
+      running = collection_without taken x.running;
+      next = next_without taken
+          x.next;
+    }
 
     definalize_position : (object : Numbered Object) (o : Option ℕ) → position_of_first w.graph.registered object.number ≡ o
-        → Running (state_after (required o refusal.NotRegistered >>= (λ position. done (taken_away object position))) (required o refusal.NotRegistered))
+        → Running (state_after (required o refusal.NotRegistered >>= (λ position. done (taken_away object position)))
+        (required o refusal.NotRegistered))
     definalize_position object None e = run
     definalize_position object (Some position) e =
         definalized_keeps x run object.number position (first_stands w.graph.registered object.number position e)
 
     definalize_object : (m : Checked (Numbered Object))
-        → Running (state_after (m >>= (λ object. position_of object >>= (λ position. done (taken_away object position)))) (m >>= (λ object. position_of object)))
+        → Running (state_after (m >>= (λ object. position_of object >>= (λ position. done (taken_away object position))))
+        (m >>= (λ object. position_of object)))
     definalize_object (Err why) = run
     definalize_object (Ok object) = definalize_position object (position_of_first w.graph.registered object.number) refl
 
     definalize_slot : (m : Checked (Found (Option ℕ)))
-        → Running (state_after (m >>= (λ from. object_in w from.value >>= (λ object. position_of object >>= (λ position. done (taken_away object position)))))
+        → Running (state_after (m >>= (λ from. object_in w from.value >>=
+        (λ object. position_of object >>= (λ position. done (taken_away object position)))))
         (m >>= (λ from. object_in w from.value >>= (λ object. position_of object))))
     definalize_slot (Err why) = run
     definalize_slot (Ok from) = definalize_object (object_in w from.value)
@@ -153,14 +170,17 @@ module _ (x : Collecting) (run : Running x) where
       (subst (λ those. MayHoldMore w (world_after_moves w those)) (sym due)
       (alloc_moves_more w (pool_named w pool) words answer))
       (subst (λ ss. AreOrdered 1 ss) (alloc_segments w (world_after_moves w ms) words into pool) fine.ordered) in
-      alloc_keeps (record x { world = world_after_moves w ms }) more.0 (more.1 ∙ (formed.addresses ∙ sym more.2)) w pool words into fine.different
+      alloc_keeps (record x { world = world_after_moves w ms }) more.0
+      (more.1 ∙ (formed.addresses ∙ sym more.2)) w pool words into fine.different
 
   free_case : IsWellFormed w → list_all (is_live w) (ids_in_blocks w.graph) ≡ true → (ms : List Move) (answer : Answer) (place : Slot)
-      → ms ≡ unless_refused answer (moves_of_free w (block_place_in w place)) → IsFine (world_from (world_after_moves w ms) (act_free (world_after_moves w ms) place))
+      → ms ≡ unless_refused answer (moves_of_free w (block_place_in w place))
+      → IsFine (world_from (world_after_moves w ms) (act_free (world_after_moves w ms) place))
       → P (world_from (world_after_moves w ms) (act_free (world_after_moves w ms) place))
   free_case formed live ms answer place due fine =
       free_act_keeps (record x { world = world_after_moves w ms })
-      (subst (λ those. AreOrdered 1 (world_after_moves w those).segments → Running (record x { world = world_after_moves w those })) (sym due)
+      (subst (λ those. AreOrdered 1 (world_after_moves w those).segments → Running (record x { world = world_after_moves w those }))
+      (sym due)
       (freeing_keeps x run formed live place answer)
       (subst (λ ss. AreOrdered 1 ss) (free_act_segments (world_after_moves w ms) place) fine.ordered)) place
 
@@ -188,15 +208,18 @@ module _ (w : World) (x : Collecting) (run : Running x) (formed : IsWellFormed x
   plain c now same keeps = subst (λ v. Running (record x { world = world_from v (act_in v c) })) (sym same) keeps
 
   call_keeps : (c : Call) (ms : List Move) (answer : Answer)
-      → asking (units_asked w c) (world_after_moves w (moves_of_collector c ms)) ≡ x.world → AreMovesOf w c answer ms → IsMarkedKept x c answer
+      → asking (units_asked w c) (world_after_moves w (moves_of_collector c ms)) ≡ x.world → AreMovesOf w c answer ms
+      → IsMarkedKept x c answer
       → IsReadKept x c → IsFine (world_from (moved_world w c ms) (act (is_block answer) (judged_world w c ms) (moved_world w c ms) c))
       → Running (record x {
         world = world_from (moved_world w c ms) (act (is_block answer) (judged_world w c ms) (moved_world w c ms) c);
         running = collection_without (position_taken x.world c) x.running;
         next = next_without (position_taken x.world c) x.next;
       })
-  call_keeps (call.Arena grains limit) ms answer led due marked read fine = plain (call.Arena grains limit) (world_after_moves w ms) led (arena_keeps x run grains limit)
-  call_keeps (call.Limit limit) ms answer led due marked read fine = plain (call.Limit limit) (world_after_moves w ms) led (limit_keeps x run limit)
+  call_keeps (call.Arena grains limit) ms answer led due marked read fine = plain (call.Arena grains limit) (world_after_moves w ms) led
+      (arena_keeps x run grains limit)
+  call_keeps (call.Limit limit) ms answer led due marked read fine = plain (call.Limit limit) (world_after_moves w ms) led
+      (limit_keeps x run limit)
   call_keeps call.Committed ms answer led due marked read fine = plain call.Committed (world_after_moves w ms) led run
   call_keeps (call.Chain chain count capacities) ms answer led due marked read fine =
       plain (call.Chain chain count capacities) (world_after_moves w ms) led (chain_keeps x run chain count capacities)
@@ -206,19 +229,26 @@ module _ (w : World) (x : Collecting) (run : Running x) (formed : IsWellFormed x
       plain (call.PoolOnChain pool kind format chain) (world_after_moves w ms) led (pool_on_chain_keeps x run formed pool kind format chain)
   call_keeps (call.PoolMfs pool words) ms answer led due marked read fine =
       plain (call.PoolMfs pool words) (world_after_moves w ms) led (pool_mfs_keeps x run formed pool words)
-  call_keeps (call.PoolMvff pool) ms answer led due marked read fine = plain (call.PoolMvff pool) (world_after_moves w ms) led (pool_mvff_keeps x run formed pool)
-  call_keeps (call.Table table count) ms answer led due marked read fine = plain (call.Table table count) (world_after_moves w ms) led (table_keeps x run table count)
-  call_keeps (call.Area area count) ms answer led due marked read fine = plain (call.Area area count) (world_after_moves w ms) led (area_keeps x run area count)
-  call_keeps (call.Blocks blocks count) ms answer led due marked read fine = plain (call.Blocks blocks count) (world_after_moves w ms) led (blocks_keeps x run blocks count)
-  call_keeps (call.DropRoot root) ms answer led due marked read fine = plain (call.DropRoot root) (world_after_moves w ms) led (drop_root_keeps x run root)
+  call_keeps (call.PoolMvff pool) ms answer led due marked read fine = plain (call.PoolMvff pool) (world_after_moves w ms) led
+      (pool_mvff_keeps x run formed pool)
+  call_keeps (call.Table table count) ms answer led due marked read fine = plain (call.Table table count) (world_after_moves w ms) led
+      (table_keeps x run table count)
+  call_keeps (call.Area area count) ms answer led due marked read fine = plain (call.Area area count) (world_after_moves w ms) led
+      (area_keeps x run area count)
+  call_keeps (call.Blocks blocks count) ms answer led due marked read fine = plain (call.Blocks blocks count)
+      (world_after_moves w ms) led (blocks_keeps x run blocks count)
+  call_keeps (call.DropRoot root) ms answer led due marked read fine = plain (call.DropRoot root) (world_after_moves w ms) led
+      (drop_root_keeps x run root)
   call_keeps (call.Point point pool rank) ms answer led due marked read fine =
       plain (call.Point point pool rank) (world_after_moves w ms) led (point_keeps x run point pool rank)
-  call_keeps (call.DropPoint point) ms answer led due marked read fine = plain (call.DropPoint point) (world_after_moves w ms) led (drop_point_keeps x run point)
+  call_keeps (call.DropPoint point) ms answer led due marked read fine = plain (call.DropPoint point) (world_after_moves w ms) led
+      (drop_point_keeps x run point)
   call_keeps (call.Dependency dependency) ms answer led due marked read fine =
       plain (call.Dependency dependency) (world_after_moves w ms) led (dependency_keeps x run dependency)
   call_keeps (call.Reserve point head) ms answer led due marked read fine =
       reserve_keeps x run (world_after_moves w (moves_of_poll ms)) (moved_world w (call.Reserve point head) ms) point head
-      (sym (asked_graph (units_asked w (call.Reserve point head)) (world_after_moves w (moves_of_poll ms))) ∙ ap (λ (v : World). v.graph) led)
+      (sym (asked_graph (units_asked w (call.Reserve point head)) (world_after_moves w (moves_of_poll ms)))
+      ∙ ap (λ (v : World). v.graph) led)
       (subst (λ v. MayOwn v (moved_world w (call.Reserve point head) ms)) led
       (owned_asking (units_asked w (call.Reserve point head)) (world_after_moves w (moves_of_poll ms))
       (after_own_segment (world_after_moves w (moves_of_poll ms)) (own_segment ms) (number_named w point as_point))
@@ -228,20 +258,23 @@ module _ (w : World) (x : Collecting) (run : Running x) (formed : IsWellFormed x
   call_keeps (call.InitReference point cell source) ms answer led due marked read fine =
       plain (call.InitReference point cell source) (world_after_moves w ms) led (init_reference_keeps x run point cell source)
   call_keeps (call.Commit point target) ms answer led due marked read fine =
-      subst (λ v. IsFine (world_from v (act_in v (call.Commit point target))) → Running (record x { world = world_from v (act_in v (call.Commit point target)) }))
+      subst (λ v. IsFine (world_from v (act_in v (call.Commit point target)))
+      → Running (record x { world = world_from v (act_in v (call.Commit point target)) }))
       (sym (ap (world_after_moves w) due ∙ (commit_leaves w (point_named w point) (is_accepted answer) ∙ led)))
       (λ it. commit_keeps x run formed point target it.different) fine
   call_keeps (call.Alloc pool words place) ms answer led due marked read fine =
       subst (λ v. ms ≡ unless_refused answer (moves_of_alloc v (pool_named v pool) words)
       → IsFine (world_from (world_after_moves v ms) (act_alloc v (world_after_moves v ms) pool words place))
-      → Running (record x { world = world_from (world_after_moves v ms) (act_alloc v (world_after_moves v ms) pool words place) })) (sym led)
+      → Running (record x { world = world_from (world_after_moves v ms) (act_alloc v (world_after_moves v ms) pool words place) }))
+      (sym led)
       (alloc_case x run formed ms answer pool words place) due fine
   call_keeps (call.Free place) ms answer led due marked read fine =
       subst (λ v. ms ≡ unless_refused answer (moves_of_free v (block_place_in v place))
       → IsFine (world_from (world_after_moves v ms) (act_free (world_after_moves v ms) place))
       → Running (record x { world = world_from (world_after_moves v ms) (act_free (world_after_moves v ms) place) })) (sym led)
       (free_case x run formed live ms answer place) due fine
-  call_keeps (call.Load place word) ms answer led due marked read fine = plain (call.Load place word) (world_after_moves w ms) led (load_keeps x run place word)
+  call_keeps (call.Load place word) ms answer led due marked read fine = plain (call.Load place word) (world_after_moves w ms) led
+      (load_keeps x run place word)
   call_keeps (call.Store place word value) ms answer led due marked read fine =
       plain (call.Store place word value) (world_after_moves w ms) led (store_keeps x run place word value)
   call_keeps (call.Get target source cell) ms answer led due marked read fine =
@@ -249,39 +282,52 @@ module _ (w : World) (x : Collecting) (run : Running x) (formed : IsWellFormed x
       (get_keeps x run w (subst (λ v. HasTables w v) led (moves_leave w ms)) target source cell read)
   call_keeps (call.Put target cell source) ms answer led due marked read fine =
       plain (call.Put target cell source) (world_after_moves w ms) led (put_keeps x run target cell source)
-  call_keeps (call.Number slot cell) ms answer led due marked read fine = plain (call.Number slot cell) (world_after_moves w ms) led (number_keeps x run slot cell)
+  call_keeps (call.Number slot cell) ms answer led due marked read fine = plain (call.Number slot cell) (world_after_moves w ms) led
+      (number_keeps x run slot cell)
   call_keeps (call.SetNumber slot cell value) ms answer led due marked read fine =
       plain (call.SetNumber slot cell value) (world_after_moves w ms) led (set_number_keeps x run slot cell value)
-  call_keeps (call.Copy target source) ms answer led due marked read fine = plain (call.Copy target source) (world_after_moves w ms) led (copy_keeps x run target source)
-  call_keeps (call.Clear slot) ms answer led due marked read fine = plain (call.Clear slot) (world_after_moves w ms) led (clear_keeps x run slot)
-  call_keeps (call.Same slot other) ms answer led due marked read fine = plain (call.Same slot other) (world_after_moves w ms) led (same_keeps x run slot other)
-  call_keeps (call.Null slot) ms answer led due marked read fine = plain (call.Null slot) (world_after_moves w ms) led (null_keeps x run slot)
-  call_keeps (call.Head slot) ms answer led due marked read fine = plain (call.Head slot) (world_after_moves w ms) led (head_keeps x run slot)
-  call_keeps (call.Address slot) ms answer led due marked read fine = plain (call.Address slot) (world_after_moves w ms) led (address_keeps x run slot)
+  call_keeps (call.Copy target source) ms answer led due marked read fine = plain (call.Copy target source) (world_after_moves w ms) led
+      (copy_keeps x run target source)
+  call_keeps (call.Clear slot) ms answer led due marked read fine = plain (call.Clear slot) (world_after_moves w ms) led
+      (clear_keeps x run slot)
+  call_keeps (call.Same slot other) ms answer led due marked read fine = plain (call.Same slot other) (world_after_moves w ms) led
+      (same_keeps x run slot other)
+  call_keeps (call.Null slot) ms answer led due marked read fine = plain (call.Null slot) (world_after_moves w ms) led
+      (null_keeps x run slot)
+  call_keeps (call.Head slot) ms answer led due marked read fine = plain (call.Head slot) (world_after_moves w ms) led
+      (head_keeps x run slot)
+  call_keeps (call.Address slot) ms answer led due marked read fine = plain (call.Address slot) (world_after_moves w ms) led
+      (address_keeps x run slot)
   call_keeps (call.Poke word value) ms answer led due marked read fine =
       subst (λ v. Running (record x { world = world_from v (act_poke (is_block answer) v word value) })) (sym led)
       (poke_keeps x run (is_block answer) word value marked)
-  call_keeps (call.Peek word) ms answer led due marked read fine = plain (call.Peek word) (world_after_moves w ms) led (peek_keeps x run word)
-  call_keeps (call.Pin word slot) ms answer led due marked read fine = plain (call.Pin word slot) (world_after_moves w ms) led (pin_keeps x run word slot)
-  call_keeps (call.Take slot word) ms answer led due marked read fine = plain (call.Take slot word) (world_after_moves w ms) led (take_keeps x run slot word)
+  call_keeps (call.Peek word) ms answer led due marked read fine = plain (call.Peek word) (world_after_moves w ms) led
+      (peek_keeps x run word)
+  call_keeps (call.Pin word slot) ms answer led due marked read fine = plain (call.Pin word slot) (world_after_moves w ms) led
+      (pin_keeps x run word slot)
+  call_keeps (call.Take slot word) ms answer led due marked read fine = plain (call.Take slot word) (world_after_moves w ms) led
+      (take_keeps x run slot word)
   call_keeps call.Start ms answer led due marked read fine =
       subst (λ v. Running (record x { world = world_from v (act_start w v) })) (sym led) (start_keeps x run w)
   call_keeps (call.StartChain chain generation) ms answer led due marked read fine =
-      subst (λ v. Running (record x { world = world_from v (act_start_chain w v chain generation) })) (sym led) (start_chain_keeps x run w chain generation)
+      subst (λ v. Running (record x { world = world_from v (act_start_chain w v chain generation) })) (sym led)
+      (start_chain_keeps x run w chain generation)
   call_keeps (call.Step units) ms answer led due marked read fine =
       plain (call.Step units) (asking (units_asked w (call.Step units)) (world_after_moves w ms)) led run
   call_keeps call.Collect ms answer led due marked read fine = plain call.Collect (world_after_moves w ms) led (state_keeps x run Parked)
   call_keeps call.Clamp ms answer led due marked read fine = plain call.Clamp (world_after_moves w ms) led (state_keeps x run Clamped)
   call_keeps call.Park ms answer led due marked read fine = plain call.Park (world_after_moves w ms) led (state_keeps x run Parked)
   call_keeps call.Release ms answer led due marked read fine = plain call.Release (world_after_moves w ms) led (state_keeps x run Unclamped)
-  call_keeps (call.Finalize slot) ms answer led due marked read fine = plain (call.Finalize slot) (world_after_moves w ms) led (finalize_keeps x run slot)
+  call_keeps (call.Finalize slot) ms answer led due marked read fine = plain (call.Finalize slot) (world_after_moves w ms) led
+      (finalize_keeps x run slot)
   call_keeps (call.Definalize slot) ms answer led due marked read fine =
       subst (λ v. Running (record x {
         world = world_from v (act_definalize v slot);
         running = collection_without (position_taken x.world (call.Definalize slot)) x.running;
         next = next_without (position_taken x.world (call.Definalize slot)) x.next;
       })) (sym led) (definalize_keeps x run slot)
-  call_keeps (call.Message slot) ms answer led due marked read fine = plain (call.Message slot) (world_after_moves w ms) led (message_keeps x run slot)
+  call_keeps (call.Message slot) ms answer led due marked read fine = plain (call.Message slot) (world_after_moves w ms) led
+      (message_keeps x run slot)
   call_keeps (call.DependencyReset dependency) ms answer led due marked read fine =
       plain (call.DependencyReset dependency) (world_after_moves w ms) led (dependency_reset_keeps x run dependency)
   call_keeps (call.DependencyAdd dependency slot) ms answer led due marked read fine =
@@ -297,9 +343,12 @@ module _ (w : World) (x : Collecting) (run : Running x) (formed : IsWellFormed x
 
 pub clients_keep : ClientsKeepRunning
 clients_keep w x s run step =
-    let after = world_from (moved_world w s.call s.moves) (act (is_block s.answer) (judged_world w s.call s.moves) (moved_world w s.call s.moves) s.call) in
-    let leads : world_after w s ≡ with_client_remembered after = ap (λ b. if b then w else world_after_call w s.call s.moves s.answer) step.supported in
-    let middle = call_keeps w x run step.well_formed step.blocks_live s.call s.moves s.answer step.collected step.moves_are_due step.marked_kept
+    let after = world_from (moved_world w s.call s.moves)
+    (act (is_block s.answer) (judged_world w s.call s.moves) (moved_world w s.call s.moves) s.call) in
+    let leads : world_after w s ≡ with_client_remembered after = ap
+    (λ b. if b then w else world_after_call w s.call s.moves s.answer) step.supported in
+    let middle = call_keeps w x run step.well_formed step.blocks_live s.call s.moves s.answer step.collected step.moves_are_due
+    step.marked_kept
     step.read_kept (record {
       different = subst (λ (v : World). AreDifferent v.addresses) leads step.different_after;
       ordered = subst (λ (v : World). AreOrdered 1 v.segments) leads (segments_ordered (world_after w s) step.well_formed_after);

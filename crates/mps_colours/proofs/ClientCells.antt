@@ -31,11 +31,13 @@ target_of_retargeted HeadCell target t e = absurd (none-some t e)
 target_of_retargeted (NumberCell number) target t e = absurd (none-some t e)
 target_of_retargeted (ReferenceCell old tag) target t e = e
 
-pub targets_retargeted : (cells : List Cell) (k : ℕ) (target : Option ℕ) (t : ℕ) → contains (targets_of_cells (with_target_cell cells k target)) t ≡ true
+pub targets_retargeted : (cells : List Cell) (k : ℕ) (target : Option ℕ) (t : ℕ)
+    → contains (targets_of_cells (with_target_cell cells k target)) t ≡ true
     → (contains (targets_of_cells cells) t ≡ true) ⊎ (target ≡ Some t)
 targets_retargeted cells k target t h = of_cell (slice_get cells k) h
   where
-    of_cell : (o : Option Cell) → contains (targets_of_cells (option_map_or (λ cell. slice_set cells k (retargeted cell target)) o cells)) t ≡ true
+    of_cell : (o : Option Cell) → contains (targets_of_cells
+        (option_map_or (λ cell. slice_set cells k (retargeted cell target)) o cells)) t ≡ true
         → (contains (targets_of_cells cells) t ≡ true) ⊎ (target ≡ Some t)
     of_cell None e = inl e
     of_cell (Some c) e = elim (targets_written cells k (retargeted c target) t e) [
@@ -50,7 +52,8 @@ module _ (w : World) (format head t : ℕ) where
   none_from k (suc count) = of_test ((w.formats format).is_reference head k) (none_from (k + 1) count)
     where
       of_test : (b : Bool) → contains (targets_of_cells (new_cells_from (w.formats format) head (k + 1) count)) t ≡ false
-          → contains (targets_of_cells ((if b then ReferenceCell None 0 else NumberCell 0) ∷ new_cells_from (w.formats format) head (k + 1) count)) t
+          → contains (targets_of_cells ((if b then ReferenceCell None 0 else NumberCell 0) ∷ new_cells_from (w.formats format) head
+          (k + 1) count)) t
           ≡ false
       of_test true rest = rest
       of_test false rest = rest

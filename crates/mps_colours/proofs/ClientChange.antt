@@ -40,7 +40,8 @@ pub record IsChange (x : Collecting) (w : World) : Type 0 where
   pub live_before : (id : Id) → is_live w id ≡ true → (is_live x.world id ≡ true) ⊎ (length x.world.graph.objects ≤ id)
   -- objects refer to what they referred to, or to what the client held
   pub referred : (id target : Id) → is_live w id ≡ true → contains (targets w.graph id) target ≡ true
-      → ((is_live x.world id ≡ true) × (contains (targets x.world.graph id) target ≡ true)) ⊎ (contains (ids_of_client x.world.graph) target ≡ true)
+      → ((is_live x.world id ≡ true) × (contains (targets x.world.graph id) target ≡ true))
+      ⊎ (contains (ids_of_client x.world.graph) target ≡ true)
   -- the client holds what it held, or what lives and isn't white
   pub held : (id : Id) → contains (ids_of_client w.graph) id ≡ true
       → (contains (ids_of_client x.world.graph) id ≡ true) ⊎ ((is_live w id ≡ true) × (is_white_in x id ≡ false))
@@ -58,7 +59,8 @@ pub record IsChange (x : Collecting) (w : World) : Type 0 where
 -- ---- small facts
 
 -- an object that passes a test is there
-there_is : (test : Object → Bool) (objects : List Object) (id : Id) → option_map_or test (slice_get objects id) false ≡ true → id < length objects
+there_is : (test : Object → Bool) (objects : List Object) (id : Id) → option_map_or test (slice_get objects id) false ≡ true
+    → id < length objects
 there_is test objects id h = of_option (slice_get objects id) refl h
   where
     of_option : (o : Option Object) → slice_get objects id ≡ o → option_map_or test o false ≡ true → id < length objects
@@ -144,7 +146,8 @@ module _ (x : Collecting) (run : Running x) (w : World) (change : IsChange x w) 
     | inr isnt ↦ isnt
   ]
 
-  not_referring_then : (id target : Id) → length x.world.graph.objects ≤ id → contains (targets x.running.graph_at_flip id) target ≡ true → ⊥
+  not_referring_then : (id target : Id) → length x.world.graph.objects ≤ id → contains (targets x.running.graph_at_flip id) target ≡ true
+      → ⊥
   not_referring_then id target new h =
       let there = refers_is_there x.running.graph_at_flip id target h in
       let still : length x.running.graph_at_flip.objects ≤ length x.world.graph.objects = run.survivors.existing in
@@ -160,7 +163,8 @@ module _ (x : Collecting) (run : Running x) (w : World) (change : IsChange x w) 
   condemned_held : (base : Address) → contains x.running.condemned_segments base ≡ true
       → ForOne (segment_at w base) (λ s. IsTrue (pool_is is_automatic_kind w s.pool))
   condemned_held base h =
-      let s = one_that_is (λ t. IsTrue (pool_is is_automatic_kind x.world t.pool)) (segment_at x.world base) (run.condemned.segments base h) in
+      let s = one_that_is (λ t. IsTrue (pool_is is_automatic_kind x.world t.pool)) (segment_at x.world base)
+      (run.condemned.segments base h) in
       for_some (λ (t : Segment). IsTrue (pool_is is_automatic_kind w t.pool)) (segment_at w base) s.0 (change.segments base s.0 h s.1.0)
       (change.automatic_pools s.0.pool s.1.1)
 

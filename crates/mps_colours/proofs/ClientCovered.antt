@@ -42,13 +42,16 @@ pub holds_still : (w v : World) (base : Address) → segment_at v base ≡ segme
     → holds_something w base ≡ true → holds_something v base ≡ true
 holds_still w v base same more h = of_segment (segment_at w base) refl h
   where
-    of_segment : (o : Option Segment) → segment_at w base ≡ o → option_map_or (λ s. not (not (list_any (begins_in s) (covered w)))) o false ≡ true
+    of_segment : (o : Option Segment) → segment_at w base ≡ o
+        → option_map_or (λ s. not (not (list_any (begins_in s) (covered w)))) o false ≡ true
         → holds_something v base ≡ true
     of_segment None e g = absurd (false≢true g)
     of_segment (Some s) e g =
-        let before = sym (list_any-in_order (begins_in s) (extents_of w.graph.objects w.addresses ++ reserved_extents w.graph.points w.point_memories))
+        let before = sym (list_any-in_order (begins_in s)
+        (extents_of w.graph.objects w.addresses ++ reserved_extents w.graph.points w.point_memories))
         ∙ not_empty (list_any (begins_in s) (covered w)) g in
-        let after = list_any-in_order (begins_in s) (extents_of v.graph.objects v.addresses ++ reserved_extents v.graph.points v.point_memories) ∙ more s e before in
+        let after = list_any-in_order (begins_in s)
+        (extents_of v.graph.objects v.addresses ++ reserved_extents v.graph.points v.point_memories) ∙ more s e before in
         ap (λ o. option_map_or (λ s. not (not (list_any (begins_in s) (covered v)))) o false) (same ∙ e)
         ∙ is_not_empty (list_any (begins_in s) (covered v)) after
 
@@ -130,11 +133,13 @@ module _ (p : Run → Bool) where
 
   -- the reservation of a point is among them
   pub reserved_at_point : (ps : List (Option Point)) (ms : List PointMemory) (n : ℕ) (q : Option Point) (m : PointMemory)
-      → slice_get ps n ≡ Some q → slice_get ms n ≡ Some m → list_any p (extent_at_point q m) ≡ true → list_any p (reserved_extents ps ms) ≡ true
+      → slice_get ps n ≡ Some q → slice_get ms n ≡ Some m → list_any p (extent_at_point q m) ≡ true
+      → list_any p (reserved_extents ps ms) ≡ true
   reserved_at_point [] ms n q m e f h = absurd (none-some q e)
   reserved_at_point (o ∷ ps) [] n q m e f h = absurd (none-some m f)
   reserved_at_point (o ∷ ps) (k ∷ ms) zero q m e f h =
-      first_reserved o k ps ms (ap (list_any p) (ap (λ r. extent_at_point r k) (same_Some o q e) ∙ ap (extent_at_point q) (same_Some k m f)) ∙ h)
+      first_reserved o k ps ms (ap (list_any p)
+      (ap (λ r. extent_at_point r k) (same_Some o q e) ∙ ap (extent_at_point q) (same_Some k m f)) ∙ h)
   reserved_at_point (o ∷ ps) (k ∷ ms) (suc n) q m e f h = later_reserved o k ps ms (reserved_at_point ps ms n q m e f h)
 
   -- after one more point was made
@@ -158,13 +163,15 @@ module _ (p : Run → Bool) where
       → list_any p (extents_of (o ∷ os) (Some at ∷ addresses)) ≡ true
   first_extent o at os addresses h = or_left (p (extent at (size_of o))) (list_any p (extents_of os addresses)) h
 
-  later_extent : (o : Object) (a : Option Address) (os : List Object) (addresses : List (Option Address)) → list_any p (extents_of os addresses) ≡ true
+  later_extent : (o : Object) (a : Option Address) (os : List Object) (addresses : List (Option Address))
+      → list_any p (extents_of os addresses) ≡ true
       → list_any p (extents_of (o ∷ os) (a ∷ addresses)) ≡ true
   later_extent o None os addresses h = h
   later_extent o (Some at) os addresses h = or_right (p (extent at (size_of o))) (list_any p (extents_of os addresses)) h
 
   -- after one more object was made
-  pub extents_last : (os : List Object) (addresses : List (Option Address)) (o : Object) (a : Option Address) → list_any p (extents_of os addresses) ≡ true
+  pub extents_last : (os : List Object) (addresses : List (Option Address)) (o : Object) (a : Option Address)
+      → list_any p (extents_of os addresses) ≡ true
       → list_any p (extents_of (with_last os o) (with_last addresses a)) ≡ true
   extents_last [] addresses o a h = absurd (false≢true h)
   extents_last (q ∷ os) [] o a h = absurd (false≢true h)
@@ -183,7 +190,8 @@ module _ (p : Run → Bool) where
       later_extent q a (with_last os o) (with_last addresses (Some at)) (extent_of_last os addresses o at (omega (arith, same)) h)
 
   -- after one was written that has the same size
-  pub extents_same : (os : List Object) (addresses : List (Option Address)) (n : ℕ) (o q : Object) → slice_get os n ≡ Some o → size_of q ≡ size_of o
+  pub extents_same : (os : List Object) (addresses : List (Option Address)) (n : ℕ) (o q : Object) → slice_get os n ≡ Some o
+      → size_of q ≡ size_of o
       → extents_of (slice_set os n q) addresses ≡ extents_of os addresses
   extents_same [] addresses n o q e same = refl
   extents_same (r ∷ os) [] zero o q e same = refl
@@ -192,7 +200,8 @@ module _ (p : Run → Bool) where
   extents_same (r ∷ os) (Some at ∷ addresses) zero o q e same =
       ap (λ words. extent at words ∷ extents_of os addresses) (same ∙ ap size_of (sym (same_Some r o e)))
   extents_same (r ∷ os) (None ∷ addresses) (suc n) o q e same = extents_same os addresses n o q e same
-  extents_same (r ∷ os) (Some at ∷ addresses) (suc n) o q e same = ap (λ rs. extent at (size_of r) ∷ rs) (extents_same os addresses n o q e same)
+  extents_same (r ∷ os) (Some at ∷ addresses) (suc n) o q e same = ap (λ rs. extent at (size_of r) ∷ rs)
+      (extents_same os addresses n o q e same)
 
 -- an object that was freed passes
 pub record PassedFreed (p : Run → Bool) (os : List Object) (addresses : List (Option Address)) (n : ℕ) : Type 0 where
@@ -203,23 +212,26 @@ pub record PassedFreed (p : Run → Bool) (os : List Object) (addresses : List (
   pub passes : p (extent at (size_of object)) ≡ true
 
 -- after one was freed
-pub extents_freed : (p : Run → Bool) (os : List Object) (addresses : List (Option Address)) (n : ℕ) → list_any p (extents_of os addresses) ≡ true
+pub extents_freed : (p : Run → Bool) (os : List Object) (addresses : List (Option Address)) (n : ℕ)
+    → list_any p (extents_of os addresses) ≡ true
     → (list_any p (extents_of os (slice_set addresses n None)) ≡ true) ⊎ PassedFreed p os addresses n
 extents_freed p [] addresses n h = absurd (false≢true h)
 extents_freed p (o ∷ os) [] n h = absurd (false≢true h)
 extents_freed p (o ∷ os) (None ∷ addresses) zero h = inl h
-extents_freed p (o ∷ os) (Some at ∷ addresses) zero h = elim (or_cases (p (extent at (size_of o))) (list_any p (extents_of os addresses)) h) [
-  | inl first ↦ inr (record { object = o; at = at; is_object = refl; is_at = refl; passes = first })
-  | inr later ↦ inl later
-]
+extents_freed p (o ∷ os) (Some at ∷ addresses) zero
+    h = elim (or_cases (p (extent at (size_of o))) (list_any p (extents_of os addresses)) h) [
+      | inl first ↦ inr (record { object = o; at = at; is_object = refl; is_at = refl; passes = first })
+      | inr later ↦ inl later
+    ]
 extents_freed p (o ∷ os) (None ∷ addresses) (suc n) h = elim (extents_freed p os addresses n h) [
   | inl still ↦ inl still
   | inr gone ↦ inr (record { object = gone.object; at = gone.at; is_object = gone.is_object; is_at = gone.is_at; passes = gone.passes })
 ]
-extents_freed p (o ∷ os) (Some at ∷ addresses) (suc n) h = elim (or_cases (p (extent at (size_of o))) (list_any p (extents_of os addresses)) h) [
-  | inl first ↦ inl (first_extent p o at os (slice_set addresses n None) first)
-  | inr later ↦ elim (extents_freed p os addresses n later) [
-    | inl still ↦ inl (later_extent p o (Some at) os (slice_set addresses n None) still)
-    | inr gone ↦ inr (record { object = gone.object; at = gone.at; is_object = gone.is_object; is_at = gone.is_at; passes = gone.passes })
-  ]
-]
+extents_freed p (o ∷ os) (Some at ∷ addresses)
+    (suc n) h = elim (or_cases (p (extent at (size_of o))) (list_any p (extents_of os addresses)) h) [
+      | inl first ↦ inl (first_extent p o at os (slice_set addresses n None) first)
+      | inr later ↦ elim (extents_freed p os addresses n later) [
+        | inl still ↦ inl (later_extent p o (Some at) os (slice_set addresses n None) still)
+        | inr gone ↦ inr (record { object = gone.object; at = gone.at; is_object = gone.is_object; is_at = gone.is_at; passes = gone.passes })
+      ]
+    ]

@@ -58,10 +58,12 @@ object_automatic w o id right h = of_pool (pool_at w o.pool) right
     of_pool None e = absurd (false≢true e)
     of_pool (Some p) e = body_automatic w p o.body id e h
 
-target_automatic : (w : World) → IsWellFormed w → (from id : Id) → contains (targets w.graph from) id ≡ true → object_is is_automatic w id ≡ true
+target_automatic : (w : World) → IsWellFormed w → (from id : Id) → contains (targets w.graph from) id ≡ true
+    → object_is is_automatic w id ≡ true
 target_automatic w formed from id h = of_object (object_at w.graph from) refl h
   where
-    of_object : (o : Option Object) → object_at w.graph from ≡ o → contains (option_map_or targets_of o []) id ≡ true → object_is is_automatic w id ≡ true
+    of_object : (o : Option Object) → object_at w.graph from ≡ o → contains (option_map_or targets_of o []) id ≡ true
+        → object_is is_automatic w id ≡ true
     of_object None e g = absurd (false≢true g)
     of_object (Some o) e g = object_automatic w o id (list_all-at (is_right_object w) w.graph.objects from o formed.objects e) g
 
@@ -76,7 +78,8 @@ reservation_automatic w p m r id right h =
     of_doomed true g = absurd (false≢true g)
     of_doomed false g = g
 
-    of_pool : (o : Option Pool) → option_map_or (λ of. are_right_cells w of r.head r.cells) o false ≡ true → contains (targets_of_cells r.cells) id ≡ true
+    of_pool : (o : Option Pool) → option_map_or (λ of. are_right_cells w of r.head r.cells) o false ≡ true
+        → contains (targets_of_cells r.cells) id ≡ true
         → object_is is_automatic w id ≡ true
     of_pool None e g = absurd (false≢true e)
     of_pool (Some of) e g = cells_automatic w of r.head r.cells id e g
@@ -84,7 +87,8 @@ reservation_automatic w p m r id right h =
 point_automatic : (w : World) (p : Point) (m : PointMemory) (id : Id) → is_right_point w p m ≡ true
     → contains (option_map_or targets_of_reservation p.reservation []) id ≡ true → object_is is_automatic w id ≡ true
 point_automatic w p m id right h =
-    of_reservation p.reservation (and_parts (option_map_or (is_right_reservation w p m) p.reservation true) (is_right_at_hand w p.pool m.buffer) right).0 h
+    of_reservation p.reservation (and_parts (option_map_or (is_right_reservation w p m) p.reservation true)
+    (is_right_at_hand w p.pool m.buffer) right).0 h
   where
     of_reservation : (o : Option Reservation) → option_map_or (is_right_reservation w p m) o true ≡ true
         → contains (option_map_or targets_of_reservation o []) id ≡ true → object_is is_automatic w id ≡ true
@@ -105,7 +109,8 @@ points_automatic w (Some p ∷ ps) (m ∷ ms) id right h =
     ]
 
 -- a word lies only in automatic objects
-any_automatic : (w : World) (words : List ℕ) (id : Id) → list_any (λ word. lies_in w word id) words ≡ true → object_is is_automatic w id ≡ true
+any_automatic : (w : World) (words : List ℕ) (id : Id) → list_any (λ word. lies_in w word id) words ≡ true
+    → object_is is_automatic w id ≡ true
 any_automatic w [] id h = absurd (false≢true h)
 any_automatic w (word ∷ words) id h = elim (or_cases (lies_in w word id) (list_any (λ word. lies_in w word id) words) h) [
   | inl e ↦ (and_parts (object_is is_automatic w id) (is_live_and (λ at. is_word_in
@@ -118,11 +123,14 @@ is_automatic_part : (w : World) (ids : List Id) (id : Id) → list_all (is_live_
 is_automatic_part w ids id all h =
     (and_parts (is_live w id) (object_is is_automatic w id) (list_all-contains (is_live_automatic w) ids id all h)).1
 
-pub used_automatic : (x : Collecting) → Running x → IsWellFormed x.world → (id : Id) → IsUsed x id → object_is is_automatic x.world id ≡ true
+pub used_automatic : (x : Collecting) → Running x → IsWellFormed x.world → (id : Id) → IsUsed x id
+    → object_is is_automatic x.world id ≡ true
 used_automatic x run formed id (held_by_client h) =
-    of_part (held_where (ids_in_slots x.world.graph) (ids_in_holds x.world.graph) x.world.graph.messages (ids_in_reservations x.world.graph) id h)
+    of_part (held_where (ids_in_slots x.world.graph) (ids_in_holds x.world.graph) x.world.graph.messages
+    (ids_in_reservations x.world.graph) id h)
   where
-    of_part : IsHeldIn (ids_in_slots x.world.graph) (ids_in_holds x.world.graph) x.world.graph.messages (ids_in_reservations x.world.graph) id
+    of_part : IsHeldIn (ids_in_slots x.world.graph) (ids_in_holds x.world.graph) x.world.graph.messages
+        (ids_in_reservations x.world.graph) id
         → object_is is_automatic x.world id ≡ true
     of_part (in_slots e) = list_all-contains (object_is is_automatic x.world) (ids_in_slots x.world.graph) id formed.slots e
     of_part (in_holds e) = any_automatic x.world (flat_map (shown_words x.world) x.world.graph.areas) id
@@ -173,12 +181,14 @@ manual_object w o right manual = of_pool (pool_at w o.pool) refl right
     of_pool None e g = absurd (false≢true g)
     of_pool (Some p) e g = of_body p o.body refl e g manual
 
-module _ (x : Collecting) (run : Running x) (formed : IsWellFormed x.world) (id : Id) (manual : object_is is_automatic x.world id ≡ false) where
+module _ (x : Collecting) (run : Running x) (formed : IsWellFormed x.world) (id : Id)
+    (manual : object_is is_automatic x.world id ≡ false) where
   abbrev w : World
   w = x.world
 
   elsewhere : (base : Address) (s : Segment) (o : Object) (at : Address) → contains x.running.condemned_segments base ≡ true
-      → segment_at w base ≡ Some s → object_at w.graph id ≡ Some o → entry_at w.addresses id ≡ Some at → begins_in s (extent at (size_of o)) ≡ true → ⊥
+      → segment_at w base ≡ Some s → object_at w.graph id ≡ Some o → entry_at w.addresses id ≡ Some at
+      → begins_in s (extent at (size_of o)) ≡ true → ⊥
   elsewhere base s o at is e there lying begins =
       let m = manual_object w o (list_all-at (is_right_object w) w.graph.objects id o formed.objects there)
       (sym (ap (λ q. option_map_or is_automatic q false) there) ∙ manual) in
@@ -187,8 +197,10 @@ module _ (x : Collecting) (run : Running x) (formed : IsWellFormed x.world) (id 
       let among = find_among (λ t. t.base == base) w.segments s e in
       let same = same_Some s l.segment (sym (over_among 1 s w.segments (address_of_word (word_of at)) in_order among.0 begins)
       ∙ over_among 1 l.segment w.segments (address_of_word (word_of at)) in_order l.among l.word_inside) in
-      let automatic = from_some (λ (t : Segment). IsTrue (pool_is is_automatic_kind w t.pool)) (segment_at w base) s e (run.condemned.segments base is) in
-      true≢false (sym automatic ∙ (ap (λ (t : Segment). pool_is is_automatic_kind w t.pool) same ∙ (ap (pool_is is_automatic_kind w) l.of_pool ∙ m.pool)))
+      let automatic = from_some (λ (t : Segment). IsTrue (pool_is is_automatic_kind w t.pool)) (segment_at w base) s e
+      (run.condemned.segments base is) in
+      true≢false (sym automatic ∙ (ap (λ (t : Segment). pool_is is_automatic_kind w t.pool) same
+      ∙ (ap (pool_is is_automatic_kind w) l.of_pool ∙ m.pool)))
 
   pub manual_freed_keeps : Running (record x { world = with_address w id None })
   manual_freed_keeps = freed_keeps x run id (λ used. true≢false (sym (used_automatic x run formed id used) ∙ manual)) elsewhere
@@ -225,9 +237,11 @@ module _ (x : Collecting) (run : Running x) (in_order : AreOrdered 1 x.world.seg
       subst (λ o. Running (record x { world = record x.world { segments = without_segment x.world.segments s.base; collection = o } }))
       (sym (fix s.base outside))
       (segments_keep x run (without_segment x.world.segments s.base) x.world.tails after
-      (λ t h is. among_without s.base t x.world.segments (λ e. true≢false (sym is ∙ (ap (contains x.running.condemned_segments) e ∙ outside))) h))
+      (λ t h is. among_without s.base t x.world.segments
+      (λ e. true≢false (sym is ∙ (ap (contains x.running.condemned_segments) e ∙ outside))) h))
     where
-      fix : (base : Address) → contains x.running.condemned_segments base ≡ false → option_map (giving_back base) x.world.collection ≡ x.world.collection
+      fix : (base : Address) → contains x.running.condemned_segments base ≡ false
+          → option_map (giving_back base) x.world.collection ≡ x.world.collection
       fix base outside = ap (option_map (giving_back base)) run.runs
           ∙ (ap (λ b. Some (if b then reclaiming base (record x.running {
             condemned_segments = without_first x.running.condemned_segments base;
@@ -257,20 +271,23 @@ module _ (x : Collecting) (run : Running x) (formed : IsWellFormed x.world) wher
       subst (λ (v : World). AreOrdered 1 (world_after_moves v (give_back_empty v (segment_of x.world at))).segments
       → Running (record x { world = world_after_moves v (give_back_empty v (segment_of x.world at)) })) (sym leads)
       (λ ordered. give_back_keeps (record x { world = with_address x.world id None }) (manual_freed_keeps x run formed id manual)
-      (segments_ordered x.world formed) (segment_of x.world at) (λ s e. (find_among (λ t. is_in_segment t at) x.world.segments s e).0) ordered) fine
+      (segments_ordered x.world formed) (segment_of x.world at)
+      (λ s e. (find_among (λ t. is_in_segment t at) x.world.segments s e).0) ordered) fine
     where
       at : Address
       at = address_or_null x.world id
 
       leads : world_after_moves x.world (free_at (address_or_null x.world id)) ≡ with_address x.world id None
-      leads = ap (λ found. where_one x.world found (λ n. after_free x.world n (address_or_null x.world id))) (id_at-live x.world id run.different live)
+      leads = ap (λ found. where_one x.world found (λ n. after_free x.world n (address_or_null x.world id)))
+          (id_at-live x.world id run.different live)
           ∙ ap (λ b. if b then with_collection (with_address x.world id None)
           (reclaiming (segment_base_of x.world (address_or_null x.world id)))
           else with_address x.world id None) manual
 
   -- the moves of a free
   free_moves_keeps : (m : Checked (Found (Option ℕ))) (refused : Bool)
-      → ((f : Found (Option ℕ)) (id : Id) → m ≡ Ok f → f.value ≡ Some id → (is_live x.world id ≡ true) × (object_is is_automatic x.world id ≡ false))
+      → ((f : Found (Option ℕ)) (id : Id) → m ≡ Ok f → f.value ≡ Some id
+      → (is_live x.world id ≡ true) × (object_is is_automatic x.world id ≡ false))
       → AreOrdered 1 (world_after_moves x.world (if refused then [] else moves_of_free x.world m)).segments
       → Running (record x { world = world_after_moves x.world (if refused then [] else moves_of_free x.world m) })
   free_moves_keeps m true right fine = run
@@ -279,7 +296,10 @@ module _ (x : Collecting) (run : Running x) (formed : IsWellFormed x.world) wher
     where
       of_value : (o : Option ℕ) → ((id : Id) → o ≡ Some id → (is_live x.world id ≡ true) × (object_is is_automatic x.world id ≡ false))
           → AreOrdered 1 (world_after_moves x.world (option_map_or (λ id. free_of x.world (address_or_null x.world id)) o [])).segments
-          → Running (record x { world = world_after_moves x.world (option_map_or (λ id. free_of x.world (address_or_null x.world id)) o []) })
+          → Running (record x {
+            world = world_after_moves x.world
+                (option_map_or (λ id. free_of x.world (address_or_null x.world id)) o []);
+          })
       of_value None each ordered = run
       of_value (Some id) each ordered = let it = each id refl in free_of_keeps id it.0 it.1 ordered
 
@@ -288,19 +308,25 @@ module _ (x : Collecting) (run : Running x) (formed : IsWellFormed x.world) wher
       → block_place_in x.world place ≡ Ok f → f.value ≡ Some id → (is_live x.world id ≡ true) × (object_is is_automatic x.world id ≡ false)
   block_right live place f id e value =
       let there = found (slice_get x.world.graph.blocks) f (number_named x.world place.name as_blocks) place.index e in
-      let among = among_all entries x.world.graph.blocks f.number f.list id there.list (among_entries f.list f.index id (there.value ∙ ap Some value)) in (
+      let among = among_all entries x.world.graph.blocks f.number f.list id there.list
+      (among_entries f.list f.index id (there.value ∙ ap Some value)) in (
         list_all-contains (is_live x.world) (ids_in_blocks x.world.graph) id live among,
-        manual_is x.world id (list_all-contains (object_is (λ o. not (is_automatic o)) x.world) (ids_in_blocks x.world.graph) id formed.blocks among),
+        manual_is x.world id (list_all-contains (object_is (λ o. not (is_automatic o)) x.world)
+            (ids_in_blocks x.world.graph) id formed.blocks among),
       )
 
   pub freeing_keeps : list_all (is_live x.world) (ids_in_blocks x.world.graph) ≡ true → (place : Slot) (answer : Answer)
       → AreOrdered 1 (world_after_moves x.world (unless_refused answer (moves_of_free x.world (block_place_in x.world place)))).segments
-      → Running (record x { world = world_after_moves x.world (unless_refused answer (moves_of_free x.world (block_place_in x.world place))) })
+      → Running (record x {
+        world = world_after_moves x.world
+            (unless_refused answer (moves_of_free x.world (block_place_in x.world place)));
+      })
   freeing_keeps live place answer fine =
       free_moves_keeps (block_place_in x.world place) (is_refused answer) (λ f id e value. block_right live place f id e value) fine
 
 -- the act of a free changes tables of blocks alone
-pub free_act_keeps : (x : Collecting) → Running x → (place : Slot) → Running (record x { world = world_from x.world (act_free x.world place) })
+pub free_act_keeps : (x : Collecting) → Running x → (place : Slot)
+    → Running (record x { world = world_from x.world (act_free x.world place) })
 free_act_keeps x run place =
     bind_keeps (λ v. Running (record x { world = v })) x.world (block_place_in x.world place)
     (λ at. block_in at >> done (with_graph x.world (with_block_place x.world.graph at None))) run

@@ -9,9 +9,11 @@ use Rattle.mps_colours.proofs.Lists.{contains_here, contains_later, contains_cas
 
 module _ {X : Type 0} (f : X → List ℕ) where
   -- in what is among these
-  pub among_all : (xs : List X) (i : ℕ) (x : X) (n : ℕ) → slice_get xs i ≡ Some x → contains (f x) n ≡ true → contains (flat_map f xs) n ≡ true
+  pub among_all : (xs : List X) (i : ℕ) (x : X) (n : ℕ) → slice_get xs i ≡ Some x → contains (f x) n ≡ true
+      → contains (flat_map f xs) n ≡ true
   among_all [] i x n e h = absurd (none-some x e)
-  among_all (y ∷ ys) zero x n e h = contains_left (f y) (flat_map f ys) n (subst (λ (z : X). contains (f z) n ≡ true) (sym (same_Some y x e)) h)
+  among_all (y ∷ ys) zero x n e h = contains_left (f y) (flat_map f ys) n
+      (subst (λ (z : X). contains (f z) n ≡ true) (sym (same_Some y x e)) h)
   among_all (y ∷ ys) (suc i) x n e h = contains_right (f y) (flat_map f ys) n (among_all ys i x n e h)
 
   -- after one was written
@@ -118,7 +120,8 @@ entry_last_cases [] x (suc i) y e = absurd (none-some y e)
 entry_last_cases (z ∷ zs) x zero y e = inl e
 entry_last_cases (z ∷ zs) x (suc i) y e = elim (entry_last_cases zs x i y e) [ inl old ↦ inl old | inr new ↦ inr (ap suc new.0, new.1) ]
 
-pub entry_last : {X : Type 0} (xs : List (Option X)) (x : Option X) (i : ℕ) (y : X) → entry_at xs i ≡ Some y → entry_at (with_last xs x) i ≡ Some y
+pub entry_last : {X : Type 0} (xs : List (Option X)) (x : Option X) (i : ℕ) (y : X) → entry_at xs i ≡ Some y
+    → entry_at (with_last xs x) i ≡ Some y
 entry_last [] x i y e = absurd (none-some y e)
 entry_last (z ∷ zs) x zero y e = e
 entry_last (z ∷ zs) x (suc i) y e = entry_last zs x i y e

@@ -27,12 +27,14 @@ still_passes : (test : Object → Bool) (os : List Object) (o : Object) (id : Id
     → option_map_or test (slice_get (with_last os o) id) false ≡ true
 still_passes test os o id h = of_option (slice_get os id) refl h
   where
-    of_option : (p : Option Object) → slice_get os id ≡ p → option_map_or test p false ≡ true → option_map_or test (slice_get (with_last os o) id) false ≡ true
+    of_option : (p : Option Object) → slice_get os id ≡ p → option_map_or test p false ≡ true
+        → option_map_or test (slice_get (with_last os o) id) false ≡ true
     of_option None e g = absurd (false≢true g)
     of_option (Some p) e g = ap (λ r. option_map_or test r false) (slice_get-last os o id p e) ∙ g
 
 -- and passes what it passes, where it was there
-passed_before : (test is_there : Object → Bool) (os : List Object) (o : Object) (id : Id) → option_map_or is_there (slice_get os id) false ≡ true
+passed_before : (test is_there : Object → Bool) (os : List Object) (o : Object) (id : Id)
+    → option_map_or is_there (slice_get os id) false ≡ true
     → option_map_or test (slice_get (with_last os o) id) false ≡ option_map_or test (slice_get os id) false
 passed_before test is_there os o id h = of_option (slice_get os id) refl h
   where
@@ -84,10 +86,12 @@ among_with s t (u ∷ us) h = elim (nat_lt s.base u.base) as (λ b. IsAmong t (i
   | false ↦ elim h [ inl e ↦ inl e | inr later ↦ inr (among_with s t us later) ]
 ]
 
-pub among_without : (base : Address) (t : Segment) (ss : List Segment) → (t.base ≡ base → ⊥) → IsAmong t ss → IsAmong t (without_segment ss base)
+pub among_without : (base : Address) (t : Segment) (ss : List Segment) → (t.base ≡ base → ⊥) → IsAmong t ss
+    → IsAmong t (without_segment ss base)
 among_without base t [] other h = h
 among_without base t (u ∷ us) other h =
-    elim (u.base == base) as (λ b. (u.base == base) ≡ b → IsAmong t (if not b then u ∷ without_segment us base else without_segment us base)) [
+    elim (u.base == base) as (λ b. (u.base == base) ≡ b
+    → IsAmong t (if not b then u ∷ without_segment us base else without_segment us base)) [
       | true ↦ (λ is. elim h [
         | inl e ↦ absurd (other (ap (λ (s : Segment). s.base) (sym e) ∙ eqb-true u.base base is))
         | inr later ↦ among_without base t us other later
@@ -144,7 +148,8 @@ module _ (x : Collecting) (run : Running x) where
       existing = let e = length_last w.graph.objects o in omega (arith, e);
       automatic = λ id h. still_passes is_automatic w.graph.objects o id h;
       weak = λ id h. still_passes is_weak_object w.graph.objects o id h;
-      copying = λ id is h. sym (passed_before (λ p. is_copying_pool w p.pool) is_automatic w.graph.objects o id (run.condemned.objects id is)) ∙ h;
+      copying = λ id is h. sym (passed_before (λ p. is_copying_pool w p.pool) is_automatic w.graph.objects o id
+          (run.condemned.objects id is)) ∙ h;
       automatic_pools = λ pool h. h;
       live_still = λ id h used. live_now id h;
       live_before = was_live;
@@ -158,10 +163,13 @@ module _ (x : Collecting) (run : Running x) where
       segments = λ base s is e. e;
       base_of = λ id a is e in_condemned. refl;
       holds = λ base is h. holds_still w made base refl
-          (λ s e any. elim (any_cases (begins_in s) (extents_of w.graph.objects w.addresses) (reserved_extents w.graph.points w.point_memories) any) [
-            | inl object ↦ any_left (begins_in s) (extents_of made.graph.objects made.addresses) (reserved_extents w.graph.points w.point_memories)
+          (λ s e any. elim (any_cases (begins_in s) (extents_of w.graph.objects w.addresses)
+          (reserved_extents w.graph.points w.point_memories) any) [
+            | inl object ↦ any_left (begins_in s) (extents_of made.graph.objects made.addresses)
+                (reserved_extents w.graph.points w.point_memories)
                 (extents_last (begins_in s) w.graph.objects w.addresses o (Some at) object)
-            | inr reserved ↦ any_right (begins_in s) (extents_of made.graph.objects made.addresses) (reserved_extents w.graph.points w.point_memories) reserved
+            | inr reserved ↦ any_right (begins_in s) (extents_of made.graph.objects made.addresses)
+                (reserved_extents w.graph.points w.point_memories) reserved
           ]) h;
     }
 
@@ -177,7 +185,8 @@ module _ (x : Collecting) (run : Running x) where
         ])
 
     pub made_live : is_live made (length w.graph.objects) ≡ true
-    made_live = subst (λ n. is_some (entry_at (with_last w.addresses (Some at)) n) ≡ true) as_many (ap is_some (entry_of_last w.addresses at))
+    made_live = subst (λ n. is_some (entry_at (with_last w.addresses (Some at)) n) ≡ true) as_many
+        (ap is_some (entry_of_last w.addresses at))
 
   -- ---- an object is freed
 
@@ -218,12 +227,15 @@ module _ (x : Collecting) (run : Running x) where
       segments = λ base s is e. e;
       base_of = λ id at is e in_condemned. refl;
       holds = λ base is h. holds_still w freed base refl
-          (λ s e any. elim (any_cases (begins_in s) (extents_of w.graph.objects w.addresses) (reserved_extents w.graph.points w.point_memories) any) [
+          (λ s e any. elim (any_cases (begins_in s) (extents_of w.graph.objects w.addresses)
+          (reserved_extents w.graph.points w.point_memories) any) [
             | inl object ↦ elim (extents_freed (begins_in s) w.graph.objects w.addresses n object) [
-              | inl still ↦ any_left (begins_in s) (extents_of w.graph.objects freed.addresses) (reserved_extents w.graph.points w.point_memories) still
+              | inl still ↦ any_left (begins_in s) (extents_of w.graph.objects freed.addresses)
+                  (reserved_extents w.graph.points w.point_memories) still
               | inr gone ↦ absurd (elsewhere base s gone.object gone.at is e gone.is_object gone.is_at gone.passes)
             ]
-            | inr reserved ↦ any_right (begins_in s) (extents_of w.graph.objects freed.addresses) (reserved_extents w.graph.points w.point_memories) reserved
+            | inr reserved ↦ any_right (begins_in s) (extents_of w.graph.objects freed.addresses)
+                (reserved_extents w.graph.points w.point_memories) reserved
           ]) h;
     }
 
@@ -245,12 +257,15 @@ module _ (x : Collecting) (run : Running x) where
         subst (λ b. find (λ t. t.base == b) ss ≡ Some s) same
         (held_among 1 s ss in_order (still s found.0 (ap (contains x.running.condemned_segments) same ∙ is)))
 
-    base_still : (at : Address) → contains x.running.condemned_segments (segment_base_of w at) ≡ true → segment_base_of held_now at ≡ segment_base_of w at
+    base_still : (at : Address) → contains x.running.condemned_segments (segment_base_of w at) ≡ true
+        → segment_base_of held_now at ≡ segment_base_of w at
     base_still at is = of_over (segment_over w.segments at) refl is
       where
         of_over : (o : Option Segment) → segment_over w.segments at ≡ o
-            → contains x.running.condemned_segments (option_map_or (λ (s : Segment). s.base) o 0) ≡ true → segment_base_of held_now at ≡ segment_base_of w at
-        of_over None e h = absurd (let above = contains-above 0 x.running.condemned_segments 0 run.condemned.bases h in omega (arith, above))
+            → contains x.running.condemned_segments (option_map_or (λ (s : Segment). s.base) o 0) ≡ true
+            → segment_base_of held_now at ≡ segment_base_of w at
+        of_over None e h = absurd (let above = contains-above 0 x.running.condemned_segments 0 run.condemned.bases h in omega
+            (arith, above))
         of_over (Some s) e h =
             let found = find_among (λ t. is_in_segment t at) w.segments s e in
             ap (λ o. option_map_or (λ (t : Segment). t.base) o 0) (over_among 1 s ss at in_order (still s found.0 h) found.1 ∙ sym e)

@@ -30,7 +30,8 @@ pub record IsRewritten (held : Id → Type 0) (o q : Object) : Type 0 where
   pub referred : (t : Id) → contains (targets_of q) t ≡ true → (contains (targets_of o) t ≡ true) ⊎ held t
 
 -- a test of objects that the two pass alike
-pub written_passes : {A : Type 0} (test : Object → A) (otherwise : A) (os : List Object) (n id : Id) (o q : Object) → slice_get os n ≡ Some o
+pub written_passes : {A : Type 0} (test : Object → A) (otherwise : A) (os : List Object) (n id : Id) (o q : Object)
+    → slice_get os n ≡ Some o
     → test q ≡ test o → option_map_or test (slice_get (slice_set os n q) id) otherwise ≡ option_map_or test (slice_get os id) otherwise
 written_passes test otherwise os n id o q e same = elim (cases_eq n id) [
   | inl it ↦ ap (λ p. option_map_or test p otherwise)
@@ -58,7 +59,8 @@ module _ (x : Collecting) (run : Running x) where
       | inl it ↦ elim (r.referred t (ap (λ p. contains (option_map_or targets_of p []) t)
           (sym (subst (λ m. slice_get (slice_set w.graph.objects n q) m ≡ Some q) it
           (slice_get-set_same w.graph.objects n q (index_below w.graph.objects n o there)))) ∙ h)) [
-            | inl old ↦ inl (ap (λ p. contains (option_map_or targets_of p []) t) (subst (λ m. slice_get w.graph.objects m ≡ Some o) it there) ∙ old)
+            | inl old ↦ inl (ap (λ p. contains (option_map_or targets_of p []) t)
+                (subst (λ m. slice_get w.graph.objects m ≡ Some o) it there) ∙ old)
             | inr held ↦ inr held
           ]
       | inr other ↦ inl (ap (λ p. contains (option_map_or targets_of p []) t) (sym (slice_get-set_other w.graph.objects n id q other)) ∙ h)
@@ -71,7 +73,8 @@ module _ (x : Collecting) (run : Running x) where
       existing = let same = length_set w.graph.objects n q in omega (arith, same);
       automatic = λ id h. written_passes is_automatic false w.graph.objects n id o q there r.automatic ∙ h;
       weak = λ id h. written_passes is_weak_object false w.graph.objects n id o q there r.weak ∙ h;
-      copying = λ id is h. sym (written_passes (λ p. is_copying_pool w p.pool) false w.graph.objects n id o q there (ap (is_copying_pool w) r.pool)) ∙ h;
+      copying = λ id is h. sym (written_passes (λ p. is_copying_pool w p.pool) false w.graph.objects n id o q there
+          (ap (is_copying_pool w) r.pool)) ∙ h;
       automatic_pools = λ pool h. h;
       live_still = λ id h used. h;
       live_before = λ id h. inl h;
@@ -128,7 +131,10 @@ module _ (x : Collecting) (run : Running x) where
   with_cells_keeps id change right = of_object (object_at w.graph id) refl
     where
       of_object : (o : Option Object) → object_at w.graph id ≡ o
-          → P (with_graph w (record w.graph { objects = option_map_or (λ p. slice_set w.graph.objects id (object_with_cells p change)) o w.graph.objects }))
+          → P (with_graph w (record w.graph {
+            objects = option_map_or
+                (λ p. slice_set w.graph.objects id (object_with_cells p change)) o w.graph.objects;
+          }))
       of_object None e = run
       of_object (Some o) e = rewritten_keeps id o (object_with_cells o change) e (with_cells change o right)
 
@@ -191,7 +197,8 @@ module _ (x : Collecting) (run : Running x) where
       size_so (Automatic head cells is_weak) = refl
       size_so (Manual words) = length_set words k value
 
-      refers_so : (b : Body) (t : Id) → contains (targets_of_body (body_with_word b k value)) t ≡ true → contains (targets_of_body b) t ≡ true
+      refers_so : (b : Body) (t : Id) → contains (targets_of_body (body_with_word b k value)) t ≡ true
+          → contains (targets_of_body b) t ≡ true
       refers_so (Automatic head cells is_weak) t h = h
       refers_so (Manual words) t h = h
 
@@ -200,7 +207,8 @@ module _ (x : Collecting) (run : Running x) where
     where
       of_object : (o : Option Object) → object_at w.graph id ≡ o
           → P (with_graph w (record w.graph {
-            objects = option_map_or (λ p. slice_set w.graph.objects id (record p { body = body_with_word p.body k value })) o w.graph.objects;
+            objects = option_map_or (λ p. slice_set w.graph.objects id (record p { body = body_with_word p.body k value })) o
+                w.graph.objects;
           }))
       of_object None e = run
       of_object (Some o) e = rewritten_keeps id o (record o { body = body_with_word o.body k value }) e (with_word_so o k value)

@@ -43,7 +43,8 @@ module _ (x : Collecting) (run : Running x) where
   still_reserved id h =
       inl (held_so (ids_in_slots w.graph) (ids_in_holds w.graph) w.graph.messages (ids_in_reservations w.graph) id (in_reservations h))
 
-  held_by_points : (points : List (Option Point)) → ((id : Id) → contains (flat_map targets_of_point points) id ≡ true → IsRightlyHeld x id) → (id : Id)
+  held_by_points : (points : List (Option Point))
+      → ((id : Id) → contains (flat_map targets_of_point points) id ≡ true → IsRightlyHeld x id) → (id : Id)
       → contains (ids_of_client (record w.graph { points = points })) id ≡ true → IsRightlyHeld x id
   held_by_points points reserved id h =
       of_part (held_where (ids_in_slots w.graph) (ids_in_holds w.graph) w.graph.messages (flat_map targets_of_point points) id h)
@@ -51,7 +52,8 @@ module _ (x : Collecting) (run : Running x) where
       so : IsHeldIn (ids_in_slots w.graph) (ids_in_holds w.graph) w.graph.messages (ids_in_reservations w.graph) id → IsRightlyHeld x id
       so part = inl (held_so (ids_in_slots w.graph) (ids_in_holds w.graph) w.graph.messages (ids_in_reservations w.graph) id part)
 
-      of_part : IsHeldIn (ids_in_slots w.graph) (ids_in_holds w.graph) w.graph.messages (flat_map targets_of_point points) id → IsRightlyHeld x id
+      of_part : IsHeldIn (ids_in_slots w.graph) (ids_in_holds w.graph) w.graph.messages (flat_map targets_of_point points) id
+          → IsRightlyHeld x id
       of_part (in_slots e) = so (in_slots e)
       of_part (in_holds e) = so (in_holds e)
       of_part (in_messages e) = so (in_messages e)
@@ -68,7 +70,8 @@ module _ (x : Collecting) (run : Running x) where
     automatic_pools = λ pool h. h;
     held = held_by_points points reserved;
     holds = λ base h. holds_still w (with_points points memories names) base refl
-        (λ s e any. elim (any_cases (begins_in s) (extents_of w.graph.objects w.addresses) (reserved_extents w.graph.points w.point_memories) any) [
+        (λ s e any. elim (any_cases (begins_in s) (extents_of w.graph.objects w.addresses)
+        (reserved_extents w.graph.points w.point_memories) any) [
           | inl object ↦ any_left (begins_in s) (extents_of w.graph.objects w.addresses) (reserved_extents points memories) object
           | inr was ↦ elim (more (begins_in s) was) [
             | inl object ↦ any_left (begins_in s) (extents_of w.graph.objects w.addresses) (reserved_extents points memories) object
@@ -93,7 +96,8 @@ module _ (x : Collecting) (run : Running x) where
 
   pub point_keeps : (name pool : Name) (rank : Rank) → P (world_from w (act_point w name pool rank))
   point_keeps name pool rank =
-      then_keeps P w (refuse_taken w name) (pool_named w pool >>= (λ of. refuse_when (not (may_have_point of.value.kind rank)) refusal.WrongPool
+      then_keeps P w (refuse_taken w name) (pool_named w pool >>=
+      (λ of. refuse_when (not (may_have_point of.value.kind rank)) refusal.WrongPool
       >> (refuse_at_limit (live_points w.graph) most_points >> done (with_point w name of.number rank)))) run
       (bind_keeps P w (pool_named w pool) (λ of. refuse_when (not (may_have_point of.value.kind rank)) refusal.WrongPool
       >> (refuse_at_limit (live_points w.graph) most_points >> done (with_point w name of.number rank))) run
@@ -124,7 +128,8 @@ module _ (x : Collecting) (run : Running x) where
         | inl old ↦ still_reserved id old
         | inr none ↦ absurd (false≢true none)
       ])
-      (λ p h. elim (reserved_written p w.graph.points w.point_memories point.number None (record { reserved_at = 0; buffer = empty_run }) h) [
+      (λ p h. elim (reserved_written p w.graph.points w.point_memories point.number None
+      (record { reserved_at = 0; buffer = empty_run }) h) [
         | inl still ↦ inr still
         | inr at ↦ absurd (none_of p at.point point.value at.memory (is_value point at.point found at.is_point)
             (no_reservation point.value.reservation at.memory closed) at.passes)
@@ -149,7 +154,8 @@ module _ (x : Collecting) (run : Running x) where
   -- a reservation ends that a flip has ended already, or whose extent is an object's
   pub ended_keeps : (point : Numbered Point) → entry_at w.graph.points point.number ≡ Some point.value
       → ((p : Run → Bool) (memory : PointMemory) → slice_get w.point_memories point.number ≡ Some memory
-      → list_any p (extent_of_reservation point.value.reservation memory) ≡ true → list_any p (extents_of w.graph.objects w.addresses) ≡ true)
+      → list_any p (extent_of_reservation point.value.reservation memory) ≡ true
+      → list_any p (extents_of w.graph.objects w.addresses) ≡ true)
       → P (with_graph w (with_reservation w.graph point None))
   ended_keeps point found covered =
       points_keep (slice_set w.graph.points point.number (Some (record point.value { reservation = None }))) w.point_memories w.graph.names
@@ -157,7 +163,8 @@ module _ (x : Collecting) (run : Running x) where
         | inl old ↦ still_reserved id old
         | inr none ↦ absurd (false≢true none)
       ])
-      (λ p h. elim (reserved_point_written p w.graph.points w.point_memories point.number (Some (record point.value { reservation = None })) h) [
+      (λ p h. elim (reserved_point_written p w.graph.points w.point_memories point.number
+      (Some (record point.value { reservation = None })) h) [
         | inl still ↦ inr still
         | inr at ↦ inl (covered p at.memory at.is_memory
             (ap (λ q. list_any p (extent_at_point q at.memory)) (sym (is_value point at.point found at.is_point)) ∙ at.passes))
@@ -177,7 +184,8 @@ module _ (x : Collecting) (run : Running x) where
         | inl old ↦ still_reserved id old
         | inr new ↦ absurd (true≢false (sym new ∙ nothing id))
       ])
-      (λ p h. elim (reserved_written p w.graph.points w.point_memories point.number (Some (record point.value { reservation = Some r })) (record {
+      (λ p h. elim (reserved_written p w.graph.points w.point_memories point.number (Some (record point.value { reservation = Some r }))
+      (record {
         reserved_at = address;
         buffer = buffer_after w point.number point.value (length r.cells);
       }) h) [
@@ -189,11 +197,13 @@ module _ (x : Collecting) (run : Running x) where
   -- a reservation with other cells, as many
   module _ (point : Numbered Point) (found : entry_at w.graph.points point.number ≡ Some point.value) (r : Reservation)
       (open_there : point.value.reservation ≡ Some r) (cells : List Cell) (as_many : length cells ≡ length r.cells)
-      (right : (id : Id) → contains (targets_of_cells cells) id ≡ true → (contains (targets_of_cells r.cells) id ≡ true) ⊎ IsRightlyHeld x id) where
+      (right : (id : Id) → contains (targets_of_cells cells) id ≡ true
+      → (contains (targets_of_cells r.cells) id ≡ true) ⊎ IsRightlyHeld x id) where
     abbrev rewritten : Option Point
     rewritten = Some (record point.value { reservation = Some (record r { cells = cells }) })
 
-    same_extent : (memory : PointMemory) → extent_of_reservation (Some (record r { cells = cells })) memory ≡ extent_of_reservation point.value.reservation memory
+    same_extent : (memory : PointMemory) → extent_of_reservation
+        (Some (record r { cells = cells })) memory ≡ extent_of_reservation point.value.reservation memory
     same_extent memory =
         ap (λ n. if (if r.is_doomed then false else true) then extent memory.reserved_at n ∷ [] else []) as_many
         ∙ ap (λ o. extent_of_reservation o memory) (sym open_there)
@@ -215,8 +225,10 @@ module _ (x : Collecting) (run : Running x) where
         ])
         (λ p h. elim (reserved_point_written p w.graph.points w.point_memories point.number rewritten h) [
           | inl still ↦ inr still
-          | inr at ↦ inr (reserved_at_point p (slice_set w.graph.points point.number rewritten) w.point_memories point.number rewritten at.memory
-              (slice_get-set_same w.graph.points point.number rewritten (index_below w.graph.points point.number at.point at.is_point)) at.is_memory
+          | inr at ↦ inr (reserved_at_point p (slice_set w.graph.points point.number rewritten) w.point_memories point.number rewritten
+              at.memory
+              (slice_get-set_same w.graph.points point.number rewritten (index_below w.graph.points point.number at.point at.is_point))
+              at.is_memory
               (ap (list_any p) (same_extent at.memory)
               ∙ (ap (λ q. list_any p (extent_at_point q at.memory)) (sym (is_value point at.point found at.is_point)) ∙ at.passes)))
         ])

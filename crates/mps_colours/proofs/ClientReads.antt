@@ -29,7 +29,8 @@ pub record HasTables (w v : World) : Type 0 where
 same_tables : (w : World) → HasTables w w
 same_tables w = record { tables = refl; names = refl }
 
-tables_where : (w : World) (o : Option ℕ) (change : (id : Id) → World) → ((id : Id) → HasTables w (change id)) → HasTables w (where_one w o change)
+tables_where : (w : World) (o : Option ℕ) (change : (id : Id) → World) → ((id : Id) → HasTables w (change id))
+    → HasTables w (where_one w o change)
 tables_where w None change each = same_tables w
 tables_where w (Some id) change each = each id
 
@@ -44,13 +45,15 @@ tables_of_free w id at true = record { tables = refl; names = refl }
 tables_of_free w id at false = record { tables = refl; names = refl }
 
 move_leaves : (w : World) (m : Move) → HasTables w (world_after_move w m)
-move_leaves w (moves.Seg base grains pool generation) = tables_of_segment w (segment_of_move base.0 grains pool generation) (is_copying_pool w pool)
+move_leaves w (moves.Seg base grains pool generation) = tables_of_segment w (segment_of_move base.0 grains pool generation)
+    (is_copying_pool w pool)
 move_leaves w (moves.Unseg base) = record { tables = refl; names = refl }
 move_leaves w (moves.Flip zones chain generation) = record { tables = refl; names = refl }
 move_leaves w moves.End = record { tables = refl; names = refl }
 move_leaves w (moves.Moved from to) =
     tables_where w (id_at w from.0) (λ id. after_moved w id to.0) (λ id. record { tables = refl; names = refl })
-move_leaves w (moves.Stay at) = tables_where w (id_at w at.0) (λ id. with_collection w (placing id)) (λ id. record { tables = refl; names = refl })
+move_leaves w (moves.Stay at) = tables_where w (id_at w at.0) (λ id. with_collection w (placing id))
+    (λ id. record { tables = refl; names = refl })
 move_leaves w (moves.Splat holder cell) =
     tables_where w (id_at w holder.0) (λ id. after_splat w id cell) (λ id. record { tables = refl; names = refl })
 move_leaves w (moves.Post at) = tables_where w (id_at w at.0) (after_post w) (λ id. record { tables = refl; names = refl })
@@ -73,12 +76,14 @@ slot_of names tables slot =
     >>= (λ table. entry_in table slot.index))
 
 slot_same : (w v : World) (slot : Slot) → HasTables w v → slot_in v slot ≡ slot_in w slot
-slot_same w v slot same = ap (λ names. slot_of names v.graph.tables slot) same.names ∙ ap (λ tables. slot_of w.graph.names tables slot) same.tables
+slot_same w v slot same = ap (λ names. slot_of names v.graph.tables slot) same.names
+    ∙ ap (λ tables. slot_of w.graph.names tables slot) same.tables
 
 -- ---- a reference that is read
 
 read_cell : (cells : List Cell) (k : ℕ) (reference : Option ℕ) (o : Option Cell) → slice_get cells k ≡ o
-    → (required o refusal.BadIndex >>= reference_in) ≡ Ok reference → (id : Id) → reference ≡ Some id → contains (targets_of_cells cells) id ≡ true
+    → (required o refusal.BadIndex >>= reference_in) ≡ Ok reference → (id : Id) → reference ≡ Some id
+    → contains (targets_of_cells cells) id ≡ true
 read_cell cells k reference None e h id is = absurd (not_Ok refusal.BadIndex reference h)
 read_cell cells k reference (Some HeadCell) e h id is = absurd (not_Ok refusal.NotARef reference h)
 read_cell cells k reference (Some (NumberCell number)) e h id is = absurd (not_Ok refusal.NotARef reference h)
@@ -96,7 +101,8 @@ object_value : (w : World) (target : Option ℕ) (object : Numbered Object) → 
 object_value w None object h = absurd (not_Ok refusal.NullRef object h)
 object_value w (Some id) object h = of_object (object_at w.graph id) refl h
   where
-    of_object : (o : Option Object) → object_at w.graph id ≡ o → (required o refusal.NullRef >>= (λ object. Ok (record { number = id; value = object }))) ≡ Ok object
+    of_object : (o : Option Object) → object_at w.graph id ≡ o
+        → (required o refusal.NullRef >>= (λ object. Ok (record { number = id; value = object }))) ≡ Ok object
         → object_at w.graph object.number ≡ Some object.value
     of_object None e g = absurd (not_Ok refusal.NullRef object g)
     of_object (Some o) e g =
@@ -111,7 +117,8 @@ module _ (x : Collecting) (run : Running x) (judged : World) (tables : HasTables
   P v = Running (record x { world = v })
 
   abbrev read : Found (Option ℕ) → Numbered Object → Checked Act
-  read into now = reference_at (cells_of_body now.value.body) k >>= (λ reference. done (with_graph x.world (with_slot x.world.graph into reference)))
+  read into now = reference_at (cells_of_body now.value.body) k >>=
+      (λ reference. done (with_graph x.world (with_slot x.world.graph into reference)))
 
   abbrev after_barrier : Found (Option ℕ) → Found (Option ℕ) → Checked Act
   after_barrier into from = object_in x.world from.value >>= (λ now. read into now)
@@ -120,7 +127,8 @@ module _ (x : Collecting) (run : Running x) (judged : World) (tables : HasTables
   before into from object = reference_at (cells_of_body object.value.body) k >> after_barrier into from
 
   read_right : (from : Found (Option ℕ)) (now : Numbered Object) (reference : Option ℕ) → slot_in x.world source ≡ Ok from
-      → object_in x.world from.value ≡ Ok now → reference_at (cells_of_body now.value.body) k ≡ Ok reference → (id : Id) → reference ≡ Some id
+      → object_in x.world from.value ≡ Ok now → reference_at (cells_of_body now.value.body) k ≡ Ok reference → (id : Id)
+      → reference ≡ Some id
       → (is_live x.world id ≡ true) × (is_white_in x id ≡ false)
   read_right from now reference e f g id is =
       let it = object_found x.world from.value now f in
@@ -135,7 +143,8 @@ module _ (x : Collecting) (run : Running x) (judged : World) (tables : HasTables
   get_keeps =
       bind_keeps P x.world (slot_in judged target) (λ into. slot_in judged source >>= (λ from. object_in judged from.value
       >>= (λ object. before into from object))) run
-      (λ into e. bind_keeps P x.world (slot_in judged source) (λ from. object_in judged from.value >>= (λ object. before into from object)) run
+      (λ into e. bind_keeps P x.world (slot_in judged source)
+      (λ from. object_in judged from.value >>= (λ object. before into from object)) run
       (λ from f. bind_keeps P x.world (object_in judged from.value) (λ object. before into from object) run
       (λ object g. then_keeps P x.world (reference_at (cells_of_body object.value.body) k) (after_barrier into from) run
       (bind_keeps P x.world (object_in x.world from.value) (λ now. read into now) run

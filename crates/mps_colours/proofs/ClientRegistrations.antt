@@ -22,7 +22,8 @@ use Rattle.mps_colours.proofs.ClientRoots.{object_found}
 
 -- ---- where a number first stands
 
-first_later : (x : ℕ) (xs : List ℕ) (n q position : ℕ) → (x == n) ≡ false → StandsFirst xs n q → q + 1 ≡ position → StandsFirst (x ∷ xs) n position
+first_later : (x : ℕ) (xs : List ℕ) (n q position : ℕ) → (x == n) ≡ false → StandsFirst xs n q → q + 1 ≡ position
+    → StandsFirst (x ∷ xs) n position
 first_later x xs n q position other s e =
     subst (λ p. StandsFirst (x ∷ xs) n p) (let same : suc q ≡ position = omega (arith, e) in same) (record {
       here = s.here;
@@ -42,7 +43,8 @@ first_stands (x ∷ xs) n position e = of_test (x == n) refl (λ q h. first_stan
     of_rest other None each g = absurd (none-some position g)
     of_rest other (Some q) each g = first_later x xs n q position other (each q refl) (same_Some (q + 1) position g)
 
-    of_test : (b : Bool) → (x == n) ≡ b → ((q : ℕ) → position_of_first xs n ≡ Some q → StandsFirst xs n q) → (if b then Some 0 else option_map (λ p. p + 1) (position_of_first xs n)) ≡ Some position
+    of_test : (b : Bool) → (x == n) ≡ b → ((q : ℕ) → position_of_first xs n ≡ Some q → StandsFirst xs n q)
+        → (if b then Some 0 else option_map (λ p. p + 1) (position_of_first xs n)) ≡ Some position
         → StandsFirst (x ∷ xs) n position
     of_test true same each g = subst (λ p. StandsFirst (x ∷ xs) n p) (same_Some 0 position g) (record {
       here = ap Some (eqb-true x n same);
@@ -114,7 +116,8 @@ module _ (x : Collecting) (run : Running x) where
   pub finalized_keeps : (id : Id) → contains (ids_of_client w.graph) id ≡ true
       → Running (record x { world = with_graph w (record w.graph { registered = with_last w.graph.registered id }) })
   finalized_keeps id held =
-      registered_keeps (with_last w.graph.registered id) w.collection x.running.registered_before x.running.examined x.next run.runs (record {
+      registered_keeps (with_last w.graph.registered id) w.collection x.running.registered_before x.running.examined x.next run.runs
+      (record {
         live_registered = λ n h. elim (contains_append w.graph.registered (id ∷ []) n h) [
           | inl old ↦ run.examined.live_registered n old
           | inr new ↦ elim (contains_cases id [] n new) [
@@ -140,13 +143,16 @@ module _ (x : Collecting) (run : Running x) where
       (length w.graph.registered + length w.graph.messages)) (refusal.TooMany most_registrations)
       >> done (with_graph w (record w.graph { registered = with_last w.graph.registered object.number }))) run
       (λ object f. refuse_keeps P w (nat_le most_registrations (length w.graph.registered + length w.graph.messages))
-      (refusal.TooMany most_registrations) (done (with_graph w (record w.graph { registered = with_last w.graph.registered object.number }))) run
-      (λ room. finalized_keeps object.number (slot_held w.graph from object.number (slot_found w slot from e) (object_found w from.value object f)))))
+      (refusal.TooMany most_registrations) (done
+      (with_graph w (record w.graph { registered = with_last w.graph.registered object.number }))) run
+      (λ room. finalized_keeps object.number (slot_held w.graph from object.number (slot_found w slot from e)
+      (object_found w from.value object f)))))
 
   -- ---- one less
 
   module _ (id position : ℕ) (first : StandsFirst w.graph.registered id position) where
-    count_cases : (count : ℕ) → ((position < count) × (without_position count position ≡ count - 1)) ⊎ ((count ≤ position) × (without_position count position ≡ count))
+    count_cases : (count : ℕ) → ((position < count) × (without_position count position ≡ count - 1))
+        ⊎ ((count ≤ position) × (without_position count position ≡ count))
     count_cases count = elim (cases_lt position count) [
       | inl less ↦ inl (less, below count position less)
       | inr most ↦ inr (most, not_below count position most)
@@ -190,8 +196,16 @@ module _ (x : Collecting) (run : Running x) where
 
     up_to_still : without_position x.next position ≤ without_position x.running.registered_before position
     up_to_still = let h : x.next ≤ x.running.registered_before = run.examined.up_to in elim (count_cases x.next) [
-      | inl a ↦ elim (count_cases x.running.registered_before) [ inl b ↦ omega (arith, h, a.0, a.1, b.0, b.1) | inr b ↦ omega (arith, h, a.0, a.1, b.0, b.1) ]
-      | inr a ↦ elim (count_cases x.running.registered_before) [ inl b ↦ omega (arith, h, a.0, a.1, b.0, b.1) | inr b ↦ omega (arith, h, a.0, a.1, b.0, b.1) ]
+      | inl a ↦ elim (count_cases x.running.registered_before) [
+        | inl b ↦ omega (arith, h, a.0, a.1, b.0, b.1)
+        | inr b ↦ omega
+            (arith, h, a.0, a.1, b.0, b.1)
+      ]
+      | inr a ↦ elim (count_cases x.running.registered_before) [
+        | inl b ↦ omega (arith, h, a.0, a.1, b.0, b.1)
+        | inr b ↦ omega
+            (arith, h, a.0, a.1, b.0, b.1)
+      ]
     ]
 
     existing_still : without_position x.running.registered_before position ≤ length (without_first w.graph.registered id)
@@ -201,10 +215,19 @@ module _ (x : Collecting) (run : Running x) where
         let there = index_below w.graph.registered position id first.here in
         elim (count_cases x.running.registered_before) [ inl b ↦ omega (arith, h, e, b.0, b.1) | inr b ↦ omega (arith, e, there, b.0, b.1) ]
 
-    fewer_left : without_position x.running.registered_before position - without_position x.next position ≤ x.running.registered_before - x.next
+    fewer_left : without_position x.running.registered_before position - without_position x.next
+        position ≤ x.running.registered_before - x.next
     fewer_left = let h : x.next ≤ x.running.registered_before = run.examined.up_to in elim (count_cases x.next) [
-      | inl a ↦ elim (count_cases x.running.registered_before) [ inl b ↦ omega (arith, h, a.0, a.1, b.0, b.1) | inr b ↦ omega (arith, h, a.0, a.1, b.0, b.1) ]
-      | inr a ↦ elim (count_cases x.running.registered_before) [ inl b ↦ omega (arith, h, a.0, a.1, b.0, b.1) | inr b ↦ omega (arith, h, a.0, a.1, b.0, b.1) ]
+      | inl a ↦ elim (count_cases x.running.registered_before) [
+        | inl b ↦ omega (arith, h, a.0, a.1, b.0, b.1)
+        | inr b ↦ omega
+            (arith, h, a.0, a.1, b.0, b.1)
+      ]
+      | inr a ↦ elim (count_cases x.running.registered_before) [
+        | inl b ↦ omega (arith, h, a.0, a.1, b.0, b.1)
+        | inr b ↦ omega
+            (arith, h, a.0, a.1, b.0, b.1)
+      ]
     ]
 
     pub definalized_keeps : Running (record x {
@@ -217,7 +240,8 @@ module _ (x : Collecting) (run : Running x) where
     })
     definalized_keeps =
         registered_keeps (without_first w.graph.registered id) (option_map (without_registration position) w.collection)
-        (without_position x.running.registered_before position) (without_position x.running.examined position) (without_position x.next position)
+        (without_position x.running.registered_before position) (without_position x.running.examined position)
+        (without_position x.next position)
         (ap (option_map (without_registration position)) run.runs) (record {
           live_registered = λ n h. run.examined.live_registered n (contains-without_first w.graph.registered id n h);
           from = from_still;
@@ -228,19 +252,21 @@ module _ (x : Collecting) (run : Running x) where
 
   -- ---- what the client holds is remembered
 
-  settled_or_held : (held : List Id) (id : Id) → is_settled (remembering held x.running) id ≡ true → (is_settled x.running id ≡ true) ⊎ (contains held id ≡ true)
-  settled_or_held held id h = elim (or_cases (contains x.running.pinned id) (contains x.running.placed id || contains (held ++ x.running.had) id) h) [
-    | inl pinned ↦ inl (or_left (contains x.running.pinned id) (contains x.running.placed id || contains x.running.had id) pinned)
-    | inr rest ↦ elim (or_cases (contains x.running.placed id) (contains (held ++ x.running.had) id) rest) [
-      | inl placed ↦ inl (or_right (contains x.running.pinned id) (contains x.running.placed id || contains x.running.had id)
-          (or_left (contains x.running.placed id) (contains x.running.had id) placed))
-      | inr had ↦ elim (contains_append held x.running.had id had) [
-        | inl new ↦ inr new
-        | inr old ↦ inl (or_right (contains x.running.pinned id) (contains x.running.placed id || contains x.running.had id)
-            (or_right (contains x.running.placed id) (contains x.running.had id) old))
+  settled_or_held : (held : List Id) (id : Id) → is_settled (remembering held x.running) id ≡ true
+      → (is_settled x.running id ≡ true) ⊎ (contains held id ≡ true)
+  settled_or_held held id h = elim (or_cases (contains x.running.pinned id)
+      (contains x.running.placed id || contains (held ++ x.running.had) id) h) [
+        | inl pinned ↦ inl (or_left (contains x.running.pinned id) (contains x.running.placed id || contains x.running.had id) pinned)
+        | inr rest ↦ elim (or_cases (contains x.running.placed id) (contains (held ++ x.running.had) id) rest) [
+          | inl placed ↦ inl (or_right (contains x.running.pinned id) (contains x.running.placed id || contains x.running.had id)
+              (or_left (contains x.running.placed id) (contains x.running.had id) placed))
+          | inr had ↦ elim (contains_append held x.running.had id had) [
+            | inl new ↦ inr new
+            | inr old ↦ inl (or_right (contains x.running.pinned id) (contains x.running.placed id || contains x.running.had id)
+                (or_right (contains x.running.placed id) (contains x.running.had id) old))
+          ]
+        ]
       ]
-    ]
-  ]
 
   pub remembered_keeps : Running (record x {
     world = with_client_remembered w;

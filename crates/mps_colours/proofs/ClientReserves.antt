@@ -47,7 +47,8 @@ buffer_same [] ms n m words e = refl
 buffer_same (o ∷ ps) [] n m words e = absurd (none-some m e)
 buffer_same (o ∷ ps) (k ∷ ms) zero m words e =
     reserved_first o (record m { buffer = words }) ps ms
-    ∙ (ap (λ es. es ++ reserved_extents ps ms) (same_at_point o m words ∙ ap (extent_at_point o) (sym (same_Some k m e))) ∙ sym (reserved_first o k ps ms))
+    ∙ (ap (λ es. es ++ reserved_extents ps ms) (same_at_point o m words ∙ ap (extent_at_point o) (sym (same_Some k m e)))
+    ∙ sym (reserved_first o k ps ms))
 buffer_same (o ∷ ps) (k ∷ ms) (suc n) m words e =
     reserved_first o k ps (slice_set ms n (record m { buffer = words }))
     ∙ (ap (λ es. extent_at_point o k ++ es) (buffer_same ps ms n m words e) ∙ sym (reserved_first o k ps ms))
@@ -57,7 +58,8 @@ with_buffer_same : (ps : List (Option Point)) (ms : List PointMemory) (n : ℕ) 
 with_buffer_same ps ms n words = of_memory (slice_get ms n) refl
   where
     of_memory : (o : Option PointMemory) → slice_get ms n ≡ o
-        → reserved_extents ps (option_map_or (λ (m : PointMemory). slice_set ms n (record m { buffer = words })) o ms) ≡ reserved_extents ps ms
+        → reserved_extents ps (option_map_or (λ (m : PointMemory). slice_set ms n (record m { buffer = words })) o ms) ≡ reserved_extents
+        ps ms
     of_memory None e = refl
     of_memory (Some m) e = buffer_same ps ms n m words e
 
@@ -66,11 +68,15 @@ with_buffer_same ps ms n words = of_memory (slice_get ms n) refl
 -- a world in which one more segment may be held, and at hand at a point
 pub data MayOwn (w : World) : World → Type 0 where
   owns_nothing : MayOwn w w
-  owns_segment : (s : Segment) (memories : List PointMemory) → reserved_extents w.graph.points memories ≡ reserved_extents w.graph.points w.point_memories
+  owns_segment : (s : Segment) (memories : List PointMemory)
+      → reserved_extents w.graph.points memories ≡ reserved_extents w.graph.points w.point_memories
       → MayOwn w (record w { segments = with_segment s w.segments; point_memories = memories })
 
 segment_owned : (w : World) (s : Segment) (n : ℕ) (b : Bool)
-    → MayOwn w (if b then record (holding w (record s { rank = rank_of_point w n })) { point_memories = with_buffer w.point_memories n (words_of_segment s) }
+    → MayOwn w (if b then record (holding w (record s { rank = rank_of_point w n })) {
+      point_memories = with_buffer w.point_memories n
+          (words_of_segment s);
+    }
     else holding w (record s { rank = rank_of_point w n }))
 segment_owned w s n true =
     owns_segment (record s { rank = rank_of_point w n }) (with_buffer w.point_memories n (words_of_segment s))
@@ -110,7 +116,8 @@ owned_keeps : (x : Collecting) → Running x → (v : World) → MayOwn x.world 
 owned_keeps x run v owns_nothing in_order = run
 owned_keeps x run v (owns_segment s memories same) in_order =
     let held = record x { world = record x.world { segments = with_segment s x.world.segments } } in
-    points_keep held (segments_keep x run (with_segment s x.world.segments) x.world.tails in_order (λ t h is. among_with s t x.world.segments h))
+    points_keep held (segments_keep x run (with_segment s x.world.segments) x.world.tails in_order
+    (λ t h is. among_with s t x.world.segments h))
     x.world.graph.points memories x.world.graph.names
     (λ id h. inl (held_so (ids_in_slots x.world.graph) (ids_in_holds x.world.graph)
     x.world.graph.messages (ids_in_reservations x.world.graph) id (in_reservations h)))
@@ -152,14 +159,16 @@ module _ (w : World) (name : Name) (head : ℕ) (r : Reserving) where
   is_checked h = of_point (point_named w name) refl h
     where
       of_point : (m : Checked (Numbered Point)) → point_named w name ≡ m
-          → (m >>= (λ point. required (pool_at w point.value.pool) refusal.BadName >>= (λ pool. refuse_when (not (takes_head w pool head)) refusal.BadHead
+          → (m >>= (λ point. required (pool_at w point.value.pool) refusal.BadName >>=
+          (λ pool. refuse_when (not (takes_head w pool head)) refusal.BadHead
           >> (refuse_when (is_some point.value.reservation) refusal.Open >> Ok (reserving point pool))))) ≡ Ok r → IsChecked w name r
       of_point (Err why) e g = absurd (not_Ok why r g)
       of_point (Ok point) e g = checked_pool point (pool_at w point.value.pool) e g
 
 -- a point is found by the graph alone
 abbrev point_in : Graph → Name → Checked (Numbered Point)
-point_in g name = required (option_and_then as_point (thing_in g.names name)) refusal.BadName >>= (λ number. numbered number (entry_at g.points number))
+point_in g name = required (option_and_then as_point (thing_in g.names name)) refusal.BadName >>=
+    (λ number. numbered number (entry_at g.points number))
 
 -- ---- reserve
 
@@ -176,18 +185,21 @@ module _ (judged after : World) (name : Name) (head : ℕ) where
 
   -- what holds of the world before the act, and of the one after it
   reserved_so : (R : World → Type 0) → R after
-      → ((r : Reserving) (point : Numbered Point) → check_reserve judged name head ≡ Ok r → point_named after name ≡ Ok point → R (with_new r point))
+      → ((r : Reserving) (point : Numbered Point) → check_reserve judged name head ≡ Ok r → point_named after name ≡ Ok point
+      → R (with_new r point))
       → R (world_from after (act_reserve judged after name head))
   reserved_so R base each =
       bind_keeps R after (check_reserve judged name head) (λ r. roomy r) base
-      (λ r e. then_keeps R after (refuse_without_place (placement_of judged (ForReserve r.point.number (length r.cells)))) (reserved_at r) base
+      (λ r e. then_keeps R after (refuse_without_place (placement_of judged (ForReserve r.point.number (length r.cells))))
+      (reserved_at r) base
       (bind_keeps R after (point_named after name) (λ point. done (with_new r point)) base (λ point f. each r point e f)))
 
   pub reserve_segments : (world_from after (act_reserve judged after name head)).segments ≡ after.segments
   reserve_segments = reserved_so (λ v. v.segments ≡ after.segments) refl (λ r point e f. refl)
 
 -- in the world in which it is judged and its collection, with its own segment
-pub reserve_keeps : (x : Collecting) → Running x → (judged after : World) (name : Name) (head : ℕ) → judged.graph ≡ x.world.graph → MayOwn x.world after
+pub reserve_keeps : (x : Collecting) → Running x → (judged after : World) (name : Name) (head : ℕ) → judged.graph ≡ x.world.graph
+    → MayOwn x.world after
     → AreOrdered 1 (world_from after (act_reserve judged after name head)).segments
     → Running (record x { world = world_from after (act_reserve judged after name head) })
 reserve_keeps x run judged after name head same owned fine =

@@ -48,13 +48,16 @@ module _ (x : Collecting) (run : Running x) where
 
   -- what the client held
   still_slots : (id : Id) → contains (ids_in_slots w.graph) id ≡ true → IsRightlyHeld x id
-  still_slots id h = inl (held_so (ids_in_slots w.graph) (ids_in_holds w.graph) w.graph.messages (ids_in_reservations w.graph) id (in_slots h))
+  still_slots id h = inl (held_so (ids_in_slots w.graph) (ids_in_holds w.graph) w.graph.messages (ids_in_reservations w.graph) id
+      (in_slots h))
 
   still_holds : (id : Id) → contains (ids_in_holds w.graph) id ≡ true → IsRightlyHeld x id
-  still_holds id h = inl (held_so (ids_in_slots w.graph) (ids_in_holds w.graph) w.graph.messages (ids_in_reservations w.graph) id (in_holds h))
+  still_holds id h = inl (held_so (ids_in_slots w.graph) (ids_in_holds w.graph) w.graph.messages (ids_in_reservations w.graph) id
+      (in_holds h))
 
   still_messages : (id : Id) → contains w.graph.messages id ≡ true → IsRightlyHeld x id
-  still_messages id h = inl (held_so (ids_in_slots w.graph) (ids_in_holds w.graph) w.graph.messages (ids_in_reservations w.graph) id (in_messages h))
+  still_messages id h = inl (held_so (ids_in_slots w.graph) (ids_in_holds w.graph) w.graph.messages (ids_in_reservations w.graph) id
+      (in_messages h))
 
   still_reserved : (id : Id) → contains (ids_in_reservations w.graph) id ≡ true → IsRightlyHeld x id
   still_reserved id h =
@@ -79,12 +82,14 @@ module _ (x : Collecting) (run : Running x) where
 
   slots_written : (f : Found (Option ℕ)) (target : Option ℕ) → IsFound (entry_at w.graph.tables) f
       → ((id : Id) → target ≡ Some id → IsRightlyHeld x id) → (id : Id)
-      → contains (flat_map slots_of (slice_set w.graph.tables f.number (Some (slice_set f.list f.index target)))) id ≡ true → IsRightlyHeld x id
+      → contains (flat_map slots_of (slice_set w.graph.tables f.number (Some (slice_set f.list f.index target)))) id ≡ true
+      → IsRightlyHeld x id
   slots_written f target found right id h =
       elim (written_among slots_of w.graph.tables f.number (Some (slice_set f.list f.index target)) id h) [
         | inl old ↦ still_slots id old
         | inr new ↦ elim (written_entries f.list f.index target id new) [
-          | inl old ↦ still_slots id (among_all slots_of w.graph.tables f.number (Some f.list) id (entry_is w.graph.tables f.number f.list found.list) old)
+          | inl old ↦ still_slots id (among_all slots_of w.graph.tables f.number (Some f.list) id
+              (entry_is w.graph.tables f.number f.list found.list) old)
           | inr it ↦ right id it
         ]
       ]
@@ -121,7 +126,8 @@ module _ (x : Collecting) (run : Running x) where
   take_keeps slot place =
       bind_keeps P w (slot_in w slot)
       (λ into. word_in w place >>= (λ at. held_in at.value >>= (λ id. done (with_graph w (with_slot w.graph into (Some id)))))) run
-      (λ into e. bind_keeps P w (word_in w place) (λ at. held_in at.value >>= (λ id. done (with_graph w (with_slot w.graph into (Some id))))) run
+      (λ into e. bind_keeps P w (word_in w place)
+      (λ at. held_in at.value >>= (λ id. done (with_graph w (with_slot w.graph into (Some id))))) run
       (λ at f. bind_keeps P w (held_in at.value) (λ id. done (with_graph w (with_slot w.graph into (Some id)))) run
       (λ id g. slot_keeps into (Some id) (slot_found w slot into e)
       (λ n same. subst (λ m. IsRightlyHeld x m) (same_Some id n same)
@@ -129,13 +135,15 @@ module _ (x : Collecting) (run : Running x) where
 
   words_written : (f : Found AreaWord) (word : AreaWord) → IsFound (entry_at w.graph.areas) f
       → ((id : Id) → held_by_word word ≡ Some id → IsRightlyHeld x id) → (id : Id)
-      → contains (flat_map holds_of (slice_set w.graph.areas f.number (Some (slice_set f.list f.index word)))) id ≡ true → IsRightlyHeld x id
+      → contains (flat_map holds_of (slice_set w.graph.areas f.number (Some (slice_set f.list f.index word)))) id ≡ true
+      → IsRightlyHeld x id
   words_written f word found right id h =
       elim (written_among holds_of w.graph.areas f.number (Some (slice_set f.list f.index word)) id h) [
         | inl old ↦ still_holds id old
         | inr new ↦ elim (written_entries (map held_by_word f.list) f.index (held_by_word word) id
             (subst (λ os. contains (entries os) id ≡ true) (map-slice_set held_by_word f.list f.index word) new)) [
-              | inl old ↦ still_holds id (among_all holds_of w.graph.areas f.number (Some f.list) id (entry_is w.graph.areas f.number f.list found.list) old)
+              | inl old ↦ still_holds id (among_all holds_of w.graph.areas f.number (Some f.list) id
+                  (entry_is w.graph.areas f.number f.list found.list) old)
               | inr it ↦ right id it
             ]
       ]
@@ -150,7 +158,8 @@ module _ (x : Collecting) (run : Running x) where
   pub pin_keeps : (place slot : Slot) → P (world_from w (act_pin w place slot))
   pin_keeps place slot =
       bind_keeps P w (word_in w place)
-      (λ at. slot_in w slot >>= (λ from. object_in w from.value >>= (λ object. done (with_graph w (with_word w.graph at (Hold object.number 0)))))) run
+      (λ at. slot_in w slot >>= (λ from. object_in w from.value >>=
+      (λ object. done (with_graph w (with_word w.graph at (Hold object.number 0)))))) run
       (λ at e. bind_keeps P w (slot_in w slot)
       (λ from. object_in w from.value >>= (λ object. done (with_graph w (with_word w.graph at (Hold object.number 0))))) run
       (λ from f. bind_keeps P w (object_in w from.value) (λ object. done (with_graph w (with_word w.graph at (Hold object.number 0)))) run
@@ -159,7 +168,8 @@ module _ (x : Collecting) (run : Running x) where
       (slot_right from (slot_found w slot from f) object.number (object_found w from.value object g))))))
 
   -- a number holds nothing
-  plain_keeps : (f : Found AreaWord) (number : ℕ) → IsFound (entry_at w.graph.areas) f → P (with_graph w (with_word w.graph f (PlainWord number)))
+  plain_keeps : (f : Found AreaWord) (number : ℕ) → IsFound (entry_at w.graph.areas) f
+      → P (with_graph w (with_word w.graph f (PlainWord number)))
   plain_keeps f number found = word_keeps f (PlainWord number) found (λ id none. absurd (none-some id none))
 
   -- a word that is taken as a block: its object lives, and isn't white
@@ -187,15 +197,18 @@ module _ (x : Collecting) (run : Running x) where
   poked_keeps f id word true AsMarked e found live black = block_keeps f id word found live (black refl)
   poked_keeps f id word false AsMarked e found live black = plain_keeps f word found
 
-  poke_in_keeps : (f : Found AreaWord) (word : ℕ) (marked : Bool) (o : Option ℕ) → block_of_word w word ≡ o → IsFound (entry_at w.graph.areas) f
-      → ((id : Id) → o ≡ Some id → is_live w id ≡ true) → (marked ≡ true → (id : Id) → block_of_word w word ≡ Some id → is_white_in x id ≡ false)
+  poke_in_keeps : (f : Found AreaWord) (word : ℕ) (marked : Bool) (o : Option ℕ) → block_of_word w word ≡ o
+      → IsFound (entry_at w.graph.areas) f
+      → ((id : Id) → o ≡ Some id → is_live w id ≡ true)
+      → (marked ≡ true → (id : Id) → block_of_word w word ≡ Some id → is_white_in x id ≡ false)
       → P (world_from w (act_poke_in w f word marked o))
   poke_in_keeps f word marked None e found live black = plain_keeps f word found
   poke_in_keeps f word marked (Some id) e found live black =
       poked_keeps f id word marked (poked w id) refl found (live id refl) (λ m. black m id e)
 
   pub poke_keeps : (marked : Bool) (place : Slot) (word : ℕ)
-      → (marked ≡ true → (id : Id) → block_of_word w word ≡ Some id → is_white_in x id ≡ false) → P (world_from w (act_poke marked w place word))
+      → (marked ≡ true → (id : Id) → block_of_word w word ≡ Some id → is_white_in x id ≡ false)
+      → P (world_from w (act_poke marked w place word))
   poke_keeps marked place word black =
       bind_keeps P w (word_in w place) (λ at. act_poke_in w at word marked (block_of_word w word)) run
       (λ at e. poke_in_keeps at word marked (block_of_word w word) refl (word_found w place at e)
@@ -227,7 +240,8 @@ module _ (x : Collecting) (run : Running x) where
 
   -- ---- tables, areas and tables of blocks
 
-  new_table : (slots : ℕ) (id : Id) → contains (flat_map slots_of (with_last w.graph.tables (Some (replicate slots None)))) id ≡ true → IsRightlyHeld x id
+  new_table : (slots : ℕ) (id : Id) → contains (flat_map slots_of (with_last w.graph.tables (Some (replicate slots None)))) id ≡ true
+      → IsRightlyHeld x id
   new_table slots id h = elim (last_among slots_of w.graph.tables (Some (replicate slots None)) id h) [
     | inl old ↦ still_slots id old
     | inr new ↦ absurd (true≢false (sym new ∙ no_entries slots id))
@@ -238,13 +252,15 @@ module _ (x : Collecting) (run : Running x) where
       then_keeps P w (refuse_taken w name) (refuse_root w slots >> done (with_graph w (graph_with_table w.graph name slots))) run
       (then_keeps P w (refuse_root w slots) (done (with_graph w (graph_with_table w.graph name slots))) run
       (roots_keep x run (graph_with_table w.graph name slots)
-      (held_by_parts (with_last w.graph.tables (Some (replicate slots None))) w.graph.areas w.graph.messages (new_table slots) still_holds still_messages)))
+      (held_by_parts (with_last w.graph.tables (Some (replicate slots None))) w.graph.areas w.graph.messages
+      (new_table slots) still_holds still_messages)))
 
   new_area : (words : ℕ) (id : Id) → contains (flat_map holds_of (with_last w.graph.areas (Some (replicate words (PlainWord 0))))) id ≡ true
       → IsRightlyHeld x id
   new_area words id h = elim (last_among holds_of w.graph.areas (Some (replicate words (PlainWord 0))) id h) [
     | inl old ↦ still_holds id old
-    | inr new ↦ absurd (true≢false (sym new ∙ ap (λ os. contains (entries os) id) (map-replicate held_by_word words (PlainWord 0)) ∙ no_entries words id))
+    | inr new ↦ absurd (true≢false (sym new ∙ ap (λ os. contains (entries os) id) (map-replicate held_by_word words (PlainWord 0))
+        ∙ no_entries words id))
   ]
 
   pub area_keeps : (name : Name) (words : ℕ) → P (world_from w (act_area w name words))
@@ -252,7 +268,8 @@ module _ (x : Collecting) (run : Running x) where
       then_keeps P w (refuse_taken w name) (refuse_root w words >> done (with_graph w (graph_with_area w.graph name words))) run
       (then_keeps P w (refuse_root w words) (done (with_graph w (graph_with_area w.graph name words))) run
       (roots_keep x run (graph_with_area w.graph name words)
-      (held_by_parts w.graph.tables (with_last w.graph.areas (Some (replicate words (PlainWord 0)))) w.graph.messages still_slots (new_area words) still_messages)))
+      (held_by_parts w.graph.tables (with_last w.graph.areas (Some (replicate words (PlainWord 0)))) w.graph.messages still_slots
+      (new_area words) still_messages)))
 
   pub blocks_keeps : (name : Name) (addresses : ℕ) → P (world_from w (act_blocks w name addresses))
   blocks_keeps name addresses =
@@ -261,7 +278,8 @@ module _ (x : Collecting) (run : Running x) where
       (roots_keep x run (graph_with_blocks w.graph name addresses)
       (held_by_parts w.graph.tables w.graph.areas w.graph.messages still_slots still_holds still_messages)))
 
-  dropped_table : (number : ℕ) (id : Id) → contains (flat_map slots_of (slice_set w.graph.tables number None)) id ≡ true → IsRightlyHeld x id
+  dropped_table : (number : ℕ) (id : Id) → contains (flat_map slots_of (slice_set w.graph.tables number None)) id ≡ true
+      → IsRightlyHeld x id
   dropped_table number id h = elim (written_among slots_of w.graph.tables number None id h) [
     | inl old ↦ still_slots id old
     | inr none ↦ absurd (false≢true none)

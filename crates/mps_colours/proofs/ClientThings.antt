@@ -24,7 +24,8 @@ use Rattle.mps_base.specs.Staleness.{is_stale}
 
 -- ---- lists
 
-pub list_all-at : {X : Type 0} (test : X → Bool) (xs : List X) (i : ℕ) (y : X) → list_all test xs ≡ true → slice_get xs i ≡ Some y → test y ≡ true
+pub list_all-at : {X : Type 0} (test : X → Bool) (xs : List X) (i : ℕ) (y : X) → list_all test xs ≡ true → slice_get xs i ≡ Some y
+    → test y ≡ true
 list_all-at test [] i y all e = absurd (none-some y e)
 list_all-at test (z ∷ zs) zero y all e = subst (λ v. test v ≡ true) (same_Some z y e) (and_parts (test z) (list_all test zs) all).0
 list_all-at test (z ∷ zs) (suc i) y all e = list_all-at test zs i y (and_parts (test z) (list_all test zs) all).1 e
@@ -36,7 +37,8 @@ slice_get-last (z ∷ zs) x zero y e = e
 slice_get-last (z ∷ zs) x (suc i) y e = slice_get-last zs x i y e
 
 -- a pool that there was passes the tests that it passed
-pool_still : (test : PoolKind → Bool) (pools : List Pool) (p : Pool) (number : ℕ) (b : Bool) → option_map_or (λ q. test q.kind) (slice_get pools number) b ≡ true
+pool_still : (test : PoolKind → Bool) (pools : List Pool) (p : Pool) (number : ℕ) (b : Bool)
+    → option_map_or (λ q. test q.kind) (slice_get pools number) b ≡ true
     → (b ≡ true → ⊥) → option_map_or (λ q. test q.kind) (slice_get (with_last pools p) number) b ≡ true
 pool_still test pools p number b h not_b = of_pool (slice_get pools number) refl h
   where
@@ -47,7 +49,8 @@ pool_still test pools p number b h not_b = of_pool (slice_get pools number) refl
 
 -- and no others, where it was there
 pool_before : (test : PoolKind → Bool) (pools : List Pool) (p : Pool) (number : ℕ) (q : Pool) → slice_get pools number ≡ Some q
-    → option_map_or (λ q. test q.kind) (slice_get (with_last pools p) number) false ≡ option_map_or (λ q. test q.kind) (slice_get pools number) false
+    → option_map_or (λ q. test q.kind) (slice_get (with_last pools p) number) false ≡ option_map_or (λ q. test q.kind)
+    (slice_get pools number) false
 pool_before test pools p number q e =
     ap (λ o. option_map_or (λ q. test q.kind) o false) (slice_get-last pools p number q e ∙ sym e)
 
@@ -103,7 +106,8 @@ module _ (x : Collecting) (run : Running x) where
   arena_keeps grains limit = aside_keeps grains limit w.chains w.graph.names w.graph.blocks w.state w.dependencies
 
   pub limit_keeps : (limit : ℕ) → P (world_from w (act_limit w limit))
-  limit_keeps limit = then_keeps P w (refuse_when (nat_lt limit (committed w)) refusal.BelowCommitted) (done (record w { limit = limit })) run
+  limit_keeps limit = then_keeps P w (refuse_when (nat_lt limit (committed w)) refusal.BelowCommitted)
+      (done (record w { limit = limit })) run
       (aside_keeps w.grains limit w.chains w.graph.names w.graph.blocks w.state w.dependencies)
 
   pub chain_keeps : (name : Name) (count : ℕ) (capacities : List ℕ) → P (world_from w (act_chain w name count capacities))
@@ -172,7 +176,8 @@ module _ (x : Collecting) (run : Running x) where
   -- ---- pools
 
   module _ (formed : IsWellFormed w) where
-    copying_still : (p : Pool) (id : Id) → is_copying_object (record w { pools = with_last w.pools p }) id ≡ true → is_copying_object w id ≡ true
+    copying_still : (p : Pool) (id : Id) → is_copying_object (record w { pools = with_last w.pools p }) id ≡ true
+        → is_copying_object w id ≡ true
     copying_still p id h = of_object (object_at w.graph id) refl h
       where
         of_object : (o : Option Object) → object_at w.graph id ≡ o
@@ -193,18 +198,21 @@ module _ (x : Collecting) (run : Running x) where
     })
 
     make_pool_keeps : (name : Name) (p : Pool) → P (world_from w (make_pool w name p))
-    make_pool_keeps name p = then_keeps P w (refuse_at_limit (length w.pools) most_pools) (done (with_pool w name p)) run (with_pool_keeps name p)
+    make_pool_keeps name p = then_keeps P w (refuse_at_limit (length w.pools) most_pools) (done (with_pool w name p)) run
+        (with_pool_keeps name p)
 
     pub pool_keeps : (name : Name) (kind : Kind) (format : ℕ) → P (world_from w (act_pool w name kind format))
     pool_keeps name kind format =
         then_keeps P w (refuse_taken w name) (make_pool w name (record { kind = Collected kind; format = format; chain = None })) run
         (make_pool_keeps name (record { kind = Collected kind; format = format; chain = None }))
 
-    pub pool_on_chain_keeps : (name : Name) (kind : Kind) (format : ℕ) (chain : Name) → P (world_from w (act_pool_on_chain w name kind format chain))
+    pub pool_on_chain_keeps : (name : Name) (kind : Kind) (format : ℕ) (chain : Name)
+        → P (world_from w (act_pool_on_chain w name kind format chain))
     pool_on_chain_keeps name kind format chain =
         then_keeps P w (refuse_taken w name)
         (chain_named w chain >>= (λ on. make_pool w name (record { kind = Collected kind; format = format; chain = Some on.number }))) run
-        (bind_keeps P w (chain_named w chain) (λ on. make_pool w name (record { kind = Collected kind; format = format; chain = Some on.number })) run
+        (bind_keeps P w (chain_named w chain) (λ on. make_pool w name
+        (record { kind = Collected kind; format = format; chain = Some on.number })) run
         (λ on e. make_pool_keeps name (record { kind = Collected kind; format = format; chain = Some on.number })))
 
     pub pool_mfs_keeps : (name : Name) (words : ℕ) → P (world_from w (act_pool_mfs w name words))

@@ -88,7 +88,8 @@ client_of_fixed g id h = contains_left ((ids_in_slots g ++ ids_in_holds g) ++ g.
 client_no_more : (w : World) (id : Id) → contains ((ids_in_slots w.graph ++ ids_in_holds w.graph) ++ w.graph.messages
     ++ flat_map targets_of_point (map doomed w.graph.points)) id ≡ true → contains (ids_of_client w.graph) id ≡ true
 client_no_more w id h =
-    elim (contains_append ((ids_in_slots w.graph ++ ids_in_holds w.graph) ++ w.graph.messages) (flat_map targets_of_point (map doomed w.graph.points)) id h) [
+    elim (contains_append ((ids_in_slots w.graph ++ ids_in_holds w.graph) ++ w.graph.messages)
+    (flat_map targets_of_point (map doomed w.graph.points)) id h) [
       | inl e ↦ contains_left ((ids_in_slots w.graph ++ ids_in_holds w.graph) ++ w.graph.messages) (ids_in_reservations w.graph) id e
       | inr e ↦ absurd (false≢true (subst (λ (ids : List Id). contains ids id ≡ true) (none_of_doomed w.graph.points) e))
     ]
@@ -99,7 +100,8 @@ only_pinned false = refl
 
 -- ---- the flip
 
-pub flip_legal : (w : World) (what : Condemnation) (next : Option Move) → IsAtRest w → IsNumbered what → IsLegalMove w None (flip_of w what) next
+pub flip_legal : (w : World) (what : Condemnation) (next : Option Move) → IsAtRest w → IsNumbered what
+    → IsLegalMove w None (flip_of w what) next
 flip_legal w what next rest numbered = record {
   none_runs = ap (λ o. not (is_some o)) rest.none_runs;
   of_zones = ap (condemned_zones w) (sym numbered);
@@ -109,7 +111,8 @@ at_flip : (w : World) (what : Condemnation) → IsNumbered what → world_at_fli
 at_flip w what numbered = ap (after_flip w (condemned_zones w what)) numbered
 
 module _ (w : World) (what : Condemnation) (others : List Id) (ms : List Move) (y : Collecting) (rest : IsAtRest w)
-    (numbered : IsNumbered what) (some : is_nothing (condemned_by w what) ≡ false) (remembered : AreRemembered (flipped w what others) others)
+    (numbered : IsNumbered what) (some : is_nothing (condemned_by w what) ≡ false)
+    (remembered : AreRemembered (flipped w what others) others)
     (fixed : FixesHeld w (flipped w what others) ms y) where
   abbrev x : Collecting
   x = flipped w what others
@@ -152,7 +155,8 @@ module _ (w : World) (what : Condemnation) (others : List Id) (ms : List Move) (
 
   act : flip_act w what ≡ flip_of w what ∷ ms
   act =
-      ap (λ (v : World). flip_of w what ∷ fix_all v (ids_in_slots w.graph ++ w.graph.messages) ++ end_where (is_nothing (condemned_by w what)))
+      ap (λ (v : World). flip_of w what ∷ fix_all v (ids_in_slots w.graph ++ w.graph.messages) ++ end_where
+      (is_nothing (condemned_by w what)))
       (at_flip w what numbered)
       ∙ ap (λ these. flip_of w what ∷ these ++ end_where (is_nothing (condemned_by w what))) all.act
       ∙ ap (λ b. flip_of w what ∷ ms ++ end_where b) some
@@ -205,16 +209,20 @@ module _ (w : World) (what : Condemnation) (rest : IsAtRest w) (numbered : IsNum
 
   ended_act : flip_act w what ≡ flip_of w what ∷ moves.End ∷ []
   ended_act =
-      ap (λ (v : World). flip_of w what ∷ fix_all v (ids_in_slots w.graph ++ w.graph.messages) ++ end_where (is_nothing (condemned_by w what)))
+      ap (λ (v : World). flip_of w what ∷ fix_all v (ids_in_slots w.graph ++ w.graph.messages) ++ end_where
+      (is_nothing (condemned_by w what)))
       (at_flip w what numbered)
-      ∙ ap (λ these. flip_of w what ∷ these ++ end_where (is_nothing (condemned_by w what))) (no_fixes (ids_in_slots w.graph ++ w.graph.messages))
+      ∙ ap (λ these. flip_of w what ∷ these ++ end_where (is_nothing (condemned_by w what)))
+      (no_fixes (ids_in_slots w.graph ++ w.graph.messages))
       ∙ ap (λ b. flip_of w what ∷ end_where b) nothing
 
   end_legal : IsLegalEnd empty.world empty.running
   end_legal = record {
-    survivors = subst (λ ids. AllByRecursion (λ id. IsTrue (is_settled empty.running id) ⊎ MaySurvive empty.running id) (filter (is_live w) ids))
+    survivors = subst (λ ids. AllByRecursion (λ id. IsTrue (is_settled empty.running id) ⊎ MaySurvive empty.running id)
+        (filter (is_live w) ids))
         (sym none_condemned) tt;
-    copied = ap (λ ids. list_all (is_kept_in_place empty.running) (filter (is_copying_object empty.world) (filter (is_live w) ids))) none_condemned;
+    copied = ap (λ ids. list_all (is_kept_in_place empty.running) (filter (is_copying_object empty.world) (filter (is_live w) ids)))
+        none_condemned;
     segments = ap (λ ss. list_all (holds_something empty.world) (map (λ (s : Segment). s.base) ss)) no_segments;
   }
 

@@ -22,7 +22,8 @@ count_filtered p q [] sub = omega arith
 count_filtered p q (x ∷ xs) sub =
     of_tests (p x) (q x) (sub x) (count_first p x xs) (count_filtered p q xs sub)
   where
-    of_tests : (b d : Bool) → (b ≡ true → d ≡ true) → count_by p (x ∷ xs) ≡ cond b 1 0 + count_by p xs → count_by p xs ≤ length (filter q xs)
+    of_tests : (b d : Bool) → (b ≡ true → d ≡ true) → count_by p (x ∷ xs) ≡ cond b 1 0 + count_by p xs
+        → count_by p xs ≤ length (filter q xs)
         → count_by p (x ∷ xs) ≤ length (if d then x ∷ filter q xs else filter q xs)
     of_tests true true sub e rest = omega (arith, e, rest)
     of_tests true false sub e rest = absurd (false≢true (sub refl))
@@ -57,9 +58,11 @@ words_show w (PlainWord number ∷ words) id all h =
 words_show w (Hold held offset ∷ words) id all h =
     let parts = and_parts (lies_in w (shown_word w (Hold held offset)) held) (list_all (is_right_word w) words) all in
     elim (contains_cases held (entries (map held_by_word words)) id h) [
-      | inl same ↦ or_left (lies_in w (shown_word w (Hold held offset)) id) (list_any (λ word. lies_in w word id) (map (shown_word w) words))
+      | inl same ↦ or_left (lies_in w (shown_word w (Hold held offset)) id)
+          (list_any (λ word. lies_in w word id) (map (shown_word w) words))
           (subst (λ n. lies_in w (shown_word w (Hold held offset)) n ≡ true) same parts.0)
-      | inr later ↦ or_right (lies_in w (shown_word w (Hold held offset)) id) (list_any (λ word. lies_in w word id) (map (shown_word w) words))
+      | inr later ↦ or_right (lies_in w (shown_word w (Hold held offset)) id)
+          (list_any (λ word. lies_in w word id) (map (shown_word w) words))
           (words_show w words id parts.1 later)
     ]
 

@@ -45,7 +45,8 @@ bare_state x = record x { world = bare x.world }
 pub none_of_doomed : (points : List (Option Point)) → flat_map targets_of_point (map doomed points) ≡ []
 none_of_doomed [] = refl
 none_of_doomed (None ∷ ps) = none_of_doomed ps
-none_of_doomed (Some p ∷ ps) = ap (λ ids. ids ++ flat_map targets_of_point (map doomed ps)) (of_reservation p.reservation) ∙ none_of_doomed ps
+none_of_doomed (Some p ∷ ps) = ap (λ ids. ids ++ flat_map targets_of_point (map doomed ps)) (of_reservation p.reservation)
+    ∙ none_of_doomed ps
   where
     of_reservation : (r : Option Reservation)
         → option_map_or targets_of_reservation (option_map (λ (r : Reservation). record r { is_doomed = true }) r) [] ≡ []
@@ -53,7 +54,8 @@ none_of_doomed (Some p ∷ ps) = ap (λ ids. ids ++ flat_map targets_of_point (m
     of_reservation (Some r) = refl
 
 -- an object that refers to something is automatic
-pub refers_automatic : (o : Option Object) (t : Id) → contains (option_map_or targets_of o []) t ≡ true → option_map_or is_automatic o false ≡ true
+pub refers_automatic : (o : Option Object) (t : Id) → contains (option_map_or targets_of o []) t ≡ true
+    → option_map_or is_automatic o false ≡ true
 refers_automatic None t h = absurd (false≢true h)
 refers_automatic (Some o) t h = of_body o.body h
   where
@@ -62,7 +64,8 @@ refers_automatic (Some o) t h = of_body o.body h
     of_body (Manual words) h = absurd (false≢true h)
 
 -- what lies somewhere passes a test where its address does
-at_address_passes : (test : Address → Bool) (o : Option Address) (at : Address) → o ≡ Some at → option_map_or test o false ≡ true → test at ≡ true
+at_address_passes : (test : Address → Bool) (o : Option Address) (at : Address) → o ≡ Some at → option_map_or test o false ≡ true
+    → test at ≡ true
 at_address_passes test o at e h = subst (λ p. option_map_or test p false ≡ true) e h
 
 not_in_left : (xs ys : List Id) (n : Id) → contains (xs ++ ys) n ≡ false → contains xs n ≡ false
@@ -191,7 +194,8 @@ module _ (w : World) (what : Condemnation) (others : List Id) (rest : IsAtRest w
     | inr isnt ↦ inl isnt
   ]
 
-  referred_survives : (id target : Id) → is_live w id ≡ true → is_condemned x.running id ≡ false → contains (targets w.graph id) target ≡ true
+  referred_survives : (id target : Id) → is_live w id ≡ true → is_condemned x.running id ≡ false
+      → contains (targets w.graph id) target ≡ true
       → Survives x.running target
   referred_survives id target there isnt h =
       inr (goes_on (begins (contains_right ((ids_in_slots w.graph ++ w.graph.messages) ++ x.running.pinned)
@@ -226,7 +230,11 @@ module _ (w : World) (what : Condemnation) (others : List Id) (rest : IsAtRest w
       ];
     };
     grey = record {
-      grey_live = λ id h. elim (grey_cases id h) [ inl pinned ↦ live id (pinned_condemned id pinned) | inr other ↦ remembered.live id other ];
+      grey_live = λ id h. elim (grey_cases id h) [
+        | inl pinned ↦ live id
+            (pinned_condemned id pinned)
+        | inr other ↦ remembered.live id other
+      ];
       grey_automatic = grey_automatic;
       grey_kept = λ id h. elim (grey_cases id h) [
         | inl pinned ↦ not_white_if_kept x.running.condemned x.colours id pinned

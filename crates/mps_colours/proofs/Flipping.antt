@@ -130,20 +130,25 @@ fix_passed : (x : Collecting) (id : Id) → x.world.collection ≡ Some x.runnin
     → is_white_in x id ≡ false → fix x.world id ≡ []
 fix_passed x id runs same black =
     fix_where x.world id false (must_be x.world x.running id runs
-    ∙ need_not (is_condemned x.running id) (contains x.colours.kept id) (is_settled x.running id) (is_copying_object x.world id) (same id) black)
+    ∙ need_not (is_condemned x.running id) (contains x.colours.kept id) (is_settled x.running id) (is_copying_object x.world id)
+    (same id) black)
 
-fix_kept : (w : World) (c : Collection) (k : Colours) (id : Id) (ms : List Move) (c' : Collection) → w.collection ≡ Some c → AreKeptSettled w c k
+fix_kept : (w : World) (c : Collection) (k : Colours) (id : Id) (ms : List Move) (c' : Collection) → w.collection ≡ Some c
+    → AreKeptSettled w c k
     → is_white c.condemned k id ≡ true → Keeps w c id ms c' → fix w id ≡ ms
 fix_kept w c k id ms c' runs same white (marks other) =
     fix_where w id false (must_be w c id runs ∙ need_no (is_condemned c id) (is_settled c id) (is_copying_object w id) other)
 fix_kept w c k id ms c' runs same white (moves_to_place copying placed free) =
-    fix_where w id true (must_be w c id runs ∙ must (is_condemned c id) (contains k.kept id) (is_settled c id) (is_copying_object w id) copying (same id copying) white)
+    fix_where w id true (must_be w c id runs
+    ∙ must (is_condemned c id) (contains k.kept id) (is_settled c id) (is_copying_object w id) copying (same id copying) white)
     ∙ ap (moves_to w id (address_or_null w id)) placed
 fix_kept w c k id ms c' runs same white (moves_to_segment copying placed unused) =
-    fix_where w id true (must_be w c id runs ∙ must (is_condemned c id) (contains k.kept id) (is_settled c id) (is_copying_object w id) copying (same id copying) white)
+    fix_where w id true (must_be w c id runs
+    ∙ must (is_condemned c id) (contains k.kept id) (is_settled c id) (is_copying_object w id) copying (same id copying) white)
     ∙ ap (moves_to w id (address_or_null w id)) placed
 fix_kept w c k id ms c' runs same white (stays copying room) =
-    fix_where w id true (must_be w c id runs ∙ must (is_condemned c id) (contains k.kept id) (is_settled c id) (is_copying_object w id) copying (same id copying) white)
+    fix_where w id true (must_be w c id runs
+    ∙ must (is_condemned c id) (contains k.kept id) (is_settled c id) (is_copying_object w id) copying (same id copying) white)
     ∙ stays_so w id (placement_of w (ForMove id)) room
 
 -- ---- one after the other
@@ -168,13 +173,15 @@ record IsOneKept (x : Collecting) (id : Id) (ms : List Move) (c' : Collection) :
   condemned : c'.condemned ≡ x.running.condemned
   origins : c'.origins ≡ x.running.origins
 
-one_kept : (x : Collecting) (id : Id) (ms : List Move) (c' : Collection) → IsFlipping x → is_white_in x id ≡ true → is_live x.world id ≡ true
+one_kept : (x : Collecting) (id : Id) (ms : List Move) (c' : Collection) → IsFlipping x → is_white_in x id ≡ true
+    → is_live x.world id ≡ true
     → contains x.running.origins id ≡ true → Keeps x.world x.running id ms c' → IsOneKept x id ms c'
 one_kept x id ms c' f white live root ks = record {
   flipping = record {
     running = subst (λ (y : Collecting). Running y)
         (sym (same_state (bare_state x) f.running f.tracing id live white (bare (world_after_moves x.world ms)) c' (bare_kept r)))
-        (kept_running (bare_state x) f.running f.tracing id live white (bare (world_after_moves x.world ms)) c' (bare_kept r) (inr (begins root)));
+        (kept_running (bare_state x) f.running f.tracing id live white (bare (world_after_moves x.world ms)) c' (bare_kept r)
+        (inr (begins root)));
     tracing = f.tracing;
     same = kept_same ks x.colours (world_after_moves x.world ms) (λ n. ap (λ (w : World). is_copying_object w n) r.world) f.same;
   };
@@ -189,7 +196,8 @@ one_kept x id ms c' f white live root ks = record {
     r : IsKept x.world x.running id (world_after_moves x.world ms) c'
     r = keeps_leaves x.world x.running id f.running.runs f.running.different live ks
 
-pub flip_fixes : {x y : Collecting} {ids : List Id} {ms : List Move} → Fixes x ids ms y → IsFlipping x → AreRoots x ids → AreFixed x ids ms y
+pub flip_fixes : {x y : Collecting} {ids : List Id} {ms : List Move} → Fixes x ids ms y → IsFlipping x → AreRoots x ids
+    → AreFixed x ids ms y
 flip_fixes (fixes_no_more {x}) f roots = record {
   flipping = f;
   leads = refl;
@@ -224,11 +232,13 @@ flip_fixes (keeps {x} {y} {id} {ids} {these} {those} {c} white ks rest) f roots 
       flipping = r.flipping;
       leads = world_after_moves-append x.world these those ∙ r.leads;
       legal = legal_append x.world these those one.legal r.legal;
-      act = ap (λ ms. ms ++ fix_all (world_after_moves x.world ms) ids) (fix_kept x.world x.running x.colours id these c f.running.runs f.same white ks)
+      act = ap (λ ms. ms ++ fix_all (world_after_moves x.world ms) ids)
+          (fix_kept x.world x.running x.colours id these c f.running.runs f.same white ks)
           ∙ ap (λ ms. these ++ ms) r.act;
       graph = r.graph ∙ one.graph;
       live = λ n. r.live n ∙ one.live n;
-      black = λ n h. r.black n (ap (λ ids. is_white ids (keeping x.colours id) n) one.condemned ∙ still_kept x.running.condemned x.colours id n h);
+      black = λ n h. r.black n (ap (λ ids. is_white ids (keeping x.colours id) n) one.condemned
+          ∙ still_kept x.running.condemned x.colours id n h);
       fixed = λ n h. elim (contains_cases id ids n h) [
         | inl same ↦ r.black n (ap (λ ids. is_white ids (keeping x.colours id) n) one.condemned
             ∙ subst (λ m. is_white x.running.condemned (keeping x.colours id) m ≡ false) same (it_is_kept x.running.condemned x.colours id))

@@ -36,11 +36,13 @@ pub record HasGrains (s : Segment) : Type 0 where
 has_grains : (w : World) (s : Segment) → is_right_segment w s ≡ true → HasGrains s
 has_grains w s h =
     let all = and_parts (address_of_grain (grains_of_segment s).from == s.base && nat_lt 0 s.grains
-    && lies_within (record { from = 1; count = w.grains }) (grains_of_segment s)) (not (is_weak_rank s.rank) || pool_is is_weak_kind w s.pool) h in
+    && lies_within (record { from = 1; count = w.grains }) (grains_of_segment s))
+    (not (is_weak_rank s.rank) || pool_is is_weak_kind w s.pool) h in
     let three = and_parts (address_of_grain (grains_of_segment s).from == s.base && nat_lt 0 s.grains)
     (lies_within (record { from = 1; count = w.grains }) (grains_of_segment s)) all.0 in
     let two = and_parts (address_of_grain (grains_of_segment s).from == s.base) (nat_lt 0 s.grains) three.0 in
-    let within = and_parts (nat_le 1 (grains_of_segment s).from) (nat_le (end_of (grains_of_segment s)) (end_of (record { from = 1; count = w.grains }))) three.1 in
+    let within = and_parts (nat_le 1 (grains_of_segment s).from)
+    (nat_le (end_of (grains_of_segment s)) (end_of (record { from = 1; count = w.grains }))) three.1 in
     record {
       aligned = eqb-true (address_of_grain (grains_of_segment s).from) s.base two.0;
       some = ltb-true 0 s.grains two.1;
@@ -56,7 +58,8 @@ ordered_from w from s (t ∷ ts) all apart low =
     let parts = and_parts (is_right_segment w s) (list_all (is_right_segment w) (t ∷ ts)) all in
     let h = has_grains w s parts.0 in
     let g = has_grains w t (and_parts (is_right_segment w t) (list_all (is_right_segment w) ts) parts.1).0 in
-    let next = and_parts (nat_le (end_of (grains_of_segment s)) (grains_of_segment t).from) (are_apart (map grains_of_segment (t ∷ ts))) apart in
+    let next = and_parts (nat_le (end_of (grains_of_segment s)) (grains_of_segment t).from)
+    (are_apart (map grains_of_segment (t ∷ ts))) apart in
     let ends = leb-true (end_of (grains_of_segment s)) (grains_of_segment t).from next.0 in (
       low,
       (let n = h.some in omega (arith, n)),
@@ -76,7 +79,8 @@ segments_ordered w f =
     let parts = and_parts (list_all (is_right_segment w) w.segments) (are_apart (map grains_of_segment w.segments)) f.segments in
     ordered w w.segments parts.0 parts.1
 
-all_among : (w : World) (s : Segment) (ss : List Segment) → list_all (is_right_segment w) ss ≡ true → IsAmong s ss → is_right_segment w s ≡ true
+all_among : (w : World) (s : Segment) (ss : List Segment) → list_all (is_right_segment w) ss ≡ true → IsAmong s ss
+    → is_right_segment w s ≡ true
 all_among w s [] all h = absurd h
 all_among w s (t ∷ ts) all (inl e) =
     subst (λ (u : Segment). is_right_segment w u ≡ true) e (and_parts (is_right_segment w t) (list_all (is_right_segment w) ts) all).0
@@ -85,7 +89,8 @@ all_among w s (t ∷ ts) all (inr h) = all_among w s ts (and_parts (is_right_seg
 -- and have grains
 pub segment_has_grains : (w : World) → IsWellFormed w → (s : Segment) → IsAmong s w.segments → HasGrains s
 segment_has_grains w f s h =
-    has_grains w s (all_among w s w.segments (and_parts (list_all (is_right_segment w) w.segments) (are_apart (map grains_of_segment w.segments)) f.segments).0 h)
+    has_grains w s (all_among w s w.segments
+    (and_parts (list_all (is_right_segment w) w.segments) (are_apart (map grains_of_segment w.segments)) f.segments).0 h)
 
 -- ---- which segment
 
@@ -146,7 +151,8 @@ base_among (s ∷ ss) base h = elim (or_cases (s.base == base) (contains (bases 
 
 pub base_contained : (s : Segment) (ss : List Segment) → IsAmong s ss → contains (bases ss) s.base ≡ true
 base_contained s [] h = absurd h
-base_contained s (t ∷ ts) (inl e) = or_left (t.base == s.base) (contains (bases ts) s.base) (eq-eqb t.base s.base (ap (λ (u : Segment). u.base) e))
+base_contained s (t ∷ ts) (inl e) = or_left (t.base == s.base) (contains (bases ts) s.base)
+    (eq-eqb t.base s.base (ap (λ (u : Segment). u.base) e))
 base_contained s (t ∷ ts) (inr h) = or_right (t.base == s.base) (contains (bases ts) s.base) (base_contained s ts h)
 
 -- one of these passes a test

@@ -64,14 +64,16 @@ some_shaped like likes (c ∷ cs) h = omega arith
 automatic_here : (w : World) (o : Object) → is_right_object w o ≡ true → is_automatic o ≡ true → IsAutomaticHere w o
 automatic_here w o right automatic = of_pool (pool_at w o.pool) refl right
   where
-    of_body : (p : Pool) (b : Body) → o.body ≡ b → pool_at w o.pool ≡ Some p → is_right_body w p b ≡ true → is_automatic_body b ≡ true → IsAutomaticHere w o
+    of_body : (p : Pool) (b : Body) → o.body ≡ b → pool_at w o.pool ≡ Some p → is_right_body w p b ≡ true → is_automatic_body b ≡ true
+        → IsAutomaticHere w o
     of_body p (Manual words) same e g a = absurd (false≢true a)
     of_body p (Automatic head cells is_weak) same e g a =
         let parts = and_parts (is_automatic_kind p.kind && are_right_cells w p head cells) (not is_weak || is_weak_kind p.kind) g in
         let both = and_parts (is_automatic_kind p.kind) (are_right_cells w p head cells) parts.0 in
         let cells_right = and_parts ((w.formats p.format).is_valid head && are_shaped (new_cells (w.formats p.format) head) cells)
         (list_all (object_is is_automatic w) (targets_of_cells cells)) both.1 in
-        let shaped = (and_parts ((w.formats p.format).is_valid head) (are_shaped (new_cells (w.formats p.format) head) cells) cells_right.0).1 in
+        let shaped = (and_parts ((w.formats p.format).is_valid head)
+        (are_shaped (new_cells (w.formats p.format) head) cells) cells_right.0).1 in
         record {
           pool = ap (λ q. option_map_or (λ (p : Pool). is_automatic_kind p.kind) q false) e ∙ both.0;
           some_words = subst (λ body. 1 ≤ size_of_body body) (sym same)
@@ -93,7 +95,8 @@ module _ (w : World) (rest : IsAtRest w) where
       live : is_live w id ≡ true
       live = automatic_is_live w id h
 
-      of_object : (o : Option Object) → object_at w.graph id ≡ o → option_map_or is_automatic o false ≡ true → is_condemned x.running id ≡ true
+      of_object : (o : Option Object) → object_at w.graph id ≡ o → option_map_or is_automatic o false ≡ true
+          → is_condemned x.running id ≡ true
       of_object None e g = absurd (false≢true g)
       of_object (Some o) e g =
           let here = automatic_here w o (list_all-at (is_right_object w) w.graph.objects id o rest.well_formed.objects e) g in
@@ -166,7 +169,8 @@ module _ (w : World) (first : List Move) (y : Collecting) (rest : IsAtRest w) (s
     in_turn = record {
       cut = ap (λ (g : Graph). g.registered) after.graph;
       next = fixed_next fixed;
-      before = (fixed_same fixed).registered_before ∙ (let e : length w.graph.registered ≡ 0 + length w.graph.registered = omega arith in e);
+      before = (fixed_same fixed).registered_before
+          ∙ (let e : length w.graph.registered ≡ 0 + length w.graph.registered = omega arith in e);
       condemned = λ id h. ap (λ ids. contains ids id) (fixed_same fixed).condemned ∙ everything w rest id (
           let there = and_parts (is_live w id) (object_is is_automatic w id) (list_all-contains (is_live_automatic w) w.graph.registered id
           rest.well_formed.registered (subst (λ (g : Graph). contains g.registered id ≡ true) after.graph h)) in
@@ -181,7 +185,11 @@ module _ (w : World) (first : List Move) (y : Collecting) (rest : IsAtRest w) (s
         | inr held ↦ begins (contains_left (ids_of_client begun.world.graph) (ids_of_area_words begun.world ++ []) id
             (client_of_fixed begun.world.graph id held))
       ];
-      grey = fixed_grey fixed (λ id h. elim (contains_append begun.running.pinned [] id h) [ inl pinned ↦ pinned | inr none ↦ absurd (false≢true none) ]);
+      grey = fixed_grey fixed (λ id h. elim (contains_append begun.running.pinned [] id h) [
+        | inl pinned ↦ pinned
+        | inr none ↦ absurd
+            (false≢true none)
+      ]);
     };
     roots = record {
       live = λ id h. elim (root_cases id h) [

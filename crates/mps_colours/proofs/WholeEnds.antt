@@ -68,7 +68,8 @@ module _ (before flipped_world : World) (sent : flipped_world.graph.messages ≡
   is_decided : (id : Id) → contains (live_automatic_ids flipped_world) id ≡ true → IsDecided flipped_world ended p.posts id
   is_decided id h = decided (is_live ended id) (IsWidelyReachableWith flipped_world p.posts id)
       (λ live. reached_more flipped_world p.posted p.posts (λ n e. sym (p.same n) ∙ e)
-      (kept_reached flipped_world p.posted x id p.reached (p.condemned id h) (all_black x run s freed next last id (sym (live_then id) ∙ live))))
+      (kept_reached flipped_world p.posted x id p.reached (p.condemned id h)
+      (all_black x run s freed next last id (sym (live_then id) ∙ live))))
       (λ dead path.
       let kept = reached_is_kept flipped_world p.posted x run p.alike p.roots drained
       (reached_more flipped_world p.posts p.posted (λ n e. p.same n ∙ e) path) in
@@ -83,7 +84,8 @@ module _ (before flipped_world : World) (sent : flipped_world.graph.messages ≡
   }
 
 last_whole : (before flipped_world : World) → flipped_world.graph.messages ≡ before.graph.messages → (x : Collecting) → Running x
-    → IsWholeSoFar flipped_world x → {piece : List Move} → IsLastUnit x piece → IsWhole before flipped_world (world_after_moves x.world piece)
+    → IsWholeSoFar flipped_world x → {piece : List Move} → IsLastUnit x piece
+    → IsWhole before flipped_world (world_after_moves x.world piece)
 last_whole before flipped_world sent x run p (reclaims_last {s = s} {freed} next last) =
     whole_ended before flipped_world sent x run p s freed next last
 
@@ -129,7 +131,8 @@ module _ (w : World) (first : List Move) (y : Collecting) (rest : IsAtRest w) (s
   pub whole_done : (count : ℕ) (later : List Move) → Ends y count later → IsWholeDone w (act ++ later)
   whole_done count later ends = of_ends ends (to_end count later ends)
     where
-      of_ends : {n : ℕ} {those : List Move} → Ends y n those → FinishesCollection (world_after_moves w act) those → IsWholeDone w (act ++ those)
+      of_ends : {n : ℕ} {those : List Move} → Ends y n those → FinishesCollection (world_after_moves w act) those
+          → IsWholeDone w (act ++ those)
       of_ends (by_last {y = z} {done = done} {piece} row last) finishes =
           let shown = units_shown running row in
           let leads : world_after_moves w (act ++ (done ++ piece)) ≡ world_after_moves z.world piece =
@@ -142,7 +145,8 @@ module _ (w : World) (first : List Move) (y : Collecting) (rest : IsAtRest w) (s
               whole = refl;
               later_ends = finishes;
               exact = subst (λ (v : World). IsWhole w begun.world v) (sym leads)
-                  (last_whole w begun.world refl z shown.running (units_whole begun.world running (whole_begun w first y rest some fixed) row) last);
+                  (last_whole w begun.world refl z shown.running
+                  (units_whole begun.world running (whole_begun w first y rest some fixed) row) last);
             };
             legal = legal_with (done ++ piece) (legal_append y.world done piece shown.legal
                 (subst (λ (v : World). AreLegalAnywhere v piece) (sym shown.leads) (last_unit_shown shown.running last).legal));
@@ -152,7 +156,8 @@ module _ (w : World) (first : List Move) (y : Collecting) (rest : IsAtRest w) (s
 
 module _ (w : World) (rest : IsAtRest w) (nothing : is_nothing (condemned_by w Everything) ≡ true) where
   none_automatic : (id : Id) → contains (live_automatic_ids w) id ≡ true → ⊥
-  none_automatic id h = false≢true (sym (ap (λ ids. contains ids id) (none_condemned w Everything rest refl nothing)) ∙ everything w rest id h)
+  none_automatic id h = false≢true (sym (ap (λ ids. contains ids id) (none_condemned w Everything rest refl nothing))
+      ∙ everything w rest id h)
 
   none_registered : w.graph.registered ≡ []
   none_registered = of_list w.graph.registered (λ id h.

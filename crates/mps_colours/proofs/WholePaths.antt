@@ -43,10 +43,12 @@ pub root_cases : (flipped : World) (posted : List Id) (p id : Id) → contains (
 root_cases flipped posted p id h = elim (contains_append (ids_of_client flipped.graph) (ids_of_area_words flipped ++ (p ∷ posted)) id h) [
   | inl e ↦ inr (contains_left (ids_of_client flipped.graph) (ids_of_area_words flipped ++ posted) id e)
   | inr e ↦ elim (contains_append (ids_of_area_words flipped) (p ∷ posted) id e) [
-    | inl f ↦ inr (contains_right (ids_of_client flipped.graph) (ids_of_area_words flipped ++ posted) id (contains_left (ids_of_area_words flipped) posted id f))
+    | inl f ↦ inr (contains_right (ids_of_client flipped.graph) (ids_of_area_words flipped ++ posted) id
+        (contains_left (ids_of_area_words flipped) posted id f))
     | inr f ↦ elim (contains_cases p posted id f) [
       | inl same ↦ inl same
-      | inr g ↦ inr (contains_right (ids_of_client flipped.graph) (ids_of_area_words flipped ++ posted) id (contains_right (ids_of_area_words flipped) posted id g))
+      | inr g ↦ inr (contains_right (ids_of_client flipped.graph) (ids_of_area_words flipped ++ posted) id
+          (contains_right (ids_of_area_words flipped) posted id g))
     ]
   ]
 ]
@@ -57,7 +59,8 @@ root_cases flipped posted p id h = elim (contains_append (ids_of_client flipped.
 pub fixed_kept : {x y : Collecting} {ids : List Id} {ms : List Move} → Fixes x ids ms y → (n : Id) → contains y.colours.kept n ≡ true
     → (contains x.colours.kept n ≡ true) ⊎ (contains ids n ≡ true)
 fixed_kept fixes_no_more n h = inl h
-fixed_kept (passes {id = id} {ids = ids} black rest) n h = elim (fixed_kept rest n h) [ inl old ↦ inl old | inr later ↦ inr (contains_later id ids n later) ]
+fixed_kept (passes {id = id} {ids = ids} black rest) n
+    h = elim (fixed_kept rest n h) [ inl old ↦ inl old | inr later ↦ inr (contains_later id ids n later) ]
 fixed_kept (keeps {x = x} {id = id} {ids = ids} white keep rest) n h = elim (fixed_kept rest n h) [
   | inl now ↦ elim (contains_cases id x.colours.kept n now) [
     | inl same ↦ inr (subst (λ m. contains (id ∷ ids) m ≡ true) same (contains_here id ids))
@@ -68,7 +71,8 @@ fixed_kept (keeps {x = x} {id = id} {ids = ids} white keep rest) n h = elim (fix
 
 -- what is grey is kept, where it was
 pub fixed_grey : {x y : Collecting} {ids : List Id} {ms : List Move} → Fixes x ids ms y
-    → ((n : Id) → is_grey x.colours n ≡ true → contains x.colours.kept n ≡ true) → (n : Id) → is_grey y.colours n ≡ true → contains y.colours.kept n ≡ true
+    → ((n : Id) → is_grey x.colours n ≡ true → contains x.colours.kept n ≡ true) → (n : Id) → is_grey y.colours n ≡ true
+    → contains y.colours.kept n ≡ true
 fixed_grey fixes_no_more all n h = all n h
 fixed_grey (passes black rest) all n h = fixed_grey rest all n h
 fixed_grey (keeps {x = x} {id = id} white keep rest) all n h =
@@ -98,7 +102,8 @@ fixed_same (keeps white keep rest) =
 
 -- ---- references
 
-strong_here : (o : Option Object) → option_map_or is_weak_object o false ≡ false → option_map_or targets_of o [] ≡ option_map_or strong_targets_of o []
+strong_here : (o : Option Object) → option_map_or is_weak_object o false ≡ false
+    → option_map_or targets_of o [] ≡ option_map_or strong_targets_of o []
 strong_here None e = refl
 strong_here (Some o) e = ap (λ b. if b then [] else targets_of o) (sym e)
 
@@ -107,7 +112,8 @@ pub target_reached : (flipped : World) (posted : List Id) (x : Collecting) (id :
     → AreReached flipped posted x.colours → is_grey x.colours id ≡ true → object_is is_weak_object x.world id ≡ false → (t : Id)
     → contains (targets x.world.graph id) t ≡ true → IsWidelyReachableWith flipped posted t
 target_reached flipped posted x id alike r grey strong t h =
-    goes_on (r.kept id (r.grey id grey)) (subst (λ (ids : List Id). contains ids t ≡ true) (strong_here (object_at x.world.graph id) strong ∙ alike id) h)
+    goes_on (r.kept id (r.grey id grey)) (subst (λ (ids : List Id). contains ids t ≡ true)
+    (strong_here (object_at x.world.graph id) strong ∙ alike id) h)
 
 -- ---- once drained
 
@@ -119,7 +125,8 @@ module _ (flipped : World) (posted : List Id) (x : Collecting) (run : Running x)
       let before = reached_is_kept path in
       let strong = strong_is_target x.world.graph from to (subst (λ (ids : List Id). contains ids to ≡ true) (sym (alike from)) h) in (
         run.coloured.referred_live from to before.0 before.1 strong.0,
-        run.coloured.referred from to before.0 before.1 (not_grey (object_is is_weak_object x.world) x.colours from drained strong.1) strong.0,
+        run.coloured.referred from to before.0 before.1
+            (not_grey (object_is is_weak_object x.world) x.colours from drained strong.1) strong.0,
       )
 
   -- a white object isn't reached

@@ -60,7 +60,8 @@ length_one_more : (xs : List ℕ) (y : ℕ) → length (xs ++ y ∷ []) ≡ leng
 length_one_more [] y = refl
 length_one_more (x ∷ xs) y = ap suc (length_one_more xs y) ∙ (let e : suc (length xs + 1) ≡ suc (length xs) + 1 = omega arith in e)
 
-one_more_same : (these those : List ℕ) (p n : ℕ) → contains these n ≡ contains those n → contains (p ∷ these) n ≡ contains (those ++ p ∷ []) n
+one_more_same : (these those : List ℕ) (p n : ℕ) → contains these n ≡ contains those n
+    → contains (p ∷ these) n ≡ contains (those ++ p ∷ []) n
 one_more_same these those p n same =
     ap (λ b. (p == n) || b) same ∙ (turn (p == n) (contains those n) ∙ sym (list_any-append (λ m. m == n) those (p ∷ [])))
   where
@@ -84,7 +85,8 @@ weak_alike g holder n change weak = of_object (object_at g holder) refl weak
     none_strong o h = ap (λ b. if b then [] else targets_of o) h
 
     of_object : (o : Option Object) → object_at g holder ≡ o → option_map_or is_weak_object o false ≡ true
-        → option_map_or strong_targets_of (slice_get (option_map_or (λ p. slice_set g.objects holder (object_with_cells p change)) o g.objects) n) []
+        → option_map_or strong_targets_of (slice_get
+        (option_map_or (λ p. slice_set g.objects holder (object_with_cells p change)) o g.objects) n) []
         ≡ strong_targets g n
     of_object None e h = refl
     of_object (Some o) e h = written_passes strong_targets_of [] g.objects holder n o (object_with_cells o change) e
@@ -138,11 +140,13 @@ module _ (flipped : World) where
     so_far : (later : List Id) → ArePostsExact flipped p.posted (id ∷ rest) later
         → ArePostsExact flipped [] flipped.graph.registered (p.posts ++ later)
 
-  first_remains : (x : Collecting) (p : IsWholeSoFar flipped x) (id : Id) → slice_get x.world.graph.registered x.next ≡ Some id → IsFirst x p id
+  first_remains : (x : Collecting) (p : IsWholeSoFar flipped x) (id : Id) → slice_get x.world.graph.registered x.next ≡ Some id
+      → IsFirst x p id
   first_remains x p id h = of_rest p.remaining p.in_turn p.so_far
     where
       of_rest : (remaining : List Id) → AreInTurn x p.passed remaining
-          → ((later : List Id) → ArePostsExact flipped p.posted remaining later → ArePostsExact flipped [] flipped.graph.registered (p.posts ++ later))
+          → ((later : List Id) → ArePostsExact flipped p.posted remaining later
+          → ArePostsExact flipped [] flipped.graph.registered (p.posts ++ later))
           → IsFirst x p id
       of_rest [] t so = absurd (none-some id (sym (none_at_end p.passed) ∙ (ap (λ n. slice_get (p.passed ++ []) n) (sym t.next)
           ∙ (ap (λ ids. slice_get ids x.next) (sym t.cut) ∙ h))))
@@ -206,7 +210,8 @@ module _ (flipped : World) where
       let live = run.examined.live_registered id (contains_at x.world.graph.registered x.next id due.registered) in
       let kept = keeps_leaves x.world x.running id run.runs run.different live keep in
       let graph : (world_after_moves x.world ms).graph ≡ x.world.graph = ap (λ (v : World). v.graph) kept.world in
-      let still : (n : Id) → is_live (world_after_moves x.world ms) n ≡ is_live x.world n = λ n. ap (λ (v : World). is_live v n) kept.world ∙ kept.live n in
+      let still : (n : Id) → is_live (world_after_moves x.world ms) n ≡ is_live x.world n = λ n. ap
+      (λ (v : World). is_live v n) kept.world ∙ kept.live n in
       let same = keep_same keep in
       let fresh = white_not_passed x p id (id ∷ f.rest) run t white in
       record {
@@ -226,7 +231,8 @@ module _ (flipped : World) where
           condemned = λ n h. ap (λ ids. contains ids n) same.condemned ∙ t.condemned n (contains-without_first x.world.graph.registered id n
               (subst (λ (g : Graph). contains (without_first g.registered id) n ≡ true) graph h));
         };
-        so_far = λ later exact. subst (λ ids. ArePostsExact flipped [] flipped.graph.registered ids) (sym (append_assoc p.posts (id ∷ []) later))
+        so_far = λ later exact. subst (λ ids. ArePostsExact flipped [] flipped.graph.registered ids)
+            (sym (append_assoc p.posts (id ∷ []) later))
             (f.so_far (id ∷ later) (inl (white_unreached flipped p.posted x run p.alike p.roots due.drained id white, (refl, exact))));
         alike = λ n. ap (λ (g : Graph). strong_targets g n) graph ∙ p.alike n;
         reached = record {
@@ -247,7 +253,8 @@ module _ (flipped : World) where
             | inr old ↦ p.roots.live n old
           ];
           kept = λ n h. ap (λ ids. is_white ids (keeping x.colours id) n) same.condemned ∙ elim (root_cases flipped p.posted id n h) [
-            | inl it ↦ subst (λ m. is_white x.running.condemned (keeping x.colours id) m ≡ false) it (it_is_kept x.running.condemned x.colours id)
+            | inl it ↦ subst (λ m. is_white x.running.condemned (keeping x.colours id) m ≡ false) it
+                (it_is_kept x.running.condemned x.colours id)
             | inr old ↦ still_kept x.running.condemned x.colours id n (p.roots.kept n old)
           ];
         };
@@ -283,7 +290,8 @@ module _ (flipped : World) where
       of_body (Automatic head cells is_weak) = refl
       of_body (Manual words) = refl
 
-  all_splatted : {holder : Id} {x y : Collecting} {cells : List ℕ} → Splats holder x cells y → object_is is_weak_object x.world holder ≡ true
+  all_splatted : {holder : Id} {x y : Collecting} {cells : List ℕ} → Splats holder x cells y
+      → object_is is_weak_object x.world holder ≡ true
       → IsWholeSoFar flipped x → IsWholeSoFar flipped y
   all_splatted (splats_no_more kept) weak p = p
   all_splatted {holder} {x} (splats_cell {cell = cell} is white rest) weak p =
@@ -330,7 +338,8 @@ module _ (flipped : World) where
       let leads = goes_on_leads x run s freed next not_last in
       let same : final_collection x run s freed next ≡ c =
       same_Some (final_collection x run s freed next) c (sym (ap (λ (v : World). v.collection) leads) ∙ runs) in
-      let condemned : (n : Id) → contains c.condemned n ≡ contains x.running.condemned n = λ n. ap (λ (d : Collection). contains d.condemned n) (sym same) in
+      let condemned : (n : Id) → contains c.condemned n ≡ contains x.running.condemned n = λ n. ap
+      (λ (d : Collection). contains d.condemned n) (sym same) in
       record {
         posted = p.posted;
         posts = p.posts;
@@ -365,6 +374,7 @@ module _ (flipped : World) where
   unit_whole {x} run p (reclaims {s = s} {freed} {c} next not_last runs) = reclaimed_whole x s freed c run p next not_last runs
 
   -- and a row of units
-  pub units_whole : {x y : Collecting} {count : ℕ} {ms : List Move} → Running x → IsWholeSoFar flipped x → GoesOn x count ms y → IsWholeSoFar flipped y
+  pub units_whole : {x y : Collecting} {count : ℕ} {ms : List Move} → Running x → IsWholeSoFar flipped x → GoesOn x count ms y
+      → IsWholeSoFar flipped y
   units_whole run p begun = p
   units_whole run p (by_one_more row unit) = unit_whole (units_shown run row).running (units_whole run p row) unit
