@@ -104,7 +104,13 @@ module _ (p : Run → Bool) where
         | inl first ↦ inl (first_reserved o k (slice_set ps n q) (slice_set ms n m) first)
         | inr later ↦ elim (reserved_written ps ms n q m later) [
           | inl still ↦ inl (later_reserved o k (slice_set ps n q) (slice_set ms n m) still)
-          | inr at ↦ inr (record { point = at.point; memory = at.memory; is_point = at.is_point; is_memory = at.is_memory; passes = at.passes })
+          | inr at ↦ inr (record {
+            point = at.point;
+            memory = at.memory;
+            is_point = at.is_point;
+            is_memory = at.is_memory;
+            passes = at.passes;
+          })
         ]
       ]
 
@@ -127,7 +133,13 @@ module _ (p : Run → Bool) where
         | inl first ↦ inl (first_reserved o k (slice_set ps n q) ms first)
         | inr later ↦ elim (reserved_point_written ps ms n q later) [
           | inl still ↦ inl (later_reserved o k (slice_set ps n q) ms still)
-          | inr at ↦ inr (record { point = at.point; memory = at.memory; is_point = at.is_point; is_memory = at.is_memory; passes = at.passes })
+          | inr at ↦ inr (record {
+            point = at.point;
+            memory = at.memory;
+            is_point = at.is_point;
+            is_memory = at.is_memory;
+            passes = at.passes;
+          })
         ]
       ]
 
@@ -225,13 +237,25 @@ extents_freed p (o ∷ os) (Some at ∷ addresses) zero
     ]
 extents_freed p (o ∷ os) (None ∷ addresses) (suc n) h = elim (extents_freed p os addresses n h) [
   | inl still ↦ inl still
-  | inr gone ↦ inr (record { object = gone.object; at = gone.at; is_object = gone.is_object; is_at = gone.is_at; passes = gone.passes })
+  | inr gone ↦ inr (record {
+    object = gone.object;
+    at = gone.at;
+    is_object = gone.is_object;
+    is_at = gone.is_at;
+    passes = gone.passes;
+  })
 ]
 extents_freed p (o ∷ os) (Some at ∷ addresses)
     (suc n) h = elim (or_cases (p (extent at (size_of o))) (list_any p (extents_of os addresses)) h) [
       | inl first ↦ inl (first_extent p o at os (slice_set addresses n None) first)
       | inr later ↦ elim (extents_freed p os addresses n later) [
         | inl still ↦ inl (later_extent p o (Some at) os (slice_set addresses n None) still)
-        | inr gone ↦ inr (record { object = gone.object; at = gone.at; is_object = gone.is_object; is_at = gone.is_at; passes = gone.passes })
+        | inr gone ↦ inr (record {
+          object = gone.object;
+          at = gone.at;
+          is_object = gone.is_object;
+          is_at = gone.is_at;
+          passes = gone.passes;
+        })
       ]
     ]
