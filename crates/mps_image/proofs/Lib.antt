@@ -29,3 +29,4 @@ pub mod Reservations
 pub mod Allocated
 pub mod Laws
 pub mod ClientLaws
+pub mod OpenRuns
