@@ -30,3 +30,4 @@ pub mod Allocated
 pub mod Laws
 pub mod ClientLaws
 pub mod OpenRuns
+pub mod SegmentWords

@@ -9,3 +9,4 @@ pub mod Changes
 pub mod Steps
 pub mod Laws
 pub mod ClientLaws
+pub mod SegmentWords

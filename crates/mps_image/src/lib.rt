@@ -5,6 +5,7 @@
 ghost use Rattle.mps_image.specs.AtRest.{RestingWordsAreImages, RestingArenaHoldsImages};
 ghost use Rattle.mps_image.specs.Steps.{AFixIsAStep};
 ghost use Rattle.mps_image.specs.ClientLaws.{ACellOfAnObjectIsWritten, AReservationIsMade, AReservationIsWritten, AReservationEnds, ABlockIsCommitted, CommittedCellsAreFixed, ABlockIsAllocated, AManualBlockIsFreed, AWhiteBlockIsFreed};
+ghost use Rattle.mps_image.specs.SegmentWords.{OpenWordsAreFree, SegmentsAreHome};
 ghost use Rattle.mps_image.specs.Laws.{AnAddressIsFixed, AWordIsFixed, AScanBlackens, ACellIsWritten, AnObjectIsMade, ABlockGoes, ReservationsChange, AFlipBegins, FreeingBegins, ACollectionEnds, WellFormedIsShaped};
 
 /// Where no collection runs, the words of each live block are its image exactly where its cells' words refer to addresses of now.
@@ -120,4 +121,14 @@ pub fn a_manual_block_is_freed()
 /// A collection frees a white block, once nothing is grey.
 pub fn a_white_block_is_freed()
     ensures { AWhiteBlockIsFreed }
+{}
+
+/// Words that the segments found to be open are free, where no block was that has moved.
+pub fn open_words_are_free()
+    ensures { OpenWordsAreFree }
+{}
+
+/// Words of one held segment are home to its pool.
+pub fn segments_are_home()
+    ensures { SegmentsAreHome }
 {}
