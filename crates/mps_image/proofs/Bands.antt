@@ -3,7 +3,7 @@ use Rattle.std.proofs.Common.{◌≡◌, ◌∙◌, ℕ, Bool, false, refl, sym,
 use Rattle.std.proofs.lemmas.Bool.{true≢false, and_from}
 use Rattle.std.proofs.lemmas.Option.{none-some, same_Some}
 use Rattle.std.specs.Prelude.{slice_get, not, IsTrue}
-use Rattle.mps_base.specs.Address.{Address, Id, Word}
+use Rattle.mps_base.specs.Address.{Address, Id, Word, word_of}
 use Rattle.mps_model.specs.Graph.{Cell, Object, Point, Reservation, entry_at, target_of_cell}
 use Rattle.mps_model.specs.Checked.{head_of_body}
 use Rattle.mps_model.specs.World.{PointMemory}
@@ -27,13 +27,28 @@ module _ (s : Setting) (m m' : Memory) (addresses : List (Option Address)) (k k'
   after = setting_flipped s addresses points memories condemned is_condemned_over
 
   -- at a flip: the words are as they were, no reservation is live any more, and black objects refer to nothing white
-  pub flip_stands : ImageStands s m addresses k done → LieApart after addresses
+  pub flip_stands : ImageStands s m addresses k done
+      → ((id i : ℕ) (o : Object) (n : Word) (at : Address) → Lies s.objects addresses id i o n → entry_at addresses id ≡ Some at
+      → is_condemned_over n ≡ is_condemned_over (word_of at))
       → ((id i : ℕ) (o : Object) (c : Cell) (t : Id) → IsTrue (is_black condemned k' id) → slice_get s.objects id ≡ Some o
       → slice_get (all_cells o.body) i ≡ Some c → target_of_cell c ≡ Some t → is_white condemned k' t ≡ false)
       → ((point : ℕ) (r : Reservation) → live_reservation (entry_at points point) ≡ Some r → ⊥)
       → MarksStand after m'.kept m'.grey addresses k' → RunsStand after m' addresses → Stands after m' addresses k'
-  flip_stands st placed targets doomed marks runs = record {
-    placed = placed;
+  flip_stands st whole targets doomed marks runs = record {
+    placed = record {
+      exists = st.placed.exists;
+      positive = st.placed.positive;
+      address = st.placed.address;
+      address_at_flip = st.placed.address;
+      within = st.placed.within;
+      apart = st.placed.apart;
+      home = st.placed.home;
+      whole = whole;
+      reserved_positive = λ point r live. absurd (doomed point r live);
+      reserved_within = λ point i r n l. absurd (doomed point r l.reserved);
+      reserved_alone = λ a b i j r q n l l'. absurd (doomed a r l.reserved);
+      reserved_apart = λ id point i j o r n l l'. doomed point r l'.reserved;
+    };
     words = record {
       long = ap length same ∙ st.words.long;
       cells = λ id i o n c read l cell. holds_still addresses addresses (head_of_body o.body) c (slice_index m'.words n)
@@ -98,12 +113,26 @@ pub collection_ends : (s : Setting) (m m' : Memory) (addresses : List (Option Ad
     → ((id : Id) (at : Address) → entry_at addresses id ≡ Some at → is_white s.condemned k id ≡ false)
     → ((id : Id) (at : Address) → entry_at addresses id ≡ Some at → is_grey k id ≡ false) → m'.words ≡ m.words
     → Stands s m addresses k
-    → LieApart (setting_flipped s [] s.points s.point_memories [] is_condemned_over) addresses
+    → ((id i : ℕ) (o : Object) (n : Word) (at : Address) → Lies s.objects addresses id i o n → entry_at addresses id ≡ Some at
+    → is_condemned_over n ≡ is_condemned_over (word_of at))
     → MarksStand (setting_flipped s [] s.points s.point_memories [] is_condemned_over) m'.kept m'.grey addresses k'
     → RunsStand (setting_flipped s [] s.points s.point_memories [] is_condemned_over) m' addresses
     → Stands (setting_flipped s [] s.points s.point_memories [] is_condemned_over) m' addresses k'
-collection_ends s m m' addresses k k' is_condemned_over none_white none_grey same st placed marks runs = record {
-  placed = placed;
+collection_ends s m m' addresses k k' is_condemned_over none_white none_grey same st whole marks runs = record {
+  placed = record {
+    exists = st.placed.exists;
+    positive = st.placed.positive;
+    address = st.placed.address;
+    address_at_flip = λ id at e. absurd (none-some at e);
+    within = st.placed.within;
+    apart = st.placed.apart;
+    home = st.placed.home;
+    whole = whole;
+    reserved_positive = st.placed.reserved_positive;
+    reserved_within = st.placed.reserved_within;
+    reserved_alone = st.placed.reserved_alone;
+    reserved_apart = st.placed.reserved_apart;
+  };
   words = record {
     long = ap length same ∙ st.words.long;
     cells = λ id i o n c read l cell. (fixed id i o n c l cell).holds;

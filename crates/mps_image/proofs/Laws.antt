@@ -36,8 +36,8 @@ pub reservations_change : ReservationsChange
 reservations_change s m m' addresses k done points memories st v = image_reserved s m m' addresses k done points memories st v
 
 pub flip_begins : AFlipBegins
-flip_begins s m m' addresses k k' done points memories condemned is_condemned_over none all_read same st placed targets doomed marks runs =
-    bands.flip_stands s m m' addresses k k' done points memories condemned is_condemned_over none all_read same st placed targets doomed
+flip_begins s m m' addresses k k' done points memories condemned is_condemned_over none all_read same st whole targets doomed marks runs =
+    bands.flip_stands s m m' addresses k k' done points memories condemned is_condemned_over none all_read same st whole targets doomed
     marks
     runs
 
@@ -45,8 +45,8 @@ pub freeing_begins : FreeingBegins
 freeing_begins s m addresses k none_grey st = bands.freeing_begins s m addresses k none_grey st
 
 pub collection_ends : ACollectionEnds
-collection_ends s m m' addresses k k' is_condemned_over none_white none_grey same st placed marks runs =
-    bands.collection_ends s m m' addresses k k' is_condemned_over none_white none_grey same st placed marks runs
+collection_ends s m m' addresses k k' is_condemned_over none_white none_grey same st whole marks runs =
+    bands.collection_ends s m m' addresses k k' is_condemned_over none_white none_grey same st whole marks runs
 
 pub well_formed_is_shaped : WellFormedIsShaped
 well_formed_is_shaped w lawful right = are_shaped_objects w lawful right.objects

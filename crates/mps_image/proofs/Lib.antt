@@ -31,3 +31,4 @@ pub mod Laws
 pub mod ClientLaws
 pub mod OpenRuns
 pub mod SegmentWords
+pub mod ArenaLaws

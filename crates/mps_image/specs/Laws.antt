@@ -94,7 +94,8 @@ AFlipBegins =
     (s : Setting) (m m' : Memory) (addresses : List (Option Address)) (k k' : Colours) (done : CellSet) (points : List (Option Point))
     (memories : List PointMemory) (condemned : List Id) (is_condemned_over : Word → Bool) → s.at_flip ≡ [] → AreAllRead s
     → m'.words ≡ m.words → ImageStands s m addresses k done
-    → LieApart (setting_flipped s addresses points memories condemned is_condemned_over) addresses
+    → ((id i : ℕ) (o : Object) (n : Word) (at : Address) → Lies s.objects addresses id i o n → entry_at addresses id ≡ Some at
+    → is_condemned_over n ≡ is_condemned_over (word_of at))
     → ((id i : ℕ) (o : Object) (c : Cell) (t : Id) → IsTrue (is_black condemned k' id) → slice_get s.objects id ≡ Some o
     → slice_get (all_cells o.body) i ≡ Some c → target_of_cell c ≡ Some t → is_white condemned k' t ≡ false)
     → ((point : ℕ) (r : Reservation) → live_reservation (entry_at points point) ≡ Some r → ⊥)
@@ -115,7 +116,8 @@ ACollectionEnds =
     (s : Setting) (m m' : Memory) (addresses : List (Option Address)) (k k' : Colours) (is_condemned_over : Word → Bool)
     → ((id : Id) (at : Address) → entry_at addresses id ≡ Some at → is_white s.condemned k id ≡ false)
     → ((id : Id) (at : Address) → entry_at addresses id ≡ Some at → is_grey k id ≡ false) → m'.words ≡ m.words → Stands s m addresses k
-    → LieApart (setting_flipped s [] s.points s.point_memories [] is_condemned_over) addresses
+    → ((id i : ℕ) (o : Object) (n : Word) (at : Address) → Lies s.objects addresses id i o n → entry_at addresses id ≡ Some at
+    → is_condemned_over n ≡ is_condemned_over (word_of at))
     → MarksStand (setting_flipped s [] s.points s.point_memories [] is_condemned_over) m'.kept m'.grey addresses k'
     → RunsStand (setting_flipped s [] s.points s.point_memories [] is_condemned_over) m' addresses
     → Stands (setting_flipped s [] s.points s.point_memories [] is_condemned_over) m' addresses k'

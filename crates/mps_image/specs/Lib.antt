@@ -10,3 +10,4 @@ pub mod Steps
 pub mod Laws
 pub mod ClientLaws
 pub mod SegmentWords
+pub mod ArenaLaws

@@ -2,6 +2,7 @@
 //! Each function does nothing; what it shows is its contract.
 #![tactic(auto)]
 
+ghost use Rattle.mps_image.specs.ArenaLaws.{ANewArenaStands, SegmentsChange, PointsChange};
 ghost use Rattle.mps_image.specs.AtRest.{RestingWordsAreImages, RestingArenaHoldsImages};
 ghost use Rattle.mps_image.specs.Steps.{AFixIsAStep};
 ghost use Rattle.mps_image.specs.ClientLaws.{ACellOfAnObjectIsWritten, AReservationIsMade, AReservationIsWritten, AReservationEnds, ABlockIsCommitted, CommittedCellsAreFixed, ABlockIsAllocated, AManualBlockIsFreed, AWhiteBlockIsFreed};
@@ -131,4 +132,19 @@ pub fn open_words_are_free()
 /// Words of one held segment are home to its pool.
 pub fn segments_are_home()
     ensures { SegmentsAreHome }
+{}
+
+/// A new arena stands for no object.
+pub fn a_new_arena_stands()
+    ensures { ANewArenaStands }
+{}
+
+/// Segments are taken, or given back where nothing lies.
+pub fn segments_change()
+    ensures { SegmentsChange }
+{}
+
+/// Points are made and dropped that have no live reservation.
+pub fn points_change()
+    ensures { PointsChange }
 {}
