@@ -1,18 +1,16 @@
 -- A new arena, segments that are taken and given back, points that are made and dropped.
-use Rattle.std.proofs.Common.{◌≡◌, ◌∙◌, ℕ, ◌+◌, ◌*◌, ◌<◌, Bool, true, false, refl, sym, ap, subst, List, [], ◌++◌, length, replicate, Option, Some, None, inl, inr, arith}
-use Rattle.std.proofs.lemmas.Bool.{false≢true, cases_lt, or_cases}
+use Rattle.std.proofs.Common.{◌≡◌, ◌∙◌, ℕ, ◌+◌, ◌*◌, Bool, false, refl, sym, ap, ◌++◌, replicate, Some, inl, inr, arith}
+use Rattle.std.proofs.lemmas.Bool.{false≢true, cases_lt}
 use Rattle.std.proofs.lemmas.Option.{none-some}
 use Rattle.std.proofs.lemmas.List.{length-replicate, get_or-replicate, get_or_past}
-use Rattle.std.specs.Prelude.{slice_get, not, ◌&&◌, ◌||◌, IsTrue}
+use Rattle.std.specs.Prelude.{not, ◌&&◌, ◌||◌, IsTrue}
 use Rattle.mps_base.specs.Address.{Address, Id, Word, word_of, words_of_grain}
 use Rattle.mps_base.specs.Run.{in_order}
 use Rattle.mps_bits.specs.Table.{bit}
-use Rattle.mps_model.specs.Graph.{Object, Reservation, entry_at, size_of}
+use Rattle.mps_model.specs.Graph.{Reservation, entry_at}
 use Rattle.mps_model.specs.World.{extents_of}
 use Rattle.mps_seg.specs.Segs.{new_segments}
-use Rattle.mps_image.specs.Memory.{Setting, LiesReserved, BlockBegins, memory_in, words_of_arena}
-use Rattle.mps_image.specs.Image.{is_white_over}
-use Rattle.mps_image.specs.Changes.{setting_with_points}
+use Rattle.mps_image.specs.Memory.{LiesReserved, memory_in, words_of_arena}
 use Rattle.mps_image.specs.ArenaLaws.{ANewArenaStands, SegmentsChange, PointsChange}
 use Rattle.mps_image.proofs.Marked.{begins_there}
 use Rattle.mps_image.proofs.Reservations.{apart_still, reserved_unforwarded}

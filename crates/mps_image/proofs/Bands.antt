@@ -9,7 +9,7 @@ use Rattle.mps_model.specs.Checked.{head_of_body}
 use Rattle.mps_model.specs.World.{PointMemory}
 use Rattle.mps_colours.specs.Colours.{Colours, is_white, is_grey, is_black}
 use Rattle.mps_image.specs.Memory.{Setting, Memory, Lies, all_cells, live_reservation}
-use Rattle.mps_image.specs.Image.{IsCellWord, LieApart, IsFixed, CellSet, MarksStand, RunsStand, ImageStands, Stands}
+use Rattle.mps_image.specs.Image.{IsCellWord, IsFixed, CellSet, MarksStand, RunsStand, ImageStands, Stands}
 use Rattle.mps_image.specs.Bands.{setting_flipped, setting_freeing}
 use Rattle.mps_image.proofs.Written.{holds_still}
 

@@ -1,18 +1,17 @@
 -- Where the segments have a run of words that nothing covers, no object and no live reservation lies.
-use Rattle.std.proofs.Common.{◌≡◌, ◌∙◌, ◌⊎◌, ℕ, zero, suc, ◌+◌, ◌*◌, ◌<◌, ◌≤◌, Bool, true, false, refl, sym, ap, List, [], ◌∷◌, ◌++◌, length, Option, Some, None, subst, inl, inr, arith}
+use Rattle.std.proofs.Common.{◌≡◌, ℕ, zero, suc, ◌+◌, ◌<◌, ◌≤◌, true, false, List, [], ◌∷◌, ◌++◌, length, Option, Some, None, subst, inl, inr, arith}
 use Rattle.std.proofs.lemmas.Bool.{cases_lt}
 use Rattle.std.proofs.lemmas.Option.{none-some, same_Some}
-use Rattle.std.specs.Prelude.{slice_get, option_and_then, nat_lt, if◌then◌else◌}
+use Rattle.std.specs.Prelude.{slice_get, nat_lt, if◌then◌else◌}
 use Rattle.std.specs.List.{AllByRecursion}
-use Rattle.mps_base.specs.Address.{Address, Id, Word, word_of}
+use Rattle.mps_base.specs.Address.{Address, Id, word_of}
 use Rattle.mps_base.specs.Run.{Run, Covers, IsAscending, end_of, in_order, with_run}
 use Rattle.mps_base.proofs.Runs.{with_run_first, with_run_later, IsAscending-bounds}
 use Rattle.mps_model.specs.Graph.{Object, Point, Reservation, entry_at, size_of}
 use Rattle.mps_model.specs.World.{PointMemory, extent, extents_of, extent_of_reservation, reserved_extents}
-use Rattle.mps_image.specs.Memory.{Setting, Memory, Lies, LiesReserved, live_reservation}
+use Rattle.mps_image.specs.Memory.{Setting, Memory, live_reservation}
 use Rattle.mps_image.specs.Image.{RunsStand}
 use Rattle.mps_image.specs.Changes.{AreFree, IsUnforwarded}
-use Rattle.mps_image.proofs.Extents.{reserved_extent}
 use Rattle.mps_image.proofs.ChangedRuns.{extent_live}
 
 -- no number lies in both
@@ -24,11 +23,10 @@ AreApart r s = (n : ℕ) → Covers r n → Covers s n → ⊥
 -- ascending runs from a number on are apart from what ends there
 all_above : (low high : ℕ) (r : Run) (rs : List Run) → end_of r ≤ low → IsAscending low high rs → AllByRecursion (AreApart r) rs
 all_above low high r [] before ascending = tt
-all_above low high r (x ∷ xs) before ascending =
-    (
-      (λ n in_r in_x. omega (arith, before, ascending.0, in_r.1, in_x.0)),
-      all_above (end_of x) high r xs (omega (arith, before, ascending.0, ascending.1)) ascending.2
-    )
+all_above low high r (x ∷ xs) before ascending = (
+  (λ n in_r in_x. omega (arith, before, ascending.0, in_r.1, in_x.0)),
+  all_above (end_of x) high r xs (omega (arith, before, ascending.0, ascending.1)) ascending.2,
+)
 
 put_above : (low high : ℕ) (r : Run) (rs : List Run) → IsAscending low high (with_run r rs) → (low ≤ r.from) × (end_of r ≤ high)
 put_above low high r [] ascending = (ascending.0, ascending.2)
@@ -60,7 +58,7 @@ all_from_put : (P : Run → Type 0) (r : Run) (rs : List Run) → AllByRecursion
 all_from_put P r [] all = (all.0, tt)
 all_from_put P r (x ∷ xs) all =
     elim (nat_lt r.from x.from)
-        as (λ t. AllByRecursion P (if t then r ∷ x ∷ xs else x ∷ with_run r xs) → P r × AllByRecursion P (x ∷ xs)) [
+    as (λ t. AllByRecursion P (if t then r ∷ x ∷ xs else x ∷ with_run r xs) → P r × AllByRecursion P (x ∷ xs)) [
       | true ↦ (λ a. (a.0, a.1))
       | false ↦ (λ a. let rest = all_from_put P r xs a.1 in (rest.0, (a.0, rest.1)))
     ] all

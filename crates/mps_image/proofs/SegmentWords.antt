@@ -1,17 +1,16 @@
 -- The words of a held segment: the segment over each of them is that one.
-use Rattle.std.proofs.Common.{◌≡◌, ◌∙◌, ◌⊎◌, ℕ, zero, suc, ◌+◌, ◌*◌, ◌^◌, ◌<◌, ◌≤◌, Bool, true, false, refl, sym, ap, subst, List, [], ◌∷◌, length, map, Option, Some, None, Contains, inl, inr, arith}
+use Rattle.std.proofs.Common.{◌≡◌, ◌∙◌, ◌⊎◌, ℕ, zero, suc, ◌+◌, ◌<◌, ◌≤◌, true, false, sym, ap, subst, List, [], ◌∷◌, map, Option, Some, Contains, inl, inr, arith}
 use Rattle.std.proofs.lemmas.Bool.{le-leb, lt-ltb, le-ltb, and_from, and_right, cond-true, cond-false}
-use Rattle.std.specs.Prelude.{find, nat_le, nat_lt, ◌&&◌, option_map}
+use Rattle.std.specs.Prelude.{nat_le, nat_lt, option_map}
 use Rattle.std.specs.List.{AllByRecursion}
-use Rattle.mps_base.specs.Address.{Address, Word, word_of, address_of_grain, address_of_word, grain_of, max_grains}
-use Rattle.mps_base.specs.Run.{Run, Covers, IsAscending, end_of, with_run}
+use Rattle.mps_base.specs.Address.{Word, word_of, address_of_grain, address_of_word, grain_of, max_grains}
+use Rattle.mps_base.specs.Run.{Covers, IsAscending, end_of, with_run}
 use Rattle.mps_base.specs.Segment.{Segment, grains_of_segment, words_of_segment, end_of_segment, is_in_segment, segment_over}
 use Rattle.mps_base.proofs.Runs.{contains_first, contains_later, contained_bounds}
-use Rattle.mps_seg.specs.Segs.{SegsState}
 use Rattle.mps_model.specs.World.{extent}
 use Rattle.mps_seg.specs.Collecting.{bit_of}
-use Rattle.mps_image.specs.Memory.{memory_in, pool_over_word, is_condemned_word}
-use Rattle.mps_image.specs.SegmentWords.{AreSegmentsInOrder, OpenWordsAreFree, SegmentsAreHome}
+use Rattle.mps_image.specs.Memory.{memory_in}
+use Rattle.mps_image.specs.SegmentWords.{OpenWordsAreFree, SegmentsAreHome}
 use Rattle.mps_image.proofs.OpenRuns.{open_is_free}
 
 contains_cases : (ss : List Segment) (t s : Segment) → Contains (s ∷ ss) t → (s ≡ t) ⊎ Contains ss t
@@ -89,7 +88,7 @@ segments_are_home g objects points memories layout at_flip condemned is_read t a
     in
     let found : (k : ℕ) → k < size → segment_over g.segments (address_of_word (word_of at + k)) ≡ Some t =
     λ k lt. over_word 1 (max_grains + 1) g.segments t (word_of at + k) order.aligned order.ascending there
-      (omega (arith, above), omega (arith, below, lt, base))
+    (omega (arith, above), omega (arith, below, lt, base))
     in
     let first : segment_over g.segments (address_of_word (word_of at)) ≡ Some t =
     ap (λ n. segment_over g.segments (address_of_word n)) (let e : word_of at ≡ word_of at + 0 = omega arith in e) ∙ found 0 some

@@ -1,9 +1,12 @@
 -- What is shown of a new arena, of segments that are taken and given back, and of points that are made and dropped.
-use Rattle.std.specs.Prelude.{◌≡◌, ◌≢◌, ℕ, ◌+◌, ◌<◌, Bool, Option, Some, None, List, [], slice_get}
+use Rattle.std.specs.Prelude.{◌≡◌, ◌≢◌, ℕ, ◌+◌, ◌<◌, Bool, true, false, Option, Some, None, List, [], ◌∷◌, slice_get, refl}
+use Rattle.std.proofs.Common.{lit<}
+use Rattle.std.proofs.lemmas.Option.{none-some}
 use Rattle.mps_base.specs.Address.{Address, Id, Word, word_of}
 use Rattle.mps_format.specs.Layout.{Layout}
+use Rattle.mps_format.specs.Any.{numbered_layout}
 use Rattle.mps_seg.specs.Segs.{new_segments}
-use Rattle.mps_model.specs.Graph.{Object, Point, Reservation, entry_at, size_of}
+use Rattle.mps_model.specs.Graph.{Manual, Object, Point, Reservation, entry_at, size_of}
 use Rattle.mps_model.specs.World.{PointMemory, reserved_extents}
 use Rattle.mps_colours.specs.Colours.{Colours}
 use Rattle.mps_image.specs.Memory.{Setting, Memory, Lies, memory_in, setting_at_rest, live_reservation}
@@ -48,3 +51,22 @@ PointsChange =
     → ((i : ℕ) (r : Reservation) → live_reservation (entry_at points i) ≡ Some r → live_reservation (entry_at s.points i) ≡ Some r)
     → reserved_extents points memories ≡ reserved_extents s.points s.point_memories
     → ImageStands (setting_with_points s points memories) m addresses k done
+
+-- ---- vectors: a manual object at 0x1000, in a segment of pool 7
+
+abbrev one : Object
+one = record { pool = 7; body = Manual (5 ∷ []) }
+
+abbrev example : Setting
+example = record (setting_at_rest (new_segments 2 2) (one ∷ []) [] [] numbered_layout) { pool_over = λ n. Some 7 }
+
+pub its_segment_is_given_back : AreSegmentsKept example (Some 0x1000 ∷ []) (λ n. None) (λ n. false) → ⊥
+its_segment_is_given_back kept =
+    none-some 7 (kept.pool 0 0 one 512 (record { at = 0x1000; address = refl; object = refl; within = lit< tt; is = refl }))
+
+pub it_is_condemned : AreSegmentsKept example (Some 0x1000 ∷ []) (λ n. Some 7) (λ n. true) → ⊥
+it_is_condemned kept =
+    let e : true ≡ false =
+    kept.is_condemned 0 0 one 512 (record { at = 0x1000; address = refl; object = refl; within = lit< tt; is = refl })
+    in
+    absurd cc

@@ -1,15 +1,17 @@
 -- What a client's call changes, by what it does: a cell is written, an object is made or goes, or reservations change. The memory
 -- then stands for the objects as before.
 use Rattle.std.specs.Prelude.{◌≡◌, ◌≢◌, ◌⊎◌, ℕ, ◌+◌, ◌<◌, Bool, false, IsTrue, Option, Some, None, List, [], ◌∷◌, ◌++◌, length, slice_get, slice_set, slice_index, refl}
-use Rattle.std.proofs.Common.{ap, arith, inl, inr, ◌∙◌}
-use Rattle.std.proofs.lemmas.Option.{same_Some}
+use Rattle.std.proofs.Common.{ap, arith, inl, inr, lit<, ◌∙◌}
+use Rattle.std.proofs.lemmas.Option.{none-some, same_Some}
 use Rattle.mps_base.specs.Address.{Address, Id, Word, word_of}
 use Rattle.mps_base.specs.Run.{with_run, without_run}
+use Rattle.mps_format.specs.Any.{numbered_layout}
+use Rattle.mps_seg.specs.Segs.{new_segments}
 use Rattle.mps_model.specs.Graph.{Cell, HeadCell, NumberCell, ReferenceCell, Manual, Object, Point, Reservation, entry_at, size_of, target_of_cell}
 use Rattle.mps_model.specs.Checked.{head_of_body}
 use Rattle.mps_model.specs.World.{PointMemory, extent, extents_of}
 use Rattle.mps_colours.specs.Colours.{Colours, is_white, is_grey}
-use Rattle.mps_image.specs.Memory.{Setting, Memory, Lies, LiesReserved, all_cells}
+use Rattle.mps_image.specs.Memory.{Setting, Memory, Lies, LiesReserved, all_cells, setting_at_rest}
 use Rattle.mps_image.specs.Image.{IsAddress, LieApart, IsFixed, CellSet, RunsStand, is_white_over}
 use Rattle.mps_image.specs.Fixing.{IsMarkCleared}
 
@@ -216,3 +218,18 @@ another_cell_that_changes changed =
         let cell : Some (NumberCell 5) ≡ Some (NumberCell 4) = ap (λ (o : Object). slice_get (all_cells o.body) 0) same ∙ e.1 in
         let number : 5 ≡ 4 = ap number_of (same_Some (NumberCell 5) (NumberCell 4) cell) in
         omega (arith, number)
+
+-- an arena of two grains without a segment, and a manual object at 0x1000
+abbrev example : Setting
+example = setting_at_rest (new_segments 2 2) (number 5 6 ∷ []) [] [] numbered_layout
+
+pub a_word_that_is_taken : AreFree example (Some 0x1000 ∷ []) 0x1008 1 → ⊥
+a_word_that_is_taken free =
+    free.unoccupied 0 0 1 (number 5 6) (lit< tt)
+    (record { at = 0x1000; address = refl; object = refl; within = lit< tt; is = refl })
+
+pub a_word_past_the_arena : AreFree example [] 0x3000 1 → ⊥
+a_word_past_the_arena free = let h : 1536 < 1536 = free.within 0 (lit< tt) in omega (arith, h)
+
+pub no_segment_is_no_home : AreHome example 0x1000 1 0 → ⊥
+no_segment_is_no_home home = none-some 0 (home.over 0 (lit< tt))

@@ -8,7 +8,7 @@ use Rattle.mps_model.specs.World.{World, PointMemory}
 use Rattle.mps_model.specs.WellFormed.{IsWellFormed}
 use Rattle.mps_colours.specs.Colours.{Colours, is_white, is_grey, is_black, blackened}
 use Rattle.mps_image.specs.Memory.{Setting, Memory, Lies, all_cells, live_reservation, pool_layout}
-use Rattle.mps_image.specs.Image.{AreShaped, LieApart, IsFixed, MarksStand, RunsStand, CellSet, with_cell, ImageStands, Stands}
+use Rattle.mps_image.specs.Image.{AreShaped, IsFixed, MarksStand, RunsStand, CellSet, with_cell, ImageStands, Stands}
 use Rattle.mps_image.specs.Fixing.{Target, FixAt, FixWord, IsFixedAt, IsFixedCell, IsMarkCleared}
 use Rattle.mps_image.specs.Scanning.{setting_with_pools, IsToScan, ScansBlock, LeavesOthers}
 use Rattle.mps_image.specs.Changes.{setting_with_objects, memory_with_word, IsCellChanged, setting_made, addresses_made, IsMade, memory_without_block, MayGo, setting_with_points, AreReserved}

@@ -1,8 +1,8 @@
 -- What the segments of an arena give of words: those that nothing covers are free, and those of a segment are home to its pool.
-use Rattle.std.specs.Prelude.{◌≡◌, ℕ, ◌+◌, ◌*◌, ◌%◌, ◌<◌, ◌≤◌, Bool, true, false, Option, Some, None, List, [], ◌∷◌, map, Contains, refl}
+use Rattle.std.specs.Prelude.{◌≡◌, ℕ, ◌+◌, ◌%◌, ◌<◌, ◌≤◌, Bool, Option, List, [], ◌∷◌, map, Contains, refl}
 use Rattle.std.specs.List.{AllByRecursion}
 use Rattle.std.proofs.Common.{arith, lit≤, lit<}
-use Rattle.mps_base.specs.Address.{Address, Id, Word, word_of, address_of_grain, grain_of, max_grains}
+use Rattle.mps_base.specs.Address.{Address, Id, word_of, address_of_grain, grain_of, max_grains}
 use Rattle.mps_base.specs.Run.{IsAscending}
 use Rattle.mps_base.specs.Segment.{Segment, grains_of_segment, end_of_segment}
 use Rattle.mps_base.specs.declared.names.Rank.TheVariants as rank
