@@ -1,8 +1,10 @@
 -- The forms of the commands whose words begin with one of some letters.
-use Rattle.std.proofs.Common.{◌≡◌, ℕ, Bool, true, false, nat_le, ◌&&◌, List, [], ◌∷◌, filter, refl, sym, ap, ◌∙◌}
+use Rattle.std.proofs.Common.{◌≡◌, ℕ, ◌≤◌, Option, Bool, true, false, nat_le, ◌&&◌, List, [], ◌∷◌, filter, length, get_or, refl, sym, ap, ◌∙◌, arith}
+use Rattle.std.proofs.lemmas.Bool.Decides.{nat_tests}
+use Rattle.mps_model.specs.declared.call.Call.{Call}
 use Rattle.std.specs.Str.{bytes_eq}
 use Rattle.std.proofs.lemmas.Slice.Eq.{bytes_eq-Decides}
-use Rattle.mps_script.specs.Form.{Form, call_in}
+use Rattle.mps_script.specs.Form.{Form, call_in, forms}
 
 -- the word begins with a letter of a range
 abbrev pub begins_in : (low high : ℕ) → List ℕ → Bool
@@ -34,3 +36,14 @@ only_these : (low high : ℕ) (word : List ℕ) (ws : List (List ℕ)) → begin
 only_these low high word ws begins [] = refl
 only_these low high word ws begins (f ∷ fs) =
     one_more low high f fs word ws (begins_in low high f.0) refl begins (only_these low high word ws begins fs)
+
+begins_at : (low high : ℕ) (word : List ℕ) → 1 ≤ length word → low ≤ get_or word 0 0 → get_or word 0 0 ≤ high
+    → begins_in low high word ≡ true
+begins_at low high [] some least most = absurd (omega arith)
+begins_at low high (letter ∷ letters) some least most = grind (arith, nat_tests)
+
+-- what those forms give is the call of the command word
+pub call_by_letter : (low high : ℕ) (word : List ℕ) (ws : List (List ℕ)) (r : Option Call) → r ≡ call_in (forms_in low high forms) word ws
+    → 1 ≤ length word → low ≤ get_or word 0 0 → get_or word 0 0 ≤ high → r ≡ call_in forms word ws
+call_by_letter low high word ws r e some least most =
+    e ∙ sym (only_these low high word ws (begins_at low high word some least most) forms)
