@@ -15,8 +15,8 @@ mod collecting;
 mod gaps;
 mod words;
 
-use crate::entry::Entry;
 use crate::SegmentInfo;
+use crate::entry::Entry;
 use crate::first_grains::{note_first, return_free, use_free};
 use mps_arena::Arena;
 use mps_base::{Addr, BYTES_OF_GRAIN, BYTES_OF_WORD, Move, Rank, Refusal, Trail, WORDS_OF_GRAIN};

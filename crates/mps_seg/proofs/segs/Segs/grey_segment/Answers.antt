@@ -32,8 +32,7 @@ invariant_of-self c =
     let s = c.self.inside in
     let low = c.word-low.result in
     let runs = runs_within low (low + words_of_grain * c.segment-grains.result.grains) s.extents.blocks in
-    let P : MarkTables → Type 0 = λ m. IsMarked s.arena.grains m s.condemned s.summaries.items in
-    (
+    let P : MarkTables → Type 0 = λ m. IsMarked s.arena.grains m s.condemned s.summaries.items in (
       c.self.invariant.0,
       c.self.invariant.1,
       subst P (sym c.grey_blocks.ensures)
@@ -42,18 +41,19 @@ invariant_of-self c =
 
 pub returns : goal.returns
 returns c =
-    record { state = λ t listed begins.
-    let s = c.self.inside in
-    let info = c.segment-grains.ensures t listed begins in
-    let rank : c.segment-grains.result.rank ≡ t.rank = ap (λ (i : SegmentInfo). i.rank) info in
-    let grains : c.segment-grains.result.grains ≡ t.grains = ap (λ (i : SegmentInfo). i.grains) info in
-    let low : c.word-low.result ≡ word_of t.base = c.word-low.ensures ∙ ap (λ (b : ℕ). word_of b) (sym begins) in
-    let end = c.word-low.result + words_of_grain * c.segment-grains.result.grains in
-    let high : end ≡ word_of (end_of_segment t) = omega (arith, low, grains) in
-    let marks : c.grey_blocks.new.marks ≡ (greying_all (seen_by s) t).marks =
-    c.grey_blocks.ensures ∙ ap (λ (r : Rank). all_grey r (runs_within c.word-low.result end s.extents.blocks) s.marks) rank
-    ∙ ap (λ (a : ℕ). all_grey t.rank (runs_within a end s.extents.blocks) s.marks) low
-    ∙ ap (λ (b : ℕ). all_grey t.rank (runs_within (word_of t.base) b s.extents.blocks) s.marks) high
-    in
-    ap (λ (m : MarkTables). record (seen_by s) { marks = m }) marks ∙ ap (λ (st : SegsState). greying_all st t) c.self.view_is
+    record {
+      state = λ t listed begins.
+          let s = c.self.inside in
+          let info = c.segment-grains.ensures t listed begins in
+          let rank : c.segment-grains.result.rank ≡ t.rank = ap (λ (i : SegmentInfo). i.rank) info in
+          let grains : c.segment-grains.result.grains ≡ t.grains = ap (λ (i : SegmentInfo). i.grains) info in
+          let low : c.word-low.result ≡ word_of t.base = c.word-low.ensures ∙ ap (λ (b : ℕ). word_of b) (sym begins) in
+          let end = c.word-low.result + words_of_grain * c.segment-grains.result.grains in
+          let high : end ≡ word_of (end_of_segment t) = omega (arith, low, grains) in
+          let marks : c.grey_blocks.new.marks ≡ (greying_all (seen_by s) t).marks =
+          c.grey_blocks.ensures ∙ ap (λ (r : Rank). all_grey r (runs_within c.word-low.result end s.extents.blocks) s.marks) rank
+          ∙ ap (λ (a : ℕ). all_grey t.rank (runs_within a end s.extents.blocks) s.marks) low
+          ∙ ap (λ (b : ℕ). all_grey t.rank (runs_within (word_of t.base) b s.extents.blocks) s.marks) high
+          in
+          ap (λ (m : MarkTables). record (seen_by s) { marks = m }) marks ∙ ap (λ (st : SegsState). greying_all st t) c.self.view_is;
     }

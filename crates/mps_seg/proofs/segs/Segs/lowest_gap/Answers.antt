@@ -103,8 +103,7 @@ loop-grain-preserved c =
     let R : ℕ → Type 0 =
     λ k. lowest_fitting c.args.words (later_gaps s.extents.covered c.args.pool c.args.rank k (drop k table)) ≡ lowest_fitting
     c.args.words (later_gaps s.extents.covered c.args.pool c.args.rank 0 table)
-    in
-    (
+    in (
       omega (arith, within),
       subst R (sym (add-one grain))
           (sym (lowest_in_rest c.args.words (gaps_at grain (get_or table grain Free) c.args.pool c.args.rank s.extents)
