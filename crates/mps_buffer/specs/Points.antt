@@ -1,0 +1,172 @@
+-- Points, their reservations, and where a reservation is placed.
+use Rattle.std.specs.Prelude.{ℕ, ◌+◌, ◌-◌, ◌*◌, ◌<◌, ◌≡◌, ◌==◌, nat_le, Bool, true, false, option_map, map, length, if◌then◌else◌, Option, Some, None, List, [], ◌∷◌, replicate, get_or, slice_set, Contains, refl}
+use Rattle.mps_base.specs.Address.{Address, words_of_grain, word_of}
+use Rattle.mps_base.specs.Run.{Run, with_run, without_run}
+use Rattle.mps_base.specs.Placement.{Placement, Place, NewSegment, OverLimit, NoFreeRun}
+use Rattle.mps_arena.specs.Arena.{cleared_words}
+use Rattle.mps_base.specs.declared.names.Rank.TheVariants.{Exact}
+use Rattle.mps_seg.specs.Segs.{SegsState, new_segments, placement_for, segments_after, noted_for, CanCover}
+use Rattle.mps_seg.specs.Placing.{placement_in_gaps}
+use Rattle.mps_buffer.specs.declared.point.Buffer.{Buffer}
+use Rattle.mps_buffer.specs.declared.point.Held.{Held}
+use Rattle.mps_buffer.specs.declared.point.Point.{Point}
+
+-- the points by their keys, and how many flips there were
+pub record PointsState : Type 0 where
+  pub points : List (Option Point)
+  pub flips : ℕ
+
+-- how many points there may be
+abbrev pub max_points : ℕ
+max_points = 256
+
+abbrev pub no_points : PointsState
+no_points = record { points = replicate max_points None; flips = 0 }
+
+abbrev pub point_at : PointsState → (key : ℕ) → Option Point
+point_at s key = get_or s.points key None
+
+-- the state with this under a key
+abbrev pub with_point : PointsState → (key : ℕ) → Option Point → PointsState
+with_point s key p = record s { points = slice_set s.points key p }
+
+abbrev pub run_of : Buffer → Run
+run_of b = record { from = b.from; count = b.count }
+
+abbrev pub run_of_held : Held → Run
+run_of_held h = record { from = word_of h.at.0; count = h.words }
+
+-- no words at hand
+abbrev pub empty_buffer : Buffer
+empty_buffer = record { from = 0; count = 0 }
+
+-- the words at hand, where there are any, lie in a segment, and nothing covers one of them
+abbrev pub IsAtHand : SegsState → Buffer → Type 0
+IsAtHand s b = 0 < b.count → CanCover s (run_of b)
+
+-- ---- where a reservation is placed
+
+-- at a prefix of the words at hand, where there are enough, else in a new segment
+abbrev pub placement_at_front : SegsState → Buffer → (words : ℕ) → Placement
+placement_at_front s b words = if nat_le words b.count then Place b.from else placement_for s words
+
+-- where a reservation of n words at a point is placed
+abbrev pub placement_at : Point → SegsState → (words : ℕ) → Placement
+placement_at p s words =
+    if p.is_copying then placement_at_front s p.buffer words else placement_in_gaps s p.pool p.rank words
+
+-- the segments with a new one, where the placement is one
+abbrev pub with_place : SegsState → Point → Placement → SegsState
+with_place s p placement = record s {
+  segments = segments_after placement p.pool 0 p.rank s.segments;
+  condemned = noted_for placement false s.condemned;
+  summaries = noted_for placement 0 s.summaries;
+}
+
+-- what is at hand after a reservation of n words: the rest of what was, or of the new segment
+abbrev pub rest_at_hand : Buffer → Placement → (words : ℕ) → Buffer
+rest_at_hand b (Place word) words = record { from = word + words; count = b.count - words }
+rest_at_hand b (NewSegment grain grains) words =
+    record { from = words_of_grain * grain + words; count = words_of_grain * grains - words }
+rest_at_hand b (OverLimit committed need limit) words = b
+rest_at_hand b (NoFreeRun need longest) words = b
+
+abbrev pub buffer_after : Point → Placement → (words : ℕ) → Buffer
+buffer_after p placement words = if p.is_copying then rest_at_hand p.buffer placement words else p.buffer
+
+-- ---- reservations
+
+-- the segments with a reservation, whose words are 0 but for its head
+abbrev pub with_reservation : SegsState → Held → SegsState
+with_reservation s h = record s {
+  covered = with_run (run_of_held h) s.covered;
+  reservations = with_run (run_of_held h) s.reservations;
+  words = slice_set (cleared_words s.words (word_of h.at.0) h.words) (word_of h.at.0) h.head;
+}
+
+-- a reservation that became a block, and one whose words are free again
+abbrev pub with_block : SegsState → Held → SegsState
+with_block s h = record s {
+  blocks = with_run (run_of_held h) s.blocks;
+  reservations = without_run (word_of h.at.0) s.reservations;
+}
+
+abbrev pub without_reservation : SegsState → Held → SegsState
+without_reservation s h = record s {
+  covered = without_run (word_of h.at.0) s.covered;
+  reservations = without_run (word_of h.at.0) s.reservations;
+}
+
+-- a point without its reservation
+abbrev pub closed : Point → Point
+closed p = record p { reservation = None }
+
+-- a point after a reservation of n words was placed
+abbrev pub opened : Point → Placement → Held → Point
+opened p placement h = record p { buffer = buffer_after p placement h.words; reservation = Some h }
+
+-- the point under a key has this open reservation
+pub record IsOpenAt (s : PointsState) (key : ℕ) (h : Held) : Type 0 where
+  pub within : key < length s.points
+  pub point : Point
+  pub there : point_at s key ≡ Some point
+  pub reserved : point.reservation ≡ Some h
+
+-- ---- a flip
+
+-- the segments where a reservation is ended that still covers its words
+abbrev pub ended : (flips : ℕ) → Option Held → SegsState → SegsState
+ended flips None s = s
+ended flips (Some h) s = if h.flips == flips then without_reservation s h else s
+
+abbrev pub ended_at : (flips : ℕ) → Option Point → SegsState → SegsState
+ended_at flips None s = s
+ended_at flips (Some p) s = ended flips p.reservation s
+
+-- the segments where all reservations are ended, one after the other
+abbrev pub all_ended : (flips : ℕ) → List (Option Point) → SegsState → SegsState
+all_ended flips [] s = s
+all_ended flips (p ∷ ps) s = all_ended flips ps (ended_at flips p s)
+
+-- a reservation that still covers its words is one of the segments
+abbrev pub IsReserved : (flips : ℕ) → Option Held → SegsState → Type 0
+IsReserved flips None s = Unit {0}
+IsReserved flips (Some h) s = h.flips ≡ flips → Contains s.reservations (run_of_held h)
+
+abbrev pub IsReservedAt : (flips : ℕ) → Option Point → SegsState → Type 0
+IsReservedAt flips None s = Unit {0}
+IsReservedAt flips (Some p) s = IsReserved flips p.reservation s
+
+-- each of the reservations is one of the segments when it is its turn to be ended
+abbrev pub AreReserved : (flips : ℕ) → List (Option Point) → SegsState → Type 0
+AreReserved flips [] s = Unit {0}
+AreReserved flips (p ∷ ps) s = IsReservedAt flips p s × AreReserved flips ps (ended_at flips p s)
+
+-- a point with no words at hand
+abbrev pub emptied : Point → Point
+emptied p = record p { buffer = empty_buffer }
+
+-- the points after a flip
+abbrev pub flipped : PointsState → PointsState
+flipped s = record { points = map (option_map emptied) s.points; flips = s.flips + 1 }
+
+-- ---- vectors
+
+-- a point of a pool that moves blocks, with eight words at hand
+abbrev a_point : Point
+a_point = record { pool = 0; rank = Exact; is_copying = true; buffer = record { from = 520; count = 8 }; reservation = None }
+
+pub at_a_prefix : placement_at a_point (new_segments 2 2) 8 ≡ Place 520
+at_a_prefix = refl
+
+pub one_word_too_many : placement_at a_point (new_segments 2 2) 9 ≡ NewSegment 1 1
+one_word_too_many = refl
+
+pub the_rest_of_a_prefix : buffer_after a_point (Place 520) 3 ≡ record { from = 523; count = 5 }
+the_rest_of_a_prefix = refl
+
+pub the_rest_of_a_new_segment : buffer_after a_point (NewSegment 1 1) 9 ≡ record { from = 521; count = 503 }
+the_rest_of_a_new_segment = refl
+
+pub no_rest_in_other_pools : buffer_after (record a_point { is_copying = false }) (NewSegment 1 1) 9 ≡ a_point.buffer
+no_rest_in_other_pools = refl

@@ -1,0 +1,246 @@
+// The points.
+#![tactic(auto)]
+
+ghost use Rattle.std.specs.Prelude.{◌≡◌, ◌≢◌, ℕ, ◌+◌, ◌^◌, ◌<◌, ◌≤◌, ◌==◌, if◌then◌else◌, Ok, Err, Some, None, option_map, map, length, IsTrue, IfOk, IfErr, MatchResult, Contains};
+ghost use Rattle.mps_base.specs.Address.{word_of, max_block_words};
+ghost use Rattle.mps_base.specs.Trail.{with_move};
+ghost use Rattle.mps_base.specs.declared.moves.Move.TheVariants.{Commit};
+ghost use Rattle.mps_arena.specs.Arena.{answer_of_placement};
+ghost use Rattle.mps_seg.specs.Segs.{SegsState, moves_after};
+ghost use Rattle.mps_buffer.specs.declared.point.Point.{Point};
+ghost use Rattle.mps_buffer.specs.declared.point.Held.{Held};
+ghost use Rattle.mps_buffer.specs.Points.{no_points, point_at, with_point, IsAtHand, placement_at, with_place, with_reservation, with_block, without_reservation, run_of_held, closed, opened, IsOpenAt, all_ended, AreReserved, emptied, flipped, ended_at, IsReservedAt};
+
+use crate::place::place;
+use crate::point::{Buffer, Held, Point, Reserved};
+use mps_base::{Addr, Flipped, Move, Refusal, Trail};
+use mps_format::Format;
+use mps_seg::Segs;
+use std::alloc::{AllocError, Global};
+use std::marker::Model;
+
+/// How many points there may be.
+const MAX_POINTS: usize = 256;
+
+/// The points of an arena. `new` is the only call that allocates.
+#[derive(Drop)]
+pub struct Points {
+    points: Vec<Option<Point>>,
+    flips: u64,
+}
+
+impl Model for Points {
+    ghost use Rattle.mps_buffer.specs.Points.{PointsState};
+
+    ghost Value = { PointsState };
+
+    ghost view = { λ p. record { points = p.points.items; flips = p.flips } };
+}
+
+impl Points {
+    /// No points, and room for 256.
+    pub fn new(alloc: Global) -> Result<Points, AllocError>
+        ensures { IfOk result (λ points. points ≡ no_points) }
+    {
+        Ok(Points {
+            points: Vec::from_array(alloc, [None; MAX_POINTS])?,
+            flips: 0,
+        })
+    }
+
+    /// Reserves a block with this head at a point that has no open reservation. Its words are 0 but for the head. Refuses `CommitLimit`
+    /// and `NoRun` as `Segs::take` does; a refusal changes nothing.
+    pub fn reserve_words(
+        &mut self,
+        segs: &mut Segs,
+        trail: &mut Trail,
+        point: u32,
+        head: u64,
+        words: u32,
+    ) -> Result<Reserved, Refusal>
+        requires nonzero { 0 < words }
+        requires at_most { words ≤ max_block_words }
+        requires fits { 0 < trail.old.spare }
+        requires there { (p : Point) × (point_at self.old point ≡ Some p) × IsAtHand segs.old p.buffer × (point < length self.old.points) }
+        ensures value { (p : Point) → point_at self.old point ≡ Some p
+            → MatchResult result (λ token. (answer_of_placement (placement_at p segs.old words) ≡ Ok token.held.at)
+            × (token ≡ record { point = point; held = record { at = token.held.at; head = head; words = words; flips = self.old.flips } }))
+            (λ why. answer_of_placement (placement_at p segs.old words) ≡ Err why) }
+        ensures state { (p : Point) → point_at self.old point ≡ Some p
+            → MatchResult result (λ token. segs.new ≡ with_reservation (with_place segs.old p (placement_at p segs.old words)) token.held)
+            (λ _. segs.new ≡ segs.old) }
+        ensures points { (p : Point) → point_at self.old point ≡ Some p
+            → MatchResult result
+            (λ token. self.new ≡ with_point self.old point (Some (opened p (placement_at p segs.old words) token.held)))
+            (λ _. self.new ≡ self.old) }
+        ensures moves { (p : Point) → point_at self.old point ≡ Some p
+            → MatchResult result (λ _. trail.new ≡ moves_after (placement_at p segs.old words) p.pool 0 trail.old)
+            (λ _. trail.new ≡ trail.old) }
+    {
+        let Some(p) = self.points[point as usize] else {
+            unreachable!()
+        };
+        let (held, now) = reserve_at(segs, trail, &p, self.flips, head, words)?;
+        self.points[point as usize] = Some(now);
+        Ok(Reserved::new(point, held))
+    }
+
+    /// The reservation becomes a block, whose address is returned. `Flipped` where a flip came since the reserve.
+    pub fn commit(
+        &mut self,
+        segs: &mut Segs,
+        trail: &mut Trail,
+        token: Reserved,
+    ) -> Result<Addr, Flipped>
+        requires open { IsOpenAt self.old token.point token.held }
+        requires reserved { token.held.flips ≡ self.old.flips → Contains segs.old.reservations (run_of_held token.held) }
+        requires fits { 0 < trail.old.spare }
+        ensures sound { IfOk result (λ at. (at ≡ token.held.at) × (token.held.flips ≡ self.old.flips)) }
+        ensures flipped { IfErr result (λ _. token.held.flips ≢ self.old.flips) }
+        ensures points { (p : Point) → point_at self.old token.point ≡ Some p
+            → self.new ≡ with_point self.old token.point (Some (closed p)) }
+        ensures state { MatchResult result (λ _. segs.new ≡ with_block segs.old token.held) (λ _. segs.new ≡ segs.old) }
+        ensures moves { (p : Point) → point_at self.old token.point ≡ Some p
+            → MatchResult result (λ at. trail.new ≡ with_move trail.old (Commit at token.held.words p.pool)) (λ _. trail.new ≡ trail.old) }
+    {
+        let (point, held) = token.spend();
+        let Some(p) = self.points[point as usize] else {
+            unreachable!()
+        };
+        self.points[point as usize] = Some(Point {
+            reservation: None,
+            ..p
+        });
+        if held.flips != self.flips {
+            return Err(Flipped);
+        }
+        segs.commit(held.at, held.words);
+        trail.push(Move::Commit {
+            at: held.at,
+            words: held.words,
+            pool: p.pool,
+        });
+        Ok(held.at)
+    }
+
+    /// Gives up the reservation. Its words are free again, where no flip came since the reserve.
+    pub fn abandon(&mut self, segs: &mut Segs, token: Reserved)
+        requires open { IsOpenAt self.old token.point token.held }
+        requires reserved { token.held.flips ≡ self.old.flips → Contains segs.old.reservations (run_of_held token.held) }
+        ensures points { (p : Point) → point_at self.old token.point ≡ Some p
+            → self.new ≡ with_point self.old token.point (Some (closed p)) }
+        ensures state { segs.new ≡ (if token.held.flips == self.old.flips then without_reservation segs.old token.held else segs.old) }
+    {
+        let (point, held) = token.spend();
+        let Some(p) = self.points[point as usize] else {
+            unreachable!()
+        };
+        self.points[point as usize] = Some(Point {
+            reservation: None,
+            ..p
+        });
+        if held.flips == self.flips {
+            segs.uncover(held.at, held.words);
+        }
+    }
+
+    /// A flip comes: all reservations end, and no point has words at hand.
+    pub fn flip(&mut self, segs: &mut Segs)
+        requires fits { self.old.flips < 2 ^ 63 }
+        requires reserved { AreReserved self.old.flips self.old.points segs.old }
+        ensures points { self.new ≡ flipped self.old }
+        ensures state { segs.new ≡ all_ended self.old.flips self.old.points segs.old }
+    {
+        end_all(&self.points, self.flips, segs);
+        empty_all(&mut self.points);
+        self.flips += 1;
+    }
+}
+
+/// Reserves words at a point, and returns the reservation and the point with it.
+fn reserve_at(
+    segs: &mut Segs,
+    trail: &mut Trail,
+    p: &Point,
+    flips: u64,
+    head: u64,
+    words: u32,
+) -> Result<(Held, Point), Refusal>
+    requires nonzero { 0 < words }
+    requires at_most { words ≤ max_block_words }
+    requires fits { 0 < trail.old.spare }
+    requires at_hand { IsAtHand segs.old p.now.buffer }
+    ensures value { MatchResult result
+        (λ made. (answer_of_placement (placement_at p.now segs.old words) ≡ Ok made.0.at)
+        × (made.0 ≡ record { at = made.0.at; head = head; words = words; flips = flips }))
+        (λ why. answer_of_placement (placement_at p.now segs.old words) ≡ Err why) }
+    ensures state { MatchResult result
+        (λ made. segs.new ≡ with_reservation (with_place segs.old p.now (placement_at p.now segs.old words)) made.0)
+        (λ _. segs.new ≡ segs.old) }
+    ensures point { IfOk result (λ made. made.1 ≡ opened p.now (placement_at p.now segs.old words) made.0) }
+    ensures moves { MatchResult result (λ _. trail.new ≡ moves_after (placement_at p.now segs.old words) p.now.pool 0 trail.old)
+        (λ _. trail.new ≡ trail.old) }
+{
+    let placed = place(segs, trail, p, words)?;
+    segs.cover(placed.at, words);
+    let _ = segs.grains(); // its words have the reservation
+    segs.clear(placed.at, words);
+    let _ = segs.grains();
+    segs.set_word(placed.at, head);
+    let held = Held {
+        at: placed.at,
+        head,
+        words,
+        flips,
+    };
+    let now = Point {
+        buffer: placed.buffer,
+        reservation: Some(held),
+        ..*p
+    };
+    Ok((held, now))
+}
+
+/// Ends the reservations of these points that no flip has ended.
+fn end_all(points: &[Option<Point>], flips: u64, segs: &mut Segs)
+    requires { AreReserved flips points.now segs.old }
+    ensures { segs.new ≡ all_ended flips points.now segs.old }
+{
+    for p in points {
+        end_at(*p, flips, segs);
+    }
+}
+
+/// Ends the reservation of a point, where it has one that no flip has ended.
+fn end_at(p: Option<Point>, flips: u64, segs: &mut Segs)
+    requires { IsReservedAt flips p segs.old }
+    ensures { segs.new ≡ ended_at flips p segs.old }
+{
+    if let Some(p) = p {
+        if let Some(held) = p.reservation {
+            if held.flips == flips {
+                segs.uncover(held.at, held.words);
+            }
+        }
+    }
+}
+
+/// Leaves no words at hand at these points.
+fn empty_all(points: &mut [Option<Point>])
+    ensures { points.new ≡ map (option_map emptied) points.old }
+{
+    for i in 0..points.len() {
+        points[i] = emptied_point(points[i]);
+    }
+}
+
+/// A point with no words at hand.
+fn emptied_point(p: Option<Point>) -> Option<Point>
+    ensures { result ≡ option_map emptied p }
+{
+    let p = p?;
+    Some(Point {
+        buffer: Buffer { from: 0, count: 0 },
+        ..p
+    })
+}
