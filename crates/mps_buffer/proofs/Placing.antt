@@ -1,19 +1,22 @@
 -- Where a reservation is placed, and what is then at hand.
-use Rattle.std.proofs.Common.{ℕ, List, ◌+◌, ◌-◌, ◌*◌, ◌<◌, ◌≤◌, ◌≡◌, leb, Bool, true, false, Ok, [], sym, ap, ◌∙◌, arith, refl}
-use Rattle.std.proofs.lemmas.Bool.{cond-true, cond-false, le-leb, lt-leb}
+use Rattle.std.proofs.Common.{ℕ, List, ◌+◌, ◌-◌, ◌*◌, ◌<◌, ◌≤◌, ◌≡◌, leb, Bool, true, false, Option, Some, None, is_some, Result, Ok, Err, [], inl, inr, sym, ap, ◌∙◌, arith, refl}
+use Rattle.std.proofs.lemmas.Bool.{cases_lt, cond-true, cond-false, le-leb, lt-leb}
 use Rattle.mps_base.specs.Address.{words_of_grain, word_of, grains_needed}
-use Rattle.mps_base.specs.Run.{Run, with_run}
+use Rattle.std.specs.Option.{option_map_or}
+use Rattle.mps_base.specs.Run.{Run, with_run, lowest_fitting}
+use Rattle.mps_base.specs.Segment.{gaps_of}
 use Rattle.mps_base.proofs.Runs.{contained_bounds}
 use Rattle.mps_extents.proofs.ApartRuns.{contains_put}
-use Rattle.mps_base.specs.Placement.{Placement, Place}
+use Rattle.mps_base.specs.Placement.{Placement, Place, NewSegment, OverLimit, NoFreeRun}
 use Rattle.mps_base.specs.declared.address.Addr.{Addr}
+use Rattle.mps_base.specs.declared.refusal.Refusal.{Refusal}
 use Rattle.mps_arena.specs.Arena.{ArenaMemory, answer_of_placement}
-use Rattle.mps_seg.specs.Segs.{SegsState, placement_for, held_runs, IsOpenRun}
+use Rattle.mps_seg.specs.Segs.{SegsState, placement_for, held_runs, at_word, IsOpenRun}
 use Rattle.mps_seg.specs.Placing.{placement_in_gaps}
-use Rattle.mps_seg.proofs.Placements.{taken_at}
+use Rattle.mps_seg.proofs.Placements.{taken_at, placement_cases, placed, refused}
 use Rattle.mps_buffer.specs.declared.point.Buffer.{Buffer}
 use Rattle.mps_buffer.specs.declared.point.Point.{Point}
-use Rattle.mps_buffer.specs.Points.{placement_at, placement_at_front, buffer_after, rest_at_hand}
+use Rattle.mps_buffer.specs.Points.{placement_at, placement_at_front, buffer_after, rest_at_hand, is_place}
 
 module _ (p : Point) (s : SegsState) (words : ℕ) where
   pub at_front : p.is_copying ≡ true → words ≤ p.buffer.count → placement_at p s words ≡ Place p.buffer.from
@@ -52,3 +55,34 @@ pub open_bounds : (grains : ℕ) (held covered : List Run) (r : Run) → IsOpenR
     → r.from + r.count ≤ words_of_grain * (grains + 1)
 open_bounds grains held covered r open_run =
     (contained_bounds 0 (words_of_grain * (grains + 1)) (with_run r covered) r open_run.free (contains_put r covered)).2
+
+-- a new segment is no place in what is held
+pub new_is_no_place : (s : SegsState) (words : ℕ) → is_place (placement_for s words) ≡ false
+new_is_no_place s words =
+    elim (placement_cases s.grains s.limit (held_runs s) (grains_needed words)) [
+      | placed grain is lowest ↦ ap is_place is
+      | refused why is ↦ no_place (placement_for s words) why is
+    ]
+  where
+    no_place : (p : Placement) (why : Refusal) → answer_of_placement p ≡ Err why → is_place p ≡ false
+    no_place (Place word) why is = let left : Result Addr Refusal = Err why in let never : Ok (at_word word) ≡ left = is in cc
+    no_place (NewSegment grain grains) why is = refl
+    no_place (OverLimit committed need limit) why is = refl
+    no_place (NoFreeRun need longest) why is = refl
+
+pub in_gap_or_new : (p : Point) (s : SegsState) (words : ℕ) → p.is_copying ≡ false
+    → is_place (placement_at p s words) ≡ is_some (lowest_fitting words (gaps_of s.covered s.segments p.pool p.rank))
+in_gap_or_new p s words is =
+    ap is_place (in_gap p s words is) ∙ go (lowest_fitting words (gaps_of s.covered s.segments p.pool p.rank))
+  where
+    go : (o : Option ℕ) → is_place (option_map_or Place o (placement_for s words)) ≡ is_some o
+    go None = new_is_no_place s words
+    go (Some word) = refl
+
+pub front_or_new : (p : Point) (s : SegsState) (words : ℕ) → p.is_copying ≡ true
+    → is_place (placement_at p s words) ≡ leb words p.buffer.count
+front_or_new p s words is =
+    elim (cases_lt p.buffer.count words) [
+      | inl many ↦ ap is_place (in_new p s words is many) ∙ new_is_no_place s words ∙ sym (lt-leb words p.buffer.count many)
+      | inr few ↦ ap is_place (at_front p s words is few) ∙ sym (le-leb words p.buffer.count few)
+    ]

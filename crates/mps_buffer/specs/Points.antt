@@ -1,9 +1,10 @@
 -- Points, their reservations, and where a reservation is placed.
-use Rattle.std.specs.Prelude.{ℕ, ◌+◌, ◌-◌, ◌*◌, ◌<◌, ◌≡◌, ◌==◌, nat_le, Bool, true, false, option_map, map, length, if◌then◌else◌, Option, Some, None, List, [], ◌∷◌, replicate, get_or, slice_set, Contains, refl}
+use Rattle.std.specs.Prelude.{ℕ, ◌+◌, ◌-◌, ◌*◌, ◌<◌, ◌≡◌, ◌==◌, nat_le, Bool, true, false, option_map, map, length, if◌then◌else◌, Option, Some, None, is_some, List, [], ◌∷◌, replicate, get_or, slice_set, Contains, refl}
 use Rattle.mps_base.specs.Address.{Address, words_of_grain, word_of}
 use Rattle.mps_base.specs.Run.{Run, with_run, without_run}
 use Rattle.mps_base.specs.Placement.{Placement, Place, NewSegment, OverLimit, NoFreeRun}
 use Rattle.mps_arena.specs.Arena.{cleared_words}
+use Rattle.mps_base.specs.declared.names.Rank.{Rank}
 use Rattle.mps_base.specs.declared.names.Rank.TheVariants.{Exact}
 use Rattle.mps_seg.specs.Segs.{SegsState, new_segments, placement_for, segments_after, noted_for, CanCover}
 use Rattle.mps_seg.specs.Placing.{placement_in_gaps}
@@ -44,6 +45,21 @@ empty_buffer = record { from = 0; count = 0 }
 abbrev pub IsAtHand : SegsState → Buffer → Type 0
 IsAtHand s b = 0 < b.count → CanCover s (run_of b)
 
+-- a point with nothing at hand and no reservation
+abbrev pub new_point : (pool : ℕ) → Rank → (is_copying : Bool) → Point
+new_point pool rank is_copying =
+    record { pool = pool; rank = rank; is_copying = is_copying; buffer = empty_buffer; reservation = None }
+
+-- a point was made under a key that was free
+pub record IsMade (s s' : PointsState) (key : ℕ) (p : Point) : Type 0 where
+  pub within : key < length s.points
+  pub was_free : point_at s key ≡ None
+  pub made : s' ≡ with_point s key (Some p)
+
+-- there is a point under each of the 256 keys
+abbrev pub AllTaken : List (Option Point) → Type 0
+AllTaken points = (key : ℕ) → key < max_points → key < length points → is_some (get_or points key None) ≡ true
+
 -- ---- where a reservation is placed
 
 -- at a prefix of the words at hand, where there are enough, else in a new segment
@@ -54,6 +70,13 @@ placement_at_front s b words = if nat_le words b.count then Place b.from else pl
 abbrev pub placement_at : Point → SegsState → (words : ℕ) → Placement
 placement_at p s words =
     if p.is_copying then placement_at_front s p.buffer words else placement_in_gaps s p.pool p.rank words
+
+-- whether it lies in what is held already
+abbrev pub is_place : Placement → Bool
+is_place (Place word) = true
+is_place (NewSegment grain grains) = false
+is_place (OverLimit committed need limit) = false
+is_place (NoFreeRun need longest) = false
 
 -- the segments with a new one, where the placement is one
 abbrev pub with_place : SegsState → Point → Placement → SegsState

@@ -1,20 +1,20 @@
 // The points.
 #![tactic(auto)]
 
-ghost use Rattle.std.specs.Prelude.{◌≡◌, ◌≢◌, ℕ, ◌+◌, ◌^◌, ◌<◌, ◌≤◌, ◌==◌, if◌then◌else◌, Ok, Err, Some, None, option_map, map, length, IsTrue, IfOk, IfErr, MatchResult, Contains};
+ghost use Rattle.std.specs.Prelude.{◌≡◌, ◌≢◌, ℕ, ◌+◌, ◌^◌, ◌<◌, ◌≤◌, ◌==◌, if◌then◌else◌, Ok, Err, Some, None, option_map, map, length, get_or, IsTrue, IfOk, IfErr, IfSome, IfNone, MatchResult, Contains};
 ghost use Rattle.mps_base.specs.Address.{word_of, max_block_words};
 ghost use Rattle.mps_base.specs.Trail.{with_move};
 ghost use Rattle.mps_base.specs.declared.moves.Move.TheVariants.{Commit};
+ghost use Rattle.mps_base.specs.declared.refusal.Refusal.TheVariants.{TooMany};
 ghost use Rattle.mps_arena.specs.Arena.{answer_of_placement};
 ghost use Rattle.mps_seg.specs.Segs.{SegsState, moves_after};
 ghost use Rattle.mps_buffer.specs.declared.point.Point.{Point};
 ghost use Rattle.mps_buffer.specs.declared.point.Held.{Held};
-ghost use Rattle.mps_buffer.specs.Points.{no_points, point_at, with_point, IsAtHand, placement_at, with_place, with_reservation, with_block, without_reservation, run_of_held, closed, opened, IsOpenAt, all_ended, AreReserved, emptied, flipped, ended_at, IsReservedAt};
+ghost use Rattle.mps_buffer.specs.Points.{no_points, point_at, with_point, IsAtHand, placement_at, with_place, with_reservation, with_block, without_reservation, run_of_held, closed, opened, IsOpenAt, all_ended, AreReserved, emptied, flipped, ended_at, IsReservedAt, new_point, IsMade, AllTaken, is_place};
 
 use crate::place::place;
 use crate::point::{Buffer, Held, Point, Reserved};
-use mps_base::{Addr, Flipped, Move, Refusal, Trail};
-use mps_format::Format;
+use mps_base::{Addr, Flipped, Move, Rank, Refusal, Trail};
 use mps_seg::Segs;
 use std::alloc::{AllocError, Global};
 use std::marker::Model;
@@ -48,8 +48,46 @@ impl Points {
         })
     }
 
-    /// Reserves a block with this head at a point that has no open reservation. Its words are 0 but for the head. Refuses `CommitLimit`
-    /// and `NoRun` as `Segs::take` does; a refusal changes nothing.
+    /// Makes a point of a pool under a key that is free. Refuses `TooMany` where there are 256.
+    pub fn add(&mut self, pool: u32, rank: Rank, is_copying: bool) -> Result<u32, Refusal>
+        ensures made { IfOk result (λ key. IsMade self.old self.new key (new_point pool rank is_copying)) }
+        ensures refused { IfErr result (λ why. (why ≡ TooMany 256) × (self.new ≡ self.old) × AllTaken self.old.points) }
+    {
+        let Some(key) = free_key(&self.points) else {
+            return Err(Refusal::TooMany { limit: 256 });
+        };
+        self.points[key as usize] = Some(Point {
+            pool,
+            rank,
+            is_copying,
+            buffer: Buffer { from: 0, count: 0 },
+            reservation: None,
+        });
+        Ok(key)
+    }
+
+    /// Drops a point. Its key is free again.
+    pub fn drop_point(&mut self, point: u32)
+        requires { point < length self.old.points }
+        ensures { self.new ≡ with_point self.old point None }
+    {
+        self.points[point as usize] = None;
+    }
+
+    /// Whether a reservation of `words` words fits in what is at hand at a point, or in a gap, so that it takes no new segment.
+    pub fn fits(&self, segs: &Segs, point: u32, words: u32) -> bool
+        requires nonzero { 0 < words }
+        requires there { (p : Point) × (point_at self.now point ≡ Some p) × (point < length self.now.points) }
+        ensures { (p : Point) → point_at self.now point ≡ Some p → result ≡ is_place (placement_at p segs.now words) }
+    {
+        let Some(p) = self.points[point as usize] else {
+            unreachable!()
+        };
+        has_place(segs, &p, words)
+    }
+
+    /// Reserves `words` words at a point that has no open reservation, for a block with this head. The words are 0 but for the head.
+    /// Refuses `CommitLimit` and `NoRun` as `Segs::take` does; a refusal changes nothing.
     pub fn reserve_words(
         &mut self,
         segs: &mut Segs,
@@ -155,6 +193,31 @@ impl Points {
         empty_all(&mut self.points);
         self.flips += 1;
     }
+}
+
+/// Whether a reservation at a point needs no new segment.
+fn has_place(segs: &Segs, p: &Point, words: u32) -> bool
+    requires { 0 < words }
+    ensures { result ≡ is_place (placement_at p.now segs.now words) }
+{
+    if p.is_copying {
+        words <= p.buffer.count
+    } else {
+        segs.lowest_gap(p.pool, p.rank, words).is_some()
+    }
+}
+
+/// The lowest key under which there is no point.
+fn free_key(points: &[Option<Point>]) -> Option<u32>
+    ensures sound { IfSome result (λ key. (key < length points.now) × (get_or points.now key None ≡ None)) }
+    ensures complete { IfNone result (AllTaken points.now) }
+{
+    for key in 0..MAX_POINTS as u32 {
+        if (key as usize) < points.len() && points[key as usize].is_none() {
+            return Some(key);
+        }
+    }
+    None
 }
 
 /// Reserves words at a point, and returns the reservation and the point with it.
