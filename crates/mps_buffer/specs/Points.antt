@@ -5,7 +5,7 @@ use Rattle.mps_base.specs.Run.{Run, with_run, without_run}
 use Rattle.mps_base.specs.Placement.{Placement, Place, NewSegment, OverLimit, NoFreeRun}
 use Rattle.mps_arena.specs.Arena.{cleared_words}
 use Rattle.mps_base.specs.declared.names.Rank.{Rank}
-use Rattle.mps_base.specs.declared.names.Rank.TheVariants.{Exact}
+use Rattle.mps_base.specs.declared.names.Rank.TheVariants.{Exact, Weak}
 use Rattle.mps_seg.specs.Segs.{SegsState, new_segments, placement_for, segments_after, noted_for, CanCover}
 use Rattle.mps_seg.specs.Placing.{placement_in_gaps}
 use Rattle.mps_buffer.specs.declared.point.Buffer.{Buffer}
@@ -193,3 +193,30 @@ the_rest_of_a_new_segment = refl
 
 pub no_rest_in_other_pools : buffer_after (record a_point { is_copying = false }) (NewSegment 1 1) 9 ≡ a_point.buffer
 no_rest_in_other_pools = refl
+
+-- a weak point of a pool that doesn't move blocks, where an exact segment and a weak one are held of the pool
+abbrev a_weak_point : Point
+a_weak_point = new_point 3 Weak false
+
+abbrev two_ranks : SegsState
+two_ranks = record (new_segments 3 2) {
+  segments =
+      record { base = 0x1000; grains = 1; pool = 3; generation = 0; rank = Exact }
+      ∷ record { base = 0x2000; grains = 1; pool = 3; generation = 0; rank = Weak } ∷ [];
+  covered = record { from = 1024; count = 500 } ∷ [];
+}
+
+pub the_lowest_gap_of_its_rank : placement_at a_weak_point two_ranks 12 ≡ Place 1524
+the_lowest_gap_of_its_rank = refl
+
+pub the_lowest_gap_of_the_other : placement_at (record a_weak_point { rank = Exact }) two_ranks 12 ≡ Place 512
+the_lowest_gap_of_the_other = refl
+
+pub the_limit_refuses : placement_at a_weak_point two_ranks 13 ≡ OverLimit 2 1 2
+the_limit_refuses = refl
+
+pub no_run_refuses : placement_at a_weak_point (record two_ranks { limit = 9 }) 513 ≡ NoFreeRun 2 1
+no_run_refuses = refl
+
+pub a_new_segment_beside_a_short_gap : placement_at a_weak_point (record two_ranks { limit = 9 }) 13 ≡ NewSegment 3 1
+a_new_segment_beside_a_short_gap = refl

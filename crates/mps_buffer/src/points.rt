@@ -15,6 +15,7 @@ ghost use Rattle.mps_buffer.specs.Points.{no_points, point_at, with_point, IsAtH
 use crate::place::place;
 use crate::point::{Buffer, Held, Point, Reserved};
 use mps_base::{Addr, Flipped, Move, Rank, Refusal, Trail};
+use mps_format::Format;
 use mps_seg::Segs;
 use std::alloc::{AllocError, Global};
 use std::marker::Model;
@@ -121,6 +122,46 @@ impl Points {
         let (held, now) = reserve_at(segs, trail, &p, self.flips, head, words)?;
         self.points[point as usize] = Some(now);
         Ok(Reserved::new(point, held))
+    }
+
+    /// Reserves a block at a point that has no open reservation, of the size that a format gives to the head, which it accepts. Else as
+    /// `reserve_words`.
+    pub fn reserve<F: Format>(
+        &mut self,
+        segs: &mut Segs,
+        trail: &mut Trail,
+        point: u32,
+        format: &F,
+        head: u64,
+    ) -> Result<Reserved, Refusal>
+        requires accepted { IsTrue ((F.layout format.now).is_valid head) }
+        requires fits { 0 < trail.old.spare }
+        requires there { (p : Point) × (point_at self.old point ≡ Some p) × IsAtHand segs.old p.buffer × (point < length self.old.points) }
+        ensures value { (p : Point) → point_at self.old point ≡ Some p
+            → MatchResult result
+              (λ token. (answer_of_placement (placement_at p segs.old ((F.layout format.now).size head)) ≡ Ok token.held.at)
+                × (token ≡ record {
+                  point = point;
+                  held = record { at = token.held.at; head = head; words = (F.layout format.now).size head; flips = self.old.flips };
+                }))
+              (λ why. answer_of_placement (placement_at p segs.old ((F.layout format.now).size head)) ≡ Err why) }
+        ensures state { (p : Point) → point_at self.old point ≡ Some p
+            → MatchResult result
+              (λ token. segs.new
+                ≡ with_reservation (with_place segs.old p (placement_at p segs.old ((F.layout format.now).size head))) token.held)
+              (λ _. segs.new ≡ segs.old) }
+        ensures points { (p : Point) → point_at self.old point ≡ Some p
+            → MatchResult result
+              (λ token. self.new
+                ≡ with_point self.old point (Some (opened p (placement_at p segs.old ((F.layout format.now).size head)) token.held)))
+              (λ _. self.new ≡ self.old) }
+        ensures moves { (p : Point) → point_at self.old point ≡ Some p
+            → MatchResult result
+              (λ _. trail.new ≡ moves_after (placement_at p segs.old ((F.layout format.now).size head)) p.pool 0 trail.old)
+              (λ _. trail.new ≡ trail.old) }
+    {
+        let words = format.words(head);
+        self.reserve_words(segs, trail, point, head, words)
     }
 
     /// The reservation becomes a block, whose address is returned. `Flipped` where a flip came since the reserve.
