@@ -1,5 +1,5 @@
 -- Reservations that a flip ends, one after the other.
-use Rattle.std.proofs.Common.{ℕ, suc, ◌+◌, ◌<◌, ◌≡◌, None, Option, List, length, get_or, drop, sym, ap, ◌∙◌, subst, drop-cons, add-one}
+use Rattle.std.proofs.Common.{ℕ, ◌+◌, ◌<◌, ◌≡◌, None, Option, List, length, get_or, drop, sym, ap, ◌∙◌, subst, drop-cons, add-one}
 use Rattle.mps_seg.specs.Segs.{SegsState}
 use Rattle.mps_buffer.specs.declared.point.Point.{Point}
 use Rattle.mps_buffer.specs.Points.{all_ended, ended_at, AreReserved, IsReservedAt}

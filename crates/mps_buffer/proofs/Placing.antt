@@ -1,5 +1,5 @@
 -- Where a reservation is placed, and what is then at hand.
-use Rattle.std.proofs.Common.{ℕ, List, ◌+◌, ◌-◌, ◌*◌, ◌<◌, ◌≤◌, ◌≡◌, leb, Bool, true, false, Option, Some, None, is_some, Result, Ok, Err, [], inl, inr, sym, ap, ◌∙◌, arith, refl}
+use Rattle.std.proofs.Common.{ℕ, List, ◌+◌, ◌-◌, ◌*◌, ◌<◌, ◌≤◌, ◌≡◌, leb, true, false, Option, Some, None, is_some, Result, Ok, Err, [], inl, inr, sym, ap, ◌∙◌, arith, refl}
 use Rattle.std.proofs.lemmas.Bool.{cases_lt, cond-true, cond-false, le-leb, lt-leb}
 use Rattle.mps_base.specs.Address.{words_of_grain, word_of, grains_needed}
 use Rattle.std.specs.Option.{option_map_or}

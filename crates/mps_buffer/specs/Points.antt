@@ -1,6 +1,6 @@
 -- Points, their reservations, and where a reservation is placed.
 use Rattle.std.specs.Prelude.{ℕ, ◌+◌, ◌-◌, ◌*◌, ◌<◌, ◌≡◌, ◌==◌, nat_le, Bool, true, false, option_map, map, length, if◌then◌else◌, Option, Some, None, is_some, List, [], ◌∷◌, replicate, get_or, slice_set, Contains, refl}
-use Rattle.mps_base.specs.Address.{Address, words_of_grain, word_of}
+use Rattle.mps_base.specs.Address.{words_of_grain, word_of}
 use Rattle.mps_base.specs.Run.{Run, with_run, without_run}
 use Rattle.mps_base.specs.Placement.{Placement, Place, NewSegment, OverLimit, NoFreeRun}
 use Rattle.mps_arena.specs.Arena.{cleared_words}

@@ -139,26 +139,26 @@ impl Points {
         requires there { (p : Point) × (point_at self.old point ≡ Some p) × IsAtHand segs.old p.buffer × (point < length self.old.points) }
         ensures value { (p : Point) → point_at self.old point ≡ Some p
             → MatchResult result
-              (λ token. (answer_of_placement (placement_at p segs.old ((F.layout format.now).size head)) ≡ Ok token.held.at)
-                × (token ≡ record {
-                  point = point;
-                  held = record { at = token.held.at; head = head; words = (F.layout format.now).size head; flips = self.old.flips };
-                }))
-              (λ why. answer_of_placement (placement_at p segs.old ((F.layout format.now).size head)) ≡ Err why) }
+            (λ token. (answer_of_placement (placement_at p segs.old ((F.layout format.now).size head)) ≡ Ok token.held.at)
+            × (token ≡ record {
+              point = point;
+              held = record { at = token.held.at; head = head; words = (F.layout format.now).size head; flips = self.old.flips };
+            }))
+            (λ why. answer_of_placement (placement_at p segs.old ((F.layout format.now).size head)) ≡ Err why) }
         ensures state { (p : Point) → point_at self.old point ≡ Some p
             → MatchResult result
-              (λ token. segs.new
-                ≡ with_reservation (with_place segs.old p (placement_at p segs.old ((F.layout format.now).size head))) token.held)
-              (λ _. segs.new ≡ segs.old) }
+            (λ token. segs.new
+            ≡ with_reservation (with_place segs.old p (placement_at p segs.old ((F.layout format.now).size head))) token.held)
+            (λ _. segs.new ≡ segs.old) }
         ensures points { (p : Point) → point_at self.old point ≡ Some p
             → MatchResult result
-              (λ token. self.new
-                ≡ with_point self.old point (Some (opened p (placement_at p segs.old ((F.layout format.now).size head)) token.held)))
-              (λ _. self.new ≡ self.old) }
+            (λ token. self.new
+            ≡ with_point self.old point (Some (opened p (placement_at p segs.old ((F.layout format.now).size head)) token.held)))
+            (λ _. self.new ≡ self.old) }
         ensures moves { (p : Point) → point_at self.old point ≡ Some p
             → MatchResult result
-              (λ _. trail.new ≡ moves_after (placement_at p segs.old ((F.layout format.now).size head)) p.pool 0 trail.old)
-              (λ _. trail.new ≡ trail.old) }
+            (λ _. trail.new ≡ moves_after (placement_at p segs.old ((F.layout format.now).size head)) p.pool 0 trail.old)
+            (λ _. trail.new ≡ trail.old) }
     {
         let words = format.words(head);
         self.reserve_words(segs, trail, point, head, words)

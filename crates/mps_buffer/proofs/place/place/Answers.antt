@@ -1,4 +1,4 @@
-use Rattle.std.proofs.Common.{ℕ, ◌+◌, ◌*◌, ◌<◌, ◌≤◌, ◌≡◌, sym, ap, subst, arith}
+use Rattle.std.proofs.Common.{ℕ, ◌*◌, ◌<◌, ◌≡◌, sym, ap, subst, arith}
 use Rattle.mps_base.specs.Address.{word_of, bytes_of_word}
 use Rattle.mps_seg.specs.Segs.{SegsState, CanCover, held_runs}
 use Rattle.mps_seg.proofs.PartCovered.{prefix_is_open}

@@ -1,4 +1,4 @@
-use Rattle.std.proofs.Common.{None, Option, option_map, get_or, set, ap, ◌∙◌, ◌<◌, ◌≡◌, length, arith}
+use Rattle.std.proofs.Common.{None, Option, option_map, get_or, set, ap, ◌∙◌, ◌<◌, length, arith}
 use Rattle.std.proofs.lemmas.List.{get_or_default}
 use Rattle.std.proofs.lemmas.List.Edits.{map_over_more}
 use Rattle.mps_buffer.specs.declared.point.Point.{Point}

@@ -1,4 +1,4 @@
-use Rattle.std.proofs.Common.{ℕ, ◌+◌, ◌≡◌, ap, ◌∙◌, arith}
+use Rattle.std.proofs.Common.{ap, arith}
 use Rattle.mps_seg.specs.Segs.{SegsState, held_runs}
 use Rattle.mps_buffer.proofs.Placing.{open_bounds}
 use Rattle.mps_buffer.proofs.points.reserve_at.Goals as goal

@@ -1,4 +1,4 @@
-use Rattle.std.proofs.Common.{◌<◌, ◌≤◌, arith}
+use Rattle.std.proofs.Common.{arith}
 use Rattle.mps_buffer.proofs.points.Points.reserve.Goals as goal
 
 pub reserve_words-requires-clause-nonzero : goal.reserve_words-requires-clause-nonzero
