@@ -1,6 +1,6 @@
 -- A world stays sound through the effects of a call that aren't writes of ids: things are made and dropped, registrations and
 -- messages come and go, numbers of the world change, an object is made.
-use Rattle.std.proofs.Common.{◌≡◌, ◌∙◌, inl, inr, ℕ, zero, suc, ◌<◌, Bool, true, false, true≢false, refl, sym, ap, subst, List, [], ◌∷◌, ◌++◌, length, Option, Some, None, arith}
+use Rattle.std.proofs.Common.{◌≡◌, ◌∙◌, inl, inr, ℕ, zero, suc, ◌<◌, Bool, true, false, true≢false, refl, sym, ap, subst, List, [], ◌∷◌, length, Option, Some, None, arith}
 use Rattle.std.proofs.lemmas.Bool.{and_from, and_parts, cases_eq, cases_lt, eq-eqb}
 use Rattle.std.specs.Prelude.{◌≢◌, ◌&&◌, ◌==◌, not, is_some, replicate, slice_get, slice_set}
 use Rattle.std.specs.List.{flat_map, list_all}
@@ -228,7 +228,7 @@ module _ (w : World) (gone : ℕ) where
       elim (cases_eq gone id) [
         | inl same ↦
             absurd (true≢false (sym live
-                ∙ ap is_some (subst (λ n. entry_at (slice_set w.addresses gone None) n ≡ None) same (none_there entry e))))
+            ∙ ap is_some (subst (λ n. entry_at (slice_set w.addresses gone None) n ≡ None) same (none_there entry e))))
         | inr other ↦ ap is_some (sym (entry_at-set_other w.addresses gone id None other)) ∙ live
       ]
     where

@@ -1,5 +1,5 @@
 -- What the client holds stays where it is up to the next flip.
-use Rattle.std.proofs.Common.{◌≡◌, ◌⊎◌, inl, ℕ, Bool, true, false, true≢false, refl, sym, ◌∙◌, ap, subst, List, [], ◌∷◌, ◌++◌, Option, Some, None, Ok, Err}
+use Rattle.std.proofs.Common.{◌≡◌, ◌⊎◌, inl, inr, ℕ, Bool, true, false, true≢false, refl, sym, ◌∙◌, ap, subst, List, [], ◌∷◌, ◌++◌, Option, Some, None, Ok, Err}
 use Rattle.std.proofs.lemmas.Bool.{and_parts}
 use Rattle.std.proofs.lemmas.Option.{none-some, same_Some}
 use Rattle.std.specs.Prelude.{not, ◌||◌, is_some, option_map}
@@ -22,7 +22,7 @@ use Rattle.mps_model.specs.Reply.{act, answer_from, reply_to, world_from}
 use Rattle.mps_model.specs.History.{IsLegalFrom, AreMovesOf, IsLegalHistoryOf, judged_world, moved_world, world_after, world_after_steps, with_client_remembered, remembering}
 use Rattle.mps_laws.specs.Replay.{reached}
 use Rattle.mps_laws.specs.Held.{target_of_slot, target_found}
-use Rattle.mps_laws.specs.Staying.{HeldBlocksStay, AddressesStayRight, is_flip, flips_not, are_without_flip}
+use Rattle.mps_laws.specs.Staying.{HeldBlocksStay, HeldThroughoutStays, AddressesStayRight, is_flip, flips_not, are_without_flip}
 use Rattle.mps_laws.proofs.Lookups.{entry_within}
 use Rattle.mps_laws.proofs.LegalHistories.{IsAnswered, kept_by_steps, IsLegalFrom-first, supported_step}
 use Rattle.mps_laws.proofs.Held.{held_after, any_kind}
@@ -95,6 +95,19 @@ held_blocks_stay formats steps between later id at legal held lies none =
     (sym (world_after_steps-append (empty_world_of formats) steps between))
     (held_is_put w between id at (client_is_settled formats steps (IsLegalFrom-first (empty_world_of formats) steps between both)) held lies
     (no_flips between none) (IsLegalFrom-later (empty_world_of formats) steps between both))
+
+gone_is_not_live : (w : World) (id : ℕ) → address_of w id ≡ None → is_live w id ≡ true → ⊥
+gone_is_not_live w id gone live = true≢false (sym live ∙ ap is_some gone)
+
+pub held_throughout_stays : HeldThroughoutStays
+held_throughout_stays formats steps between later id at legal held lies none still_held =
+    elim (held_blocks_stay formats steps between later id at legal held lies none) [
+      | inl there ↦ there
+      | inr gone ↦
+          absurd (gone_is_not_live (reached formats (steps ++ between)) id gone
+          (held_is_live (reached formats (steps ++ between)) id
+          (held_after formats (steps ++ between) (IsLegalFrom-first (empty_world_of formats) (steps ++ between) later legal)) still_held))
+    ]
 
 -- ---- what `addr` answers
 

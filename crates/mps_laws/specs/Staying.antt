@@ -40,6 +40,15 @@ HeldBlocksStay =
     → address_of (reached formats steps) id ≡ Some at → IsTrue (are_without_flip between)
     → IsThereWhileLive (reached formats (steps ++ between)) id at
 
+-- So what a client holds at both ends lies where it lay, since what it holds is live.
+abbrev pub HeldThroughoutStays : Type 0
+HeldThroughoutStays =
+    (formats : ℕ → Layout) (steps between later : History) (id : Id) (at : Address) → IsLegalHistoryOf formats ((steps ++ between) ++ later)
+    → IsTrue (contains (ids_of_client (reached formats steps).graph) id)
+    → address_of (reached formats steps) id ≡ Some at → IsTrue (are_without_flip between)
+    → IsTrue (contains (ids_of_client (reached formats (steps ++ between)).graph) id)
+    → address_of (reached formats (steps ++ between)) id ≡ Some at
+
 -- The address of an object that `addr` answers stays right up to the next step that has a flip: there the object is, for as long as
 -- it lives.
 abbrev pub AddressesStayRight : Type 0

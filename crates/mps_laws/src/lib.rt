@@ -4,7 +4,7 @@
 
 ghost use Rattle.mps_laws.specs.OneHistory.{LogTellsOneHistory};
 ghost use Rattle.mps_laws.specs.Held.{HeldObjectsAreLive, GetsReachLiveObjects};
-ghost use Rattle.mps_laws.specs.Staying.{HeldBlocksStay, AddressesStayRight};
+ghost use Rattle.mps_laws.specs.Staying.{HeldBlocksStay, HeldThroughoutStays, AddressesStayRight};
 ghost use Rattle.mps_laws.specs.Depending.{FreshDependenciesHold};
 ghost use Rattle.mps_laws.specs.Replay.{StepReplaysToLiveBlocks, LogReplaysToLiveBlocks};
 ghost use Rattle.mps_laws.specs.WellFormed.{ReachedWorldsAreWellFormed, ArenaMadeAgainLeavesSegments};
@@ -35,8 +35,10 @@ pub fn gets_reach_live_objects()
 
 /// What stands in a slot, a hold of an area word, a message or a live reservation at the end of a step stays where it is, for as
 /// long as it lives, up to the next step that has a flip: also while a collection runs, and where the client drops it meanwhile.
+/// What it holds at both ends lives, so it lies where it lay.
 pub fn held_blocks_stay()
-    ensures { HeldBlocksStay }
+    ensures while_live { HeldBlocksStay }
+    ensures held { HeldThroughoutStays }
 {}
 
 /// The address that `addr` answers stays right up to the next step that has a flip: the object lies there for as long as it
