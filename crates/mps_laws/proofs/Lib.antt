@@ -59,3 +59,6 @@ pub mod WellPlaced
 pub mod WellFormed
 pub mod WellFormedHistories
 pub mod MadeAgain
+pub mod FoundBy
+pub mod SoundParts
+pub mod SoundReserves

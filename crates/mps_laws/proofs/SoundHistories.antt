@@ -29,8 +29,9 @@ use Rattle.mps_laws.proofs.Acts.{for_world}
 use Rattle.mps_laws.proofs.Steps.{is_reserve}
 use Rattle.mps_laws.proofs.FreeSteps.{block_is_live}
 use Rattle.mps_laws.proofs.SoundGraph.{All, IsSoundGraph, PassesOrNull, auto, manual, all-parts, all-at, all-contains, entry-passes}
-use Rattle.mps_laws.proofs.SoundActs.{found_by}
-use Rattle.mps_laws.proofs.SoundSteps.{act_sound, reserve_sound, is_finalize}
+use Rattle.mps_laws.proofs.FoundBy.{found_by}
+use Rattle.mps_laws.proofs.SoundSteps.{act_sound, is_finalize}
+use Rattle.mps_laws.proofs.SoundReserves.{reserve_sound}
 use Rattle.mps_laws.proofs.SoundMoves.{IsMovedWell, grows_on, quiet, moves_well, segment_well, freed_well, unseg_well}
 
 -- ---- the units that are asked, and what is remembered

@@ -1,28 +1,26 @@
--- Each call leaves a sound graph.
-use Rattle.std.proofs.Common.{◌≡◌, ◌∙◌, ◌⊎◌, ℕ, ◌+◌, ◌-◌, ◌<◌, Bool, true, false, refl, sym, ap, List, [], ◌∷◌, ◌++◌, length, Option, Some, None, Ok, Err, subst, inl, inr, arith}
-use Rattle.std.proofs.lemmas.Bool.{false≢true, true≢false, and_parts, and_from, cases_Bool}
-use Rattle.std.proofs.lemmas.Option.{none-some, same_Some}
+-- Each call but a reserve leaves a sound graph.
+use Rattle.std.proofs.Common.{◌≡◌, ◌∙◌, ℕ, ◌+◌, Bool, true, false, refl, sym, ap, List, length, Option, Some, None, Ok, Err, inl, inr}
+use Rattle.std.proofs.lemmas.Bool.{false≢true, true≢false, and_parts, and_from}
+use Rattle.std.proofs.lemmas.Option.{none-some}
 use Rattle.std.proofs.lemmas.List.{length-replicate}
 use Rattle.std.specs.Prelude.{slice_get, slice_set, option_map, not, ◌&&◌, ◌||◌, ◌==◌, nat_lt, nat_le, if◌then◌else◌, is_some, is_none, replicate}
 use Rattle.std.specs.Option.{option_map_or}
-use Rattle.std.specs.List.{list_all}
 use Rattle.mps_base.specs.Staleness.{is_stale}
 use Rattle.mps_base.specs.declared.names.Name.{Name}
 use Rattle.mps_base.specs.declared.names.Rank.{Rank}
 use Rattle.mps_base.specs.declared.names.Slot.{Slot}
 use Rattle.mps_base.specs.declared.refusal.Refusal.TheVariants as refusal
-use Rattle.mps_format.specs.Layout.{Layout}
 use Rattle.mps_model.specs.declared.call.Call.{Call}
 use Rattle.mps_model.specs.declared.call.Call.TheVariants as call
-use Rattle.mps_model.specs.Graph.{Graph, Object, Body, Automatic, Manual, Cell, HeadCell, NumberCell, ReferenceCell, Point, Reservation, AreaWord, PlainWord, Hold, Slots, Thing, ChainThing, PoolThing, TableThing, AreaThing, BlocksThing, PointThing, DependencyThing, TransformThing, CacheThing, contains, entries, entry_at, object_at, is_automatic, slots_of, ids_in_slots, target_of_cell, targets_of_cells, thing_named, with_last, without_first, with_target_cell, graph_with_cells, new_cells, new_cells_from, position_of_first}
-use Rattle.mps_model.specs.World.{World, Pool, PoolKind, Collected, OneSize, AnySize, Dependency, PointMemory, block_of_word, committed, id_at, is_live, is_running, empty_run, is_automatic_kind, is_weak_kind, pool_at}
+use Rattle.mps_model.specs.Graph.{Graph, Object, Automatic, Manual, NumberCell, Point, Reservation, AreaWord, Hold, entries, entry_at, is_automatic, ids_in_slots, thing_named, with_last, without_first, with_target_cell, position_of_first}
+use Rattle.mps_model.specs.World.{World, Pool, PoolKind, Collected, OneSize, AnySize, Dependency, block_of_word, committed, id_at, is_live, is_running, is_automatic_kind, is_weak_kind, pool_at}
 use Rattle.mps_model.specs.WellFormed.{is_shaped, are_shaped, are_right_cells, is_right_object, is_live_automatic}
-use Rattle.mps_model.specs.Checked.{Act, Checked, Found, Numbered, ◌>>=◌, ◌>>◌, required, refuse_when, says, done, tells, chain_named, pool_named, point_named, dependency_named, slot_in, word_in, block_place_in, object_in, cells_of_body, number_at, reference_at, number_named, as_blocks, with_graph}
-use Rattle.mps_model.specs.Making.{graph_without_root, graph_with_table, graph_with_area, graph_with_blocks, make_pool, with_point, without_point, is_block_size, is_weak_rank, live_points, may_have_point, most_chains, most_dependencies, most_points, most_pools, refuse_at_limit, refuse_root, refuse_taken}
-use Rattle.mps_model.specs.Placement.{ForReserve, ForAlloc, placement_of}
-use Rattle.mps_model.specs.Allocating.{Reserving, act_reserve, allows_size, block_in, check_reserve, committed_object, graph_allocated, layout_of, refuse_without_place, reserved_address, takes_head, with_reservation, with_reserved, with_reserved_cells, with_slot, words_at, world_committed, address_of_placement}
-use Rattle.mps_model.specs.Accessing.{Poked, AsBlock, AsMarked, AsNumber, act_poke_in, act_poked, held_in, hold_of, poked, same_target}
-use Rattle.mps_model.specs.Collecting.{act_message_in, most_registrations, without_registration}
+use Rattle.mps_model.specs.Checked.{Act, Checked, Found, Numbered, ◌>>◌, required, refuse_when, says, done, chain_named, pool_named, point_named, dependency_named, slot_in, word_in, block_place_in, object_in, cells_of_body, number_at, reference_at, number_named, as_blocks, with_graph}
+use Rattle.mps_model.specs.Making.{graph_without_root, is_block_size, is_weak_rank, live_points, may_have_point, most_chains, most_dependencies, most_points, refuse_at_limit, refuse_root, refuse_taken}
+use Rattle.mps_model.specs.Placement.{ForAlloc, placement_of}
+use Rattle.mps_model.specs.Allocating.{allows_size, block_in, committed_object, graph_allocated, refuse_without_place, reserved_address, with_reservation, words_at, world_committed, address_of_placement}
+use Rattle.mps_model.specs.Accessing.{held_in, same_target}
+use Rattle.mps_model.specs.Collecting.{most_registrations, without_registration}
 use Rattle.mps_model.specs.Reply.{act}
 use Rattle.mps_laws.proofs.Lookups.{slice_get-set_other, slice_get-kept, entry_at-last, entry_at-at_last, entry_at-after_last, entry_within_set, entry_is_there, slice_get-at_last}
 use Rattle.mps_laws.proofs.LaidOut.{kind_in}
@@ -30,255 +28,13 @@ use Rattle.mps_laws.proofs.LegalMoves.{length-with_target_cell}
 use Rattle.mps_laws.proofs.PoolKinds.{kind_of_pool}
 use Rattle.mps_laws.proofs.Acts.{ForAct, accepted, refused, with_value, after_check, unless, required-is, point_named-is, pool_named-is}
 use Rattle.mps_laws.proofs.SoundGraph.{All, PassesOrNull, AreRight, IsSoundGraph, IsRightPoint, Grows, IsEdited, auto, manual, is_sound_word, is_sound_reservation, all-weaker, all-append, all-at, all-written, all-last, all-without, all-ended, entries-written, entry-passes, entries-none, each-written, each-at, each-replicated, each-weaker, edited, grows_alike, untouched, auto_kept, manual_kept, right_target_cell, right_number_cell, reservation_kept}
-use Rattle.mps_laws.proofs.SoundActs.{found_by, slot_found, word_found, object_found, number_found, table_passes, slot_passes, object_cells, reference_passes, held_written, slot_written, own_slot_written, word_written, cells_changed, reservation_written, object_added, place_written, block_word_written, block_lies, hold_is_sound, pin_is_sound}
+use Rattle.mps_laws.proofs.SoundActs.{table_passes, slot_passes, object_cells, reference_passes, held_written, slot_written, own_slot_written, word_written, cells_changed, reservation_written, object_added, place_written, block_word_written, pin_is_sound}
+use Rattle.mps_laws.proofs.FoundBy.{found_by, slot_found, word_found, object_found, number_found}
+use Rattle.mps_laws.proofs.SoundParts.{init_sound, told, dropped, new_table, new_blocks, new_area, new_pool, new_point, no_point, poke_sound, message_sound, object_of_slot, id_of_slot, taken}
 
 abbrev pub is_finalize : Call → Bool
 is_finalize (call.Finalize slot) = true
 is_finalize _ = false
-
--- ---- reservations
-
-shaped_self : (f : Layout) (head k count : ℕ) → are_shaped (new_cells_from f head k count) (new_cells_from f head k count) ≡ true
-shaped_self f head k Rattle.std.proofs.Common.zero = refl
-shaped_self f head k (Rattle.std.proofs.Common.suc count) = of_cell (f.is_reference head k) (shaped_self f head (k + 1) count)
-  where
-    of_cell : (b : Bool) → are_shaped (new_cells_from f head (k + 1) count) (new_cells_from f head (k + 1) count) ≡ true
-        → are_shaped ((if b then ReferenceCell None 0 else NumberCell 0) ∷ new_cells_from f head (k + 1) count)
-        ((if b then ReferenceCell None 0 else NumberCell 0) ∷ new_cells_from f head (k + 1) count) ≡ true
-    of_cell true rest = rest
-    of_cell false rest = rest
-
-no_targets : (test : ℕ → Bool) (f : Layout) (head k count : ℕ) → All test (targets_of_cells (new_cells_from f head k count))
-no_targets test f head k Rattle.std.proofs.Common.zero = refl
-no_targets test f head k (Rattle.std.proofs.Common.suc count) = of_cell (f.is_reference head k) (no_targets test f head (k + 1) count)
-  where
-    of_cell : (b : Bool) → All test (targets_of_cells (new_cells_from f head (k + 1) count))
-        → All test (targets_of_cells ((if b then ReferenceCell None 0 else NumberCell 0) ∷ new_cells_from f head (k + 1) count))
-    of_cell true rest = rest
-    of_cell false rest = rest
-
-new_is_sound : (v : World) (p : Pool) (head : ℕ) → (v.formats p.format).is_valid head ≡ true
-    → are_right_cells v p head (new_cells (v.formats p.format) head) ≡ true
-new_is_sound v p head valid =
-    let f = v.formats p.format in
-    and_from (f.is_valid head && are_shaped (new_cells f head) (new_cells f head)) (list_all (auto v) (targets_of_cells (new_cells f head)))
-    (and_from (f.is_valid head) (are_shaped (new_cells f head) (new_cells f head)) valid (shaped_self f head 1 (f.size head - 1)))
-    (no_targets (auto v) f head 1 (f.size head - 1))
-
-module _ (v : World) (s : IsSoundGraph v) where
-  -- cells of a reservation are written
-  cells_sound : (pool : ℕ) (r : Reservation) (cells : List Cell)
-      → ((likes : List Cell) → AreRight (auto v) likes r.cells → AreRight (auto v) likes cells) → is_sound_reservation v pool r ≡ true
-      → is_sound_reservation v pool (record r { cells = cells }) ≡ true
-  cells_sound pool r cells each h = of_pool (pool_at v pool) h
-    where
-      of_pool : (x : Option Pool) → option_map_or (λ of. are_right_cells v of r.head r.cells) x false ≡ true
-          → option_map_or (λ of. are_right_cells v of r.head cells) x false ≡ true
-      of_pool None k = absurd (false≢true k)
-      of_pool (Some p) k =
-          let f = v.formats p.format in
-          let parts = and_parts (f.is_valid r.head && are_shaped (new_cells f r.head) r.cells)
-          (list_all (auto v) (targets_of_cells r.cells)) k in
-          let first = and_parts (f.is_valid r.head) (are_shaped (new_cells f r.head) r.cells) parts.0 in
-          let now = each (new_cells f r.head) (first.1, parts.1) in
-          and_from (f.is_valid r.head && are_shaped (new_cells f r.head) cells) (list_all (auto v) (targets_of_cells cells))
-          (and_from (f.is_valid r.head) (are_shaped (new_cells f r.head) cells) first.0 now.0) now.1
-
-  init_sound : (name : Name) (p : Numbered Point) (r : Reservation) (cells : List Cell) → point_named v name ≡ Ok p
-      → p.value.reservation ≡ Some r
-      → ((likes : List Cell) → AreRight (auto v) likes r.cells → AreRight (auto v) likes cells)
-      → ForAct IsSoundGraph (done (with_reserved_cells v p r cells))
-  init_sound name p r cells e f each =
-      let there = (point_named-is v name p e).1 in
-      elim (r.is_doomed) as (λ b. ForAct IsSoundGraph (done (if b then v else with_graph v
-      (with_reservation v.graph p (Some (record r { cells = cells })))))) [
-        | true ↦ accepted s
-        | false ↦
-            accepted (reservation_written v s p (Some (record r { cells = cells })) there (λ x k.
-            subst (λ (z : Reservation). is_sound_reservation v p.value.pool z ≡ true) (same_Some (record r { cells = cells }) x k)
-            (cells_sound p.value.pool r cells each (s.reservations p.number p.value r there f))))
-      ]
-
-  told : (b : Bool) → ForAct IsSoundGraph (tells b v)
-  told true = accepted s
-  told false = accepted s
-
-  -- ---- roots
-
-  dropped : (name : Name) (o : Option Thing) (g : Graph) → graph_without_root v.graph name o ≡ Some g → IsSoundGraph (with_graph v g)
-  dropped name (Some (TableThing n)) g e =
-      subst (λ x. IsSoundGraph (with_graph v x)) (same_Some _ g e)
-      (held_written v s (record v.graph {
-        tables = slice_set v.graph.tables n None;
-        names =
-            Rattle.mps_model.specs.Graph.without_name v.graph.names name;
-      }) refl refl
-      (inr (all-written (auto v) slots_of v.graph.tables n None s.slots refl)) (inl refl) (inl refl) (inl refl) (inl refl))
-  dropped name (Some (AreaThing n)) g e =
-      subst (λ x. IsSoundGraph (with_graph v x)) (same_Some _ g e)
-      (held_written v s (record v.graph {
-        areas = slice_set v.graph.areas n None;
-        names =
-            Rattle.mps_model.specs.Graph.without_name v.graph.names name;
-      }) refl refl
-      (inl refl)
-      (inr (λ k area h.
-      elim (entry_within_set v.graph.areas n k area None h) [
-        | inl here ↦ absurd (none-some area here.1)
-        | inr other ↦ s.words k area other.1
-      ]))
-      (inl refl) (inl refl) (inl refl))
-  dropped name None g e = absurd (none-some g e)
-  dropped name (Some (ChainThing n)) g e = absurd (none-some g e)
-  dropped name (Some (PoolThing n)) g e = absurd (none-some g e)
-  dropped name (Some (BlocksThing n)) g e = absurd (none-some g e)
-  dropped name (Some (PointThing n)) g e = absurd (none-some g e)
-  dropped name (Some (DependencyThing n)) g e = absurd (none-some g e)
-  dropped name (Some (TransformThing n)) g e = absurd (none-some g e)
-  dropped name (Some (CacheThing n)) g e = absurd (none-some g e)
-
-  new_table : (name : Name) (n : ℕ) → IsSoundGraph (with_graph v (graph_with_table v.graph name n))
-  new_table name n =
-      held_written v s (graph_with_table v.graph name n) refl refl
-      (inr (all-last (auto v) slots_of v.graph.tables (Some (replicate n None)) s.slots (entries-none (auto v) n))) (inl refl) (inl refl)
-      (inl refl) (inl refl)
-
-  new_blocks : (name : Name) (n : ℕ) → IsSoundGraph (with_graph v (graph_with_blocks v.graph name n))
-  new_blocks name n =
-      held_written v s (graph_with_blocks v.graph name n) refl refl (inl refl) (inl refl)
-      (inr (all-last (manual v) entries v.graph.blocks (replicate n None) s.blocks (entries-none (manual v) n))) (inl refl) (inl refl)
-
-  new_area : (name : Name) (n : ℕ) → IsSoundGraph (with_graph v (graph_with_area v.graph name n))
-  new_area name n =
-      held_written v s (graph_with_area v.graph name n) refl refl (inl refl)
-      (inr (λ k area h.
-      elim (Rattle.std.proofs.lemmas.Bool.cases_order k (length v.graph.areas)) [
-        | inl e ↦
-            subst (λ (x : List AreaWord). list_all (is_sound_word v) x ≡ true)
-            (same_Some (replicate n (PlainWord 0)) area
-            (sym (ap (entry_at (with_last v.graph.areas (Some (replicate n (PlainWord 0))))) e
-            ∙ entry_at-at_last v.graph.areas (Some (replicate n (PlainWord 0)))) ∙ h))
-            (each-replicated (is_sound_word v) n (PlainWord 0) refl)
-        | inr (inl low) ↦ s.words k area (sym (entry_at-last v.graph.areas (Some (replicate n (PlainWord 0))) k low) ∙ h)
-        | inr (inr high) ↦ absurd (none-some area (sym (entry_at-after_last v.graph.areas (Some (replicate n (PlainWord 0))) k high) ∙ h))
-      ]))
-      (inl refl) (inl refl) (inl refl)
-
-  new_pool : (name : Name) (p : Pool) → ForAct IsSoundGraph (make_pool v name p)
-  new_pool name p =
-      after_check (refuse_at_limit (length v.pools) most_pools)
-      (accepted (untouched v (Rattle.mps_model.specs.Making.with_pool v name p) s refl
-      (λ n q e. slice_get-kept v.pools p q n e) refl refl refl refl refl refl refl refl))
-
-  -- ---- points
-
-  new_point : (name : Name) (pool : ℕ) (at_rank : Rank) → IsRightPoint v.pools
-      (record { pool = pool; rank = at_rank; reservation = None }) → IsSoundGraph (with_point v name pool at_rank)
-  new_point name pool at_rank right =
-      let w = with_point v name pool at_rank in
-      let new : Point = record { pool = pool; rank = at_rank; reservation = None } in
-      edited v w (grows_alike v w refl (λ n q e. e) refl) s (record {
-        live = λ id h. h;
-        objects = λ id o h. inl h;
-        reservations = λ n p r h k.
-            elim (Rattle.std.proofs.lemmas.Bool.cases_order n (length v.graph.points)) [
-              | inl e ↦
-                  let same : new ≡ p =
-                  same_Some new p (sym (ap (entry_at (with_last v.graph.points (Some new))) e
-                  ∙ entry_at-at_last v.graph.points (Some new)) ∙ h) in
-                  absurd (none-some r (ap (λ (x : Point). x.reservation) same ∙ k))
-              | inr (inl low) ↦ inl (s.reservations n p r (sym (entry_at-last v.graph.points (Some new) n low) ∙ h) k)
-              | inr (inr high) ↦ absurd (none-some p (sym (entry_at-after_last v.graph.points (Some new) n high) ∙ h))
-            ];
-        points = λ n p h.
-            elim (Rattle.std.proofs.lemmas.Bool.cases_order n (length v.graph.points)) [
-              | inl e ↦
-                  inl (subst (IsRightPoint v.pools)
-                  (same_Some new p (sym (ap (entry_at (with_last v.graph.points (Some new))) e
-                  ∙ entry_at-at_last v.graph.points (Some new)) ∙ h)) right)
-              | inr (inl low) ↦ inl (s.points n p (sym (entry_at-last v.graph.points (Some new) n low) ∙ h))
-              | inr (inr high) ↦ absurd (none-some p (sym (entry_at-after_last v.graph.points (Some new) n high) ∙ h))
-            ];
-        slots = inl refl;
-        words = inl refl;
-        blocks = inl refl;
-        registered = inl refl;
-        messages = inl refl;
-      })
-
-  no_point : (name : Name) (number : ℕ) → IsSoundGraph (without_point v name number)
-  no_point name number =
-      let w = without_point v name number in
-      edited v w (grows_alike v w refl (λ n q e. e) refl) s (record {
-        live = λ id h. h;
-        objects = λ id o h. inl h;
-        reservations = λ n p r h k.
-            elim (entry_within_set v.graph.points number n p None h) [
-              | inl here ↦ absurd (none-some p here.1)
-              | inr other ↦ inl (s.reservations n p r other.1 k)
-            ];
-        points = λ n p h.
-            elim (entry_within_set v.graph.points number n p None h) [
-              | inl here ↦ absurd (none-some p here.1)
-              | inr other ↦ inl (s.points n p other.1)
-            ];
-        slots = inl refl;
-        words = inl refl;
-        blocks = inl refl;
-        registered = inl refl;
-        messages = inl refl;
-      })
-
-  -- ---- areas, messages and registrations
-
-  poked_sound : (place : Slot) (at : Found AreaWord) (id word : ℕ) (p : Poked) (marked : Bool) → word_in v place ≡ Ok at
-      → is_sound_word v (hold_of v id word) ≡ true → ForAct IsSoundGraph (act_poked v at id word p marked)
-  poked_sound place at id word AsBlock marked e sound = accepted (word_written v s place at (hold_of v id word) e sound)
-  poked_sound place at id word AsNumber marked e sound = accepted (word_written v s place at (PlainWord word) e refl)
-  poked_sound place at id word AsMarked true e sound = accepted (word_written v s place at (hold_of v id word) e sound)
-  poked_sound place at id word AsMarked false e sound = accepted (word_written v s place at (PlainWord word) e refl)
-
-  poke_sound : (place : Slot) (at : Found AreaWord) (word : ℕ) (marked : Bool) (o : Option ℕ) → word_in v place ≡ Ok at
-      → block_of_word v word ≡ o
-      → ForAct IsSoundGraph (act_poke_in v at word marked o)
-  poke_sound place at word marked None e f = accepted (word_written v s place at (PlainWord word) e refl)
-  poke_sound place at word marked (Some id) e f =
-      poked_sound place at id word (poked v id) marked e (hold_is_sound v s id word (block_lies v s word id f))
-
-  message_sound : (slot : Slot) (into : Found (Option ℕ)) (ids : List ℕ) → slot_in v slot ≡ Ok into → v.graph.messages ≡ ids
-      → ForAct IsSoundGraph (act_message_in v into ids)
-  message_sound slot into [] e f = accepted s
-  message_sound slot into (id ∷ ids) e f =
-      let parts = and_parts (auto v id) (list_all (auto v) ids) (subst (λ (xs : List ℕ). All (auto v) xs) f s.messages) in
-      let g = with_slot (record v.graph { messages = ids }) into (Some id) in
-      accepted (held_written v s g refl refl
-      (inr (all-written (auto v) slots_of v.graph.tables into.number (Some (slice_set into.list into.index (Some id))) s.slots
-      (entries-written (auto v) into.list into.index (Some id)
-      (table_passes (auto v) v.graph.tables into.number into.list s.slots (slot_found v slot into e).0) parts.0)))
-      (inl refl) (inl refl) (inl refl) (inr parts.1))
-
-  object_of_slot : (slot : Slot) (from : Found (Option ℕ)) (object : Numbered Object) → slot_in v slot ≡ Ok from
-      → object_in v from.value ≡ Ok object
-      → (auto v object.number ≡ true) × (object_at v.graph object.number ≡ Some object.value)
-  object_of_slot slot from object e f =
-      let o = object_found v from.value object f in
-      (subst (PassesOrNull (auto v)) o.0 (slot_passes v s slot from e), o.1)
-
-  id_of_slot : (slot : Slot) (from : Found (Option ℕ)) (id : ℕ) → All (is_live v) (ids_in_slots v.graph) → slot_in v slot ≡ Ok from
-      → from.value ≡ Some id → is_live v id ≡ true
-  id_of_slot slot from id live e f =
-      let t = slot_found v slot from e in
-      subst (PassesOrNull (is_live v)) f
-      (entry-passes (is_live v) from.list from.index from.value
-      (table_passes (is_live v) v.graph.tables from.number from.list live t.0) t.1)
-
-  taken : (word : AreaWord) (id : ℕ) → held_in word ≡ Ok id → is_sound_word v word ≡ true → auto v id ≡ true
-  taken (PlainWord n) id e h = absurd (cc)
-  taken (Hold other offset) id e h =
-      let same : other ≡ id = cc in
-      subst (λ (n : ℕ). auto v n ≡ true) same (and_parts (auto v other) _ h).0
-
--- ---- calls
 
 module _ (marked : Bool) (judged v : World) (j : IsSoundGraph judged) (grown : Grows judged v) (s : IsSoundGraph v) where
   abbrev Sound : Checked Act → Type 0
@@ -630,81 +386,3 @@ module _ (marked : Bool) (judged v : World) (j : IsSoundGraph judged) (grown : G
   act_sound call.Park live plain = accepted (as_it_was refl refl refl refl refl refl refl refl refl refl)
   act_sound call.Release live plain = accepted (as_it_was refl refl refl refl refl refl refl refl refl refl)
   act_sound call.Live live plain = accepted s
-
--- ---- a reserve
-
-record IsCheckedReserve (judged : World) (name : Name) (head : ℕ) (r : Reserving) : Type 0 where
-  pub point : point_named judged name ≡ Ok r.point
-  pub sound : is_sound_reservation judged r.point.value.pool (record { head = head; cells = r.cells; is_doomed = false }) ≡ true
-
-module _ (judged : World) (name : Name) (head : ℕ) where
-  abbrev made_of : Numbered Point → Pool → Reserving
-  made_of p pool = record { point = p; cells = new_cells (layout_of judged pool) head }
-
-  valid_head : (pool : Pool) → not (takes_head judged pool head) ≡ false → (layout_of judged pool).is_valid head ≡ true
-  valid_head pool h =
-      (and_parts ((layout_of judged pool).is_valid head)
-      (not (Rattle.mps_model.specs.World.is_leaf_kind pool.kind && Rattle.mps_model.specs.Graph.has_references
-      (layout_of judged pool) head))
-      (not_false (takes_head judged pool head) h)).0
-    where
-      not_false : (b : Bool) → not b ≡ false → b ≡ true
-      not_false true h = refl
-      not_false false h = absurd (true≢false h)
-
-  of_checks : (p : Numbered Point) (pool : Pool) (b c : Bool) (r : Reserving) → point_named judged name ≡ Ok p
-      → pool_at judged p.value.pool ≡ Some pool
-      → not (takes_head judged pool head) ≡ b
-      → (refuse_when b refusal.BadHead >> (refuse_when c refusal.Open >> Ok (made_of p pool))) ≡ Ok r → IsCheckedReserve judged name head r
-  of_checks p pool true c r e f g h = absurd (cc)
-  of_checks p pool false true r e f g h = absurd (cc)
-  of_checks p pool false false r e f g h =
-      let same : made_of p pool ≡ r = cc in
-      subst (IsCheckedReserve judged name head) same (record {
-        point = e;
-        sound =
-            ap (λ x. option_map_or (λ of. are_right_cells judged of head (new_cells (layout_of judged pool) head)) x false) f
-            ∙ new_is_sound judged pool head (valid_head pool g);
-      })
-
-  of_pool : (p : Numbered Point) (o : Option Pool) (r : Reserving) → point_named judged name ≡ Ok p → pool_at judged p.value.pool ≡ o
-      → (required o refusal.BadName >>= (λ pool. refuse_when (not (takes_head judged pool head)) refusal.BadHead
-      >> (refuse_when (is_some p.value.reservation) refusal.Open >> Ok (made_of p pool)))) ≡ Ok r → IsCheckedReserve judged name head r
-  of_pool p None r e f h = absurd (cc)
-  of_pool p (Some pool) r e f h = of_checks p pool (not (takes_head judged pool head)) (is_some p.value.reservation) r e f refl h
-
-  checked_reserve : (r : Reserving) → check_reserve judged name head ≡ Ok r → IsCheckedReserve judged name head r
-  checked_reserve r h = of_point (point_named judged name) refl h
-    where
-      of_point : (x : Checked (Numbered Point)) → point_named judged name ≡ x
-          → (x >>= (λ p. required (pool_at judged p.value.pool) refusal.BadName >>=
-          (λ pool. refuse_when (not (takes_head judged pool head)) refusal.BadHead
-          >> (refuse_when (is_some p.value.reservation) refusal.Open >> Ok (made_of p pool))))) ≡ Ok r → IsCheckedReserve judged name head r
-      of_point (Err why) e h = absurd (cc)
-      of_point (Ok p) e h = of_pool p (pool_at judged p.value.pool) r e refl h
-
-  -- it takes effect in a world with the graph in which it was judged
-  pub reserve_sound : (v : World) → Grows judged v → IsSoundGraph v → v.graph ≡ judged.graph
-      → ForAct IsSoundGraph (act_reserve judged v name head)
-  reserve_sound v grown s graph =
-      with_value (check_reserve judged name head) (λ (r : Reserving) e.
-      after_check (refuse_without_place (placement_of judged (ForReserve r.point.number (length r.cells))))
-      (with_value (point_named v name) (λ (p : Numbered Point) f.
-      accepted (reserved r p (checked_reserve r e) f (address_of_placement (placement_of v (ForReserve p.number (length r.cells))))))))
-    where
-      same_point : (r : Reserving) (p : Numbered Point) → point_named judged name ≡ Ok r.point → point_named v name ≡ Ok p → r.point ≡ p
-      same_point r p e f =
-          let both : Ok r.point ≡ Ok p = sym e ∙ sym (ap (λ g. point_named (with_graph v g) name) graph) ∙ f in
-          cc
-
-      reserved : (r : Reserving) (p : Numbered Point) → IsCheckedReserve judged name head r → point_named v name ≡ Ok p → (at : ℕ)
-          → IsSoundGraph (with_reserved v p (record { head = head; cells = r.cells; is_doomed = false }) at)
-      reserved r p c f at =
-          let res : Reservation = record { head = head; cells = r.cells; is_doomed = false } in
-          let sound : is_sound_reservation v p.value.pool res ≡ true =
-          reservation_kept judged v grown p.value.pool res
-          (subst (λ (q : Numbered Point). is_sound_reservation judged q.value.pool res ≡ true) (same_point r p c.point f) c.sound) in
-          untouched (with_graph v (with_reservation v.graph p (Some res))) (with_reserved v p res at)
-          (reservation_written v s p (Some res) (point_named-is v name p f).1
-          (λ x k. subst (λ (z : Reservation). is_sound_reservation v p.value.pool z ≡ true) (same_Some res x k) sound))
-          refl (λ n q e. e) refl refl refl refl refl refl refl refl

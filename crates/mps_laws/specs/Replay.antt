@@ -15,8 +15,10 @@ reached formats history = world_after_steps (empty_world_of formats) history
 -- legal history reaches
 abbrev pub StepReplaysToLiveBlocks : Type 0
 StepReplaysToLiveBlocks =
-    (formats : ℕ → Layout) (history : History) (pools : ℕ) (s : Step) → IsLegalHistoryOf formats history → IsLegalStep (reached formats history) s
-    → replay_from (live_blocks (reached formats history)) (records_of_step pools s) ≡ Some (live_blocks (world_after (reached formats history) s))
+    (formats : ℕ → Layout) (history : History) (pools : ℕ) (s : Step) → IsLegalHistoryOf formats history
+    → IsLegalStep (reached formats history) s
+    → replay_from (live_blocks (reached formats history)) (records_of_step pools s)
+    ≡ Some (live_blocks (world_after (reached formats history) s))
 
 -- the log of a legal history replays without a bad record, to exactly the live blocks
 abbrev pub LogReplaysToLiveBlocks : Type 0

@@ -1,0 +1,266 @@
+-- What the parts of calls leave of a sound graph: reservations, roots, points, areas, messages and registrations.
+use Rattle.std.proofs.Common.{◌≡◌, ◌∙◌, ◌⊎◌, ℕ, ◌+◌, ◌-◌, ◌<◌, Bool, true, false, refl, sym, ap, List, [], ◌∷◌, ◌++◌, length, Option, Some, None, Ok, Err, subst, inl, inr, arith}
+use Rattle.std.proofs.lemmas.Bool.{false≢true, true≢false, and_parts, and_from, cases_Bool}
+use Rattle.std.proofs.lemmas.Option.{none-some, same_Some}
+use Rattle.std.specs.Prelude.{slice_set, ◌&&◌, if◌then◌else◌, replicate}
+use Rattle.std.specs.Option.{option_map_or}
+use Rattle.std.specs.List.{list_all}
+use Rattle.mps_base.specs.declared.names.Name.{Name}
+use Rattle.mps_base.specs.declared.names.Rank.{Rank}
+use Rattle.mps_base.specs.declared.names.Slot.{Slot}
+use Rattle.mps_format.specs.Layout.{Layout}
+use Rattle.mps_model.specs.Graph.{Graph, Object, Body, Automatic, Manual, Cell, HeadCell, NumberCell, ReferenceCell, Point, Reservation, AreaWord, PlainWord, Hold, Slots, Thing, ChainThing, PoolThing, TableThing, AreaThing, BlocksThing, PointThing, DependencyThing, TransformThing, CacheThing, contains, entries, entry_at, object_at, is_automatic, slots_of, ids_in_slots, target_of_cell, targets_of_cells, thing_named, with_last, without_first, with_target_cell, graph_with_cells, new_cells, new_cells_from, position_of_first}
+use Rattle.mps_model.specs.World.{World, Pool, block_of_word, is_live, pool_at}
+use Rattle.mps_model.specs.WellFormed.{are_shaped, are_right_cells}
+use Rattle.mps_model.specs.Checked.{Found, Numbered, done, tells, point_named, slot_in, word_in, object_in, with_graph}
+use Rattle.mps_model.specs.Making.{graph_without_root, graph_with_table, graph_with_area, graph_with_blocks, make_pool, with_point, without_point, is_block_size, is_weak_rank, live_points, may_have_point, most_chains, most_dependencies, most_points, most_pools, refuse_at_limit, refuse_root, refuse_taken}
+use Rattle.mps_model.specs.Allocating.{with_reservation, with_reserved_cells, with_slot}
+use Rattle.mps_model.specs.Accessing.{Poked, AsBlock, AsMarked, AsNumber, act_poke_in, act_poked, held_in, hold_of, poked}
+use Rattle.mps_model.specs.Collecting.{act_message_in}
+use Rattle.mps_laws.proofs.Lookups.{slice_get-kept, entry_at-last, entry_at-at_last, entry_at-after_last, entry_within_set}
+use Rattle.mps_laws.proofs.Acts.{ForAct, accepted, after_check, point_named-is}
+use Rattle.mps_laws.proofs.SoundGraph.{All, PassesOrNull, AreRight, IsSoundGraph, IsRightPoint, auto, manual, is_sound_word, is_sound_reservation, all-written, all-last, entries-written, entry-passes, entries-none, each-replicated, edited, grows_alike, untouched}
+use Rattle.mps_laws.proofs.SoundActs.{table_passes, slot_passes, held_written, word_written, reservation_written, block_lies, hold_is_sound}
+use Rattle.mps_laws.proofs.FoundBy.{slot_found, object_found}
+
+-- ---- reservations
+
+pub shaped_self : (f : Layout) (head k count : ℕ) → are_shaped (new_cells_from f head k count) (new_cells_from f head k count) ≡ true
+shaped_self f head k Rattle.std.proofs.Common.zero = refl
+shaped_self f head k (Rattle.std.proofs.Common.suc count) = of_cell (f.is_reference head k) (shaped_self f head (k + 1) count)
+  where
+    of_cell : (b : Bool) → are_shaped (new_cells_from f head (k + 1) count) (new_cells_from f head (k + 1) count) ≡ true
+        → are_shaped ((if b then ReferenceCell None 0 else NumberCell 0) ∷ new_cells_from f head (k + 1) count)
+        ((if b then ReferenceCell None 0 else NumberCell 0) ∷ new_cells_from f head (k + 1) count) ≡ true
+    of_cell true rest = rest
+    of_cell false rest = rest
+
+pub no_targets : (test : ℕ → Bool) (f : Layout) (head k count : ℕ) → All test (targets_of_cells (new_cells_from f head k count))
+no_targets test f head k Rattle.std.proofs.Common.zero = refl
+no_targets test f head k (Rattle.std.proofs.Common.suc count) = of_cell (f.is_reference head k) (no_targets test f head (k + 1) count)
+  where
+    of_cell : (b : Bool) → All test (targets_of_cells (new_cells_from f head (k + 1) count))
+        → All test (targets_of_cells ((if b then ReferenceCell None 0 else NumberCell 0) ∷ new_cells_from f head (k + 1) count))
+    of_cell true rest = rest
+    of_cell false rest = rest
+
+pub new_is_sound : (v : World) (p : Pool) (head : ℕ) → (v.formats p.format).is_valid head ≡ true
+    → are_right_cells v p head (new_cells (v.formats p.format) head) ≡ true
+new_is_sound v p head valid =
+    let f = v.formats p.format in
+    and_from (f.is_valid head && are_shaped (new_cells f head) (new_cells f head)) (list_all (auto v) (targets_of_cells (new_cells f head)))
+    (and_from (f.is_valid head) (are_shaped (new_cells f head) (new_cells f head)) valid (shaped_self f head 1 (f.size head - 1)))
+    (no_targets (auto v) f head 1 (f.size head - 1))
+
+module _ (v : World) (s : IsSoundGraph v) where
+  -- cells of a reservation are written
+  pub cells_sound : (pool : ℕ) (r : Reservation) (cells : List Cell)
+      → ((likes : List Cell) → AreRight (auto v) likes r.cells → AreRight (auto v) likes cells) → is_sound_reservation v pool r ≡ true
+      → is_sound_reservation v pool (record r { cells = cells }) ≡ true
+  cells_sound pool r cells each h = of_pool (pool_at v pool) h
+    where
+      of_pool : (x : Option Pool) → option_map_or (λ of. are_right_cells v of r.head r.cells) x false ≡ true
+          → option_map_or (λ of. are_right_cells v of r.head cells) x false ≡ true
+      of_pool None k = absurd (false≢true k)
+      of_pool (Some p) k =
+          let f = v.formats p.format in
+          let parts = and_parts (f.is_valid r.head && are_shaped (new_cells f r.head) r.cells)
+          (list_all (auto v) (targets_of_cells r.cells)) k in
+          let first = and_parts (f.is_valid r.head) (are_shaped (new_cells f r.head) r.cells) parts.0 in
+          let now = each (new_cells f r.head) (first.1, parts.1) in
+          and_from (f.is_valid r.head && are_shaped (new_cells f r.head) cells) (list_all (auto v) (targets_of_cells cells))
+          (and_from (f.is_valid r.head) (are_shaped (new_cells f r.head) cells) first.0 now.0) now.1
+
+  pub init_sound : (name : Name) (p : Numbered Point) (r : Reservation) (cells : List Cell) → point_named v name ≡ Ok p
+      → p.value.reservation ≡ Some r
+      → ((likes : List Cell) → AreRight (auto v) likes r.cells → AreRight (auto v) likes cells)
+      → ForAct IsSoundGraph (done (with_reserved_cells v p r cells))
+  init_sound name p r cells e f each =
+      let there = (point_named-is v name p e).1 in
+      elim (r.is_doomed) as (λ b. ForAct IsSoundGraph (done (if b then v else with_graph v
+      (with_reservation v.graph p (Some (record r { cells = cells })))))) [
+        | true ↦ accepted s
+        | false ↦
+            accepted (reservation_written v s p (Some (record r { cells = cells })) there (λ x k.
+            subst (λ (z : Reservation). is_sound_reservation v p.value.pool z ≡ true) (same_Some (record r { cells = cells }) x k)
+            (cells_sound p.value.pool r cells each (s.reservations p.number p.value r there f))))
+      ]
+
+  pub told : (b : Bool) → ForAct IsSoundGraph (tells b v)
+  told true = accepted s
+  told false = accepted s
+
+  -- ---- roots
+
+  pub dropped : (name : Name) (o : Option Thing) (g : Graph) → graph_without_root v.graph name o ≡ Some g → IsSoundGraph (with_graph v g)
+  dropped name (Some (TableThing n)) g e =
+      subst (λ x. IsSoundGraph (with_graph v x)) (same_Some _ g e)
+      (held_written v s (record v.graph {
+        tables = slice_set v.graph.tables n None;
+        names =
+            Rattle.mps_model.specs.Graph.without_name v.graph.names name;
+      }) refl refl
+      (inr (all-written (auto v) slots_of v.graph.tables n None s.slots refl)) (inl refl) (inl refl) (inl refl) (inl refl))
+  dropped name (Some (AreaThing n)) g e =
+      subst (λ x. IsSoundGraph (with_graph v x)) (same_Some _ g e)
+      (held_written v s (record v.graph {
+        areas = slice_set v.graph.areas n None;
+        names =
+            Rattle.mps_model.specs.Graph.without_name v.graph.names name;
+      }) refl refl
+      (inl refl)
+      (inr (λ k area h.
+      elim (entry_within_set v.graph.areas n k area None h) [
+        | inl here ↦ absurd (none-some area here.1)
+        | inr other ↦ s.words k area other.1
+      ]))
+      (inl refl) (inl refl) (inl refl))
+  dropped name None g e = absurd (none-some g e)
+  dropped name (Some (ChainThing n)) g e = absurd (none-some g e)
+  dropped name (Some (PoolThing n)) g e = absurd (none-some g e)
+  dropped name (Some (BlocksThing n)) g e = absurd (none-some g e)
+  dropped name (Some (PointThing n)) g e = absurd (none-some g e)
+  dropped name (Some (DependencyThing n)) g e = absurd (none-some g e)
+  dropped name (Some (TransformThing n)) g e = absurd (none-some g e)
+  dropped name (Some (CacheThing n)) g e = absurd (none-some g e)
+
+  pub new_table : (name : Name) (n : ℕ) → IsSoundGraph (with_graph v (graph_with_table v.graph name n))
+  new_table name n =
+      held_written v s (graph_with_table v.graph name n) refl refl
+      (inr (all-last (auto v) slots_of v.graph.tables (Some (replicate n None)) s.slots (entries-none (auto v) n))) (inl refl) (inl refl)
+      (inl refl) (inl refl)
+
+  pub new_blocks : (name : Name) (n : ℕ) → IsSoundGraph (with_graph v (graph_with_blocks v.graph name n))
+  new_blocks name n =
+      held_written v s (graph_with_blocks v.graph name n) refl refl (inl refl) (inl refl)
+      (inr (all-last (manual v) entries v.graph.blocks (replicate n None) s.blocks (entries-none (manual v) n))) (inl refl) (inl refl)
+
+  pub new_area : (name : Name) (n : ℕ) → IsSoundGraph (with_graph v (graph_with_area v.graph name n))
+  new_area name n =
+      held_written v s (graph_with_area v.graph name n) refl refl (inl refl)
+      (inr (λ k area h.
+      elim (Rattle.std.proofs.lemmas.Bool.cases_order k (length v.graph.areas)) [
+        | inl e ↦
+            subst (λ (x : List AreaWord). list_all (is_sound_word v) x ≡ true)
+            (same_Some (replicate n (PlainWord 0)) area
+            (sym (ap (entry_at (with_last v.graph.areas (Some (replicate n (PlainWord 0))))) e
+            ∙ entry_at-at_last v.graph.areas (Some (replicate n (PlainWord 0)))) ∙ h))
+            (each-replicated (is_sound_word v) n (PlainWord 0) refl)
+        | inr (inl low) ↦ s.words k area (sym (entry_at-last v.graph.areas (Some (replicate n (PlainWord 0))) k low) ∙ h)
+        | inr (inr high) ↦ absurd (none-some area (sym (entry_at-after_last v.graph.areas (Some (replicate n (PlainWord 0))) k high) ∙ h))
+      ]))
+      (inl refl) (inl refl) (inl refl)
+
+  pub new_pool : (name : Name) (p : Pool) → ForAct IsSoundGraph (make_pool v name p)
+  new_pool name p =
+      after_check (refuse_at_limit (length v.pools) most_pools)
+      (accepted (untouched v (Rattle.mps_model.specs.Making.with_pool v name p) s refl
+      (λ n q e. slice_get-kept v.pools p q n e) refl refl refl refl refl refl refl refl))
+
+  -- ---- points
+
+  pub new_point : (name : Name) (pool : ℕ) (at_rank : Rank) → IsRightPoint v.pools
+      (record { pool = pool; rank = at_rank; reservation = None }) → IsSoundGraph (with_point v name pool at_rank)
+  new_point name pool at_rank right =
+      let w = with_point v name pool at_rank in
+      let new : Point = record { pool = pool; rank = at_rank; reservation = None } in
+      edited v w (grows_alike v w refl (λ n q e. e) refl) s (record {
+        live = λ id h. h;
+        objects = λ id o h. inl h;
+        reservations = λ n p r h k.
+            elim (Rattle.std.proofs.lemmas.Bool.cases_order n (length v.graph.points)) [
+              | inl e ↦
+                  let same : new ≡ p =
+                  same_Some new p (sym (ap (entry_at (with_last v.graph.points (Some new))) e
+                  ∙ entry_at-at_last v.graph.points (Some new)) ∙ h) in
+                  absurd (none-some r (ap (λ (x : Point). x.reservation) same ∙ k))
+              | inr (inl low) ↦ inl (s.reservations n p r (sym (entry_at-last v.graph.points (Some new) n low) ∙ h) k)
+              | inr (inr high) ↦ absurd (none-some p (sym (entry_at-after_last v.graph.points (Some new) n high) ∙ h))
+            ];
+        points = λ n p h.
+            elim (Rattle.std.proofs.lemmas.Bool.cases_order n (length v.graph.points)) [
+              | inl e ↦
+                  inl (subst (IsRightPoint v.pools)
+                  (same_Some new p (sym (ap (entry_at (with_last v.graph.points (Some new))) e
+                  ∙ entry_at-at_last v.graph.points (Some new)) ∙ h)) right)
+              | inr (inl low) ↦ inl (s.points n p (sym (entry_at-last v.graph.points (Some new) n low) ∙ h))
+              | inr (inr high) ↦ absurd (none-some p (sym (entry_at-after_last v.graph.points (Some new) n high) ∙ h))
+            ];
+        slots = inl refl;
+        words = inl refl;
+        blocks = inl refl;
+        registered = inl refl;
+        messages = inl refl;
+      })
+
+  pub no_point : (name : Name) (number : ℕ) → IsSoundGraph (without_point v name number)
+  no_point name number =
+      let w = without_point v name number in
+      edited v w (grows_alike v w refl (λ n q e. e) refl) s (record {
+        live = λ id h. h;
+        objects = λ id o h. inl h;
+        reservations = λ n p r h k.
+            elim (entry_within_set v.graph.points number n p None h) [
+              | inl here ↦ absurd (none-some p here.1)
+              | inr other ↦ inl (s.reservations n p r other.1 k)
+            ];
+        points = λ n p h.
+            elim (entry_within_set v.graph.points number n p None h) [
+              | inl here ↦ absurd (none-some p here.1)
+              | inr other ↦ inl (s.points n p other.1)
+            ];
+        slots = inl refl;
+        words = inl refl;
+        blocks = inl refl;
+        registered = inl refl;
+        messages = inl refl;
+      })
+
+  -- ---- areas, messages and registrations
+
+  pub poked_sound : (place : Slot) (at : Found AreaWord) (id word : ℕ) (p : Poked) (marked : Bool) → word_in v place ≡ Ok at
+      → is_sound_word v (hold_of v id word) ≡ true → ForAct IsSoundGraph (act_poked v at id word p marked)
+  poked_sound place at id word AsBlock marked e sound = accepted (word_written v s place at (hold_of v id word) e sound)
+  poked_sound place at id word AsNumber marked e sound = accepted (word_written v s place at (PlainWord word) e refl)
+  poked_sound place at id word AsMarked true e sound = accepted (word_written v s place at (hold_of v id word) e sound)
+  poked_sound place at id word AsMarked false e sound = accepted (word_written v s place at (PlainWord word) e refl)
+
+  pub poke_sound : (place : Slot) (at : Found AreaWord) (word : ℕ) (marked : Bool) (o : Option ℕ) → word_in v place ≡ Ok at
+      → block_of_word v word ≡ o
+      → ForAct IsSoundGraph (act_poke_in v at word marked o)
+  poke_sound place at word marked None e f = accepted (word_written v s place at (PlainWord word) e refl)
+  poke_sound place at word marked (Some id) e f =
+      poked_sound place at id word (poked v id) marked e (hold_is_sound v s id word (block_lies v s word id f))
+
+  pub message_sound : (slot : Slot) (into : Found (Option ℕ)) (ids : List ℕ) → slot_in v slot ≡ Ok into → v.graph.messages ≡ ids
+      → ForAct IsSoundGraph (act_message_in v into ids)
+  message_sound slot into [] e f = accepted s
+  message_sound slot into (id ∷ ids) e f =
+      let parts = and_parts (auto v id) (list_all (auto v) ids) (subst (λ (xs : List ℕ). All (auto v) xs) f s.messages) in
+      let g = with_slot (record v.graph { messages = ids }) into (Some id) in
+      accepted (held_written v s g refl refl
+      (inr (all-written (auto v) slots_of v.graph.tables into.number (Some (slice_set into.list into.index (Some id))) s.slots
+      (entries-written (auto v) into.list into.index (Some id)
+      (table_passes (auto v) v.graph.tables into.number into.list s.slots (slot_found v slot into e).0) parts.0)))
+      (inl refl) (inl refl) (inl refl) (inr parts.1))
+
+  pub object_of_slot : (slot : Slot) (from : Found (Option ℕ)) (object : Numbered Object) → slot_in v slot ≡ Ok from
+      → object_in v from.value ≡ Ok object
+      → (auto v object.number ≡ true) × (object_at v.graph object.number ≡ Some object.value)
+  object_of_slot slot from object e f =
+      let o = object_found v from.value object f in
+      (subst (PassesOrNull (auto v)) o.0 (slot_passes v s slot from e), o.1)
+
+  pub id_of_slot : (slot : Slot) (from : Found (Option ℕ)) (id : ℕ) → All (is_live v) (ids_in_slots v.graph) → slot_in v slot ≡ Ok from
+      → from.value ≡ Some id → is_live v id ≡ true
+  id_of_slot slot from id live e f =
+      let t = slot_found v slot from e in
+      subst (PassesOrNull (is_live v)) f
+      (entry-passes (is_live v) from.list from.index from.value
+      (table_passes (is_live v) v.graph.tables from.number from.list live t.0) t.1)
+
+  pub taken : (word : AreaWord) (id : ℕ) → held_in word ≡ Ok id → is_sound_word v word ≡ true → auto v id ≡ true
+  taken (PlainWord n) id e h = absurd (cc)
+  taken (Hold other offset) id e h =
+      let same : other ≡ id = cc in
+      subst (λ (n : ℕ). auto v n ≡ true) same (and_parts (auto v other) _ h).0
