@@ -294,8 +294,9 @@ unread_part : (after : Option (List ℕ)) (waiting rest : List ℕ) → option_m
 unread_part None waiting rest e = absurd (let wrong : None ≡ Some rest = e in cc)
 unread_part (Some unread) waiting rest e = (unread, refl, (let same : Some (waiting ++ unread) ≡ Some rest = e in cc))
 
-stops_reading_at : (has_arena : Bool) (heap : HeapState) (n : ℕ) (old now new : Outside) (script : List ℕ) (left : Option (List ℕ)) (w x : LineBuffer)
-    (before after : Option (List ℕ)) → SoFar has_arena heap n old now (Some script) left → left ≡ rest_of_script w before → new.input ≡ after
+stops_reading_at : (has_arena : Bool) (heap : HeapState) (n : ℕ) (old now new : Outside) (script : List ℕ) (left : Option (List ℕ))
+    (w x : LineBuffer) (before after : Option (List ℕ)) → SoFar has_arena heap n old now (Some script) left
+    → left ≡ rest_of_script w before → new.input ≡ after
     → KeepsUnread w x before after → new.printed ≡ now.printed → new.logged ≡ now.logged → StopsReading [] script old new
 stops_reading_at has_arena heap n old now new script None w x before after f is input k printed logged = absurd f.read
 stops_reading_at has_arena heap n old now new script (Some rest) w x before after f is input k printed logged =
@@ -309,13 +310,13 @@ stops_reading_at has_arena heap n old now new script (Some rest) w x before afte
       unfinished = k.unfinished;
     }
 
-pub stops_reading : {has_arena : Bool} {heap : HeapState} {n : ℕ} {old now : Outside} {known left : Option (List ℕ)} (script : List ℕ) (new : Outside)
-    (w x : LineBuffer) (before after : Option (List ℕ)) → SoFar has_arena heap n old now known left → known ≡ Some script
+pub stops_reading : {has_arena : Bool} {heap : HeapState} {n : ℕ} {old now : Outside} {known left : Option (List ℕ)}
+    (script : List ℕ) (new : Outside) (w x : LineBuffer) (before after : Option (List ℕ)) → SoFar has_arena heap n old now known left → known ≡ Some script
     → left ≡ rest_of_script w before → new.input ≡ after → KeepsUnread w x before after → new.printed ≡ now.printed
     → new.logged ≡ now.logged → StopsReading [] script old new
 stops_reading {has_arena} {heap} {n} {old} {now} {known} {left} script new w x before after f e is input k printed logged =
-    stops_reading_at has_arena heap n old now new script left w x before after (subst (λ s. SoFar has_arena heap n old now s left) e f) is input k printed
-    logged
+    stops_reading_at has_arena heap n old now new script left w x before after
+    (subst (λ s. SoFar has_arena heap n old now s left) e f) is input k printed logged
 
 -- that is no end of the lines
 pub no_verdict_of_fault : (why : Stop BadScriptLine) → IsFault why → is_verdict (Err why) ≡ false

@@ -93,7 +93,8 @@ at_start heap o left stands = record {
   arena = refl;
 }
 
-after_one_more : (n : ℕ) (script : List ℕ) → after_lines (n + 1) script ≡ drop (length_of_line (after_lines n script) + 1) (after_lines n script)
+after_one_more : (n : ℕ) (script : List ℕ)
+    → after_lines (n + 1) script ≡ drop (length_of_line (after_lines n script) + 1) (after_lines n script)
 after_one_more n script = ap (λ m. after_lines m script) (add-one n)
 
 -- one line more of a script: its command

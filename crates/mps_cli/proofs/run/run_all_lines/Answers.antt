@@ -7,13 +7,15 @@ pub returns-in-Ok-clause-ran : goal.returns-in-Ok-clause-ran
 returns-in-Ok-clause-ran g c whole script e =
     ran_kept [] script (g.D.Desk.outside c.args.desk.now) (g.D.Desk.outside c.run_lines-ending.new.desk)
     (g.D.Desk.outside c.settle.new.desk)
-    c.settle.ensures.printed c.settle.ensures.logged c.settle.ensures.input c.run_lines-ending.result (c.run_lines-ending.ensures.ran whole script e)
+    c.settle.ensures.printed c.settle.ensures.logged c.settle.ensures.input
+    c.run_lines-ending.result (c.run_lines-ending.ensures.ran whole script e)
 
 pub returns-in-Ok-clause-leaves : goal.returns-in-Ok-clause-leaves
 returns-in-Ok-clause-leaves g c script e =
     leaves_kept [] script (g.D.Desk.outside c.args.desk.now) (g.D.Desk.outside c.run_lines-ending.new.desk)
     (g.D.Desk.outside c.settle.new.desk)
-    c.settle.ensures.printed c.settle.ensures.logged c.settle.ensures.input c.run_lines-ending.result (c.run_lines-ending.ensures.leaves script e)
+    c.settle.ensures.printed c.settle.ensures.logged c.settle.ensures.input
+    c.run_lines-ending.result (c.run_lines-ending.ensures.leaves script e)
 
 pub returns-in-Ok-clause-answered : goal.returns-in-Ok-clause-answered
 returns-in-Ok-clause-answered g c other script e =
@@ -25,7 +27,8 @@ pub returns-in-Err-clause-leaves : goal.returns-in-Err-clause-leaves
 returns-in-Err-clause-leaves g c script e =
     leaves_unsettled [] script (g.D.Desk.outside c.args.desk.now) (g.D.Desk.outside c.run_lines-ending.new.desk)
     (g.D.Desk.outside c.settle.new.desk)
-    c.settle.ensures.printed c.settle.ensures.logged c.settle.ensures.input c.run_lines-ending.result c.in-Err.stop (sym c.is_fault.ensures ∙ c.if-is_fault.false)
+    c.settle.ensures.printed c.settle.ensures.logged c.settle.ensures.input
+    c.run_lines-ending.result c.in-Err.stop (sym c.is_fault.ensures ∙ c.if-is_fault.false)
     c.in-Err.ensures.failed (c.run_lines-ending.ensures.leaves script e)
 
 pub returns-in-Err-clause-answered : goal.returns-in-Err-clause-answered

@@ -58,7 +58,8 @@ loop-next-preserved g c =
     let i = c.loop-next.invariant in
     record {
       runs = runs_on_line old before read ran i.runs c.in-Ok.ensures.counted c.in-Ok.ensures.others c.run_line.ensures.runs;
-      steady = steady_then old before ran i.steady (steady_then before read ran c.in-Ok.ensures.steady (c.in-Ok-run_line.ensures.steady refl));
+      steady = steady_then old before ran i.steady
+          (steady_then before read ran c.in-Ok.ensures.steady (c.in-Ok-run_line.ensures.steady refl));
       takes = takes_after_reading old before read ran i.takes c.in-Ok.ensures.others c.run_line.ensures.takes;
       so_far = subst (λ left. SoFar c.run_line.new.has_arena c.run_line.new.heap (c.loop-next.line + 1) old ran
           (rest_of_script c.args.lines.now old.input) left)
