@@ -1,4 +1,4 @@
--- What holds of every world that a legal history reaches.
+-- What holds of every world that a legal history reaches in which only the first command makes an arena, as in any script.
 use Rattle.std.specs.Prelude.{◌≡◌, ℕ, Bool, true, false, not, ◌&&◌, ◌||◌, ◌==◌, nat_lt, nat_le, IsTrue, if◌then◌else◌, Option, Some, None, List, [], ◌∷◌, ◌++◌, map, length, filter, refl}
 use Rattle.std.proofs.Common.{arith}
 use Rattle.std.specs.List.{list_any, list_all}
@@ -114,7 +114,7 @@ is_live_automatic w id = is_live w id && object_is is_automatic w id
 
 -- ---- worlds
 
--- what holds of every world that a legal history reaches
+-- what holds of every world that a legal history reaches in which only the first command makes an arena
 pub record IsWellFormed (w : World) : Type 0 where
   -- segments ascend, apart, and lie in the arena
   pub segments : IsTrue (list_all (is_right_segment w) w.segments && are_apart (map grains_of_segment w.segments))
