@@ -25,6 +25,7 @@ use Rattle.mps_model.specs.History.{moves_of_collector, moves_of_poll, own_segme
 use Rattle.mps_colours.specs.Colours.{AreDifferent}
 use Rattle.mps_colours.specs.Collecting.{Collecting, Running}
 use Rattle.mps_colours.specs.ClientLaws.{position_taken, collection_without, next_without, IsMarkedKept, IsReadKept, ClientsKeepRunning}
+use Rattle.mps_colours.proofs.OwnAddresses.{well_formed_different}
 use Rattle.mps_colours.proofs.HeldSegments.{AreOrdered, segments_ordered}
 use Rattle.mps_colours.proofs.ClientBeside.{bind_keeps, then_keeps}
 use Rattle.mps_colours.proofs.ClientRoots.{copy_keeps, clear_keeps, take_keeps, pin_keeps, poke_keeps, message_keeps, table_keeps, area_keeps, blocks_keeps, drop_root_keeps}
@@ -350,7 +351,7 @@ clients_keep w x s run step =
     let middle = call_keeps w x run step.well_formed step.blocks_live s.call s.moves s.answer step.collected step.moves_are_due
     step.marked_kept
     step.read_kept (record {
-      different = subst (λ (v : World). AreDifferent v.addresses) leads step.different_after;
+      different = subst (λ (v : World). AreDifferent v.addresses) leads (well_formed_different (world_after w s) step.well_formed_after);
       ordered = subst (λ (v : World). AreOrdered 1 v.segments) leads (segments_ordered (world_after w s) step.well_formed_after);
     }) in
     subst (λ (v : World). Running (record x {

@@ -25,6 +25,7 @@ use Rattle.mps_colours.proofs.Lists.{contains_append, contains_left, contains_ri
 use Rattle.mps_colours.proofs.Addresses.{automatic_is_live, is_listed_automatic}
 use Rattle.mps_colours.proofs.Keeping.{is_condemned_if_white, not_white_outside, kept_if_not_white, not_white_if_kept}
 use Rattle.mps_colours.proofs.Joining.{for_some}
+use Rattle.mps_colours.proofs.OwnAddresses.{well_formed_different}
 use Rattle.mps_colours.proofs.HeldSegments.{AreOrdered, segments_ordered, among_from, over_among, held_among, among_filtered, IsBaseOf, base_among, base_contained, any_among, bases_ascend}
 use Rattle.mps_colours.proofs.FlipLists.{count_filtered, filtered_le}
 
@@ -214,7 +215,7 @@ module _ (w : World) (what : Condemnation) (others : List Id) (rest : IsAtRest w
   pub flipped_running : Running (bare_state x)
   flipped_running = record {
     runs = refl;
-    different = rest.different;
+    different = well_formed_different w rest.well_formed;
     condemned = record {
       objects = automatic;
       bases = bases_ascend 0 1 passes w.segments (omega arith) in_order;

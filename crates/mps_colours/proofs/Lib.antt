@@ -1,3 +1,4 @@
+pub mod OwnAddresses
 pub mod WholeEnds
 pub mod WholeBegins
 pub mod Homes

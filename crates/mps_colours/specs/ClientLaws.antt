@@ -16,7 +16,6 @@ use Rattle.mps_model.specs.Collecting.{without_position, without_registration}
 use Rattle.mps_model.specs.Effect.{world_after_moves}
 use Rattle.mps_model.specs.Policy.{units_asked}
 use Rattle.mps_model.specs.History.{moves_of_collector, asking, remembering, world_after, AreMovesOf}
-use Rattle.mps_colours.specs.Colours.{AreDifferent}
 use Rattle.mps_colours.specs.Collecting.{Collecting, Running, is_white_in}
 
 -- ---- the collector's part of a step, and the client's
@@ -73,11 +72,10 @@ pub record IsClientStep (w : World) (x : Collecting) (s : Step) : Type 0 where
   pub moves_are_due : AreMovesOf w s.call s.answer s.moves
   pub marked_kept : IsMarkedKept x s.call s.answer
   pub read_kept : IsReadKept x s.call
-  -- the worlds before the client's part and after it are well-formed, and no two objects have one address
+  -- the worlds before the client's part and after it are well-formed
   pub well_formed : IsWellFormed x.world
   pub blocks_live : IsTrue (list_all (is_live x.world) (ids_in_blocks x.world.graph))
   pub well_formed_after : IsWellFormed (world_after w s)
-  pub different_after : AreDifferent (world_after w s).addresses
 
 -- every step after whose collector's part the invariant holds leaves a world in which it holds, with the same colours
 abbrev pub ClientsKeepRunning : Type 0

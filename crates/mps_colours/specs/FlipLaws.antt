@@ -9,7 +9,7 @@ use Rattle.mps_model.specs.WellFormed.{IsWellFormed}
 use Rattle.mps_model.specs.Effect.{Condemnation, Everything, Generations, condemnation_of, chain_of, oldest_of, is_on_chain, condemned_by, condemned_zones, world_flipped, collection_at_flip, after_flip, world_after_moves}
 use Rattle.mps_model.specs.LegalMove.{AreLegalMoves}
 use Rattle.mps_model.specs.Flip.{flip_of, flip_act, is_nothing}
-use Rattle.mps_colours.specs.Colours.{is_white, AllReferredLive, AreDifferent}
+use Rattle.mps_colours.specs.Colours.{is_white, AllReferredLive}
 use Rattle.mps_colours.specs.Collecting.{Exact, Collecting, Running}
 use Rattle.mps_colours.specs.Fixing.{Fixes}
 
@@ -17,7 +17,6 @@ use Rattle.mps_colours.specs.Fixing.{Fixes}
 pub record IsAtRest (w : World) : Type 0 where
   pub none_runs : w.collection ≡ None
   pub well_formed : IsWellFormed w
-  pub different : AreDifferent w.addresses
   -- what the client holds, and what live objects refer to, is live
   pub held_live : (id : Id) → IsTrue (contains (ids_of_client w.graph) id) → IsTrue (is_live w id)
   pub referred_live : AllReferredLive w.graph (is_live w)
