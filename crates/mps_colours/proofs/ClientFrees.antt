@@ -1,8 +1,8 @@
 -- A manual block is freed by the client, and its segment given back where nothing is left in it.
-use Rattle.std.proofs.Common.{◌≡◌, ◌∙◌, ℕ, ◌≤◌, Bool, true, false, refl, sym, ap, List, [], ◌∷◌, length, Option, Some, None, subst, inl, inr}
-use Rattle.std.proofs.lemmas.Bool.{false≢true, true≢false, and_parts, or_cases, leb-true, cases_Bool}
+use Rattle.std.proofs.Common.{◌≡◌, ◌∙◌, ℕ, Bool, true, false, refl, sym, ap, List, [], ◌∷◌, length, Option, Some, None, subst, inl, inr}
+use Rattle.std.proofs.lemmas.Bool.{false≢true, true≢false, and_parts, or_cases, cases_Bool}
 use Rattle.std.proofs.lemmas.Option.{same_Some}
-use Rattle.std.specs.Prelude.{◌&&◌, ◌||◌, ◌==◌, not, nat_le, if◌then◌else◌, option_map, Ok, Err, slice_get, slice_set, IsTrue}
+use Rattle.std.specs.Prelude.{◌&&◌, ◌||◌, ◌==◌, not, if◌then◌else◌, option_map, Ok, Err, slice_get, slice_set, IsTrue}
 use Rattle.std.specs.List.{list_any, list_all, flat_map}
 use Rattle.std.specs.Option.{option_map_or}
 use Rattle.mps_base.specs.Address.{Id, Address, word_of, address_of_word}
@@ -10,7 +10,7 @@ use Rattle.mps_base.specs.Segment.{Segment, is_in_segment, without_segment}
 use Rattle.mps_base.specs.declared.moves.Move.TheVariants as moves
 use Rattle.mps_base.specs.declared.names.Slot.{Slot}
 use Rattle.mps_model.specs.Answer.{Answer, is_refused}
-use Rattle.mps_model.specs.Graph.{Object, Body, Automatic, Manual, Cell, Point, Reservation, contains, entries, entry_at, object_at, targets, targets_of, targets_of_body, targets_of_cells, targets_of_point, targets_of_reservation, is_automatic, size_of, ids_in_slots, ids_in_holds, ids_in_reservations, ids_in_blocks, is_automatic_body, new_cells, size_of_body, without_first}
+use Rattle.mps_model.specs.Graph.{Object, Body, Automatic, Manual, Cell, Point, Reservation, contains, entries, entry_at, object_at, targets, targets_of, targets_of_body, targets_of_cells, targets_of_point, targets_of_reservation, is_automatic, size_of, ids_in_slots, ids_in_holds, ids_in_reservations, ids_in_blocks, new_cells, without_first}
 use Rattle.mps_model.specs.World.{World, Pool, PoolKind, Collected, OneSize, AnySize, PointMemory, extent, is_live, is_live_and, object_is, words_of, pool_at, pool_is, is_automatic_kind, is_any_size_kind, segment_at, segment_of, begins_in, lies_in, is_empty_segment, shown_words, is_copying_object, is_weak_kind, is_word_in}
 use Rattle.mps_model.specs.Accessing.{address_or_null}
 use Rattle.mps_model.specs.Effect.{after_free, after_unseg, giving_back, with_address, where_one, world_after_moves, reclaiming, segment_base_of, with_collection}
@@ -20,13 +20,14 @@ use Rattle.mps_model.specs.Allocating.{act_free, block_in, with_block_place}
 use Rattle.mps_model.specs.History.{free_at, free_of, give_back_empty, moves_of_free, unless_refused}
 use Rattle.mps_model.specs.Reply.{world_from}
 use Rattle.mps_model.specs.WellFormed.{IsWellFormed, is_live_automatic, is_right_object, is_right_body, is_right_point, is_right_reservation, are_right_points, are_right_cells, is_right_at_hand, is_home, are_shaped}
-use Rattle.mps_model.specs.Making.{is_block_size, is_weak_rank}
+use Rattle.mps_model.specs.Making.{is_weak_rank}
 use Rattle.mps_model.proofs.Reaching.{list_all-contains}
 use Rattle.mps_colours.specs.Collecting.{Collecting, Running}
 use Rattle.mps_colours.proofs.Lists.{contains_append}
 use Rattle.mps_colours.proofs.Addresses.{id_at-live}
 use Rattle.mps_colours.proofs.Joining.{from_some}
 use Rattle.mps_colours.proofs.HeldSegments.{AreOrdered, IsAmong, segments_ordered, over_among, held_among}
+use Rattle.mps_colours.proofs.RightObjects.{object_has_words, pool_kind}
 use Rattle.mps_colours.proofs.Homes.{lies_at}
 use Rattle.mps_colours.proofs.FlipLists.{holds_show}
 use Rattle.mps_colours.proofs.ClientLists.{among_all, among_entries}
@@ -154,33 +155,6 @@ manual_is w id h = of_object (object_at w.graph id) h
     of_object None g = absurd (false≢true g)
     of_object (Some o) g = of_automatic (is_automatic o) g
 
--- its pool is manual, and it has words
-record IsManual (w : World) (o : Object) : Type 0 where
-  pool : pool_is is_automatic_kind w o.pool ≡ false
-  some_words : 1 ≤ size_of o
-
-manual_object : (w : World) (o : Object) → is_right_object w o ≡ true → is_automatic o ≡ false → IsManual w o
-manual_object w o right manual = of_pool (pool_at w o.pool) refl right
-  where
-    of_not : (b : Bool) → not b ≡ true → b ≡ false
-    of_not true g = absurd (false≢true g)
-    of_not false g = refl
-
-    of_body : (p : Pool) (b : Body) → o.body ≡ b → pool_at w o.pool ≡ Some p → is_right_body w p b ≡ true
-        → is_automatic_body b ≡ false → IsManual w o
-    of_body p (Automatic head cells is_weak) same e g m = absurd (true≢false m)
-    of_body p (Manual words) same e g m =
-        let parts = and_parts (not (is_automatic_kind p.kind)) (is_block_size (length words)) g in
-        let least = leb-true 1 (length words) (and_parts (nat_le 1 (length words)) (nat_le (length words) 65536) parts.1).0 in
-        record {
-          pool = ap (λ q. option_map_or (λ (p : Pool). is_automatic_kind p.kind) q false) e ∙ of_not (is_automatic_kind p.kind) parts.0;
-          some_words = subst (λ body. 1 ≤ size_of_body body) (sym same) least;
-        }
-
-    of_pool : (q : Option Pool) → pool_at w o.pool ≡ q → option_map_or (λ p. is_right_body w p o.body) q false ≡ true → IsManual w o
-    of_pool None e g = absurd (false≢true g)
-    of_pool (Some p) e g = of_body p o.body refl e g manual
-
 module _ (x : Collecting) (run : Running x) (formed : IsWellFormed x.world) (id : Id)
     (manual : object_is is_automatic x.world id ≡ false) where
   abbrev w : World
@@ -190,9 +164,9 @@ module _ (x : Collecting) (run : Running x) (formed : IsWellFormed x.world) (id 
       → segment_at w base ≡ Some s → object_at w.graph id ≡ Some o → entry_at w.addresses id ≡ Some at
       → begins_in s (extent at (size_of o)) ≡ true → ⊥
   elsewhere base s o at is e there lying begins =
-      let m = manual_object w o (list_all-at (is_right_object w) w.graph.objects id o formed.objects there)
-      (sym (ap (λ q. option_map_or is_automatic q false) there) ∙ manual) in
-      let l = lies_at w formed id o at there lying m.some_words in
+      let right = list_all-at (is_right_object w) w.graph.objects id o formed.objects there in
+      let no_pool = pool_kind w o right ∙ (sym (ap (λ q. option_map_or is_automatic q false) there) ∙ manual) in
+      let l = lies_at w formed id o at there lying (object_has_words w o right) in
       let in_order = segments_ordered w formed in
       let among = find_among (λ t. t.base == base) w.segments s e in
       let same = same_Some s l.segment (sym (over_among 1 s w.segments (address_of_word (word_of at)) in_order among.0 begins)
@@ -200,7 +174,7 @@ module _ (x : Collecting) (run : Running x) (formed : IsWellFormed x.world) (id 
       let automatic = from_some (λ (t : Segment). IsTrue (pool_is is_automatic_kind w t.pool)) (segment_at w base) s e
       (run.condemned.segments base is) in
       true≢false (sym automatic ∙ (ap (λ (t : Segment). pool_is is_automatic_kind w t.pool) same
-      ∙ (ap (pool_is is_automatic_kind w) l.of_pool ∙ m.pool)))
+      ∙ (ap (pool_is is_automatic_kind w) l.of_pool ∙ no_pool)))
 
   pub manual_freed_keeps : Running (record x { world = with_address w id None })
   manual_freed_keeps = freed_keeps x run id (λ used. true≢false (sym (used_automatic x run formed id used) ∙ manual)) elsewhere

@@ -1,3 +1,4 @@
+pub mod RightObjects
 pub mod OwnAddresses
 pub mod WholeEnds
 pub mod WholeBegins

@@ -1,17 +1,15 @@
 -- No two objects of a well-formed world have one address: each has words, and what lies somewhere lies apart from all else.
-use Rattle.std.proofs.Common.{◌≡◌, ◌⊎◌, ℕ, zero, suc, ◌-◌, ◌≤◌, true, false, refl, ap, List, [], ◌∷◌, ◌++◌, length, Option, Some, None, subst, inl, inr, arith}
-use Rattle.std.proofs.lemmas.Bool.{false≢true, and_parts, leb-true}
+use Rattle.std.proofs.Common.{◌≡◌, ◌⊎◌, ℕ, zero, suc, ◌≤◌, true, false, refl, ap, List, [], ◌∷◌, ◌++◌, length, Option, Some, None, subst, inl, inr, arith}
+use Rattle.std.proofs.lemmas.Bool.{and_parts, leb-true}
 use Rattle.std.proofs.lemmas.Option.{none-some, same_Some}
-use Rattle.std.specs.Prelude.{◌&&◌, ◌||◌, not, if◌then◌else◌, nat_le, nat_lt, slice_get}
-use Rattle.std.specs.List.{list_all}
-use Rattle.std.specs.Option.{option_map_or}
+use Rattle.std.specs.Prelude.{if◌then◌else◌, nat_le, nat_lt, slice_get}
 use Rattle.mps_base.specs.Address.{Address}
 use Rattle.mps_base.specs.Run.{Run, end_of, with_run, in_order}
-use Rattle.mps_model.specs.Graph.{Cell, HeadCell, Object, Body, Automatic, Manual, entry_at, size_of, size_of_body, new_cells, new_cells_from, targets_of_cells, is_automatic}
-use Rattle.mps_model.specs.World.{World, Pool, extent, extents_of, reserved_extents, covered, is_automatic_kind, is_weak_kind, pool_at, object_is}
-use Rattle.mps_model.specs.Making.{is_block_size}
-use Rattle.mps_model.specs.WellFormed.{IsWellFormed, are_apart, at_hand, is_right_object, is_right_body, are_right_cells, are_shaped}
+use Rattle.mps_model.specs.Graph.{Object, entry_at, size_of}
+use Rattle.mps_model.specs.World.{World, extent, extents_of, reserved_extents, covered}
+use Rattle.mps_model.specs.WellFormed.{IsWellFormed, are_apart, at_hand, is_right_object}
 use Rattle.mps_colours.specs.Colours.{AreDifferent}
+use Rattle.mps_colours.proofs.RightObjects.{object_has_words}
 use Rattle.mps_colours.proofs.ClientThings.{list_all-at}
 
 -- ---- runs that lie apart
@@ -101,29 +99,6 @@ among_first t (r ∷ rs) ss (inr later) = inr (among_first t rs ss later)
 first_pairwise : (rs ss : List Run) → ArePairwiseApart (rs ++ ss) → ArePairwiseApart rs
 first_pairwise [] ss h = tt
 first_pairwise (r ∷ rs) ss h = ((λ s among. h.0 s (among_first s rs ss among)), first_pairwise rs ss h.1)
-
--- ---- objects have words
-
-pub object_has_words : (w : World) (o : Object) → is_right_object w o ≡ true → 1 ≤ size_of o
-object_has_words w o right = of_pool (pool_at w o.pool) right
-  where
-    some_shaped : (like : Cell) (likes cells : List Cell) → are_shaped (like ∷ likes) cells ≡ true → 1 ≤ length cells
-    some_shaped like likes [] h = absurd (false≢true h)
-    some_shaped like likes (c ∷ cs) h = omega arith
-    of_body : (p : Pool) (b : Body) → is_right_body w p b ≡ true → 1 ≤ size_of_body b
-    of_body p (Automatic head cells is_weak) h =
-        let parts = and_parts (is_automatic_kind p.kind && are_right_cells w p head cells) (not is_weak || is_weak_kind p.kind) h in
-        let both = and_parts (is_automatic_kind p.kind) (are_right_cells w p head cells) parts.0 in
-        let right = and_parts ((w.formats p.format).is_valid head && are_shaped (new_cells (w.formats p.format) head) cells)
-            (list_all (object_is is_automatic w) (targets_of_cells cells)) both.1 in
-        some_shaped HeadCell (new_cells_from (w.formats p.format) head 1 ((w.formats p.format).size head - 1)) cells
-        (and_parts ((w.formats p.format).is_valid head) (are_shaped (new_cells (w.formats p.format) head) cells) right.0).1
-    of_body p (Manual words) h =
-        let parts = and_parts (not (is_automatic_kind p.kind)) (is_block_size (length words)) h in
-        leb-true 1 (length words) (and_parts (nat_le 1 (length words)) (nat_le (length words) 65536) parts.1).0
-    of_pool : (q : Option Pool) → option_map_or (λ p. is_right_body w p o.body) q false ≡ true → 1 ≤ size_of o
-    of_pool None h = absurd (false≢true h)
-    of_pool (Some p) h = of_body p o.body h
 
 -- ---- addresses
 

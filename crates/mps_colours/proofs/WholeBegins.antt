@@ -1,18 +1,18 @@
 -- A flip that condemns everything, and its act, begin a whole collection: what is kept then are roots.
-use Rattle.std.proofs.Common.{◌≡◌, ◌∙◌, ◌⊎◌, ◌+◌, ◌≤◌, Bool, true, false, refl, sym, ap, List, [], ◌∷◌, ◌++◌, length, Option, Some, None, subst, inl, inr, arith}
+use Rattle.std.proofs.Common.{◌≡◌, ◌∙◌, ◌⊎◌, ◌+◌, Bool, true, false, refl, sym, ap, List, [], ◌∷◌, ◌++◌, length, Option, Some, None, subst, inl, inr, arith}
 use Rattle.std.proofs.lemmas.Bool.{false≢true, true≢false, and_parts, or_left, or_right}
 use Rattle.std.proofs.lemmas.List.{append-nil}
-use Rattle.std.specs.Prelude.{◌-◌, ◌&&◌, ◌||◌, not, if◌then◌else◌, filter}
-use Rattle.std.specs.List.{list_any, list_all}
+use Rattle.std.specs.Prelude.{if◌then◌else◌, filter}
+use Rattle.std.specs.List.{list_any}
 use Rattle.std.specs.Option.{option_map_or}
 use Rattle.mps_base.specs.Address.{Id}
 use Rattle.mps_base.specs.Segment.{Segment, is_in_segment}
 use Rattle.mps_base.specs.declared.moves.Move.{Move}
-use Rattle.mps_model.specs.Graph.{Graph, Cell, HeadCell, Object, Body, Automatic, Manual, contains, object_at, strong_targets, is_automatic, is_automatic_body, size_of, size_of_body, new_cells, ids_of_client, ids_in_slots, new_cells_from, targets_of_cells}
+use Rattle.mps_model.specs.Graph.{Graph, Object, contains, object_at, strong_targets, is_automatic, ids_of_client, ids_in_slots}
 use Rattle.mps_model.specs.Reachable.{begins}
 use Rattle.mps_model.specs.Collection.{is_condemned}
-use Rattle.mps_model.specs.World.{World, Pool, is_live, is_live_and, live_ids, live_automatic_ids, object_is, has_area_word, ids_of_area_words, is_automatic_kind, is_weak_kind, pool_at, pool_is}
-use Rattle.mps_model.specs.WellFormed.{is_right_object, is_right_body, are_right_cells, are_shaped, is_live_automatic}
+use Rattle.mps_model.specs.World.{World, is_live, is_live_and, live_ids, live_automatic_ids, object_is, has_area_word, ids_of_area_words, is_automatic_kind, pool_is}
+use Rattle.mps_model.specs.WellFormed.{is_right_object, is_live_automatic}
 use Rattle.mps_model.specs.Effect.{Everything, condemned_by, lies_in_one}
 use Rattle.mps_model.specs.Flip.{is_nothing}
 use Rattle.mps_model.proofs.Reaching.{list_all-contains}
@@ -24,6 +24,7 @@ use Rattle.mps_colours.proofs.Lists.{contains_append, contains_left, contains_ri
 use Rattle.mps_colours.proofs.Addresses.{automatic_is_live, is_listed_automatic, address_of-live}
 use Rattle.mps_colours.proofs.Keeping.{not_white_if_kept}
 use Rattle.mps_colours.proofs.HeldSegments.{IsAmong}
+use Rattle.mps_colours.proofs.RightObjects.{object_has_words, pool_kind}
 use Rattle.mps_colours.proofs.Homes.{lies_at}
 use Rattle.mps_colours.proofs.Flipped.{refers_automatic}
 use Rattle.mps_colours.proofs.Flipping.{AreFixed}
@@ -52,39 +53,6 @@ any_of test s (t ∷ ts) (inr later) e = or_right (test t) (list_any test ts) (a
 
 -- ---- a flip of everything condemns every live automatic object
 
--- an automatic object is of an automatic pool, and has words
-record IsAutomaticHere (w : World) (o : Object) : Type 0 where
-  pool : pool_is is_automatic_kind w o.pool ≡ true
-  some_words : 1 ≤ size_of o
-
-some_shaped : (like : Cell) (likes cells : List Cell) → are_shaped (like ∷ likes) cells ≡ true → 1 ≤ length cells
-some_shaped like likes [] h = absurd (false≢true h)
-some_shaped like likes (c ∷ cs) h = omega arith
-
-automatic_here : (w : World) (o : Object) → is_right_object w o ≡ true → is_automatic o ≡ true → IsAutomaticHere w o
-automatic_here w o right automatic = of_pool (pool_at w o.pool) refl right
-  where
-    of_body : (p : Pool) (b : Body) → o.body ≡ b → pool_at w o.pool ≡ Some p → is_right_body w p b ≡ true → is_automatic_body b ≡ true
-        → IsAutomaticHere w o
-    of_body p (Manual words) same e g a = absurd (false≢true a)
-    of_body p (Automatic head cells is_weak) same e g a =
-        let parts = and_parts (is_automatic_kind p.kind && are_right_cells w p head cells) (not is_weak || is_weak_kind p.kind) g in
-        let both = and_parts (is_automatic_kind p.kind) (are_right_cells w p head cells) parts.0 in
-        let cells_right = and_parts ((w.formats p.format).is_valid head && are_shaped (new_cells (w.formats p.format) head) cells)
-        (list_all (object_is is_automatic w) (targets_of_cells cells)) both.1 in
-        let shaped = (and_parts ((w.formats p.format).is_valid head)
-        (are_shaped (new_cells (w.formats p.format) head) cells) cells_right.0).1 in
-        record {
-          pool = ap (λ q. option_map_or (λ (p : Pool). is_automatic_kind p.kind) q false) e ∙ both.0;
-          some_words = subst (λ body. 1 ≤ size_of_body body) (sym same)
-              (some_shaped HeadCell
-              (new_cells_from (w.formats p.format) head 1 ((w.formats p.format).size head - 1)) cells shaped);
-        }
-
-    of_pool : (q : Option Pool) → pool_at w o.pool ≡ q → option_map_or (λ p. is_right_body w p o.body) q false ≡ true → IsAutomaticHere w o
-    of_pool None e g = absurd (false≢true g)
-    of_pool (Some p) e g = of_body p o.body refl e g automatic
-
 module _ (w : World) (rest : IsAtRest w) where
   abbrev x : Collecting
   x = flipped w Everything []
@@ -99,14 +67,14 @@ module _ (w : World) (rest : IsAtRest w) where
           → is_condemned x.running id ≡ true
       of_object None e g = absurd (false≢true g)
       of_object (Some o) e g =
-          let here = automatic_here w o (list_all-at (is_right_object w) w.graph.objects id o rest.well_formed.objects e) g in
+          let right = list_all-at (is_right_object w) w.graph.objects id o rest.well_formed.objects e in
           let at = address_or_null w id in
           let lying = address_of-live w id live in
-          let home = lies_at w rest.well_formed id o at e lying here.some_words in
+          let home = lies_at w rest.well_formed id o at e lying (object_has_words w o right) in
           contains_filtered (lies_in_one x.world (condemned_by x.world Everything)) (live_automatic_ids w) id
           (any_of (λ s. is_live_and (is_in_segment s) w id) home.segment (filter (λ s. pool_is is_automatic_kind w s.pool) w.segments)
           (among_passing (λ s. pool_is is_automatic_kind w s.pool) home.segment w.segments home.among
-          (ap (pool_is is_automatic_kind w) home.of_pool ∙ here.pool))
+          (ap (pool_is is_automatic_kind w) home.of_pool ∙ (pool_kind w o right ∙ g)))
           (ap (λ a. option_map_or (is_in_segment home.segment) a false) lying ∙ home.inside)) h
 
   -- so nothing else is to be scanned
