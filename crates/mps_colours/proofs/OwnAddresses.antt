@@ -38,45 +38,49 @@ ends_before r (t ∷ rs) h s among =
     let parts = and_parts (nat_le (end_of r) t.from) (are_apart (t ∷ rs)) h in
     let first = leb-true (end_of r) t.from parts.0 in
     elim among [
-      inl same ↦ subst (λ (u : Run). end_of r ≤ u.from) same first
+      | inl same ↦ subst (λ (u : Run). end_of r ≤ u.from) same first
       | inr later ↦ let rest = ends_before t rs parts.1 s later in omega (arith, first, rest)
     ]
 
 apart_pairwise : (rs : List Run) → are_apart rs ≡ true → ArePairwiseApart rs
 apart_pairwise [] h = tt
 apart_pairwise (r ∷ []) h = ((λ s none. absurd none), tt)
-apart_pairwise (r ∷ s ∷ rs) h =
-    ((λ t among. inl (ends_before r (s ∷ rs) h t among)),
-    apart_pairwise (s ∷ rs) (and_parts (nat_le (end_of r) s.from) (are_apart (s ∷ rs)) h).1)
+apart_pairwise (r ∷ s ∷ rs) h = (
+  (λ t among. inl (ends_before r (s ∷ rs) h t among)),
+  apart_pairwise (s ∷ rs) (and_parts (nat_le (end_of r) s.from) (are_apart (s ∷ rs)) h).1,
+)
 
 -- ---- one more run
 
 it_is_among : (r : Run) (rs : List Run) → IsRunAmong r (with_run r rs)
 it_is_among r [] = inl refl
 it_is_among r (s ∷ rs) = elim (nat_lt r.from s.from) as (λ b. IsRunAmong r (if b then r ∷ s ∷ rs else s ∷ with_run r rs)) [
-  true ↦ inl refl
+  | true ↦ inl refl
   | false ↦ inr (it_is_among r rs)
 ]
 
 others_among : (r t : Run) (rs : List Run) → IsRunAmong t rs → IsRunAmong t (with_run r rs)
 others_among r t [] h = absurd h
 others_among r t (s ∷ rs) h = elim (nat_lt r.from s.from) as (λ b. IsRunAmong t (if b then r ∷ s ∷ rs else s ∷ with_run r rs)) [
-  true ↦ inr h
+  | true ↦ inr h
   | false ↦ elim h [ inl same ↦ inl same | inr later ↦ inr (others_among r t rs later) ]
 ]
 
-taken_out : (r : Run) (rs : List Run) → ArePairwiseApart (with_run r rs) → ((s : Run) → IsRunAmong s rs → LieApart r s) × ArePairwiseApart rs
+taken_out : (r : Run) (rs : List Run) → ArePairwiseApart (with_run r rs)
+    → ((s : Run) → IsRunAmong s rs → LieApart r s) × ArePairwiseApart rs
 taken_out r [] h = ((λ s none. absurd none), tt)
 taken_out r (t ∷ rs) h =
     elim (nat_lt r.from t.from) as (λ b. ArePairwiseApart (if b then r ∷ t ∷ rs else t ∷ with_run r rs)
-        → ((s : Run) → IsRunAmong s (t ∷ rs) → LieApart r s) × ArePairwiseApart (t ∷ rs)) [
-      true ↦ (λ g. g)
+    → ((s : Run) → IsRunAmong s (t ∷ rs) → LieApart r s) × ArePairwiseApart (t ∷ rs)) [
+      | true ↦ (λ g. g)
       | false ↦ (λ g.
-          let rest = taken_out r rs g.1 in
-          ((λ s among. elim among [
-            inl same ↦ subst (λ (u : Run). LieApart r u) same (turned t r (g.0 r (it_is_among r rs)))
-            | inr later ↦ rest.0 s later
-          ]), ((λ s among. g.0 s (others_among r s rs among)), rest.1)))
+          let rest = taken_out r rs g.1 in (
+            (λ s among. elim among [
+              | inl same ↦ subst (λ (u : Run). LieApart r u) same (turned t r (g.0 r (it_is_among r rs)))
+              | inr later ↦ rest.0 s later
+            ]),
+            ((λ s among. g.0 s (others_among r s rs among)), rest.1),
+          ))
     ] h
 
 among_in_order : (t : Run) (rs : List Run) → IsRunAmong t rs → IsRunAmong t (in_order rs)
@@ -160,6 +164,6 @@ well_formed_different w formed =
     different_extents w.graph.objects w.addresses formed.addresses
     (λ i o h. object_has_words w o (list_all-at (is_right_object w) w.graph.objects i o formed.objects h))
     (first_pairwise (extents_of w.graph.objects w.addresses) (reserved_extents w.graph.points w.point_memories)
-      (pairwise_of_order (extents_of w.graph.objects w.addresses ++ reserved_extents w.graph.points w.point_memories)
-        (first_pairwise (covered w) (at_hand w)
-          (pairwise_of_order (covered w ++ at_hand w) (apart_pairwise (in_order (covered w ++ at_hand w)) formed.apart)))))
+    (pairwise_of_order (extents_of w.graph.objects w.addresses ++ reserved_extents w.graph.points w.point_memories)
+    (first_pairwise (covered w) (at_hand w)
+    (pairwise_of_order (covered w ++ at_hand w) (apart_pairwise (in_order (covered w ++ at_hand w)) formed.apart)))))

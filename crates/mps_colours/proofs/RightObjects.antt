@@ -16,17 +16,19 @@ object_has_words w o right = of_pool (pool_at w o.pool) right
     some_shaped : (like : Cell) (likes cells : List Cell) → are_shaped (like ∷ likes) cells ≡ true → 1 ≤ length cells
     some_shaped like likes [] h = absurd (false≢true h)
     some_shaped like likes (c ∷ cs) h = omega arith
+
     of_body : (p : Pool) (b : Body) → is_right_body w p b ≡ true → 1 ≤ size_of_body b
     of_body p (Automatic head cells is_weak) h =
         let parts = and_parts (is_automatic_kind p.kind && are_right_cells w p head cells) (not is_weak || is_weak_kind p.kind) h in
         let both = and_parts (is_automatic_kind p.kind) (are_right_cells w p head cells) parts.0 in
         let right = and_parts ((w.formats p.format).is_valid head && are_shaped (new_cells (w.formats p.format) head) cells)
-            (list_all (object_is is_automatic w) (targets_of_cells cells)) both.1 in
+        (list_all (object_is is_automatic w) (targets_of_cells cells)) both.1 in
         some_shaped HeadCell (new_cells_from (w.formats p.format) head 1 ((w.formats p.format).size head - 1)) cells
         (and_parts ((w.formats p.format).is_valid head) (are_shaped (new_cells (w.formats p.format) head) cells) right.0).1
     of_body p (Manual words) h =
         let parts = and_parts (not (is_automatic_kind p.kind)) (is_block_size (length words)) h in
         leb-true 1 (length words) (and_parts (nat_le 1 (length words)) (nat_le (length words) 65536) parts.1).0
+
     of_pool : (q : Option Pool) → option_map_or (λ p. is_right_body w p o.body) q false ≡ true → 1 ≤ size_of o
     of_pool None h = absurd (false≢true h)
     of_pool (Some p) h = of_body p o.body h
@@ -38,12 +40,14 @@ pool_kind w o right = of_pool (pool_at w o.pool) right
     of_not : (b : Bool) → not b ≡ true → b ≡ false
     of_not true h = absurd (false≢true h)
     of_not false h = refl
+
     of_body : (p : Pool) (b : Body) → is_right_body w p b ≡ true → is_automatic_kind p.kind ≡ is_automatic_body b
     of_body p (Automatic head cells is_weak) h =
         (and_parts (is_automatic_kind p.kind) (are_right_cells w p head cells)
         (and_parts (is_automatic_kind p.kind && are_right_cells w p head cells) (not is_weak || is_weak_kind p.kind) h).0).0
     of_body p (Manual words) h =
         of_not (is_automatic_kind p.kind) (and_parts (not (is_automatic_kind p.kind)) (is_block_size (length words)) h).0
+
     of_pool : (q : Option Pool) → option_map_or (λ p. is_right_body w p o.body) q false ≡ true
         → option_map_or (λ (p : Pool). is_automatic_kind p.kind) q false ≡ is_automatic o
     of_pool None h = absurd (false≢true h)

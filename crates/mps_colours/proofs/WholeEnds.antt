@@ -1,5 +1,5 @@
 -- The end of a whole collection: what was posted, and what is left, is exact.
-use Rattle.std.proofs.Common.{◌≡◌, ◌∙◌, ℕ, Bool, true, false, refl, sym, ap, List, [], ◌∷◌, ◌++◌, length, Some, None, subst, arith}
+use Rattle.std.proofs.Common.{◌≡◌, ◌∙◌, ℕ, Bool, true, false, refl, sym, ap, List, [], ◌∷◌, ◌++◌, length, Some, None, subst, arith, Option}
 use Rattle.std.proofs.lemmas.Bool.{false≢true, true≢false, and_parts}
 use Rattle.std.proofs.lemmas.List.{append-nil}
 use Rattle.std.specs.Prelude.{MatchBool, is_some}
@@ -20,7 +20,7 @@ use Rattle.mps_model.proofs.Reaching.{list_all-contains}
 use Rattle.mps_colours.specs.Collecting.{Collecting, Running, IsDrainedIn}
 use Rattle.mps_colours.specs.Units.{IsReclaimedNext, reclaim_by, IsLastUnit, reclaims_last, Ends, by_last}
 use Rattle.mps_colours.specs.FlipLaws.{IsAtRest, flipped, FixesHeld}
-use Rattle.mps_colours.specs.WholeLaws.{IsWholeSoFar, IsWholeDone, AWholeCollectionIsExact}
+use Rattle.mps_colours.specs.WholeLaws.{IsWholeSoFar, IsWholeDone, IsCollectDone, AWholeCollectionIsExact}
 use Rattle.mps_colours.proofs.Lists.{all_members, contains_here}
 use Rattle.mps_colours.proofs.Addresses.{is_listed_automatic}
 use Rattle.mps_colours.proofs.Joining.{AreLegalAnywhere, legal_append, legal_alone}
@@ -120,9 +120,9 @@ module _ (w : World) (first : List Move) (y : Collecting) (rest : IsAtRest w) (s
       (subst (λ b. MatchBool b (AreUnitsToEnd y.world later) (later ≡ [])) (sym (ap is_some running.runs))
       (last_units_done y count later running ends).are_to_end)
 
-  legal_with : (later : List Move) → AreLegalAnywhere y.world later → AreLegalMoves w None (act ++ later)
-  legal_with later legal =
-      subst (λ ms. AreLegalMoves w None (ms ++ later)) (sym act_is) (
+  legal_with : (later : List Move) → AreLegalAnywhere y.world later → (before : Option Move) → AreLegalMoves w before (act ++ later)
+  legal_with later legal before_all =
+      subst (λ ms. AreLegalMoves w before_all (ms ++ later)) (sym act_is) (
         flip_legal w Everything (first_move (first ++ later)) rest refl,
         first_legal.go_on (Some (flip_of w Everything)) later
             (λ before. subst (λ (v : World). AreLegalMoves v before later) (sym first_leads) (legal_alone y.world before later legal)),
@@ -189,11 +189,44 @@ module _ (w : World) (rest : IsAtRest w) (nothing : is_nothing (condemned_by w E
             (λ id h. absurd (none_automatic id h));
       });
     };
-    legal = (flip_ended w Everything rest refl nothing).legal;
+    legal = λ before. subst (λ ms. AreLegalMoves w before ms) (sym (flip_ended w Everything rest refl nothing).act)
+        (subst (λ ms. AreLegalMoves w None ms) (flip_ended w Everything rest refl nothing).act
+        (flip_ended w Everything rest refl nothing).legal);
   }
+
+-- ---- collect
+
+nothing_to_finish : (w : World) (ms : List Move) → w.collection ≡ None → ms ≡ [] → FinishesCollection w ms
+nothing_to_finish w ms none e = subst (λ o. MatchBool (is_some o) (AreUnitsToEnd w ms) (ms ≡ [])) (sym none) e
+
+collect_at_rest : (w : World) (full : List Move) → w.collection ≡ None → IsWholeDone w full → IsCollectDone w full
+collect_at_rest w full none done = record {
+  due = record { earlier = []; full = full; both = refl; earlier_ends = nothing_to_finish w [] none refl; is_full = done.full };
+  legal = done.legal None;
+}
+
+-- where a collection runs, it goes on to its end, and then a full one follows
+collect_running : (x : Collecting) (full : List Move) → Running x → {count : ℕ} {earlier : List Move} → Ends x count earlier
+    → FinishesCollection x.world earlier → IsWholeDone (world_after_moves x.world earlier) full → IsCollectDone x.world (earlier ++ full)
+collect_running x full run (by_last {done = row_moves} {piece} row last) finishes whole =
+    let shown = units_shown run row in
+    let legal : AreLegalAnywhere x.world (row_moves ++ piece) = legal_append x.world row_moves piece shown.legal
+    (subst (λ (v : World). AreLegalAnywhere v piece) (sym shown.leads) (last_unit_shown shown.running last).legal) in
+    record {
+      due = record { earlier = row_moves ++ piece; full = full; both = refl; earlier_ends = finishes; is_full = whole.full };
+      legal = legal.go_on None full whole.legal;
+    }
+
+finishes_where_it_runs : (x : Collecting) (earlier : List Move) (count : ℕ) → Running x → Ends x count earlier
+    → FinishesCollection x.world earlier
+finishes_where_it_runs x earlier count run ends =
+    subst (λ b. MatchBool b (AreUnitsToEnd x.world earlier) (earlier ≡ [])) (sym (ap is_some run.runs))
+    (last_units_done x count earlier run ends).are_to_end
 
 pub a_whole_collection : AWholeCollectionIsExact
 a_whole_collection = (
   (λ w first later y count rest some fixed ends. whole_done w first y rest some fixed count later ends),
   (λ w rest nothing. whole_of_nothing w rest nothing),
+  collect_at_rest,
+  (λ x earlier full count run ends whole. collect_running x full run ends (finishes_where_it_runs x earlier count run ends) whole),
 )

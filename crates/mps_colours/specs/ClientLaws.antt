@@ -1,7 +1,10 @@
 -- What is shown of the calls of the client while a collection runs: each keeps the invariant.
-use Rattle.std.specs.Prelude.{◌≡◌, ℕ, false, IsTrue, Option, Some, Ok, Err}
+use Rattle.std.specs.Prelude.{◌≡◌, ℕ, false, IsTrue, Option, Some, Ok, Err, List, refl}
 use Rattle.std.specs.List.{list_all}
 use Rattle.mps_base.specs.Address.{Id}
+use Rattle.mps_base.specs.declared.moves.Move.{Move}
+use Rattle.mps_base.specs.declared.names.Name.{Name}
+use Rattle.mps_base.specs.declared.names.Slot.{Slot}
 use Rattle.mps_base.specs.declared.refusal.Refusal.TheVariants as refusal
 use Rattle.mps_model.specs.declared.call.Call.{Call}
 use Rattle.mps_model.specs.declared.call.Call.TheVariants as call
@@ -80,3 +83,20 @@ pub record IsClientStep (w : World) (x : Collecting) (s : Step) : Type 0 where
 -- every step after whose collector's part the invariant holds leaves a world in which it holds, with the same colours
 abbrev pub ClientsKeepRunning : Type 0
 ClientsKeepRunning = (w : World) (x : Collecting) (s : Step) → Running x → IsClientStep w x s → Running (after_client w x s)
+
+-- ---- vectors
+
+-- the registration that is examined next stands one lower where one before it was taken away, and else where it stood
+pub one_before_the_next_was_taken : next_without (Ok 1) 3 ≡ 2
+one_before_the_next_was_taken = refl
+
+pub the_next_was_taken : next_without (Ok 3) 3 ≡ 3
+the_next_was_taken = refl
+
+pub none_was_taken : next_without (Err refusal.NotRegistered) 3 ≡ 3
+none_was_taken = refl
+
+-- the moves of a commit are the client's
+pub a_commit_collects_nothing : (w : World) (line : ℕ) (point : Name) (target : Slot) (moves : List Move) (answer : Answer)
+    → collected_world w (record { line = line; call = call.Commit point target; moves = moves; answer = answer }) ≡ w
+a_commit_collects_nothing w line point target moves answer = refl

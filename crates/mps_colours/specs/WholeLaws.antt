@@ -1,18 +1,21 @@
 -- What is shown of whole collections, in which no call of the client comes between the flip and the end: what is kept is what
 -- was widely reachable in the world that the flip's record left, from the objects posted so far too.
-use Rattle.std.specs.Prelude.{◌≡◌, ◌+◌, ℕ, false, IsTrue, None, List, [], ◌++◌, length}
+use Rattle.std.specs.Prelude.{◌≡◌, ◌+◌, ℕ, false, IsTrue, Option, None, List, [], ◌++◌, length}
 use Rattle.mps_base.specs.Address.{Id}
 use Rattle.mps_base.specs.declared.moves.Move.{Move}
 use Rattle.mps_model.specs.Graph.{Graph, contains, strong_targets, ids_of_client}
 use Rattle.mps_model.specs.Collection.{is_condemned}
 use Rattle.mps_model.specs.World.{World, is_live, live_automatic_ids, ids_of_area_words}
 use Rattle.mps_model.specs.Posts.{IsWidelyReachableWith, ArePostsExact}
-use Rattle.mps_model.specs.Effect.{Everything, condemned_by}
+use Rattle.mps_model.specs.Effect.{Everything, condemned_by, world_after_moves}
 use Rattle.mps_model.specs.LegalMove.{AreLegalMoves}
 use Rattle.mps_model.specs.Flip.{flip_act, is_nothing}
-use Rattle.mps_model.specs.History.{IsFullCollection}
+use Rattle.mps_model.specs.History.{IsFullCollection, AreMovesOf}
+use Rattle.mps_model.specs.Answer.{Replied}
+use Rattle.mps_model.specs.declared.call.Call.TheVariants as call
+use Rattle.mps_model.specs.declared.reply.Reply.TheVariants as reply
 use Rattle.mps_colours.specs.Colours.{Colours, is_grey}
-use Rattle.mps_colours.specs.Collecting.{Collecting, is_white_in}
+use Rattle.mps_colours.specs.Collecting.{Collecting, Running, is_white_in}
 use Rattle.mps_colours.specs.Units.{Ends}
 use Rattle.mps_colours.specs.FlipLaws.{IsAtRest, flipped, FixesHeld}
 
@@ -63,15 +66,24 @@ pub record IsWholeSoFar (flipped : World) (x : Collecting) : Type 0 where
 
 -- ---- the law
 
--- what is shown of the moves of a full collection: they are due, and each is legal
+-- what is shown of the moves of a full collection: they are one, and each is legal, whatever was before
 pub record IsWholeDone (w : World) (moves : List Move) : Type 0 where
   pub full : IsFullCollection w moves
+  pub legal : (before : Option Move) → AreLegalMoves w before moves
+
+-- what is shown of the moves of a `collect`: they are due, and each is legal
+pub record IsCollectDone (w : World) (moves : List Move) : Type 0 where
+  pub due : AreMovesOf w call.Collect (Replied reply.Ok) moves
   pub legal : AreLegalMoves w None moves
 
 -- the act of a flip that condemns everything, and then units to the end. What is posted is exactly what the model asks, in
--- order, and what lives at the end is exactly what was widely reachable from the flip on, with what was posted
+-- order, and what lives at the end is exactly what was widely reachable from the flip on, with what was posted. Where a
+-- collection runs, it goes on to its end first
 abbrev pub AWholeCollectionIsExact : Type 0
 AWholeCollectionIsExact =
     ((w : World) (first later : List Move) (y : Collecting) (count : ℕ) → IsAtRest w → is_nothing (condemned_by w Everything) ≡ false
     → FixesHeld w (flipped w Everything []) first y → Ends y count later → IsWholeDone w (flip_act w Everything ++ later))
     × ((w : World) → IsAtRest w → IsTrue (is_nothing (condemned_by w Everything)) → IsWholeDone w (flip_act w Everything))
+    × ((w : World) (full : List Move) → w.collection ≡ None → IsWholeDone w full → IsCollectDone w full)
+    × ((x : Collecting) (earlier full : List Move) (count : ℕ) → Running x → Ends x count earlier
+    → IsWholeDone (world_after_moves x.world earlier) full → IsCollectDone x.world (earlier ++ full))
