@@ -1,4 +1,6 @@
 // Searches at the edges of grains, and many pseudo-random marks that are compared with plain lists.
+ghost use Rattle.std.specs.Prelude.{◌≡◌, length};
+
 use crate::Marks;
 use mps_base::Rank;
 use std::alloc::AllocError;
@@ -13,31 +15,96 @@ fn lowest(marks: &Marks, rank: Rank, from: usize, to: usize) -> Option<usize> {
     }
 }
 
+/// A search for the lowest grey block of a rank, and the answer.
+struct Search {
+    rank: Rank,
+    from: usize,
+    to: usize,
+    answer: Option<usize>,
+}
+
+/// What is asked where the blocks at 511 and 51,199 are grey of rank exact, and the block at 600 of rank weak.
+const SEARCHES: [Search; 8] = [
+    Search {
+        rank: Rank::Exact,
+        from: 0,
+        to: 51_200,
+        answer: Some(511),
+    },
+    Search {
+        rank: Rank::Exact,
+        from: 0,
+        to: 511,
+        answer: None,
+    },
+    Search {
+        rank: Rank::Exact,
+        from: 511,
+        to: 512,
+        answer: Some(511),
+    },
+    Search {
+        rank: Rank::Exact,
+        from: 512,
+        to: 51_200,
+        answer: Some(51_199),
+    },
+    Search {
+        rank: Rank::Exact,
+        from: 512,
+        to: 51_199,
+        answer: None,
+    },
+    Search {
+        rank: Rank::Exact,
+        from: 600,
+        to: 600,
+        answer: None,
+    },
+    Search {
+        rank: Rank::Weak,
+        from: 0,
+        to: 51_200,
+        answer: Some(600),
+    },
+    Search {
+        rank: Rank::Weak,
+        from: 601,
+        to: 51_200,
+        answer: None,
+    },
+];
+
+fn compare_search(rt: &impl Abort, marks: &Marks, search: &Search) {
+    let answer = lowest(marks, search.rank, search.from, search.to);
+    assert!(rt;
+        answer == search.answer,
+        "from {} to {}",
+        search.from,
+        search.to
+    );
+}
+
+fn compare_searches(rt: &impl Abort, marks: &Marks) {
+    for search in &SEARCHES {
+        compare_search(rt, marks, search);
+    }
+}
+
 #[test]
 fn searches_at_the_edges_of_grains(rt: HostRuntime) -> Result<(), AllocError> {
     let mut marks = Marks::new(rt.alloc(), 100)?;
     marks.set_grey(511, Rank::Exact);
     marks.set_grey(51_199, Rank::Exact);
     marks.set_grey(600, Rank::Weak);
-    for (rank, from, to, want) in [
-        (Rank::Exact, 0, 51_200, Some(511)),
-        (Rank::Exact, 0, 511, None),
-        (Rank::Exact, 511, 512, Some(511)),
-        (Rank::Exact, 512, 51_200, Some(51_199)),
-        (Rank::Exact, 512, 51_199, None),
-        (Rank::Exact, 600, 600, None),
-        (Rank::Weak, 0, 51_200, Some(600)),
-        (Rank::Weak, 601, 51_200, None),
-    ] {
-        let got = lowest(&marks, rank, from, to);
-        assert_eq!(rt; got, want, "from {from} to {to}");
-    }
+    compare_searches(&rt, &marks);
     Ok(())
 }
 
-#[test]
-fn marks_come_and_go(rt: HostRuntime) -> Result<(), AllocError> {
-    let mut marks = Marks::new(rt.alloc(), 2)?;
+/// The marks of two blocks in their lives.
+fn compare_marks(rt: &impl Abort, marks: &mut Marks)
+    requires { length marks.old.kept ≡ 1024 }
+{
     assert!(rt; marks.next_grey(Rank::Weak).is_none());
     marks.set_grey(600, Rank::Weak);
     marks.keep(600);
@@ -50,6 +117,12 @@ fn marks_come_and_go(rt: HostRuntime) -> Result<(), AllocError> {
     assert!(rt; !marks.is_kept(600));
     marks.clear_all();
     assert_eq!(rt; marks.grey_count(Rank::Exact), 0);
+}
+
+#[test]
+fn marks_come_and_go(rt: HostRuntime) -> Result<(), AllocError> {
+    let mut marks = Marks::new(rt.alloc(), 2)?;
+    compare_marks(&rt, &mut marks);
     Ok(())
 }
 
@@ -104,24 +177,34 @@ fn change(marks: &mut Marks, plain: &mut Plain, kind: u64, word: usize) {
     }
 }
 
-#[test]
-fn agrees_with_plain_lists(rt: HostRuntime) -> Result<(), AllocError> {
-    let mut marks = Marks::new(rt.alloc(), 3)?;
-    let mut plain = Plain {
-        exact: vec![in rt.alloc(); false; 1536]?,
-        weak: vec![in rt.alloc(); false; 1536]?,
-    };
+/// Compares all answers after a change.
+fn compare_step(rt: &impl Abort, marks: &mut Marks, plain: &Plain) {
+    agrees(rt, marks, Rank::Exact, &plain.exact);
+    agrees(rt, marks, Rank::Weak, &plain.weak);
+    let got = lowest(marks, Rank::Exact, 0, 1536);
+    assert!(rt; got == first_set(&plain.exact));
+}
+
+/// 2,000 pseudo-random changes.
+fn compare_steps(rt: &impl Abort, marks: &mut Marks, plain: &mut Plain) {
     let mut seed = 1u64;
     for _ in 0..2000 {
         seed = seed
             .wrapping_mul(6364136223846793005)
             .wrapping_add(1442695040888963407);
         let word = ((seed >> 40) % 96 * 16) as usize;
-        change(&mut marks, &mut plain, (seed >> 33) % 4, word);
-        agrees(&rt, &mut marks, Rank::Exact, &plain.exact);
-        agrees(&rt, &mut marks, Rank::Weak, &plain.weak);
-        let got = lowest(&marks, Rank::Exact, 0, 1536);
-        assert_eq!(rt; got, first_set(&plain.exact));
+        change(marks, plain, (seed >> 33) % 4, word);
+        compare_step(rt, marks, plain);
     }
+}
+
+#[test]
+fn agrees_with_plain_lists(rt: HostRuntime) -> Result<(), AllocError> {
+    let mut plain = Plain {
+        exact: vec![in rt.alloc(); false; 1536]?,
+        weak: vec![in rt.alloc(); false; 1536]?,
+    };
+    let mut marks = Marks::new(rt.alloc(), 3)?;
+    compare_steps(&rt, &mut marks, &mut plain);
     Ok(())
 }
