@@ -47,7 +47,8 @@ put_apart low high r [] ascending = tt
 put_apart low high r (x ∷ xs) ascending =
     elim (cases_lt r.from x.from) [
       | inl first ↦
-          let a = subst (IsAscending low high) (with_run_first r x xs first) ascending in all_above (end_of r) high r (x ∷ xs) (omega arith) a.2
+          let a = subst (IsAscending low high) (with_run_first r x xs first) ascending in all_above (end_of r) high r (x ∷ xs)
+          (omega arith) a.2
       | inr after ↦
           let a = subst (IsAscending low high) (with_run_later r x xs after) ascending in
           let above = put_above (end_of x) high r xs a.2 in
@@ -79,7 +80,8 @@ all_right P (x ∷ xs) ys all = all_right P xs ys all.1
 -- ---- extents
 
 -- a fact of all extents is one of each live object's
-of_extents : (P : Run → Type 0) (objects : List Object) (addresses : List (Option Address)) → AllByRecursion P (extents_of objects addresses)
+of_extents : (P : Run → Type 0) (objects : List Object) (addresses : List (Option Address))
+    → AllByRecursion P (extents_of objects addresses)
     → (id : Id) (at : Address) (o : Object) → entry_at addresses id ≡ Some at → slice_get objects id ≡ Some o → P (extent at (size_of o))
 of_extents P [] addresses all id at o e x = absurd (none-some o x)
 of_extents P (q ∷ os) [] all id at o e x = absurd (none-some at e)
@@ -91,7 +93,8 @@ of_extents P (q ∷ os) (Some p ∷ ps) all zero at o e x =
 of_extents P (q ∷ os) (Some p ∷ ps) all (suc id) at o e x = of_extents P os ps all.1 id at o e x
 
 -- and of each live reservation's
-of_reserved : (P : Run → Type 0) (points : List (Option Point)) (memories : List PointMemory) → AllByRecursion P (reserved_extents points memories)
+of_reserved : (P : Run → Type 0) (points : List (Option Point)) (memories : List PointMemory)
+    → AllByRecursion P (reserved_extents points memories)
     → (i : ℕ) (r : Reservation) (m : PointMemory) → live_reservation (entry_at points i) ≡ Some r → slice_get memories i ≡ Some m
     → P (extent m.reserved_at (length r.cells))
 of_reserved P [] memories all i r m e x = absurd (none-some r e)
@@ -119,11 +122,13 @@ open_is_free s m addresses at size runs ascending unforwarded =
       within = λ k lt. let bound = put_above 0 s.size (extent at size) m.covered ascending in omega (arith, bound.1, lt);
       unoccupied = λ k id i o lt l.
           of_extents (AreApart (extent at size)) s.objects addresses
-          (all_left (AreApart (extent at size)) (extents_of s.objects addresses) (reserved_extents s.points s.point_memories) apart) id l.at o
+          (all_left (AreApart (extent at size)) (extents_of s.objects addresses)
+          (reserved_extents s.points s.point_memories) apart) id l.at o
           l.address l.object (word_of at + k) (covers k lt) (omega (arith, l.is), omega (arith, l.is, l.within));
       unreserved = λ k point i r lt x.
           of_reserved (AreApart (extent at size)) s.points s.point_memories
-          (all_right (AreApart (extent at size)) (extents_of s.objects addresses) (reserved_extents s.points s.point_memories) apart) point r
+          (all_right (AreApart (extent at size)) (extents_of s.objects addresses)
+          (reserved_extents s.points s.point_memories) apart) point r
           x.memory x.reserved x.has (word_of at + k) (covers k lt) (omega (arith, x.is), omega (arith, x.is, x.within));
       unforwarded = unforwarded;
     }
