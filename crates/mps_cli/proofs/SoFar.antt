@@ -1,5 +1,5 @@
 -- What a run has done so far, and what is left to do.
-use Rattle.std.proofs.Common.{◌≡◌, ℕ, ◌+◌, ◌<◌, ◌≤◌, Bool, true, false, Option, Some, None, Ok, Err, List, [], ◌∷◌, ◌++◌, length, take, drop, refl, sym, ◌∙◌, ap, arith, append-nil, option_and_then, subst, zero-add, add-one, nat_lt}
+use Rattle.std.proofs.Common.{◌≡◌, ℕ, ◌+◌, ◌<◌, ◌≤◌, Bool, true, false, Option, Some, None, Ok, Err, List, [], ◌∷◌, ◌++◌, length, take, drop, refl, sym, ◌∙◌, ap, arith, append-nil, subst, zero-add, add-one, nat_lt}
 use Rattle.std.proofs.lemmas.List.{map-append, length-take-le}
 use Rattle.std.proofs.lemmas.Grind.{flat_map-append, common_steps}
 use Rattle.mps_desk.specs.Desk.{Outside, IsSteady, OnlyReads}
@@ -7,10 +7,11 @@ use Rattle.mps_base.specs.Record.{record_bytes, records_bytes}
 use Rattle.mps_model.specs.Step.{Step, History}
 use Rattle.mps_model.specs.Log.{log_from, log_of, pools_made}
 use Rattle.mps_model.specs.World.{World, empty_world}
-use Rattle.mps_model.specs.Replay.{replay, replay_from}
-use Rattle.mps_model.specs.History.{IsLegalHistory, world_after, world_after_steps, world_after_history, live_blocks}
+use Rattle.mps_model.specs.History.{IsLegalHistory, world_after, world_after_steps, world_after_history}
 use Rattle.mps_model.specs.Text.{line_of_answer}
-use Rattle.mps_model.proofs.Appending.{log_from-append, IsLegalFrom-append, world_after_steps-append, replay_from-append}
+use Rattle.mps_model.proofs.Appending.{log_from-append, IsLegalFrom-append, world_after_steps-append}
+use Rattle.mps_format.specs.Any.{numbered_layout}
+use Rattle.mps_laws.proofs.Replay.{log_replays}
 use Rattle.mps_first_heap.specs.HeapState.{HeapState}
 use Rattle.mps_first_heap.specs.StandsFor.{StandsFor}
 use Rattle.mps_report.specs.declared.stop.Stop.TheVariants as stop
@@ -50,7 +51,6 @@ pub record SoFar (has_arena : Bool) (heap : HeapState) (lines : ℕ) (old now : 
   pub unsupported : AreUnsupportedWhereDue empty_world history
   pub stands : StandsFor heap (world_after_history history)
   pub pools : length (world_after_history history).pools ≡ pools_made history
-  pub replayed : replay (log_of history) ≡ Some (live_blocks (world_after_history history))
   -- whether it has its arena, which its first call made
   pub arena : has_arena ≡ is_some_call (calls_of_history history)
 
@@ -89,7 +89,6 @@ at_start heap o left stands = record {
   unsupported = tt;
   stands = stands;
   pools = refl;
-  replayed = refl;
   arena = refl;
 }
 
@@ -184,11 +183,6 @@ one_line_more {has_arena} {has_arena2} {heap} {heap2} {n} {old} {o1} {o2} {o3} {
       pools = ap (λ (w : World). length w.pools) (world_after_steps-append empty_world f.history s.steps)
           ∙ (s.pools (world_after_history f.history) f.stands
           ∙ (ap (λ p. p + pools_made s.steps) f.pools ∙ sym (pools_made-append f.history s.steps)));
-      replayed = ap replay (log_from-append 0 f.history s.steps)
-          ∙ (replay_from-append [] (log_of f.history) (log_from (0 + pools_made f.history) s.steps)
-          ∙ (ap (option_and_then (λ store. replay_from store (log_from (0 + pools_made f.history) s.steps))) f.replayed
-          ∙ (s.replayed (world_after_history f.history) (0 + pools_made f.history) f.stands
-          ∙ ap (λ w. Some (live_blocks w)) (sym (world_after_steps-append empty_world f.history s.steps)))));
       arena = arena ∙ (ap (λ (b : Bool). has_arena_after b (call_of_line line)) f.arena
           ∙ sym (arena_more f.history s.steps (n + 1) (call_of_line line) s.answers));
     }
@@ -205,7 +199,7 @@ has_run f = record {
   commands = f.read.commands;
   legal = f.legal;
   unsupported = f.unsupported;
-  replayed = f.replayed;
+  replayed = log_replays numbered_layout f.history f.legal;
 }
 
 -- after them nothing was printed or logged
@@ -420,7 +414,6 @@ no_steps commands heap o none = record {
   legal = λ w s. tt;
   unsupported = λ w s. tt;
   stands = λ w s. s;
-  replayed = λ w n s. refl;
   pools = λ w s. omega arith;
   logged = λ w s. appended_empty o.logged;
   answers = sym none;

@@ -10,12 +10,10 @@ use Rattle.mps_model.specs.Answer.{Replied}
 use Rattle.mps_model.specs.Step.{Step}
 use Rattle.mps_model.specs.World.{World}
 use Rattle.mps_model.specs.Log.{records_of, records_of_step}
-use Rattle.mps_model.specs.Replay.{replay_from}
-use Rattle.mps_model.specs.History.{live_blocks}
 use Rattle.mps_first_heap.specs.HeapState.{HeapState}
 use Rattle.mps_first_heap.specs.declared.done.Done.{Done}
 use Rattle.mps_first_heap.specs.StandsFor.{StandsFor, moves_of, step_of}
-use Rattle.mps_first_heap.specs.RightStep.{IsLegalCall, StandsAfter, IsReplayedCall, IsUnsupportedExactly, IsNewPoolNumber, ArePoolsCounted}
+use Rattle.mps_first_heap.specs.RightStep.{IsLegalCall, StandsAfter, IsUnsupportedExactly, IsNewPoolNumber, ArePoolsCounted}
 use Rattle.mps_first_heap.specs.Built.{is_unsupported_call}
 use Rattle.mps_report.specs.declared.stop.Stop.TheVariants as stop
 use Rattle.mps_answers.specs.Text.{text_of}
@@ -34,7 +32,6 @@ unsupported_answer r b h = (λ e. h.0 (let a : r ≡ reply.Unsupported = cc in a
 pub record IsDone (before after : HeapState) (call : Call) (done : Done) : Type 0 where
   pub legal : IsLegalCall before call done
   pub stands : StandsAfter before call done after
-  pub replayed : IsReplayedCall before call done
   pub unsupported : IsUnsupportedExactly before call done
   pub number : IsNewPoolNumber before call done
   pub counted : ArePoolsCounted before call done
@@ -64,7 +61,6 @@ module _ (line : ℕ) (call : Call) (done : Done) (before after : HeapState) (is
     legal = λ w s. (is.legal w line s, tt);
     unsupported = λ w s. (unsupported_answer done.reply (is_unsupported_call w call) (is.unsupported w s), tt);
     stands = λ w s. is.stands w line s;
-    replayed = λ w n s. ap (replay_from (live_blocks w)) (append-nil (records_of_step n the_step)) ∙ is.replayed w line s n;
     pools = λ w s. is.counted w line s ∙ omega arith;
     logged = λ w s. l.logged
         ∙ ap (λ rs. appended old.logged (records_bytes rs)) (same_records w s

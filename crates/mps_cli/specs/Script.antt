@@ -11,7 +11,7 @@ use Rattle.mps_model.specs.Answer.{Replied}
 use Rattle.mps_model.specs.Step.{Step, History}
 use Rattle.mps_model.specs.Log.{log_of, log_from, pools_made}
 use Rattle.mps_model.specs.World.{World, empty_world}
-use Rattle.mps_model.specs.Replay.{replay, replay_from}
+use Rattle.mps_model.specs.Replay.{replay}
 use Rattle.mps_model.specs.History.{IsLegalFrom, IsLegalHistory, world_after, world_after_steps, world_after_history, live_blocks}
 use Rattle.mps_first_heap.specs.HeapState.{HeapState}
 use Rattle.mps_first_heap.specs.StandsFor.{StandsFor}
@@ -93,12 +93,10 @@ pub record HasRun (script : List ℕ) (lines : ℕ) (history : History) : Type 0
 pub record StepsRan (commands : List ScriptCommand) (before after : HeapState) (old new : Outside) : Type 0 where
   pub steps : History
   -- in each world for which the heap stood they are legal and `unsupported` where that is due, the heap stands for the world
-  -- after them, and their records give the live blocks and number the pools
+  -- after them, and their records number the pools
   pub legal : (w : World) → StandsFor before w → IsLegalFrom w steps
   pub unsupported : (w : World) → StandsFor before w → AreUnsupportedWhereDue w steps
   pub stands : (w : World) → StandsFor before w → StandsFor after (world_after_steps w steps)
-  pub replayed : (w : World) (pools : ℕ) → StandsFor before w
-      → replay_from (live_blocks w) (log_from pools steps) ≡ Some (live_blocks (world_after_steps w steps))
   pub pools : (w : World) → StandsFor before w → length (world_after_steps w steps).pools ≡ length w.pools + pools_made steps
   pub logged : (w : World) → StandsFor before w
       → new.logged ≡ appended old.logged (records_bytes (log_from (length w.pools) steps))

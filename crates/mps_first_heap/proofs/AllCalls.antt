@@ -14,7 +14,7 @@ use Rattle.mps_first_heap.specs.Outcome.{outcome}
 use Rattle.mps_first_heap.specs.Outcome.{HasOutcome}
 use Rattle.mps_first_heap.specs.StandsFor.{Past, Agrees, StandsFor, world_of, step_of}
 use Rattle.mps_first_heap.specs.Built.{IsInRange}
-use Rattle.mps_first_heap.specs.RightStep.{IsRightStep, IsLegalCall, StandsAfter, IsReplayedCall, IsUnsupportedExactly, IsNewPoolNumber, ArePoolsCounted, number_of_new_pool}
+use Rattle.mps_first_heap.specs.RightStep.{IsRightStep, IsLegalCall, StandsAfter, IsUnsupportedExactly, IsNewPoolNumber, ArePoolsCounted, number_of_new_pool}
 use Rattle.mps_first_heap.proofs.Steps.{unsupported_step}
 use Rattle.mps_first_heap.proofs.Numbers.{right_number}
 use Rattle.mps_first_heap.proofs.Inits.{right_init}
@@ -74,10 +74,6 @@ legal_call h new c r range came = ok_then r came (λ done e w line s. (came_righ
 pub stands_after : {E : Type 0} (h new : HeapState) (c : Call) (r : Result Done E) → IsInRange c
     → IfOk r (λ done. HasOutcome (outcome h c) done new) → IfOk r (λ done. StandsAfter h c done new)
 stands_after h new c r range came = ok_then r came (λ done e w line s. (came_right h new c done range e w line s).stands)
-
-pub replayed_call : {E : Type 0} (h new : HeapState) (c : Call) (r : Result Done E) → IsInRange c
-    → IfOk r (λ done. HasOutcome (outcome h c) done new) → IfOk r (λ done. IsReplayedCall h c done)
-replayed_call h new c r range came = ok_then r came (λ done e w line s. (came_right h new c done range e w line s).is_replayed)
 
 pub unsupported_exactly : {E : Type 0} (h new : HeapState) (c : Call) (r : Result Done E) → IsInRange c
     → IfOk r (λ done. HasOutcome (outcome h c) done new) → IfOk r (λ done. IsUnsupportedExactly h c done)

@@ -1,6 +1,6 @@
 -- `commit` is right.
 use Rattle.std.proofs.Common.{◌≡◌, ℕ, zero, suc, ◌*◌, ◌<◌, ◌≤◌, Bool, true, false, refl, sym, ◌∙◌, ap, subst, List, [], ◌∷◌, ◌++◌, length, map, take, drop, None, Some, Ok, Option, arith, slice_index}
-use Rattle.std.specs.Prelude.{slice_set, nat_lt, is_some, ◌&&◌, if◌then◌else◌, option_and_then}
+use Rattle.std.specs.Prelude.{slice_set, nat_lt, is_some, ◌&&◌, if◌then◌else◌}
 use Rattle.std.specs.List.{list_all}
 use Rattle.std.proofs.lemmas.List.{length-map, map_push, map-set, length_push}
 use Rattle.std.proofs.lemmas.Bool.{false≢true, and_parts, and_from, ltb-true, lt-ltb, cond-true}
@@ -14,19 +14,16 @@ use Rattle.mps_model.specs.declared.call.Call.TheVariants as call
 use Rattle.mps_model.specs.Checked.{point_named}
 use Rattle.mps_model.specs.Graph.{Object}
 use Rattle.mps_model.specs.Flip.{at_address}
-use Rattle.mps_model.specs.Log.{records_of_step}
-use Rattle.mps_model.specs.Replay.{replay_from, after_making}
 use Rattle.mps_model.specs.World.{World}
-use Rattle.mps_model.specs.History.{moves_of_commit, live_blocks, with_client_remembered}
+use Rattle.mps_model.specs.History.{moves_of_commit, with_client_remembered}
 use Rattle.mps_model.specs.Reply.{answer_from, world_from}
 use Rattle.mps_first_heap.specs.HeapState.{HeapState, is_point, has_slot, head_at, words_of_head}
 use Rattle.mps_first_heap.specs.Outcome.{Outcome, ok_with_move, unsupported, commit_move, after_commit}
 use Rattle.mps_first_heap.specs.StandsFor.{Past, Agrees, world_of, world_with, step_of, object_of_words, cells_at, some_address, point_with, reservation_of_words, address_in_slot, is_null_or_below, end_of_objects}
 use Rattle.mps_first_heap.specs.RightStep.{IsRightStep}
 use Rattle.mps_first_heap.proofs.Cells.{length-cells_in, length-block_words, blocks_later, blocks_push}
-use Rattle.mps_first_heap.proofs.Worlds.{parts_by, world_by, world_of-parts, live_blocks-world_of, stored}
+use Rattle.mps_first_heap.proofs.Worlds.{parts_by, world_by, world_of-parts}
 use Rattle.mps_first_heap.proofs.Premises.{NamesPoint, HasSlot, names_point, slot_facts}
-use Rattle.mps_first_heap.proofs.Stores.{making_a_block_last}
 use Rattle.mps_first_heap.proofs.Steps.{right_step, unsupported_step}
 use Rattle.mps_first_heap.proofs.Acts.{act_of_commit}
 
@@ -183,15 +180,6 @@ module _ (h : HeapState) (p : Past) (name : Name) (slot : Slot) (n : NamesPoint 
   -- ---- the step is right
 
   module _ (line : ℕ) (s : HasSlot h p slot) where
-    replayed : (pools : ℕ) → replay_from (live_blocks (world_committing h p)) (records_of_step pools (step_committed h line name slot))
-        ≡ Some (stored h.words (p.addresses ++ h.reserved ∷ []))
-    replayed pools =
-        let size = words_of_head (head_at h h.reserved) in
-        let blocks = blocks_later h.words (end_of_objects h) h.reserved p.addresses (omega (arith, bound)) n.agrees.blocks in
-        ap (λ store. option_and_then (λ after. Some after) (after_making store (bytes_of_word * h.reserved) size 0))
-        (ap live_blocks (sym (is_world_committing h p s.table n.point o)) ∙ live_blocks-world_of h p)
-        ∙ ap (option_and_then (λ after. Some after)) (making_a_block_last h.words h.reserved size p.addresses blocks reserved_block)
-
     right_with_object : IsRightStep (world_committing h p) (step_committed h line name slot) (with_object h slot)
     right_with_object =
         let e = act_of_commit (parts_by h p true true (is_some h.pool) true) name n.named p.ids slot s.held s.named s.there
@@ -207,7 +195,6 @@ module _ (h : HeapState) (p : Past) (name : Name) (slot : Slot) (n : NamesPoint 
         (ap (λ r. with_client_remembered (world_from (world_committing h p) r)) e
         ∙ world_committed h p slot s.table n.point)
         agrees_with_object
-        replayed
 
 -- what a commit does, by whether it may
 abbrev pub commit_outcome : HeapState → Slot → Bool → Outcome

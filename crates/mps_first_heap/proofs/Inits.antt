@@ -10,16 +10,15 @@ use Rattle.mps_model.specs.declared.call.Call.TheVariants as call
 use Rattle.mps_model.specs.declared.reply.Reply.TheVariants as reply
 use Rattle.mps_model.specs.Graph.{Cell, NumberCell, Object, Reservation}
 use Rattle.mps_model.specs.World.{World}
-use Rattle.mps_model.specs.History.{live_blocks, with_client_remembered}
+use Rattle.mps_model.specs.History.{with_client_remembered}
 use Rattle.mps_model.specs.Reply.{answer_from, world_from}
 use Rattle.mps_first_heap.specs.HeapState.{HeapState, is_point, is_number_cell, head_at}
 use Rattle.mps_first_heap.specs.Outcome.{reply_only, may_init, after_init, accepted_if}
 use Rattle.mps_first_heap.specs.StandsFor.{Past, Agrees, world_of, world_with, step_of, object_of_words, cells_at, cells_in, cell_in, point_with, reservation_of_words, end_of_objects, IsBlockAt}
 use Rattle.mps_first_heap.specs.RightStep.{IsRightStep}
 use Rattle.mps_first_heap.proofs.Cells.{objects-set_after, blocks-set_after, slice_index-set_other, block_words-set, cells_in-set}
-use Rattle.mps_first_heap.proofs.Worlds.{parts_by, world_by, world_of-parts, number_cell, number_cell_at, number_cell_below, live_blocks-world_of, stored}
+use Rattle.mps_first_heap.proofs.Worlds.{parts_by, world_by, world_of-parts, number_cell, number_cell_at, number_cell_below}
 use Rattle.mps_first_heap.proofs.Premises.{MayInit, names_point, may_init_facts}
-use Rattle.mps_first_heap.proofs.Stores.{stored-set_after}
 use Rattle.mps_first_heap.proofs.Steps.{right_step, unsupported_step}
 use Rattle.mps_first_heap.proofs.Acts.{act_of_init}
 
@@ -119,11 +118,6 @@ module _ (h : HeapState) (p : Past) (name : Name) (cell value : ℕ) (m : MayIni
         before_point = λ none. absurd (false≢true (sym (ap is_some none) ∙ m.at.point));
       }
 
-  stored_written : live_blocks (world_reserving h p) ≡ stored (with_number h cell value).words p.addresses
-  stored_written =
-      ap live_blocks (sym (is_world_reserving h p m.at.point m.is_open)) ∙ live_blocks-world_of h p
-      ∙ sym (stored-set_after h.words (end_of_objects h) (h.reserved + cell) value p.addresses le m.at.agrees.blocks)
-
   right_with_number : (line : ℕ)
       → IsRightStep (world_reserving h p) (step_of line (call.InitNumber name cell value) (reply_only reply.Ok)) (with_number h cell value)
   right_with_number line =
@@ -137,7 +131,6 @@ module _ (h : HeapState) (p : Past) (name : Name) (cell value : ℕ) (m : MayIni
       (record { answered = refl; moves_are_legal = tt; moves_are_due = refl; answer_is_due = sym (ap answer_from e); marked = tt })
       (ap (λ r. with_client_remembered (world_from (world_reserving h p) r)) e ∙ world_written)
       agrees_with_number
-      (λ pools. ap Some stored_written)
 
 module _ (h : HeapState) (p : Past) (line : ℕ) (name : Name) (cell value : ℕ) (a : Agrees h p) where
   init_where : (b : Bool) → may_init h name cell ≡ b

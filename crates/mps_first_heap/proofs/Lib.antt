@@ -3,7 +3,6 @@ pub mod Worlds
 pub mod Steps
 pub mod Acts
 pub mod Numbers
-pub mod Stores
 pub mod Inits
 pub mod Commits
 pub mod Premises

@@ -14,14 +14,14 @@ use Rattle.mps_model.specs.declared.call.Call.TheVariants as call
 use Rattle.mps_model.specs.declared.reply.Reply.TheVariants as reply
 use Rattle.mps_model.specs.Graph.{Thing, TableThing, PoolThing, PointThing, thing_in}
 use Rattle.mps_model.specs.World.{World, PointMemory}
-use Rattle.mps_model.specs.History.{live_blocks, with_client_remembered}
+use Rattle.mps_model.specs.History.{with_client_remembered}
 use Rattle.mps_model.specs.Reply.{answer_from, world_from}
 use Rattle.mps_model.specs.Making.{most_slots}
 use Rattle.mps_first_heap.specs.HeapState.{HeapState, is_named, is_name_taken, is_pool}
 use Rattle.mps_first_heap.specs.Outcome.{reply_only, accepted_if, pool_made_if, is_arena_made, may_make_first, is_amc, is_implemented_pool, is_exact, arena_made, after_arena, after_table, after_pool, after_point}
 use Rattle.mps_first_heap.specs.StandsFor.{Past, Agrees, world_of, world_with, step_of, address_in_slot, is_null_or_below, end_of_objects, IsBlockAt, thing_of}
 use Rattle.mps_first_heap.specs.RightStep.{IsRightStep}
-use Rattle.mps_first_heap.proofs.Worlds.{parts_by, world_by, world_of-parts, is_named-some, live_blocks-world_of}
+use Rattle.mps_first_heap.proofs.Worlds.{parts_by, world_by, world_of-parts, is_named-some}
 use Rattle.mps_first_heap.proofs.Steps.{right_step, unsupported_step}
 use Rattle.mps_first_heap.proofs.NamedThings.{names_made, not_taken, same_name_itself}
 use Rattle.mps_first_heap.proofs.Acts.{act_of_table, act_of_pool, act_of_point}
@@ -111,7 +111,6 @@ world_without_table h p = world_by h p false (is_some h.point) (is_some h.pool) 
 right_with_table : (h : HeapState) (p : Past) (line : ℕ) (name : Name) (slots : ℕ) → slots ≤ most_slots → MayMake h p h.table name
     → IsRightStep (world_without_table h p) (step_of line (call.Table name slots) (reply_only reply.Ok)) (with_table h name slots)
 right_with_table h p line name slots few may =
-    let w = world_of-parts h p (not_some h.table may.first) refl refl refl in
     let e = act_of_table (parts_by h p false (is_some h.point) (is_some h.pool) h.is_open) name (may.agrees.names name
     ∙ not_taken h name may.free) slots (le-ltb most_slots (0 + slots) (omega arith)) in
     right_step (world_without_table h p) (step_of line (call.Table name slots) (reply_only reply.Ok)) (with_table h name slots)
@@ -119,7 +118,6 @@ right_with_table h p line name slots few may =
     (record { answered = refl; moves_are_legal = tt; moves_are_due = refl; answer_is_due = sym (ap answer_from e); marked = tt })
     (ap (λ r. with_client_remembered (world_from (world_without_table h p) r)) e)
     (agrees_with_table h p name slots may)
-    (λ pools. ap Some (ap live_blocks (sym w) ∙ live_blocks-world_of h p))
 
 table_where : (h : HeapState) (p : Past) (line : ℕ) (name : Name) (slots : ℕ) → slots ≤ most_slots → Agrees h p → (b : Bool)
     → may_make_first h h.table name ≡ b
@@ -191,7 +189,6 @@ world_without_pool h p = world_by h p (is_some h.table) (is_some h.point) false 
 right_with_pool : (h : HeapState) (p : Past) (line : ℕ) (name : Name) → MayMake h p h.pool name
     → IsRightStep (world_without_pool h p) (step_of line (call.Pool name kind.Amc 1) (reply_only reply.Ok)) (with_pool h name)
 right_with_pool h p line name may =
-    let w = world_of-parts h p refl refl (not_some h.pool may.first) refl in
     let e = act_of_pool (parts_by h p (is_some h.table) (is_some h.point) false h.is_open) name (may.agrees.names name
     ∙ not_taken h name may.free) in
     right_step (world_without_pool h p) (step_of line (call.Pool name kind.Amc 1) (reply_only reply.Ok)) (with_pool h name)
@@ -199,7 +196,6 @@ right_with_pool h p line name may =
     (record { answered = refl; moves_are_legal = tt; moves_are_due = refl; answer_is_due = sym (ap answer_from e); marked = tt })
     (ap (λ r. with_client_remembered (world_from (world_without_pool h p) r)) e)
     (agrees_with_pool h p name may)
-    (λ pools. ap Some (ap live_blocks (sym w) ∙ live_blocks-world_of h p))
 
 right_pool_of_kind : (h : HeapState) (p : Past) (line : ℕ) (name : Name) → MayMake h p h.pool name → (kind : Kind) (format : ℕ)
     → is_amc kind ≡ true → format ≡ 1
@@ -319,7 +315,6 @@ right_with_point h p line name pool may there =
     (record { answered = refl; moves_are_legal = tt; moves_are_due = refl; answer_is_due = sym (ap answer_from e); marked = tt })
     (ap (λ r. with_client_remembered (world_from (world_without_point h p) r)) e ∙ world_pointed h p name pool may.agrees may.first there)
     (agrees_with_point h p name pool may there)
-    (λ pools. ap Some (ap live_blocks (sym w) ∙ live_blocks-world_of h p))
 
 right_point_of_rank : (h : HeapState) (p : Past) (line : ℕ) (name pool : Name) → MayMake h p h.point name → is_pool h pool ≡ true
     → (at_rank : Rank) → is_exact at_rank ≡ true
@@ -420,7 +415,6 @@ right_made h p line grains limit a z =
     (record { answered = refl; moves_are_legal = tt; moves_are_due = refl; answer_is_due = refl; marked = tt })
     refl
     (agrees_arena h p grains limit a z)
-    (λ pools. refl)
 
 arena_where : (h : HeapState) (p : Past) (line : ℕ) (grains limit : ℕ) → Agrees h p → (b : Bool) → not (is_arena_made h) ≡ b
     → IsRightStep (world_of h p) (step_of line (call.Arena grains limit) (accepted_if b h (arena_made grains limit)).done)

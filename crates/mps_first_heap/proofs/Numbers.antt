@@ -10,13 +10,13 @@ use Rattle.mps_model.specs.declared.reply.Reply.TheVariants as reply
 use Rattle.mps_model.specs.Checked.{says}
 use Rattle.mps_model.specs.Accessing.{act_number}
 use Rattle.mps_model.specs.World.{World}
-use Rattle.mps_model.specs.History.{live_blocks, with_client_remembered}
+use Rattle.mps_model.specs.History.{with_client_remembered}
 use Rattle.mps_model.specs.Reply.{answer_from, world_from}
 use Rattle.mps_first_heap.specs.HeapState.{HeapState, has_slot, is_number_cell, head_at}
 use Rattle.mps_first_heap.specs.Outcome.{reply_only, number_reply_at, number_reply}
 use Rattle.mps_first_heap.specs.StandsFor.{Past, Agrees, world_of, step_of, cells_at, address_in_slot, end_of_objects}
 use Rattle.mps_first_heap.specs.RightStep.{IsRightStep}
-use Rattle.mps_first_heap.proofs.Worlds.{parts_by, world_by, world_of-parts, number_cell_at, object_there, live_blocks-world_of, stored}
+use Rattle.mps_first_heap.proofs.Worlds.{parts_by, world_by, world_of-parts, number_cell_at, object_there}
 use Rattle.mps_first_heap.proofs.Premises.{HasSlot, HoldsObject, slot_facts, object_facts}
 use Rattle.mps_first_heap.proofs.Steps.{right_step, unsupported_step}
 use Rattle.mps_first_heap.proofs.Acts.{act_of_number, act_of_null}
@@ -48,10 +48,6 @@ module _ (h : HeapState) (p : Past) (slot : Slot) (cell : ℕ) where
       → act_number (world_with_table h p) slot cell ≡ Err refusal.NullRef
   act_number_null s there = act_of_null (parts_by h p true (is_some h.point) (is_some h.pool) h.is_open) p.ids slot s.named cell there
 
-  -- the world does not change
-  unchanged : HasSlot h p slot → live_blocks (world_with_table h p) ≡ stored h.words p.addresses
-  unchanged s = ap live_blocks (sym (is_world_with_table h p s.table)) ∙ live_blocks-world_of h p
-
   right_known_number : (line number : ℕ) → HasSlot h p slot
       → act_number (world_with_table h p) slot cell ≡ says (reply.Number number) (world_with_table h p)
       → IsRightStep (world_with_table h p) (step_of line (call.Number slot cell) (reply_only (reply.Number number))) h
@@ -60,7 +56,6 @@ module _ (h : HeapState) (p : Past) (slot : Slot) (cell : ℕ) where
       (record { answered = refl; moves_are_legal = tt; moves_are_due = refl; answer_is_due = sym (ap answer_from e); marked = tt })
       (ap (λ r. with_client_remembered (world_from (world_with_table h p) r)) e ∙ sym (is_world_with_table h p s.table))
       s.agrees
-      (λ pools. ap Some (unchanged s))
 
   right_null : (line : ℕ) → HasSlot h p slot → act_number (world_with_table h p) slot cell ≡ Err refusal.NullRef
       → IsRightStep (world_with_table h p) (step_of line (call.Number slot cell) (reply_only (reply.Refused refusal.NullRef))) h
@@ -69,7 +64,6 @@ module _ (h : HeapState) (p : Past) (slot : Slot) (cell : ℕ) where
       (record { answered = refl; moves_are_legal = tt; moves_are_due = refl; answer_is_due = sym (ap answer_from e); marked = tt })
       (ap (λ r. with_client_remembered (world_from (world_with_table h p) r)) e ∙ sym (is_world_with_table h p s.table))
       s.agrees
-      (λ pools. ap Some (unchanged s))
 
   number_where : (line id : ℕ) → HoldsObject h p slot id → (b : Bool) → is_number_cell (head_at h (slice_index p.addresses id)) cell ≡ b
       → IsRightStep (world_of h p) (step_of line (call.Number slot cell) (reply_only (cell_reply h (slice_index p.addresses id) cell b))) h

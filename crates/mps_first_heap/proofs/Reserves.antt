@@ -22,15 +22,14 @@ use Rattle.mps_model.specs.Policy.{polls}
 use Rattle.mps_base.specs.Segment.{Segment}
 use Rattle.mps_model.specs.World.{World}
 use Rattle.mps_model.specs.Step.{Step}
-use Rattle.mps_model.specs.History.{moved_world, after_own_segment, IsPoll, segment_taken, segment_of_reserve, live_blocks, with_client_remembered}
+use Rattle.mps_model.specs.History.{moved_world, after_own_segment, IsPoll, segment_taken, segment_of_reserve, with_client_remembered}
 use Rattle.mps_model.specs.Reply.{answer_from, world_from}
 use Rattle.mps_first_heap.specs.HeapState.{HeapState, is_point}
 use Rattle.mps_first_heap.specs.Outcome.{Outcome, with_segment_taken, with_reply, ok_with_move, reply_only, unsupported, reserved_in_buffer, segment_move, reserve_after, reserve_placed, after_reserve}
 use Rattle.mps_first_heap.specs.StandsFor.{Past, Agrees, world_of, world_with, step_of, object_of_words, cells_in, segments_from, point_with, reservation_of_words, end_of_objects}
 use Rattle.mps_first_heap.specs.RightStep.{IsRightStep}
 use Rattle.mps_first_heap.proofs.Cells.{objects-set_after, blocks-set_after, slice_index-set_same, new_cells_at, blocks_later, length_new_cells}
-use Rattle.mps_first_heap.proofs.Worlds.{parts_by, world_by, world_of-parts, pool_with_point, made_with_pool, buffer_is_inside, live_blocks-world_of, stored}
-use Rattle.mps_first_heap.proofs.Stores.{stored-set_after}
+use Rattle.mps_first_heap.proofs.Worlds.{parts_by, world_by, world_of-parts, pool_with_point, made_with_pool, buffer_is_inside}
 use Rattle.mps_first_heap.proofs.Segments.{runs, over_limit, new_segment, segments_push, sum_push}
 use Rattle.mps_first_heap.proofs.Steps.{right_step, unsupported_step}
 use Rattle.mps_first_heap.proofs.Premises.{MayReserve, names_point}
@@ -145,12 +144,6 @@ world_reserved h p head a q o valid room =
     (sym (reservation_made h head valid (omega arith) a.fresh))
     ∙ sym (world_of-parts (reserved_in_buffer h head) p refl q (pool_with_point h p a q) refl)
 
-stored_reserved : (h : HeapState) (p : Past) (head : ℕ) → Agrees h p → h.is_open ≡ false
-    → stored h.words p.addresses ≡ stored (reserved_in_buffer h head).words p.addresses
-stored_reserved h p head a o =
-    let bound : end_of_objects h ≡ h.buffer_start = ap (λ b. if b then h.reserved else h.buffer_start) o in
-    sym (stored-set_after h.words (end_of_objects h) h.buffer_start head p.addresses (omega (arith, bound)) a.blocks)
-
 -- ---- the poll makes no moves
 
 either : (b : Bool) (P Q : Type 0) → P → Q → MatchBool b P Q
@@ -258,8 +251,6 @@ right_in_buffer h p line name head m fits =
     (ap (λ r. with_client_remembered (world_from (world_at_rest h p) r)) e
     ∙ world_reserved h p head m.at.agrees m.at.point m.not_open m.valid room)
     (agrees_reserved h p head m.at.agrees m.at.point m.not_open m.valid room (front_not_null h p head m.at.agrees m.valid room))
-    (λ pools. ap Some (ap live_blocks (sym (is_world_at_rest h p m.at.agrees m.at.point m.not_open)) ∙ live_blocks-world_of h p
-    ∙ stored_reserved h p head m.at.agrees m.not_open))
 
 -- ---- a reservation that does not fit the buffer
 
@@ -299,7 +290,6 @@ right_refused h p line name head m fits over =
     })
     (ap (λ r. with_client_remembered (world_from (world_at_rest h p) r)) e ∙ sym (is_world_at_rest h p m.at.agrees m.at.point m.not_open))
     m.at.agrees
-    (λ pools. ap Some (ap live_blocks (sym (is_world_at_rest h p m.at.agrees m.at.point m.not_open)) ∙ live_blocks-world_of h p))
 
 -- ---- a reservation in a new segment
 
@@ -390,8 +380,6 @@ right_taken h p line name head m fits limit inside =
     (world_from (moved_world (world_at_rest h p) (call.Reserve name head) (segment_move h need ∷ [])) r)) e
     ∙ world_reserved taken later head a' m.at.point m.not_open m.valid room)
     (agrees_reserved taken later head a' m.at.point m.not_open m.valid room (omega arith))
-    (λ pools. ap Some (ap live_blocks (sym (is_world_at_rest h p m.at.agrees m.at.point m.not_open)) ∙ live_blocks-world_of h p
-    ∙ stored_reserved taken later head a' m.not_open))
 
 -- ---- all cases
 

@@ -1,21 +1,19 @@
 -- How a step is shown to be right.
-use Rattle.std.proofs.Common.{◌≡◌, ℕ, Bool, true, false, refl, sym, ◌∙◌, ap, subst, [], None, Some}
+use Rattle.std.proofs.Common.{◌≡◌, ℕ, Bool, true, false, refl, sym, subst, [], None}
 use Rattle.std.specs.Prelude.{MatchBool}
 use Rattle.mps_model.specs.declared.call.Call.{Call}
 use Rattle.mps_model.specs.declared.reply.Reply.TheVariants as reply
 use Rattle.mps_model.specs.Answer.{is_unsupported, is_block}
 use Rattle.mps_model.specs.Step.{Step}
 use Rattle.mps_model.specs.World.{World}
-use Rattle.mps_model.specs.Log.{records_of_step}
-use Rattle.mps_model.specs.Replay.{replay_from}
 use Rattle.mps_model.specs.Reply.{reply_to}
 use Rattle.mps_model.specs.LegalMove.{AreLegalMoves}
-use Rattle.mps_model.specs.History.{IsAnsweredStep, AreMovesOf, moves_of_collector, HeldAreLive, IsPossiblyMarked, judged_world, moved_world, world_after, live_blocks, are_held_kept, has_units_left}
+use Rattle.mps_model.specs.History.{IsAnsweredStep, AreMovesOf, moves_of_collector, HeldAreLive, IsPossiblyMarked, judged_world, moved_world, world_after, are_held_kept, has_units_left}
 use Rattle.mps_first_heap.specs.HeapState.{HeapState}
 use Rattle.mps_first_heap.specs.Outcome.{reply_only}
 use Rattle.mps_first_heap.specs.StandsFor.{Past, Agrees, world_of, step_of}
 use Rattle.mps_first_heap.specs.RightStep.{IsRightStep}
-use Rattle.mps_first_heap.proofs.Worlds.{held_are_live, stored, live_blocks-world_of}
+use Rattle.mps_first_heap.proofs.Worlds.{held_are_live}
 
 -- the step was answered, and its moves and its answer are due
 pub record IsDue (w : World) (s : Step) : Type 0 where
@@ -39,13 +37,11 @@ legal_if_answered w s state p due after a = record {
 
 -- a step that was answered is right where its moves and its answer are due, and the new state agrees with the world after it
 pub right_step : (w : World) (s : Step) (state : HeapState) (p : Past) → IsDue w s
-    → world_after w s ≡ world_of state p → Agrees state p
-    → ((pools : ℕ) → replay_from (live_blocks w) (records_of_step pools s) ≡ Some (stored state.words p.addresses)) → IsRightStep w s state
-right_step w s state p due after a replays = record {
+    → world_after w s ≡ world_of state p → Agrees state p → IsRightStep w s state
+right_step w s state p due after a = record {
   is_legal = subst (λ (b : Bool). MatchBool b (s.moves ≡ []) (IsAnsweredStep w s)) (sym due.answered)
       (legal_if_answered w s state p due after a);
   stands = record { past = p; world = after; agrees = a };
-  is_replayed = λ pools. replays pools ∙ ap Some (sym (ap live_blocks after ∙ live_blocks-world_of state p));
 }
 
 -- a step that isn't supported changes nothing
@@ -54,5 +50,4 @@ pub unsupported_step : (h : HeapState) (p : Past) (line : ℕ) (call : Call) →
 unsupported_step h p line call a = record {
   is_legal = refl;
   stands = record { past = p; world = refl; agrees = a };
-  is_replayed = λ pools. refl;
 }

@@ -1,5 +1,5 @@
 -- The worlds for which the heap stands: what the client holds is live, and which blocks are live.
-use Rattle.std.proofs.Common.{◌≡◌, ℕ, zero, suc, ◌+◌, ◌*◌, ◌<◌, ◌≤◌, Bool, true, false, refl, sym, ◌∙◌, ap, subst, List, [], ◌∷◌, ◌++◌, length, take, drop, map, Option, Some, None, arith, add-zero, slice_index, inl, inr}
+use Rattle.std.proofs.Common.{◌≡◌, ℕ, zero, suc, ◌+◌, ◌*◌, ◌<◌, ◌≤◌, Bool, true, false, refl, sym, ◌∙◌, ap, subst, List, [], ◌∷◌, ◌++◌, length, take, drop, map, Option, Some, None, arith, slice_index, inl, inr}
 use Rattle.std.specs.Prelude.{slice_get, if◌then◌else◌, nat_lt, is_some, not, ◌&&◌}
 use Rattle.std.specs.List.{list_all, AllByRecursion, flat_map}
 use Rattle.std.specs.Option.{option_map_or}
@@ -11,10 +11,9 @@ use Rattle.mps_base.specs.declared.names.Name.{Name}
 use Rattle.mps_format.specs.Front.{is_front, front_layout}
 use Rattle.std.proofs.lemmas.Bool.{false≢true, cases_lt, not-true, cond-true, ltb-true, and_parts, and_from}
 use Rattle.mps_format.specs.Fields.{size_field}
-use Rattle.mps_model.specs.Graph.{NumberCell, ReferenceCell, Object, entries, entry_at, slots_of, size_of, targets_of, targets_of_point, targets}
-use Rattle.mps_model.specs.World.{World, live_ids, numbers_of}
-use Rattle.mps_model.specs.Replay.{Block, Store, with_block}
-use Rattle.mps_model.specs.History.{HeldAreLive, block_of, blocks_of_ids, live_blocks}
+use Rattle.mps_model.specs.Graph.{NumberCell, ReferenceCell, entries, entry_at, slots_of, targets_of, targets_of_point, targets}
+use Rattle.mps_model.specs.World.{World, live_ids}
+use Rattle.mps_model.specs.History.{HeldAreLive}
 use Rattle.mps_first_heap.specs.HeapState.{HeapState, is_named, words_of_head, is_number_cell}
 use Rattle.mps_first_heap.specs.StandsFor.{Past, Agrees, Parts, parts_of, world_of, world_with, front_pool, point_memory_of, address_in_slot, cell_in, cells_at, object_of_words, reservation_of_words, point_with, one_if, some_if, some_address, is_null_or_below, IsBlockAt, end_of_objects}
 use Rattle.mps_first_heap.proofs.Cells.{no_targets, length-block_words, slice_get-cells_in}
@@ -77,16 +76,7 @@ held_are_live h p a =
           (sym (flat_map_nil (targets (world_of h p).graph) (live_ids (world_of h p)) (object_has_none h.words p.addresses))) refl;
     }
 
--- ---- live blocks
-
--- the block whose words lie at an address
-abbrev pub block_in : List ℕ → (address : ℕ) → Block
-block_in words address = record { at = bytes_of_word * address; words = length (cells_at words address); pool = 0 }
-
--- the blocks at some addresses
-abbrev pub stored : List ℕ → (addresses : List ℕ) → Store
-stored words [] = []
-stored words (p ∷ ps) = with_block (block_in words p) (stored words ps)
+-- ---- addresses and objects
 
 entry_there : (addresses : List ℕ) (id : ℕ) → id < length addresses → entry_at (map some_address addresses) id
     ≡ Some (bytes_of_word * slice_index addresses id)
@@ -99,36 +89,6 @@ pub object_there : (words addresses : List ℕ) (id : ℕ) → id < length addre
 object_there words [] id h = absurd (omega (arith, h))
 object_there words (p ∷ ps) zero h = refl
 object_there words (p ∷ ps) (suc id) h = object_there words ps id (omega (arith, h))
-
--- the block of an object, by its address and by itself
-abbrev block_by : Option ℕ → Option Object → Block
-block_by address object = record {
-  at = option_map_or (λ at. at) address 0;
-  words = option_map_or (λ o. size_of o) object 0;
-  pool = option_map_or (λ o. o.pool) object 0;
-}
-
-block_there : (h : HeapState) (p : Past) (id : ℕ) → id < length p.addresses
-    → block_of (world_of h p) id ≡ block_in h.words (slice_index p.addresses id)
-block_there h p id lt =
-    ap (λ address. block_by address (slice_get (map (object_of_words h.words) p.addresses) id)) (entry_there p.addresses id lt)
-    ∙ ap (λ object. block_by (Some (bytes_of_word * slice_index p.addresses id)) object) (object_there h.words p.addresses id lt)
-
-blocks_there : (w : World) (words : List ℕ) (first : ℕ) (addresses : List ℕ)
-    → ((i : ℕ) → i < length addresses → block_of w (first + i) ≡ block_in words (slice_index addresses i))
-    → blocks_of_ids w (numbers_of is_some first (map some_address addresses)) ≡ stored words addresses
-blocks_there w words first [] each = refl
-blocks_there w words first (p ∷ ps) each =
-    ap (λ b. with_block b (blocks_of_ids w (numbers_of is_some (first + 1) (map some_address ps))))
-    (ap (block_of w) (sym (add-zero first)) ∙ each 0 (omega arith))
-    ∙ ap (with_block (block_in words p))
-    (blocks_there w words (first + 1) ps (λ i lt. ap (block_of w) (let e : first + 1 + i ≡ first + suc i = omega arith in e)
-    ∙ each (suc i) (omega (arith, lt))))
-
-pub live_blocks-world_of : (h : HeapState) (p : Past) → live_blocks (world_of h p) ≡ stored h.words p.addresses
-live_blocks-world_of h p =
-    blocks_there (world_of h p) h.words 0 p.addresses (λ i lt. ap (block_of (world_of h p)) (let e : 0 + i ≡ i = omega arith in e)
-    ∙ block_there h p i lt)
 
 -- ---- which parts there are
 

@@ -1,27 +1,21 @@
 -- What a call guarantees, in each world for which the heap stands, and in each line.
-use Rattle.std.specs.Prelude.{◌≡◌, ◌↔◌, ℕ, ◌+◌, nat_lt, IsTrue, Option, Some, length}
+use Rattle.std.specs.Prelude.{◌≡◌, ◌↔◌, ℕ, ◌+◌, nat_lt, IsTrue, Option, length}
 use Rattle.mps_model.specs.declared.call.Call.{Call}
 use Rattle.mps_model.specs.declared.reply.Reply.TheVariants as reply
 use Rattle.mps_model.specs.Answer.{Answer, Replied}
 use Rattle.mps_model.specs.Step.{Step}
 use Rattle.mps_model.specs.World.{World}
-use Rattle.mps_model.specs.Log.{records_of_step, pools_made_by}
-use Rattle.mps_model.specs.Replay.{replay_from}
-use Rattle.mps_model.specs.History.{IsLegalStep, world_after, live_blocks}
+use Rattle.mps_model.specs.Log.{pools_made_by}
+use Rattle.mps_model.specs.History.{IsLegalStep, world_after}
 use Rattle.mps_first_heap.specs.declared.done.Done.{Done}
 use Rattle.mps_first_heap.specs.HeapState.{HeapState}
 use Rattle.mps_first_heap.specs.StandsFor.{StandsFor, step_of, some_if}
 use Rattle.mps_first_heap.specs.Built.{is_unsupported_call}
 
--- the records of the step, replayed from the live blocks before it, give those after it, however many pools there were
-abbrev pub IsReplayed : World → Step → Type 0
-IsReplayed w s = (pools : ℕ) → replay_from (live_blocks w) (records_of_step pools s) ≡ Some (live_blocks (world_after w s))
-
--- the step is legal, the new state stands for the world after it, and its records give the live blocks after it
+-- the step is legal, and the new state stands for the world after it
 pub record IsRightStep (w : World) (s : Step) (state : HeapState) : Type 0 where
   pub is_legal : IsLegalStep w s
   pub stands : StandsFor state (world_after w s)
-  pub is_replayed : IsReplayed w s
 
 -- the call's step is legal
 abbrev pub IsLegalCall : (old : HeapState) → Call → Done → Type 0
@@ -30,10 +24,6 @@ IsLegalCall old call done = (w : World) (line : ℕ) → StandsFor old w → IsL
 -- the new state stands for the world after the step
 abbrev pub StandsAfter : (old : HeapState) → Call → Done → (new : HeapState) → Type 0
 StandsAfter old call done new = (w : World) (line : ℕ) → StandsFor old w → StandsFor new (world_after w (step_of line call done))
-
--- the records of the step, replayed, give the live blocks after it
-abbrev pub IsReplayedCall : (old : HeapState) → Call → Done → Type 0
-IsReplayedCall old call done = (w : World) (line : ℕ) → StandsFor old w → IsReplayed w (step_of line call done)
 
 -- the reply is `unsupported` exactly where the call is
 abbrev pub IsUnsupportedExactly : (old : HeapState) → Call → Done → Type 0

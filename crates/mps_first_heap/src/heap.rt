@@ -26,7 +26,7 @@ impl FirstHeap {
     ghost use Rattle.std.specs.Prelude.{◌≡◌, IfOk, OnErr, IsTrue};
     ghost use Rattle.mps_model.specs.World.{empty_world};
     ghost use Rattle.mps_first_heap.specs.StandsFor.{StandsFor};
-    ghost use Rattle.mps_first_heap.specs.RightStep.{IsLegalCall, StandsAfter, IsReplayedCall, IsUnsupportedExactly};
+    ghost use Rattle.mps_first_heap.specs.RightStep.{IsLegalCall, StandsAfter, IsUnsupportedExactly};
     ghost use Rattle.mps_first_heap.specs.RightStep.{IsNewPoolNumber, ArePoolsCounted};
     ghost use Rattle.mps_first_heap.specs.Built.{IsInRange, call_takes_memory};
 
@@ -57,7 +57,6 @@ impl FirstHeap {
         requires { IsInRange call.now }
         ensures legal { IfOk result (λ done. IsLegalCall self.old call.now done) }
         ensures stands { IfOk result (λ done. StandsAfter self.old call.now done self.new) }
-        ensures replayed { IfOk result (λ done. IsReplayedCall self.old call.now done) }
         ensures unsupported { IfOk result (λ done. IsUnsupportedExactly self.old call.now done) }
         ensures pool { IfOk result (λ done. IsNewPoolNumber self.old call.now done) }
         ensures counted { IfOk result (λ done. ArePoolsCounted self.old call.now done) }

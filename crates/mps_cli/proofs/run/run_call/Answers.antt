@@ -13,7 +13,6 @@ returns-clause-steps g c =
     record {
       legal = e.legal;
       stands = e.stands;
-      replayed = e.replayed;
       unsupported = e.unsupported;
       number = e.pool;
       counted =
@@ -30,7 +29,6 @@ returns-clause-stops g c =
     record {
       legal = e.legal;
       stands = e.stands;
-      replayed = e.replayed;
       unsupported = e.unsupported;
       number = e.pool;
       counted =

@@ -130,3 +130,39 @@ returns-in-Err-clause-answered g c other script e =
 
 pub returns-in-Err-clause-runs : goal.returns-in-Err-clause-runs
 returns-in-Err-clause-runs g c = runs_on_then _ _ _ c.loop-next.invariant.runs c.next_line.ensures.runs
+
+pub returns-in-End-clause-leaves : goal.returns-in-End-clause-leaves
+returns-in-End-clause-leaves g c script e =
+    whole_so_far script (g.D.Desk.outside c.next_line.new.desk) c.loop-next.invariant.so_far e c.next_line.ensures.printed
+    c.next_line.ensures.logged
+
+pub returns-in-End-clause-answered : goal.returns-in-End-clause-answered
+returns-in-End-clause-answered g c other script e =
+    answered_so_far script (g.D.Desk.outside c.next_line.new.desk) c.loop-next.invariant.so_far e c.next_line.ensures.printed
+
+pub returns-in-TooLong-clause-leaves : goal.returns-in-TooLong-clause-leaves
+returns-in-TooLong-clause-leaves g c script e =
+    whole_so_far script (g.D.Desk.outside c.next_line.new.desk) c.loop-next.invariant.so_far e c.next_line.ensures.printed
+    c.next_line.ensures.logged
+
+pub returns-in-TooLong-clause-answered : goal.returns-in-TooLong-clause-answered
+returns-in-TooLong-clause-answered g c other script e =
+    answered_so_far script (g.D.Desk.outside c.next_line.new.desk) c.loop-next.invariant.so_far e c.next_line.ensures.printed
+
+pub returns-in-TooLong-2-clause-leaves : goal.returns-in-TooLong-2-clause-leaves
+returns-in-TooLong-2-clause-leaves g c script e =
+    whole_so_far script (g.D.Desk.outside c.next_line.new.desk) c.loop-next.invariant.so_far e c.next_line.ensures.printed
+    c.next_line.ensures.logged
+
+pub returns-in-TooLong-2-clause-answered : goal.returns-in-TooLong-2-clause-answered
+returns-in-TooLong-2-clause-answered g c other script e =
+    answered_so_far script (g.D.Desk.outside c.next_line.new.desk) c.loop-next.invariant.so_far e c.next_line.ensures.printed
+
+pub returns-then-line-clause-leaves : goal.returns-then-line-clause-leaves
+returns-then-line-clause-leaves g c script e =
+    whole_so_far script (g.D.Desk.outside c.next_line.new.desk) c.loop-next.invariant.so_far e c.next_line.ensures.printed
+    c.next_line.ensures.logged
+
+pub returns-then-line-clause-answered : goal.returns-then-line-clause-answered
+returns-then-line-clause-answered g c other script e =
+    answered_so_far script (g.D.Desk.outside c.next_line.new.desk) c.loop-next.invariant.so_far e c.next_line.ensures.printed

@@ -5,7 +5,7 @@ use Rattle.mps_first_heap.specs.HeapState.{HeapState}
 use Rattle.mps_first_heap.specs.Outcome.{outcome}
 use Rattle.mps_first_heap.specs.Outcome.{HasOutcome}
 use Rattle.mps_first_heap.specs.View.{state_of}
-use Rattle.mps_first_heap.proofs.AllCalls.{legal_call, stands_after, replayed_call, unsupported_exactly, new_pool_number, pools_counted}
+use Rattle.mps_first_heap.proofs.AllCalls.{legal_call, stands_after, unsupported_exactly, new_pool_number, pools_counted}
 use Rattle.mps_first_heap.proofs.heap.FirstHeap.call.Goals as goal
 
 pub returns-clause-legal : goal.returns-clause-legal
@@ -17,12 +17,6 @@ returns-clause-legal c =
 pub returns-clause-stands : goal.returns-clause-stands
 returns-clause-stands c =
     stands_after c.args.self.now (state_of c.answer.new.heap) c.args.call.now c.answer.result c.requires
-    (subst (λ (k : HeapState). IfOk c.answer.result (λ done. HasOutcome (outcome k c.args.call.now) done (state_of c.answer.new.heap)))
-    c.self.view_is c.answer.ensures.ok)
-
-pub returns-clause-replayed : goal.returns-clause-replayed
-returns-clause-replayed c =
-    replayed_call c.args.self.now (state_of c.answer.new.heap) c.args.call.now c.answer.result c.requires
     (subst (λ (k : HeapState). IfOk c.answer.result (λ done. HasOutcome (outcome k c.args.call.now) done (state_of c.answer.new.heap)))
     c.self.view_is c.answer.ensures.ok)
 
