@@ -1,0 +1,4 @@
+pub mod Copying
+pub mod Found
+pub mod Reopening
+pub mod Tails

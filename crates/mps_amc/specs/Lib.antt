@@ -1,0 +1,2 @@
+pub mod Amc
+pub mod Moving

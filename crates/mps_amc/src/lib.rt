@@ -1,0 +1,8 @@
+//! The copying pools: a collection keeps a block by moving it, or where there is no room, in its place.
+#![tactic(auto)]
+
+mod amc;
+mod moving;
+mod placing;
+
+pub use amc::Amc;

@@ -1,0 +1,67 @@
+// A block moves.
+#![tactic(auto)]
+
+ghost use Rattle.std.specs.Prelude.{◌≡◌, ℕ, ◌+◌, ◌*◌, ◌%◌, ◌<◌, ◌≤◌, ◌⊎◌, length, slice_index, slice_range};
+ghost use Rattle.mps_base.specs.Address.{word_of, bytes_of_word, words_of_grain};
+ghost use Rattle.mps_format.specs.Blocks.{IsBlock, BeginsForwarded};
+ghost use Rattle.mps_seg.specs.Segs.{CanCover};
+ghost use Rattle.mps_amc.specs.Moving.{AreCopied, BlockStands, IsBlockOf, run_at, moved_to, kept_in_place};
+
+use mps_base::Addr;
+use mps_format::Format;
+use mps_seg::Segs;
+
+/// Moves the block of `words` words at `at` to free words, where it is grey, and leaves a forwarded block.
+pub(crate) fn move_block<F: Format>(segs: &mut Segs, format: &F, at: Addr, to: Addr, words: u32)
+    requires aligned { at.0 % bytes_of_word ≡ 0 }
+    requires stands { BlockStands (F.layout format.now) segs.old.words at.0 words }
+    requires block { IsBlockOf segs.old at.0 words }
+    requires free { CanCover segs.old (run_at to.0 words) }
+    ensures state { segs.new ≡ record (moved_to segs.old at.0 to.0 words) { words = segs.new.words } }
+    ensures words { AreCopied (F.layout format.now) segs.old.words segs.new.words at.0 to.0 words }
+{
+    let _ = segs.grains();
+    segs.drop_block(at, words);
+    segs.commit_block(to, words);
+    copy_block(segs, format, at, to, words);
+    let _ = segs.grains();
+    segs.set_grey(to);
+}
+
+/// Keeps the block at `at` where it lies. It is grey.
+pub(crate) fn keep_in_place(segs: &mut Segs, at: Addr)
+    requires { word_of at.0 < words_of_grain * (segs.old.grains + 1) }
+    ensures { segs.new ≡ kept_in_place segs.old at.0 }
+{
+    segs.keep(at);
+    segs.set_grey(at);
+}
+
+/// Copies the block of `words` words at `at` to words apart from it, and leaves a forwarded block.
+fn copy_block<F: Format>(segs: &mut Segs, format: &F, at: Addr, to: Addr, words: u32)
+    requires aligned { at.0 % bytes_of_word ≡ 0 }
+    requires stands { BlockStands (F.layout format.now) segs.old.words at.0 words }
+    requires in_arena { word_of to.0 + words ≤ length segs.old.words }
+    requires apart { (word_of at.0 + words ≤ word_of to.0) ⊎ (word_of to.0 + words ≤ word_of at.0) }
+    ensures state { segs.new ≡ record segs.old { words = segs.new.words } }
+    ensures words { AreCopied (F.layout format.now) segs.old.words segs.new.words at.0 to.0 words }
+{
+    segs.copy(at, to, words);
+    forward_block(segs, format, at, words, to);
+}
+
+/// Leaves a forwarded block in place of the block of `words` words at `at`.
+fn forward_block<F: Format>(segs: &mut Segs, format: &F, at: Addr, words: u32, to: Addr)
+    requires aligned { at.0 % bytes_of_word ≡ 0 }
+    requires inside { word_of at.0 + words ≤ length segs.old.words }
+    requires block { IsBlock (F.layout format.now) (slice_range segs.old.words (word_of at.0) (word_of at.0 + words)) }
+    ensures state { segs.new ≡ record segs.old { words = segs.new.words } }
+    ensures size { length segs.new.words ≡ length segs.old.words }
+    ensures forwarded { BeginsForwarded (F.layout format.now) (slice_range segs.new.words (word_of at.0) (word_of at.0 + words)) words }
+    ensures leads { slice_index (slice_range segs.new.words (word_of at.0) (word_of at.0 + words)) 1 ≡ to.0 }
+    ensures others { (i : ℕ) → (i < word_of at.0) ⊎ (word_of at.0 + words ≤ i)
+        → slice_index segs.new.words i ≡ slice_index segs.old.words i }
+{
+    let block = segs.lend_mut(at, words);
+    format.forward(block, to);
+}
