@@ -1,5 +1,5 @@
 -- The words at hand of copying pools, and what a fix does.
-use Rattle.std.specs.Prelude.{ℕ, ◌≡◌, ◌<◌, true, false, Some, Result, Ok, Err, List, [], ◌∷◌, ◌++◌, length, replicate, get_or, slice_set, refl}
+use Rattle.std.specs.Prelude.{ℕ, ◌≡◌, ◌<◌, true, false, Some, Result, Ok, Err, List, [], ◌∷◌, ◌++◌, length, map, replicate, get_or, slice_set, refl}
 use Rattle.mps_base.specs.Address.{Address}
 use Rattle.mps_base.specs.Segment.{Segment, segment_over}
 use Rattle.mps_base.specs.Placement.{Placement, Place, NewSegment, OverLimit, NoFreeRun}
@@ -27,6 +27,14 @@ no_pools = record { tails = [] }
 -- one pool more, with nothing at hand in its generations
 abbrev pub with_pool : AmcState → (generations : ℕ) → AmcState
 with_pool amc generations = record { tails = amc.tails ++ replicate generations empty_buffer ∷ [] }
+
+-- as many tails, with nothing at hand
+abbrev pub emptied_row : List Buffer → List Buffer
+emptied_row row = replicate (length row) empty_buffer
+
+-- the tails after a flip
+abbrev pub flipped : AmcState → AmcState
+flipped amc = record { tails = map emptied_row amc.tails }
 
 -- the tails of a pool
 abbrev pub tails_of : AmcState → (pool : ℕ) → List Buffer
@@ -140,6 +148,9 @@ the_rest_of_a_new_segment = refl
 
 pub where_none_was_found_tails_are_as_before : tails_after amc 0 0 9 (OverLimit 2 1 2) ≡ amc
 where_none_was_found_tails_are_as_before = refl
+
+pub nothing_at_hand_after_a_flip : (flipped amc).tails ≡ (empty_buffer ∷ empty_buffer ∷ []) ∷ []
+nothing_at_hand_after_a_flip = refl
 
 pub a_block_that_stays : answer_of_fix (Err (NoRun 3 2)) (record { 0 = 0x1000 }) ≡ record { 0 = 0x1000 }
 a_block_that_stays = refl

@@ -1,12 +1,12 @@
 // The copying pools.
 #![tactic(auto)]
 
-ghost use Rattle.std.specs.Prelude.{◌≡◌, ℕ, ◌+◌, ◌*◌, ◌%◌, ◌<◌, ◌≤◌, ◌⊎◌, true, false, Some, length, slice_index, drop, IfSome, IfNone, MatchResult, Contains};
+ghost use Rattle.std.specs.Prelude.{◌≡◌, ℕ, ◌+◌, ◌*◌, ◌%◌, ◌<◌, ◌≤◌, ◌⊎◌, true, false, Some, length, slice_index, drop, IfSome, IfNone, MatchResult, map, Contains};
 ghost use Rattle.mps_base.specs.Address.{word_of, bytes_of_word, words_of_grain};
 ghost use Rattle.mps_base.specs.Segment.{Segment, segment_over};
 ghost use Rattle.mps_buffer.specs.Points.{IsAtHand};
 ghost use Rattle.mps_amc.specs.Moving.{BlockStands, IsBlockOf, IsForwarded, IsUnforwarded, size_at, nailed};
-ghost use Rattle.mps_amc.specs.Amc.{no_pools, with_pool, HasTail, tail_of, with_tail, IsFixed, FixesAt};
+ghost use Rattle.mps_amc.specs.Amc.{no_pools, with_pool, emptied_row, flipped, HasTail, tail_of, with_tail, IsFixed, FixesAt};
 
 use crate::moving::{keep_in_place, move_block};
 use crate::placing::place;
@@ -50,6 +50,13 @@ impl Amc {
         let row = vec![in alloc; none; generations as usize]?;
         self.tails.push(row)?;
         Ok(())
+    }
+
+    /// Nothing is at hand for any pool: what a collection moves after a flip goes to segments that it takes.
+    pub fn flip(&mut self)
+        ensures { self.new ≡ flipped self.old }
+    {
+        empty_rows(&mut self.tails);
     }
 
     /// Keeps the block at `at` where it lies, as an ambiguous reference to it asks at a flip. A block that is kept already is left as it is.
@@ -113,7 +120,7 @@ impl Amc {
 
     /// Keeps the block of `words` words at `at`, which isn't kept yet: it moves to a generation of its pool, or where there is no room
     /// it stays. Returns where it then lies. It is grey.
-    pub fn keep_block<F: Format>(
+    fn keep_block<F: Format>(
         &mut self,
         segs: &mut Segs,
         trail: &mut Trail,
@@ -170,4 +177,13 @@ fn pool_at(segs: &Segs, at: Addr) -> u32
         unreachable!()
     };
     segs.segment(base).pool
+}
+
+/// Leaves nothing at hand in these rows of tails.
+fn empty_rows(rows: &mut [Vec<Buffer>])
+    ensures { map (λ row. row.items) rows.new ≡ map emptied_row (map (λ row. row.items) rows.old) }
+{
+    for i in 0..rows.len() {
+        rows[i].fill(Buffer { from: 0, count: 0 });
+    }
 }
