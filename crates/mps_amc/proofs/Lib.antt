@@ -1,4 +1,5 @@
 pub mod Copying
 pub mod Found
+pub mod Refused
 pub mod Reopening
 pub mod Tails

@@ -1,5 +1,5 @@
 -- How a block moves in words, and what the segments have of it then.
-use Rattle.std.specs.Prelude.{◌≡◌, ◌≢◌, ℕ, ◌+◌, ◌<◌, ◌≤◌, if◌then◌else◌, IsTrue, List, [], ◌∷◌, length, slice_index, drop, Contains}
+use Rattle.std.specs.Prelude.{◌≡◌, ◌≢◌, ℕ, ◌+◌, ◌<◌, ◌≤◌, if◌then◌else◌, IsTrue, List, [], ◌∷◌, length, slice_index, drop, Contains, refl}
 use Rattle.std.proofs.Common.{arith, lit<}
 use Rattle.mps_base.specs.Address.{Address, Word, word_of}
 use Rattle.mps_base.specs.Run.{Run, with_run, without_run}
@@ -7,7 +7,7 @@ use Rattle.mps_format.specs.Layout.{Layout}
 use Rattle.mps_format.specs.Blocks.{BeginsForwarded}
 use Rattle.mps_format.specs.Front.{front_layout}
 use Rattle.mps_marks.specs.Marks.{without_marks}
-use Rattle.mps_seg.specs.Segs.{SegsState}
+use Rattle.mps_seg.specs.Segs.{SegsState, new_segments}
 use Rattle.mps_seg.specs.Collecting.{is_kept_at, keeping, greying}
 
 -- n words from an address on
@@ -75,3 +75,19 @@ a_word_that_is_not_copied c = let e : 0 ≡ 7 = c.copied 1 (lit< tt) in omega (a
 pub a_block_that_leads_nowhere :
     AreCopied front_layout (0 ∷ 0 ∷ 0 ∷ 0x201 ∷ 7 ∷ 0 ∷ 0 ∷ []) (0 ∷ 0 ∷ 0 ∷ 0x204 ∷ 24 ∷ 0x201 ∷ 7 ∷ []) 24 40 2 → ⊥
 a_block_that_leads_nowhere c = let e : 24 ≡ 40 = c.leads in omega (arith, e)
+
+-- a grain with two blocks, the first of which moves after the second
+abbrev held : SegsState
+held = record (new_segments 1 1) {
+  covered = run_at 0x1000 2 ∷ run_at 0x1010 3 ∷ [];
+  blocks = run_at 0x1000 2 ∷ run_at 0x1010 3 ∷ [];
+}
+
+pub a_block_that_moved : (moved_to held 0x1000 0x1028 2).blocks ≡ run_at 0x1010 3 ∷ run_at 0x1028 2 ∷ []
+a_block_that_moved = refl
+
+pub its_old_words_are_free : (moved_to held 0x1000 0x1028 2).covered ≡ run_at 0x1010 3 ∷ run_at 0x1028 2 ∷ []
+its_old_words_are_free = refl
+
+pub a_block_that_is_kept_stays : (kept_in_place held 0x1000).blocks ≡ held.blocks
+a_block_that_is_kept_stays = refl

@@ -59,7 +59,8 @@ impl Amc {
         empty_rows(&mut self.tails);
     }
 
-    /// Keeps the block at `at` where it lies, as an ambiguous reference to it asks at a flip. A block that is kept already is left as it is.
+    /// Keeps the block at `at` where it lies, as an ambiguous reference to it asks at a flip. A block that is kept already is left as it
+    /// is.
     pub fn nail(&self, segs: &mut Segs, at: Addr)
         requires { word_of at.0 < words_of_grain * (segs.old.grains + 1) }
         ensures { segs.new ≡ nailed segs.old at.0 }
@@ -104,7 +105,9 @@ impl Amc {
         requires segment { (t : Segment) × (segment_over segs.old.segments at.0 ≡ Some t) × HasTail self.old t.pool generation
             × IsAtHand segs.old (tail_of self.old t.pool generation) }
         requires fits { 1 < trail.old.spare }
-        ensures { FixesAt (F.layout format.now) self.old segs.old trail.old at generation self.new segs.new trail.new result }
+        ensures fixed { FixesAt (F.layout format.now) self.old segs.old trail.old at generation self.new segs.new trail.new result }
+        ensures at_hand { (t : Segment) → segment_over segs.old.segments at.0 ≡ Some t
+            → IsAtHand segs.new (tail_of self.new t.pool generation) }
     {
         if let Some(to) = forwarded_from(segs, format, at) {
             return to;
@@ -136,7 +139,9 @@ impl Amc {
         requires tail { HasTail self.old pool generation }
         requires at_hand { IsAtHand segs.old (tail_of self.old pool generation) }
         requires fits { 1 < trail.old.spare }
-        ensures { IsFixed (F.layout format.now) self.old self.new segs.old segs.new trail.old trail.new at pool generation words result }
+        ensures fixed { IsFixed (F.layout format.now) self.old self.new segs.old segs.new trail.old trail.new at pool generation words
+            result }
+        ensures at_hand { IsAtHand segs.new (tail_of self.new pool generation) }
     {
         let _ = segs.grains();
         let tail = self.tail(pool, generation);

@@ -19,6 +19,8 @@ pub(crate) fn move_block<F: Format>(segs: &mut Segs, format: &F, at: Addr, to: A
     requires free { CanCover segs.old (run_at to.0 words) }
     ensures state { segs.new ≡ record (moved_to segs.old at.0 to.0 words) { words = segs.new.words } }
     ensures words { AreCopied (F.layout format.now) segs.old.words segs.new.words at.0 to.0 words }
+    ensures rest { (rest : ℕ) → 0 < rest → CanCover segs.old (run_at to.0 (words + rest))
+        → CanCover segs.new (record { from = word_of to.0 + words; count = rest }) }
 {
     let _ = segs.grains();
     segs.drop_block(at, words);

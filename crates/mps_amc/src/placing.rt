@@ -1,11 +1,12 @@
 // Where a block moves.
 #![tactic(auto)]
 
-ghost use Rattle.std.specs.Prelude.{◌≡◌, ◌<◌, ◌≤◌, Ok, Err, IfOk, MatchResult};
+ghost use Rattle.std.specs.Prelude.{◌≡◌, ◌+◌, ◌<◌, ◌≤◌, Ok, Err, IfOk, IfErr, MatchResult};
 ghost use Rattle.mps_base.specs.Address.{word_of, max_block_words};
 ghost use Rattle.mps_arena.specs.Arena.{answer_of_placement};
 ghost use Rattle.mps_seg.specs.Segs.{moves_after, CanCover};
 ghost use Rattle.mps_buffer.specs.Points.{IsAtHand, placement_at_front, rest_at_hand};
+ghost use Rattle.mps_amc.specs.Moving.{run_at};
 ghost use Rattle.mps_amc.specs.Amc.{with_place};
 
 use mps_base::{Addr, BYTES_OF_WORD, Rank, Refusal, Trail, WORDS_OF_GRAIN};
@@ -39,7 +40,10 @@ pub(crate) fn place(
     ensures moves { trail.new ≡ moves_after (placement_at_front segs.old tail words) pool generation trail.old }
     ensures tail { MatchResult result (λ placed. placed.tail ≡ rest_at_hand tail (placement_at_front segs.old tail words) words)
         (λ _. tail ≡ rest_at_hand tail (placement_at_front segs.old tail words) words) }
-    ensures free { IfOk result (λ placed. CanCover segs.new (record { from = word_of placed.at.0; count = words })) }
+    ensures free { IfOk result (λ placed. CanCover segs.new (run_at placed.at.0 words)) }
+    ensures all_free { IfOk result (λ placed. CanCover segs.new (run_at placed.at.0 (words + placed.tail.count))) }
+    ensures follows { IfOk result (λ placed. placed.tail.from ≡ word_of placed.at.0 + words) }
+    ensures refused { IfErr result (λ _. segs.new ≡ segs.old) }
 {
     let _ = segs.grains(); // so few that a word's number fits
     if words <= tail.count {

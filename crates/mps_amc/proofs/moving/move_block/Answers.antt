@@ -1,9 +1,11 @@
-use Rattle.std.proofs.Common.{sym, ap, subst, inl, inr, length, arith}
+use Rattle.std.proofs.Common.{ℕ, ◌≡◌, ◌+◌, ◌-◌, sym, ap, subst, inl, inr, length, arith}
 use Rattle.mps_base.specs.Address.{word_of}
-use Rattle.mps_seg.specs.Segs.{SegsState, CanCover, held_runs}
+use Rattle.mps_seg.specs.Segs.{SegsState, CanCover, IsOpenRun, held_runs}
 use Rattle.mps_extents.proofs.ApartRuns.{apart_from_put}
 use Rattle.mps_buffer.proofs.Placing.{open_bounds}
 use Rattle.mps_amc.specs.Moving.{run_at}
+use Rattle.mps_base.specs.Run.{with_run}
+use Rattle.mps_seg.proofs.PartCovered.{rest_is_open}
 use Rattle.mps_amc.proofs.Reopening.{open_after_without}
 use Rattle.mps_amc.proofs.moving.move_block.Goals as goal
 
@@ -38,3 +40,28 @@ set_grey-requires g c =
     let same'' = ap (λ (x : SegsState). x.grains) c.copy_block.ensures.state in
     let sizes = (g.met.F.Format.lawful c.args.format.now).sizes _ c.requires.stands.valid in
     omega (arith, bounds, same, same', same'', sizes.0, c.requires.stands.whole)
+
+pub returns-clause-rest : goal.returns-clause-rest
+returns-clause-rest g c = λ rest some free.
+    let s = c.args.segs.now in
+    let dropped = c.drop_block.new.self in
+    let n = c.args.words in
+    let whole = run_at c.args.to.0 (n + rest) in
+    let sizes = (g.met.F.Format.lawful c.args.format.now).sizes _ c.requires.stands.valid in
+    let W : SegsState → Type 0 = λ x. CanCover x whole in
+    let open_whole : CanCover dropped whole =
+    subst W (sym c.drop_block.ensures.state)
+    (open_after_without s.grains (held_runs s) s.covered whole (word_of c.args.at.0) free)
+    in
+    let open_rest =
+    rest_is_open whole n (omega (arith, sizes.0, c.requires.stands.whole)) dropped.grains (held_runs dropped) dropped.covered open_whole
+    (omega (arith, some))
+    in
+    let counted : n + rest - n ≡ rest = omega arith in
+    let Q : ℕ → Type 0 =
+    λ k. IsOpenRun dropped.grains (held_runs dropped) (with_run (run_at c.args.to.0 n) dropped.covered)
+    (record { from = word_of c.args.to.0 + n; count = k })
+    in
+    let R : SegsState → Type 0 = λ x. CanCover x (record { from = word_of c.args.to.0 + n; count = rest }) in
+    subst R (sym c.set_grey.ensures)
+    (subst R (sym c.copy_block.ensures.state) (subst R (sym c.commit_block.ensures) (subst Q counted open_rest)))
