@@ -1,6 +1,5 @@
 -- What is known of the tables where words in a segment are covered, and where they are uncovered.
-use Rattle.std.proofs.Common.{ℕ, ◌+◌, ◌-◌, ◌*◌, ◌^◌, ◌<◌, ◌≤◌, ◌≡◌, List, length, get_or, set, Contains, sym, ap, ◌∙◌, subst, arith, map}
-use Rattle.std.proofs.lemmas.List.{get_or_read}
+use Rattle.std.proofs.Common.{ℕ, ◌+◌, ◌*◌, ◌^◌, ◌<◌, ◌≤◌, ◌≡◌, List, length, Contains, sym, subst, arith, map}
 use Rattle.mps_base.proofs.Runs.{contained_bounds}
 use Rattle.mps_base.specs.Run.{Run, IsAscending, with_run, without_run}
 use Rattle.mps_base.specs.Address.{words_of_grain, grain_of, word_of}

@@ -15,3 +15,4 @@ pub mod Placements
 pub mod Seen
 pub mod SegmentOver
 pub mod Taking
+pub mod OpenWords

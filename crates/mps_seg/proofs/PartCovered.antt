@@ -1,5 +1,5 @@
 -- Words that can be covered can be covered in part, from the first one on, and then the rest of them.
-use Rattle.std.proofs.Common.{ℕ, ◌+◌, ◌-◌, ◌<◌, ◌≤◌, ◌≡◌, List, [], ◌∷◌, refl, sym, ap, ◌∙◌, subst, inl, inr, arith}
+use Rattle.std.proofs.Common.{ℕ, ◌+◌, ◌-◌, ◌<◌, ◌≤◌, List, [], ◌∷◌, sym, ap, ◌∙◌, subst, inl, inr, arith}
 use Rattle.std.proofs.lemmas.Bool.{cases_lt}
 use Rattle.mps_base.specs.Run.{Run, end_of, IsAscending, with_run}
 use Rattle.mps_base.proofs.Runs.{with_run_first, with_run_later}

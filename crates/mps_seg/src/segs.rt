@@ -61,15 +61,16 @@ impl Segs {
         requires at_most { grains ≤ max_grains }
         ensures { IfOk result (λ segs. segs ≡ new_segments grains limit) }
     {
+        let size = grains as usize + 1;
         Ok(Segs {
+            table: vec![in alloc; Entry::Free; size]?,
+            firsts: vec![in alloc; 0u32; size]?,
+            summaries: vec![in alloc; 0u64; size]?,
+            condemned: Bits::new(alloc, size)?,
+            free: FreeWords::new(alloc, size)?,
             arena: Arena::new(alloc, grains, limit)?,
-            table: vec![in alloc; Entry::Free; grains as usize + 1]?,
-            firsts: vec![in alloc; 0u32; grains as usize + 1]?,
-            free: FreeWords::new(alloc, grains as usize + 1)?,
-            extents: Extents::new(alloc, WORDS_OF_GRAIN * (grains as usize + 1))?,
-            marks: Marks::new(alloc, grains as usize + 1)?,
-            condemned: Bits::new(alloc, grains as usize + 1)?,
-            summaries: vec![in alloc; 0u64; grains as usize + 1]?,
+            extents: Extents::new(alloc, WORDS_OF_GRAIN * size)?,
+            marks: Marks::new(alloc, size)?,
         })
     }
 
@@ -259,8 +260,10 @@ impl Segs {
     /// How many words the block has that begins at `at`.
     pub fn block_words(&self, at: Addr) -> u32
         requires { (words : ℕ) × Contains self.now.blocks (record { from = word_of at.0; count = words }) }
-        ensures { Contains self.now.blocks (record { from = word_of at.0; count = result }) }
+        ensures sound { Contains self.now.blocks (record { from = word_of at.0; count = result }) }
+        ensures in_arena { word_of at.0 + result ≤ length self.now.words }
     {
+        let _ = self.arena.grains(); // it has as many words as there are extents' words
         self.extents.block_words((at.0 / BYTES_OF_WORD) as usize) as u32
     }
 

@@ -2,7 +2,7 @@ use Rattle.std.proofs.Common.{ℕ, ◌≡◌, ◌+◌, ◌-◌, sym, ap, subst, 
 use Rattle.mps_base.specs.Address.{word_of}
 use Rattle.mps_seg.specs.Segs.{SegsState, CanCover, IsOpenRun, held_runs}
 use Rattle.mps_extents.proofs.ApartRuns.{apart_from_put}
-use Rattle.mps_buffer.proofs.Placing.{open_bounds}
+use Rattle.mps_seg.proofs.OpenWords.{open_bounds}
 use Rattle.mps_amc.specs.Moving.{run_at}
 use Rattle.mps_base.specs.Run.{with_run}
 use Rattle.mps_seg.proofs.PartCovered.{rest_is_open}

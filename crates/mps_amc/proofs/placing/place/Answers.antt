@@ -3,7 +3,7 @@ use Rattle.mps_base.specs.Address.{word_of, bytes_of_word}
 use Rattle.mps_seg.specs.Segs.{SegsState, CanCover, held_runs}
 use Rattle.mps_seg.proofs.PartCovered.{prefix_is_open}
 use Rattle.mps_buffer.specs.Points.{run_of}
-use Rattle.mps_buffer.proofs.Placing.{open_bounds}
+use Rattle.mps_seg.proofs.OpenWords.{open_bounds}
 use Rattle.mps_amc.proofs.placing.place.Goals as goal
 
 pub overflow_add-result : goal.overflow_add-result

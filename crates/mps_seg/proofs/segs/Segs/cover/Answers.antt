@@ -1,7 +1,7 @@
-use Rattle.std.proofs.Common.{ℕ, ◌<◌, ◌≤◌, ◌+◌, ◌^◌, ◌≡◌, List, length, sym, ap, ◌∙◌, subst, arith}
-use Rattle.mps_base.specs.Address.{word_of, grain_of}
-use Rattle.mps_base.specs.Run.{with_run, without_run}
-use Rattle.mps_seg.specs.Table.{first_at, free_in, with_fewer_free, with_more_free}
+use Rattle.std.proofs.Common.{ℕ, ◌<◌, ◌≤◌, ◌≡◌, List, length, sym, ap, ◌∙◌, subst}
+use Rattle.mps_base.specs.Address.{grain_of}
+use Rattle.mps_base.specs.Run.{with_run}
+use Rattle.mps_seg.specs.Table.{first_at, free_in, with_fewer_free}
 use Rattle.mps_seg.proofs.Covering.{covering, run_at}
 use Rattle.mps_seg.proofs.segs.Segs.cover.Goals as goal
 

@@ -1,8 +1,8 @@
-use Rattle.std.proofs.Common.{ℕ, ◌<◌, ◌≤◌, ◌+◌, ◌^◌, ◌≡◌, List, length, sym, ap, ◌∙◌, subst, arith}
+use Rattle.std.proofs.Common.{ℕ, ◌<◌, ◌+◌, ◌^◌, ◌≡◌, List, length, sym, ap, ◌∙◌, subst, arith}
 use Rattle.mps_base.specs.Address.{word_of, grain_of}
-use Rattle.mps_base.specs.Run.{with_run, without_run}
-use Rattle.mps_seg.specs.Table.{first_at, free_in, with_fewer_free, with_more_free}
-use Rattle.mps_seg.proofs.Covering.{uncovering, run_at}
+use Rattle.mps_base.specs.Run.{without_run}
+use Rattle.mps_seg.specs.Table.{first_at, free_in, with_more_free}
+use Rattle.mps_seg.proofs.Covering.{uncovering}
 use Rattle.mps_seg.proofs.Marked.{marked_without}
 use Rattle.mps_seg.proofs.segs.Segs.drop_block.Goals as goal
 
@@ -40,7 +40,7 @@ invariant_of-self c =
     let now : c.return_free.new.free ≡ with_more_free s.firsts.items s.free c.args.at.0 c.args.words =
     c.return_free.ensures ∙ ap (λ (fs : List ℕ). with_more_free fs s.free c.args.at.0 c.args.words) c.deref.ensures.value
     in
-    rw (c.drop_block.ensures.state, c.clear.ensures, now) (facts.held (without_run (word_of c.args.at.0) s.extents.blocks) s.extents.reservations, facts.counted, marked_without s.arena.grains s.marks s.condemned s.summaries.items c.self.invariant.2 (word_of c.args.at.0))
+    rw (c.drop_block.ensures.state, c.clear.ensures, now) (facts.held (without_run (word_of c.args.at.0) s.extents.blocks) s.extents.reservations, facts.counted, marked_without s.arena.grains s.marks s.condemned s.summaries.items c.self.invariant.2 _)
 
 pub returns-clause-free : goal.returns-clause-free
 returns-clause-free c =

@@ -1,7 +1,7 @@
-use Rattle.std.proofs.Common.{ℕ, ◌+◌, ◌*◌, ◌≡◌, eqb, get_or, List, [], sym, ap, ◌∙◌, subst, arith}
+use Rattle.std.proofs.Common.{ℕ, ◌*◌, ◌≡◌, eqb, get_or, List, [], sym, ap, ◌∙◌, subst, arith}
 use Rattle.std.proofs.lemmas.Bool.{both_ways, eq-eqb, eqb-true}
 use Rattle.mps_base.specs.Run.{Run, total, runs_within}
-use Rattle.mps_base.specs.Address.{grain_of, word_of, words_of_grain}
+use Rattle.mps_base.specs.Address.{word_of, words_of_grain}
 use Rattle.mps_base.specs.Segment.{end_of_segment}
 use Rattle.mps_seg.specs.Segs.{SegsState, IsEmptyAt}
 use Rattle.mps_seg.specs.declared.segment_info.SegmentInfo.{SegmentInfo}

@@ -1,10 +1,10 @@
-use Rattle.std.proofs.Common.{ℕ, suc, ◌*◌, ◌≡◌, ◌≤◌, ◌<◌, List, [], Option, Some, None, option_map, length, get_or, drop, refl, sym, ap, ◌∙◌, subst, arith, add-one}
+use Rattle.std.proofs.Common.{ℕ, suc, ◌*◌, ◌≡◌, ◌<◌, List, [], Option, Some, None, option_map, length, get_or, drop, sym, ap, ◌∙◌, subst, arith, add-one}
 use Rattle.std.proofs.lemmas.List.{drop_all, get_or_read}
 use Rattle.mps_base.specs.Run.{Run, lowest_fitting}
 use Rattle.mps_seg.specs.declared.entry.Entry.{Entry}
 use Rattle.mps_seg.specs.declared.entry.Entry.TheVariants.{Free}
 use Rattle.mps_seg.specs.Segs.{SegsState, at_word, CanCover, LiesInOpen}
-use Rattle.mps_seg.specs.Table.{gaps_at, IsWholeAt}
+use Rattle.mps_seg.specs.Table.{gaps_at}
 use Rattle.mps_seg.proofs.GapSegment.{gap_in_open_segment}
 use Rattle.mps_seg.proofs.Seen.{seen_by}
 use Rattle.mps_seg.proofs.FullSegments.{gaps_passed}

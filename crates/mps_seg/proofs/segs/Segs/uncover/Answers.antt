@@ -1,8 +1,8 @@
-use Rattle.std.proofs.Common.{ℕ, ◌<◌, ◌≤◌, ◌+◌, ◌^◌, ◌≡◌, List, length, sym, ap, ◌∙◌, subst, arith}
+use Rattle.std.proofs.Common.{ℕ, ◌<◌, ◌+◌, ◌^◌, ◌≡◌, List, length, sym, ap, ◌∙◌, subst}
 use Rattle.mps_base.specs.Address.{word_of, grain_of}
-use Rattle.mps_base.specs.Run.{with_run, without_run}
-use Rattle.mps_seg.specs.Table.{first_at, free_in, with_fewer_free, with_more_free}
-use Rattle.mps_seg.proofs.Covering.{uncovering, run_at}
+use Rattle.mps_base.specs.Run.{without_run}
+use Rattle.mps_seg.specs.Table.{first_at, free_in, with_more_free}
+use Rattle.mps_seg.proofs.Covering.{uncovering}
 use Rattle.mps_seg.proofs.segs.Segs.uncover.Goals as goal
 
 pub return_free-requires-clause-in_firsts : goal.return_free-requires-clause-in_firsts

@@ -1,5 +1,5 @@
 use Rattle.mps_seg.proofs.SegmentOver.{segment_found}
-use Rattle.mps_seg.proofs.tests.give_with.Goals as goal
+use Rattle.mps_seg.proofs.tests.calls.give_with.Goals as goal
 
 pub is_empty-requires : goal.is_empty-requires
 is_empty-requires c = segment_found c.args.segs.now.segments c.args.at.0 c.in-Some.base c.in-Some.ensures

@@ -2,7 +2,7 @@ use Rattle.std.proofs.Common.{Contains, sym, subst}
 use Rattle.mps_base.specs.Run.{Run}
 use Rattle.mps_seg.specs.Segs.{SegsState}
 use Rattle.mps_extents.proofs.ApartRuns.{contains_put}
-use Rattle.mps_seg.proofs.tests.reserve_with.Goals as goal
+use Rattle.mps_seg.proofs.tests.calls.reserve_with.Goals as goal
 use Rattle.mps_base.specs.Address.{word_of}
 
 pub uncover-requires : goal.uncover-requires

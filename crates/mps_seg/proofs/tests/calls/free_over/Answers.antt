@@ -1,5 +1,5 @@
 use Rattle.mps_seg.proofs.BlockOver.{block_found}
-use Rattle.mps_seg.proofs.tests.free_over.Goals as goal
+use Rattle.mps_seg.proofs.tests.calls.free_over.Goals as goal
 use Rattle.mps_base.specs.Address.{word_of}
 
 pub block_words-words-requires : goal.block_words-words-requires
