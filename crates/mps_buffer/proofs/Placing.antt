@@ -1,17 +1,15 @@
 -- Where a reservation is placed, and what is then at hand.
-use Rattle.std.proofs.Common.{ℕ, List, ◌+◌, ◌-◌, ◌*◌, ◌<◌, ◌≤◌, ◌≡◌, leb, true, false, Option, Some, None, is_some, Result, Ok, Err, [], inl, inr, sym, ap, ◌∙◌, arith, refl}
+use Rattle.std.proofs.Common.{ℕ, ◌+◌, ◌-◌, ◌*◌, ◌<◌, ◌≤◌, ◌≡◌, leb, true, false, Option, Some, None, is_some, Result, Ok, Err, [], inl, inr, sym, ap, ◌∙◌, arith, refl}
 use Rattle.std.proofs.lemmas.Bool.{cases_lt, cond-true, cond-false, le-leb, lt-leb}
 use Rattle.mps_base.specs.Address.{words_of_grain, word_of, grains_needed}
 use Rattle.std.specs.Option.{option_map_or}
-use Rattle.mps_base.specs.Run.{Run, with_run, lowest_fitting}
+use Rattle.mps_base.specs.Run.{lowest_fitting}
 use Rattle.mps_base.specs.Segment.{gaps_of}
-use Rattle.mps_base.proofs.Runs.{contained_bounds}
-use Rattle.mps_extents.proofs.ApartRuns.{contains_put}
 use Rattle.mps_base.specs.Placement.{Placement, Place, NewSegment, OverLimit, NoFreeRun}
 use Rattle.mps_base.specs.declared.address.Addr.{Addr}
 use Rattle.mps_base.specs.declared.refusal.Refusal.{Refusal}
 use Rattle.mps_arena.specs.Arena.{ArenaMemory, answer_of_placement}
-use Rattle.mps_seg.specs.Segs.{SegsState, placement_for, held_runs, at_word, IsOpenRun}
+use Rattle.mps_seg.specs.Segs.{SegsState, placement_for, held_runs, at_word}
 use Rattle.mps_seg.specs.Placing.{placement_in_gaps}
 use Rattle.mps_seg.proofs.Placements.{taken_at, placement_cases, placed, refused}
 use Rattle.mps_buffer.specs.declared.point.Buffer.{Buffer}
@@ -49,12 +47,6 @@ module _ (p : Point) (s : SegsState) (words : ℕ) where
       let first : words_of_grain * taken.0 + words ≡ word_of base.0 + words = omega (arith, taken.1.base_at) in
       let make = λ (w : ℕ). let b : Buffer = record { from = w; count = words_of_grain * need - words } in b in
       ap (λ (q : Placement). rest_at_hand p.buffer q words) taken.1.placement_is ∙ ap make first
-
--- words that can be covered lie in the arena
-pub open_bounds : (grains : ℕ) (held covered : List Run) (r : Run) → IsOpenRun grains held covered r
-    → r.from + r.count ≤ words_of_grain * (grains + 1)
-open_bounds grains held covered r open_run =
-    (contained_bounds 0 (words_of_grain * (grains + 1)) (with_run r covered) r open_run.free (contains_put r covered)).2
 
 -- a new segment is no place in what is held
 pub new_is_no_place : (s : SegsState) (words : ℕ) → is_place (placement_for s words) ≡ false

@@ -1,12 +1,12 @@
 -- Points, their reservations, and where a reservation is placed.
-use Rattle.std.specs.Prelude.{ℕ, ◌+◌, ◌-◌, ◌*◌, ◌<◌, ◌≡◌, ◌==◌, nat_le, Bool, true, false, option_map, map, length, if◌then◌else◌, Option, Some, None, is_some, List, [], ◌∷◌, replicate, get_or, slice_set, Contains, refl}
+use Rattle.std.specs.Prelude.{ℕ, ◌+◌, ◌-◌, ◌*◌, ◌<◌, ◌≤◌, ◌≡◌, ◌⊎◌, ◌==◌, nat_le, Bool, true, false, option_map, map, length, if◌then◌else◌, Option, Some, None, is_some, List, [], ◌∷◌, replicate, get_or, slice_set, Contains, refl}
 use Rattle.mps_base.specs.Address.{words_of_grain, word_of}
-use Rattle.mps_base.specs.Run.{Run, with_run, without_run}
+use Rattle.mps_base.specs.Run.{Run, end_of, with_run, without_run}
 use Rattle.mps_base.specs.Placement.{Placement, Place, NewSegment, OverLimit, NoFreeRun}
 use Rattle.mps_arena.specs.Arena.{cleared_words}
 use Rattle.mps_base.specs.declared.names.Rank.{Rank}
 use Rattle.mps_base.specs.declared.names.Rank.TheVariants.{Exact, Weak}
-use Rattle.mps_seg.specs.Segs.{SegsState, new_segments, placement_for, segments_after, noted_for, CanCover}
+use Rattle.mps_seg.specs.Segs.{SegsState, new_segments, placement_for, segments_after, noted_for, held_runs, IsOpenRun, CanCover}
 use Rattle.mps_seg.specs.Placing.{placement_in_gaps}
 use Rattle.mps_buffer.specs.declared.point.Buffer.{Buffer}
 use Rattle.mps_buffer.specs.declared.point.Held.{Held}
@@ -44,6 +44,14 @@ empty_buffer = record { from = 0; count = 0 }
 -- the words at hand, where there are any, lie in a segment, and nothing covers one of them
 abbrev pub IsAtHand : SegsState → Buffer → Type 0
 IsAtHand s b = 0 < b.count → CanCover s (run_of b)
+
+-- the words lie in a segment, and nothing covers one of them once these others are covered
+abbrev pub CanCoverAfter : SegsState → Run → Run → Type 0
+CanCoverAfter s others r = IsOpenRun s.grains (held_runs s) (with_run others s.covered) r
+
+-- one of two runs ends where the other begins, or before
+abbrev pub AreApart : Run → Run → Type 0
+AreApart r q = (end_of r ≤ q.from) ⊎ (end_of q ≤ r.from)
 
 -- a point with nothing at hand and no reservation
 abbrev pub new_point : (pool : ℕ) → Rank → (is_copying : Bool) → Point

@@ -1,9 +1,14 @@
 //! Points, at which a client reserves words, initialises them and commits them as a block.
 #![tactic(auto)]
 
+mod open_points;
 mod place;
 mod point;
 mod points;
 
+pub use open_points::OpenPoints;
 pub use point::{Buffer, Held, Point, Reserved};
 pub use points::Points;
+
+#[cfg(test)]
+mod tests;

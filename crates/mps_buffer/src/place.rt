@@ -1,11 +1,11 @@
 // Where a reservation is placed.
 #![tactic(auto)]
 
-ghost use Rattle.std.specs.Prelude.{◌≡◌, ◌<◌, ◌≤◌, Ok, Err, IfOk, MatchResult};
+ghost use Rattle.std.specs.Prelude.{◌≡◌, ◌<◌, ◌≤◌, true, Ok, Err, IfOk, MatchResult};
 ghost use Rattle.mps_base.specs.Address.{word_of, max_block_words};
 ghost use Rattle.mps_arena.specs.Arena.{answer_of_placement};
 ghost use Rattle.mps_seg.specs.Segs.{moves_after, CanCover};
-ghost use Rattle.mps_buffer.specs.Points.{IsAtHand, run_of, placement_at, with_place, buffer_after};
+ghost use Rattle.mps_buffer.specs.Points.{IsAtHand, CanCoverAfter, run_of, placement_at, with_place, buffer_after};
 
 use crate::point::{Buffer, Point};
 use mps_base::{Addr, BYTES_OF_WORD, Refusal, Trail, WORDS_OF_GRAIN};
@@ -37,6 +37,8 @@ pub(crate) fn place(
         (λ _. trail.new ≡ trail.old) }
     ensures buffer { IfOk result (λ placed. placed.buffer ≡ buffer_after p.now (placement_at p.now segs.old words) words) }
     ensures free { IfOk result (λ placed. CanCover segs.new (record { from = word_of placed.at.0; count = words })) }
+    ensures rest { IfOk result (λ placed. p.now.is_copying ≡ true → 0 < placed.buffer.count
+        → CanCoverAfter segs.new (record { from = word_of placed.at.0; count = words }) (run_of placed.buffer)) }
 {
     let _ = segs.grains(); // so few that a word's number fits
     if !p.is_copying {

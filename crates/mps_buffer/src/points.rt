@@ -1,16 +1,17 @@
 // The points.
 #![tactic(auto)]
 
-ghost use Rattle.std.specs.Prelude.{◌≡◌, ◌≢◌, ℕ, ◌+◌, ◌^◌, ◌<◌, ◌≤◌, ◌==◌, if◌then◌else◌, Ok, Err, Some, None, option_map, map, length, get_or, IsTrue, IfOk, IfErr, IfSome, IfNone, MatchResult, Contains};
+ghost use Rattle.std.specs.Prelude.{◌≡◌, ◌≢◌, ℕ, ◌+◌, ◌^◌, ◌<◌, ◌≤◌, ◌==◌, if◌then◌else◌, true, Ok, Err, Some, None, option_map, map, length, get_or, IsTrue, IfOk, IfErr, IfSome, IfNone, MatchResult, Contains};
 ghost use Rattle.mps_base.specs.Address.{word_of, max_block_words};
 ghost use Rattle.mps_base.specs.Trail.{with_move};
 ghost use Rattle.mps_base.specs.declared.moves.Move.TheVariants.{Commit};
 ghost use Rattle.mps_base.specs.declared.refusal.Refusal.TheVariants.{TooMany};
 ghost use Rattle.mps_arena.specs.Arena.{answer_of_placement};
-ghost use Rattle.mps_seg.specs.Segs.{SegsState, moves_after};
+ghost use Rattle.mps_base.specs.Run.{Run};
+ghost use Rattle.mps_seg.specs.Segs.{SegsState, CanCover, moves_after};
 ghost use Rattle.mps_buffer.specs.declared.point.Point.{Point};
 ghost use Rattle.mps_buffer.specs.declared.point.Held.{Held};
-ghost use Rattle.mps_buffer.specs.Points.{no_points, point_at, with_point, IsAtHand, placement_at, with_place, with_reservation, with_block, without_reservation, run_of_held, closed, opened, IsOpenAt, all_ended, AreReserved, emptied, flipped, ended_at, IsReservedAt, new_point, IsMade, AllTaken, is_place};
+ghost use Rattle.mps_buffer.specs.Points.{no_points, point_at, with_point, IsAtHand, placement_at, buffer_after, AreApart, with_place, with_reservation, with_block, without_reservation, run_of_held, closed, opened, IsOpenAt, all_ended, AreReserved, emptied, flipped, ended_at, IsReservedAt, new_point, IsMade, AllTaken, is_place};
 
 use crate::place::place;
 use crate::point::{Buffer, Held, Point, Reserved};
@@ -21,7 +22,7 @@ use std::alloc::{AllocError, Global};
 use std::marker::Model;
 
 /// How many points there may be.
-const MAX_POINTS: usize = 256;
+pub(crate) const MAX_POINTS: usize = 256;
 
 /// The points of an arena. `new` is the only call that allocates.
 #[derive(Drop)]
@@ -47,6 +48,24 @@ impl Points {
             points: Vec::from_array(alloc, [None; MAX_POINTS])?,
             flips: 0,
         })
+    }
+
+    /// The point under a key, if there is one.
+    pub fn get(&self, key: u32) -> Option<Point>
+        ensures { result ≡ point_at self.now key }
+    {
+        if (key as usize) < self.points.len() {
+            self.points[key as usize]
+        } else {
+            None
+        }
+    }
+
+    /// How many flips there were.
+    pub fn flips(&self) -> u64
+        ensures { result ≡ self.now.flips }
+    {
+        self.flips
     }
 
     /// Makes a point of a pool under a key that is free. Refuses `TooMany` where there are 256.
@@ -88,7 +107,8 @@ impl Points {
     }
 
     /// Reserves `words` words at a point that has no open reservation, for a block with this head. The words are 0 but for the head.
-    /// Refuses `CommitLimit` and `NoRun` as `Segs::take` does; a refusal changes nothing.
+    /// Refuses `CommitLimit` and `NoRun` as `Segs::take` does; a refusal changes nothing. What is then at hand can be covered, and so can
+    /// other words that could be and lie apart from the reservation.
     pub fn reserve_words(
         &mut self,
         segs: &mut Segs,
@@ -115,6 +135,10 @@ impl Points {
         ensures moves { (p : Point) → point_at self.old point ≡ Some p
             → MatchResult result (λ _. trail.new ≡ moves_after (placement_at p segs.old words) p.pool 0 trail.old)
             (λ _. trail.new ≡ trail.old) }
+        ensures at_hand { (p : Point) → point_at self.old point ≡ Some p → p.is_copying ≡ true
+            → IfOk result (λ _. IsAtHand segs.new (buffer_after p (placement_at p segs.old words) words)) }
+        ensures others { IfOk result (λ token. (r : Run) → CanCover segs.old r → AreApart r (run_of_held token.held)
+            → CanCover segs.new r) }
     {
         let Some(p) = self.points[point as usize] else {
             unreachable!()
@@ -159,6 +183,12 @@ impl Points {
             → MatchResult result
             (λ _. trail.new ≡ moves_after (placement_at p segs.old ((F.layout format.now).size head)) p.pool 0 trail.old)
             (λ _. trail.new ≡ trail.old) }
+        ensures at_hand { (p : Point) → point_at self.old point ≡ Some p → p.is_copying ≡ true
+            → IfOk result
+            (λ _. IsAtHand segs.new
+            (buffer_after p (placement_at p segs.old ((F.layout format.now).size head)) ((F.layout format.now).size head))) }
+        ensures others { IfOk result (λ token. (r : Run) → CanCover segs.old r → AreApart r (run_of_held token.held)
+            → CanCover segs.new r) }
     {
         let words = format.words(head);
         self.reserve_words(segs, trail, point, head, words)
@@ -284,6 +314,9 @@ fn reserve_at(
     ensures point { IfOk result (λ made. made.1 ≡ opened p.now (placement_at p.now segs.old words) made.0) }
     ensures moves { MatchResult result (λ _. trail.new ≡ moves_after (placement_at p.now segs.old words) p.now.pool 0 trail.old)
         (λ _. trail.new ≡ trail.old) }
+    ensures at_hand { p.now.is_copying ≡ true
+        → IfOk result (λ _. IsAtHand segs.new (buffer_after p.now (placement_at p.now segs.old words) words)) }
+    ensures others { IfOk result (λ made. (r : Run) → CanCover segs.old r → AreApart r (run_of_held made.0) → CanCover segs.new r) }
 {
     let placed = place(segs, trail, p, words)?;
     segs.cover(placed.at, words);

@@ -9,7 +9,7 @@ use Rattle.mps_base.specs.declared.moves.Move.TheVariants.{Alloc, Free, Unseg}
 use Rattle.mps_base.specs.declared.names.Rank.TheVariants.{Exact}
 use Rattle.mps_base.specs.declared.refusal.Refusal.{Refusal}
 use Rattle.mps_base.specs.declared.refusal.Refusal.TheVariants.{BadSize}
-use Rattle.mps_arena.specs.Arena.{answer_of_placement}
+use Rattle.mps_arena.specs.Arena.{answer_of_placement, cleared_words}
 use Rattle.mps_seg.specs.Segs.{SegsState, segments_after, noted_for, moves_after}
 use Rattle.mps_marks.specs.Marks.{without_marks}
 use Rattle.mps_seg.specs.Placing.{placement_in_gaps}
@@ -28,7 +28,7 @@ abbrev pub answer_of_alloc : (size : ℕ) → SegsState → (pool words : ℕ) �
 answer_of_alloc size s pool words =
     if has_blocks_of size words then answer_of_placement (placement_in_gaps s pool Exact words) else Err BadSize
 
--- the segments with a block at an address, which the placement gave
+-- the segments with a block at an address, which the placement gave; its words are 0
 abbrev pub allocated : SegsState → (pool words : ℕ) → Addr → SegsState
 allocated s pool words at = record s {
   segments = segments_after (placement_in_gaps s pool Exact words) pool 0 Exact s.segments;
@@ -36,6 +36,7 @@ allocated s pool words at = record s {
   summaries = noted_for (placement_in_gaps s pool Exact words) 0 s.summaries;
   covered = with_run (record { from = word_of at.0; count = words }) s.covered;
   blocks = with_run (record { from = word_of at.0; count = words }) s.blocks;
+  words = cleared_words s.words (word_of at.0) words;
 }
 
 -- a new segment, where the placement is one, and then the block

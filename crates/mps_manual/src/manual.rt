@@ -1,11 +1,13 @@
 // The manual pools.
 #![tactic(auto)]
 
-ghost use Rattle.std.specs.Prelude.{◌≡◌, ℕ, ◌<◌, ◌≤◌, [], ◌∷◌, ◌++◌, length, slice_index, MatchResult, Contains};
-ghost use Rattle.mps_base.specs.Address.{word_of};
+ghost use Rattle.std.specs.Prelude.{◌≡◌, ℕ, ◌+◌, ◌%◌, ◌<◌, ◌≤◌, [], ◌∷◌, ◌++◌, length, option_map, slice_get, slice_index, slice_range, MatchResult, Contains};
+ghost use Rattle.std.specs.Borrow.{sem};
+ghost use Rattle.mps_base.specs.Address.{word_of, bytes_of_word};
 ghost use Rattle.mps_base.specs.Segment.{segment_over};
 ghost use Rattle.mps_base.specs.Trail.{with_move};
 ghost use Rattle.mps_base.specs.declared.names.Rank.TheVariants.{Exact};
+ghost use Rattle.mps_seg.specs.Lending.{LendsSegmentWords};
 ghost use Rattle.mps_seg.specs.Placing.{placement_in_gaps};
 ghost use Rattle.mps_manual.specs.Manual.{has_blocks_of, answer_of_alloc, allocated, moves_allocated, freed, moves_freed, given_back, moves_given_back};
 
@@ -15,7 +17,7 @@ use std::alloc::{AllocError, Global};
 use std::marker::Model;
 
 /// The most words that a block may have.
-const MAX_BLOCK_WORDS: u32 = 65_536;
+const MAX_BLOCK_WORDS: u64 = 65_536;
 
 /// In place of a size: the pool has blocks of any sizes.
 const ANY_SIZE: u32 = 0;
@@ -51,6 +53,14 @@ impl Manual {
         self.sizes.len()
     }
 
+    /// Whether the pool with a number has blocks of `words` words; None where no pool has the number.
+    pub fn takes(&self, pool: u32, words: u64) -> Option<bool>
+        ensures { result ≡ option_map (λ size. has_blocks_of size words) (slice_get self.now pool) }
+    {
+        let size = *self.sizes.get(pool as usize)?;
+        Some(is_allowed(size, words))
+    }
+
     /// One more pool, whose blocks have `size` words, or any sizes where that is 0. A pool that isn't manual takes a number too; its
     /// size is never used.
     pub fn add(&mut self, size: u32) -> Result<(), AllocError>
@@ -61,7 +71,7 @@ impl Manual {
     }
 
     /// Makes a block of `words` words in the lowest gap of the pool that fits, else in a new segment, and returns where it begins. Its
-    /// words stay as they are. Refuses `BadSize` where the pool has no blocks of this size, and then `CommitLimit` and `NoRun` as
+    /// words are 0. Refuses `BadSize` where the pool has no blocks of this size, and then `CommitLimit` and `NoRun` as
     /// `Segs::take` does.
     pub fn alloc(
         &self,
@@ -77,13 +87,38 @@ impl Manual {
         ensures moves { MatchResult result (λ at. trail.new ≡ moves_allocated segs.old trail.old pool words at)
             (λ _. trail.new ≡ trail.old) }
     {
-        if !is_allowed(self.sizes[pool as usize], words) {
+        if !is_allowed(self.sizes[pool as usize], u64::from(words)) {
             return Err(Refusal::BadSize);
         }
         let at = segs.place(trail, pool, Rank::Exact, words)?;
         segs.commit_block(at, words);
+        let _ = segs.grains(); // its words have the block
+        segs.clear(at, words);
         trail.push(Move::Alloc { at, words, pool });
         Ok(at)
+    }
+
+    /// Lends the words of the block that begins at `at`, and no others.
+    pub fn lend(segs: &Segs, at: Addr) -> &[u64]
+        requires aligned { at.0 % bytes_of_word ≡ 0 }
+        requires block { (words : ℕ) × Contains segs.now.blocks (record { from = word_of at.0; count = words }) }
+        ensures whole { Contains segs.now.blocks (record { from = word_of at.0; count = length result.now }) }
+        ensures value { result.now ≡ slice_range segs.now.words (word_of at.0) (word_of at.0 + length result.now) }
+    {
+        let words = segs.block_words(at);
+        segs.lend(at, words)
+    }
+
+    /// Lends the words of the block that begins at `at`, and no others, to be written.
+    pub fn lend_mut(segs: &mut Segs, at: Addr) -> &mut [u64]
+        requires aligned { at.0 % bytes_of_word ≡ 0 }
+        requires block { (words : ℕ) × Contains segs.old.blocks (record { from = word_of at.0; count = words }) }
+        ensures* writes_back { sem 𝓛 (LendsSegmentWords segs.entry at.0 result) }
+        ensures whole { Contains segs.old.blocks (record { from = word_of at.0; count = length result.now }) }
+        ensures value { result.now ≡ slice_range segs.old.words (word_of at.0) (word_of at.0 + length result.now) }
+    {
+        let words = segs.block_words(at);
+        segs.lend_mut(at, words)
     }
 
     /// Frees the block that begins at `at`. In a pool of any sizes its segment is given back where nothing is left in it.
@@ -104,10 +139,10 @@ impl Manual {
 }
 
 /// Whether a pool whose blocks have this size has blocks of n words.
-fn is_allowed(size: u32, words: u32) -> bool
+fn is_allowed(size: u32, words: u64) -> bool
     ensures { result ≡ has_blocks_of size words }
 {
-    1 <= words && words <= MAX_BLOCK_WORDS && (size == ANY_SIZE || words == size)
+    1 <= words && words <= MAX_BLOCK_WORDS && (size == ANY_SIZE || words == u64::from(size))
 }
 
 /// Gives back the segment in which an address lies, where nothing is left in it.

@@ -155,6 +155,40 @@ fn make_and_free(
     compare_freed(rt, alloc, manual, segs, 0, 0x101f, &first)
 }
 
+/// Fills the block over a byte with a word, and returns how many words it has; None where there is none.
+fn fill_with(segs: &mut Segs, n: u64, word: u64) -> Option<usize> {
+    let at = segs.block_at(n)?;
+    let words = Manual::lend_mut(segs, at);
+    words.fill(word);
+    Some(words.len())
+}
+
+/// The words of the block over a byte; None where there is none.
+fn words_of(segs: &Segs, n: u64) -> Option<&[u64]> {
+    let at = segs.block_at(n)?;
+    Some(Manual::lend(segs, at))
+}
+
+/// Of two neighbours the first is filled, and freed and made again.
+fn fill_and_free(
+    rt: &impl Abort,
+    alloc: Global,
+    manual: &Manual,
+    segs: &mut Segs,
+) -> Result<(), AllocError> {
+    assert!(rt; make(alloc, manual, segs, 0, 3) == Ok(Addr(0x1000)));
+    assert!(rt; make(alloc, manual, segs, 0, 2) == Ok(Addr(0x1018)));
+    assert!(rt; fill_with(segs, 0x1017, 7) == Some(3));
+    assert!(rt; words_of(segs, 0x1000) == Some(&[7, 7, 7]));
+    assert!(rt; words_of(segs, 0x1018) == Some(&[0, 0]));
+    let moves = [Move::Free { at: Addr(0x1000) }];
+    compare_freed(rt, alloc, manual, segs, 0, 0x1000, &moves)?;
+    assert!(rt; words_of(segs, 0x1000) == None);
+    assert!(rt; make(alloc, manual, segs, 0, 3) == Ok(Addr(0x1000)));
+    assert!(rt; words_of(segs, 0x1000) == Some(&[0, 0, 0]));
+    Ok(())
+}
+
 #[test]
 fn blocks_lie_in_the_lowest_gap(rt: HostRuntime) -> Result<(), AllocError> {
     let manual = two_pools(rt.alloc(), 500)?;
@@ -170,4 +204,11 @@ fn an_empty_segment_is_given_back(rt: HostRuntime) -> Result<(), AllocError> {
     make_and_free(&rt, rt.alloc(), &manual, &mut segs)?;
     assert_eq!(rt; segs.committed(), 1);
     Ok(())
+}
+
+#[test]
+fn a_loan_is_the_block_and_no_more(rt: HostRuntime) -> Result<(), AllocError> {
+    let manual = two_pools(rt.alloc(), 4)?;
+    let mut segs = Segs::new(rt.alloc(), 2, 2)?;
+    fill_and_free(&rt, rt.alloc(), &manual, &mut segs)
 }

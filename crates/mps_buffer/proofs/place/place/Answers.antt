@@ -1,9 +1,10 @@
-use Rattle.std.proofs.Common.{ℕ, ◌*◌, ◌<◌, ◌≡◌, sym, ap, subst, arith}
-use Rattle.mps_base.specs.Address.{word_of, bytes_of_word}
+use Rattle.std.proofs.Common.{ℕ, ◌+◌, ◌-◌, ◌*◌, ◌<◌, ◌≡◌, sym, ap, subst, arith}
+use Rattle.mps_base.specs.Address.{word_of, bytes_of_word, words_of_grain, grains_needed}
+use Rattle.mps_base.specs.Run.{Run}
 use Rattle.mps_seg.specs.Segs.{SegsState, CanCover, held_runs}
-use Rattle.mps_seg.proofs.PartCovered.{prefix_is_open}
-use Rattle.mps_buffer.specs.Points.{run_of}
-use Rattle.mps_buffer.proofs.Placing.{open_bounds}
+use Rattle.mps_seg.proofs.PartCovered.{prefix_is_open, rest_is_open}
+use Rattle.mps_buffer.specs.Points.{run_of, CanCoverAfter}
+use Rattle.mps_seg.proofs.OpenWords.{open_bounds}
 use Rattle.mps_buffer.proofs.place.place.Goals as goal
 
 pub overflow_add-result : goal.overflow_add-result
@@ -38,3 +39,27 @@ overflow_add-result-2 c =
     let bounds = open_bounds s.grains (held_runs s) s.covered _ c.in_ok-at-2.ensures.free in
     let same = ap (λ (x : SegsState). x.grains) c.in_ok-at-2.ensures.state in
     omega (arith, bounds, same, c.grains.ensures.at_most, c.word.ensures)
+
+pub returns-then-words-p-clause-rest : goal.returns-then-words-p-clause-rest
+returns-then-words-p-clause-rest c = λ copying some.
+    let s = c.args.segs.now in
+    let b = c.args.p.now.buffer in
+    let n = c.args.words in
+    let shifted : word_of (bytes_of_word * b.from) ≡ b.from = omega arith in
+    let P : ℕ → Type 0 =
+    λ w. CanCoverAfter s (record { from = w; count = n }) (record { from = b.from + n; count = b.count - n }) in
+    subst P (sym shifted)
+    (rest_is_open (run_of b) n c.requires.nonzero s.grains (held_runs s) s.covered (c.requires.at_hand (omega (arith, some)))
+    (omega (arith, some)))
+
+pub returns-clause-rest : goal.returns-clause-rest
+returns-clause-rest c = λ copying some.
+    let s = c.take.new.self in
+    let at = c.in_ok-at-2.at in
+    let n = c.args.words in
+    let whole : Run = record { from = word_of at.0; count = words_of_grain * grains_needed n } in
+    let P : ℕ → Type 0 =
+    λ w. CanCoverAfter s (record { from = word_of at.0; count = n })
+    (record { from = w + n; count = words_of_grain * grains_needed n - n }) in
+    subst P (sym c.word.ensures)
+    (rest_is_open whole n c.requires.nonzero s.grains (held_runs s) s.covered c.in_ok-at-2.ensures.all_free (omega (arith, some)))

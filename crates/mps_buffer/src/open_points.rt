@@ -1,0 +1,244 @@
+// Points with the tokens of their open reservations.
+#![tactic(auto)]
+
+ghost use Rattle.std.specs.Prelude.{◌≡◌, ◌≢◌, ℕ, ◌+◌, ◌^◌, ◌<◌, ◌≤◌, true, Ok, Err, Some, None, List, Option, option_map, map, length, get_or, slice_set, replicate, All, IfOk, IfErr, MatchResult};
+ghost use Rattle.mps_base.specs.Address.{word_of, max_block_words};
+ghost use Rattle.mps_base.specs.Trail.{with_move};
+ghost use Rattle.mps_base.specs.declared.moves.Move.TheVariants.{Commit};
+ghost use Rattle.mps_base.specs.declared.refusal.Refusal.TheVariants.{TooMany};
+ghost use Rattle.mps_arena.specs.Arena.{answer_of_placement};
+ghost use Rattle.mps_base.specs.Run.{Run};
+ghost use Rattle.mps_seg.specs.Segs.{CanCover, moves_after};
+ghost use Rattle.mps_buffer.specs.declared.point.Point.{Point};
+ghost use Rattle.mps_buffer.specs.declared.point.Held.{Held};
+ghost use Rattle.mps_buffer.specs.Points.{no_points, point_at, with_point, IsAtHand, placement_at, buffer_after, AreApart, with_place, with_reservation, with_block, closed, opened, all_ended, AreReserved, flipped, ended_at, IsReserved, IsReservedAt, new_point, IsMade, AllTaken};
+ghost use Rattle.mps_buffer.specs.Tokens.{HasOpen, IsClosedAt};
+
+use crate::point::{Point, Reserved};
+use crate::points::{MAX_POINTS, Points};
+use mps_base::{Addr, Flipped, Rank, Refusal, Trail};
+use mps_seg::Segs;
+use std::alloc::{AllocError, Global};
+use std::marker::Model;
+use std::mem::replace;
+
+/// Points that keep the tokens of their open reservations, for a client that knows points by their keys. `new` is the only call that
+/// allocates, and `finish` ends its use: like a token, it can't be let go.
+pub struct OpenPoints {
+    points: Points,
+    tokens: Vec<Option<Reserved>>,
+}
+
+impl Model for OpenPoints {
+    ghost use Rattle.std.specs.Prelude.{◌≡◌};
+    ghost use Rattle.mps_buffer.specs.Points.{PointsState};
+
+    ghost Value = { PointsState };
+
+    ghost use Rattle.mps_buffer.specs.Tokens.{tokens_from};
+
+    ghost view = { λ o. o.points };
+
+    ghost invariant = { λ o. o.tokens.items ≡ tokens_from 0 o.points.points };
+}
+
+impl OpenPoints {
+    /// No points, and room for 256.
+    pub fn new(alloc: Global) -> Result<OpenPoints, AllocError>
+        ensures { IfOk result (λ points. points ≡ no_points) }
+    {
+        Ok(OpenPoints {
+            points: Points::new(alloc)?,
+            tokens: no_tokens(alloc)?,
+        })
+    }
+
+    /// The point under a key, if there is one.
+    pub fn get(&self, key: u32) -> Option<Point>
+        ensures { result ≡ point_at self.now key }
+    {
+        self.points.get(key)
+    }
+
+    /// How many flips there were.
+    pub fn flips(&self) -> u64
+        ensures { result ≡ self.now.flips }
+    {
+        self.points.flips()
+    }
+
+    /// Makes a point of a pool under a key that is free. Refuses `TooMany` where there are 256.
+    pub fn add(&mut self, pool: u32, rank: Rank, is_copying: bool) -> Result<u32, Refusal>
+        ensures made { IfOk result (λ key. IsMade self.old self.new key (new_point pool rank is_copying)) }
+        ensures refused { IfErr result (λ why. (why ≡ TooMany 256) × (self.new ≡ self.old) × AllTaken self.old.points) }
+    {
+        self.points.add(pool, rank, is_copying)
+    }
+
+    /// Drops a point that has no open reservation. Its key is free again.
+    pub fn drop_point(&mut self, key: u32)
+        requires { (p : Point) × IsClosedAt self.old key p }
+        ensures { self.new ≡ with_point self.old key None }
+    {
+        self.points.drop_point(key);
+    }
+
+    /// Reserves `words` words at a point that has no open reservation, for a block with this head, and returns where they lie. They are
+    /// 0 but for the head. Refuses `CommitLimit` and `NoRun` as `Segs::take` does; a refusal changes nothing.
+    pub fn reserve(
+        &mut self,
+        segs: &mut Segs,
+        trail: &mut Trail,
+        key: u32,
+        head: u64,
+        words: u32,
+    ) -> Result<Addr, Refusal>
+        requires nonzero { 0 < words }
+        requires at_most { words ≤ max_block_words }
+        requires fits { 0 < trail.old.spare }
+        requires there { (p : Point) × IsClosedAt self.old key p × IsAtHand segs.old p.buffer }
+        ensures value { (p : Point) → point_at self.old key ≡ Some p → result ≡ answer_of_placement (placement_at p segs.old words) }
+        ensures state { (p : Point) → point_at self.old key ≡ Some p
+            → MatchResult result
+            (λ at. segs.new
+            ≡ with_reservation (with_place segs.old p (placement_at p segs.old words))
+            (record { at = at; head = head; words = words; flips = self.old.flips }))
+            (λ _. segs.new ≡ segs.old) }
+        ensures points { (p : Point) → point_at self.old key ≡ Some p
+            → MatchResult result
+            (λ at. self.new
+            ≡ with_point self.old key (Some (opened p (placement_at p segs.old words)
+            (record { at = at; head = head; words = words; flips = self.old.flips }))))
+            (λ _. self.new ≡ self.old) }
+        ensures moves { (p : Point) → point_at self.old key ≡ Some p
+            → MatchResult result (λ _. trail.new ≡ moves_after (placement_at p segs.old words) p.pool 0 trail.old)
+            (λ _. trail.new ≡ trail.old) }
+        ensures at_hand { (p : Point) → point_at self.old key ≡ Some p → p.is_copying ≡ true
+            → IfOk result (λ _. IsAtHand segs.new (buffer_after p (placement_at p segs.old words) words)) }
+        ensures others { IfOk result (λ at. (r : Run) → CanCover segs.old r
+            → AreApart r (record { from = word_of at.0; count = words }) → CanCover segs.new r) }
+    {
+        let token = self.points.reserve_words(segs, trail, key, head, words)?;
+        let at = token.at();
+        put_token(&mut self.tokens, key, token);
+        Ok(at)
+    }
+
+    /// The open reservation of a point becomes a block, whose address is returned. `Flipped` where a flip came since the reserve. The
+    /// point has no reservation from now on.
+    pub fn commit(&mut self, segs: &mut Segs, trail: &mut Trail, key: u32) -> Result<Addr, Flipped>
+        requires open { (p : Point) × (h : Held) × HasOpen self.old key p h × IsReserved self.old.flips (Some h) segs.old }
+        requires fits { 0 < trail.old.spare }
+        ensures sound { (p : Point) → (h : Held) → HasOpen self.old key p h
+            → IfOk result (λ at. (at ≡ h.at) × (h.flips ≡ self.old.flips)) }
+        ensures flipped { (p : Point) → (h : Held) → HasOpen self.old key p h → IfErr result (λ _. h.flips ≢ self.old.flips) }
+        ensures points { (p : Point) → point_at self.old key ≡ Some p → self.new ≡ with_point self.old key (Some (closed p)) }
+        ensures state { (p : Point) → (h : Held) → HasOpen self.old key p h
+            → MatchResult result (λ _. segs.new ≡ with_block segs.old h) (λ _. segs.new ≡ segs.old) }
+        ensures moves { (p : Point) → (h : Held) → HasOpen self.old key p h
+            → MatchResult result (λ at. trail.new ≡ with_move trail.old (Commit at h.words p.pool)) (λ _. trail.new ≡ trail.old) }
+    {
+        let Some(token) = self.tokens[key as usize].take() else {
+            unreachable!()
+        };
+        self.points.commit(segs, trail, token)
+    }
+
+    /// Gives up the open reservation of the point under a key, where there is one. Its words are free again, where no flip came since
+    /// the reserve.
+    pub fn abandon(&mut self, segs: &mut Segs, key: u32)
+        requires within { key < length self.old.points }
+        requires reserved { IsReservedAt self.old.flips (point_at self.old key) segs.old }
+        ensures points { self.new ≡ with_point self.old key (option_map closed (point_at self.old key)) }
+        ensures state { segs.new ≡ ended_at self.old.flips (point_at self.old key) segs.old }
+    {
+        self.abandon_at(segs, key as usize);
+    }
+
+    /// A flip comes: all reservations end, and no point has words at hand.
+    pub fn flip(&mut self, segs: &mut Segs)
+        requires fits { self.old.flips < 2 ^ 63 }
+        requires reserved { AreReserved self.old.flips self.old.points segs.old }
+        ensures points { self.new ≡ flipped self.old }
+        ensures state { segs.new ≡ all_ended self.old.flips self.old.points segs.old }
+    {
+        self.points.flip(segs);
+    }
+
+    /// Gives up each open reservation, and lets the points go.
+    pub fn finish(self, segs: &mut Segs)
+        requires { AreReserved self.flips self.points segs.old }
+        ensures { segs.new ≡ all_ended self.flips self.points segs.old }
+    {
+        let mut all = self;
+        all.abandon_all(segs);
+        let OpenPoints { points: _, tokens } = all;
+        let_go(tokens);
+    }
+
+    /// Gives up each open reservation.
+    fn abandon_all(&mut self, segs: &mut Segs)
+        requires { AreReserved self.old.flips self.old.points segs.old }
+        ensures points { self.new ≡ record self.old { points = map (option_map closed) self.old.points } }
+        ensures state { segs.new ≡ all_ended self.old.flips self.old.points segs.old }
+    {
+        for key in 0..self.count() {
+            self.abandon_at(segs, key);
+        }
+    }
+
+    /// Gives up the open reservation of the point at an index, where there is one.
+    fn abandon_at(&mut self, segs: &mut Segs, key: usize)
+        requires within { key < length self.old.points }
+        requires reserved { IsReservedAt self.old.flips (point_at self.old key) segs.old }
+        ensures points { self.new ≡ with_point self.old key (option_map closed (point_at self.old key)) }
+        ensures state { segs.new ≡ ended_at self.old.flips (point_at self.old key) segs.old }
+    {
+        if let Some(token) = self.tokens[key].take() {
+            self.points.abandon(segs, token);
+        }
+    }
+
+    /// How many keys there are.
+    fn count(&self) -> usize
+        ensures { result ≡ length self.now.points }
+    {
+        self.tokens.len()
+    }
+}
+
+/// A place without a token for each key.
+fn no_tokens(alloc: Global) -> Result<Vec<Option<Reserved>>, AllocError>
+    ensures { IfOk result (λ tokens. tokens.items ≡ replicate 256 None) }
+{
+    let mut tokens = Vec::with_capacity(alloc, MAX_POINTS)?;
+    for _ in 0..MAX_POINTS {
+        tokens.push_reserved(None);
+    }
+    Ok(tokens)
+}
+
+/// Puts the token of a point in its place, which has none.
+fn put_token(tokens: &mut Vec<Option<Reserved>>, key: u32, token: Reserved)
+    requires within { key < length tokens.old.items }
+    requires none { get_or tokens.old.items key None ≡ None }
+    ensures { tokens.new.items ≡ slice_set tokens.old.items key (Some token) }
+{
+    match replace(&mut tokens[key as usize], Some(token)) {
+        None => {}
+        Some(_) => unreachable!(),
+    }
+}
+
+/// Lets go of places that have no token.
+fn let_go(mut tokens: Vec<Option<Reserved>>)
+    requires { All (λ token. token ≡ None) tokens.items }
+{
+    while let Some(slot) = tokens.pop() {
+        match slot {
+            None => {}
+            Some(_) => unreachable!(),
+        }
+    }
+    tokens.destroy_empty();
+}
