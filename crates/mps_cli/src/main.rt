@@ -2,19 +2,13 @@
 //! happened; `mps cnv`, `mps txt` and `mps blocks` read logs; `mps gen` prints a generated script.
 #![tactic(auto)]
 
-mod bad_script_line;
 mod laws;
-mod lines;
-mod log;
 mod mps;
-mod next;
-mod print;
-mod run;
 #[cfg(test)]
 mod tests;
 
+use mps::{NoWords, start};
 use mps_desk::HostDesk;
-use mps_report::{NoBadPlace, Stop, report_ending};
 use std::alloc::AllocError;
 use std::io::ErrorKind;
 use std::process::ExitCode;
@@ -22,18 +16,19 @@ use std::{env, io};
 
 fn main(rt: HostRuntime) -> ExitCode {
     let mut desk = HostDesk::new(&rt, rt.alloc());
-    let status = match words(&rt) {
-        Ok(words) => mps::mps(rt.alloc(), &words, &mut desk),
-        Err(error) if error.kind() == ErrorKind::InvalidData => {
-            mps::mps(rt.alloc(), &[], &mut desk)
-        }
-        Err(_) => report_ending(Err(Stop::<NoBadPlace>::OutOfMemory), &mut desk),
-    };
-    ExitCode::from(status)
+    ExitCode::from(start(rt.alloc(), words(&rt), &mut desk))
 }
 
-/// The words of the command line after the program's name. Words that are no text are words without a meaning.
-fn words(rt: &HostRuntime) -> io::Result<Vec<String>> {
+/// The words of the command line after the program's name.
+fn words(rt: &HostRuntime) -> Result<Vec<String>, NoWords> {
+    match collect_words(rt) {
+        Ok(words) => Ok(words),
+        Err(error) if error.kind() == ErrorKind::InvalidData => Err(NoWords::NotText),
+        Err(_) => Err(NoWords::OutOfMemory),
+    }
+}
+
+fn collect_words(rt: &HostRuntime) -> io::Result<Vec<String>> {
     let mut arguments = env::args(rt)?;
     let _program = arguments.next();
     let words: Result<Vec<String>, AllocError> = arguments.collect(rt.alloc());

@@ -1,20 +1,46 @@
 // The top call.
-ghost use Rattle.std.specs.Prelude.{◌≡◌, ◌≢◌, ◌↔◌, None, Some, true};
+ghost use Rattle.std.specs.Prelude.{◌≡◌, ◌≢◌, ◌↔◌, None, Some, Err, IfOk, codes, true};
 ghost use Rattle.mps_desk.specs.Desk.{HasRisen, IsSteady};
 ghost use Rattle.mps_log_reader.specs.Ending.{is_input_verdict};
 ghost use Rattle.mps_args.specs.Runnable.{IsRunnable};
 ghost use Rattle.mps_args.specs.Seen.{meaning_of, texts};
 ghost use Rattle.mps_args.specs.Words.{meaning};
+ghost use Rattle.mps_report.specs.Streams.{Reports};
+ghost use Rattle.mps_run.specs.Ending.{CountsGrow, NoFaultRose};
 ghost use Rattle.mps_cli.specs.Asked.{DoesAsAsked};
-ghost use Rattle.mps_cli.specs.Ending.{CountsGrow};
-ghost use Rattle.mps_cli.specs.Script.{NoFaultRose};
+ghost use Rattle.mps_cli.specs.declared.mps.NoWords.TheVariants.{NotText, OutOfMemory};
 
-use crate::run::run_script;
 use mps_args::{Command, command_of};
 use mps_desk::Desk;
-use mps_report::Notice;
+use mps_first_heap::FirstMachine;
+use mps_report::{NoBadPlace, Notice, Stop, report_ending};
+use mps_run::run_script;
 use mps_tools::{blocks, cnv, generate, txt};
 use std::alloc::Global;
+
+/// Why there are no words of the command line.
+#[derive(Clone, Copy, Debug, PartialEq, Eq)]
+pub enum NoWords {
+    /// They are no text.
+    NotText,
+    /// There is no memory for them.
+    OutOfMemory,
+}
+
+/// Does what the words of the command line ask for, and returns the status of the process. Words that are no text have no
+/// meaning.
+pub fn start<D: Desk>(alloc: Global, words: Result<Vec<String>, NoWords>, desk: &mut D) -> u8
+    ensures asked { IfOk words (λ given. DoesAsAsked (meaning (texts given.items)) result (D.outside desk.old) (D.outside desk.new)) }
+    ensures no_text { words ≡ Err NotText → DoesAsAsked None result (D.outside desk.old) (D.outside desk.new) }
+    ensures no_memory { words ≡ Err OutOfMemory → Reports (D.outside desk.old) (D.outside desk.new) (codes "mps: out of memory\n") }
+    ensures status { words ≡ Err OutOfMemory → result ≡ 8 }
+{
+    match words {
+        Ok(words) => mps(alloc, &words, desk),
+        Err(NoWords::NotText) => report_usage(desk),
+        Err(NoWords::OutOfMemory) => report_ending(Err(Stop::<NoBadPlace>::OutOfMemory), desk),
+    }
+}
 
 /// Does what the words of the command line ask for, and returns the status of the process. Where that is not 0, a line
 /// on standard error says why.
@@ -69,7 +95,9 @@ fn run_command<D: Desk>(alloc: Global, command: Command<'_>, desk: &mut D) -> u8
     ensures complete { NoFaultRose (D.outside desk.old) (D.outside desk.new) → result ≢ 8 → is_input_verdict result ≡ true }
 {
     match command {
-        Command::Run { log, script } => run_script(alloc, log, script, desk),
+        Command::Run { log, script } => {
+            run_script(alloc, FirstMachine::new(alloc), log, script, desk)
+        },
         Command::Convert { log, kinds } => cnv(alloc, log, kinds, desk),
         Command::Read { text } => txt(alloc, text, desk),
         Command::Blocks { log } => blocks(alloc, log, desk),

@@ -1,27 +1,25 @@
 -- All calls together, as the public contract has them.
-use Rattle.std.proofs.Common.{◌≡◌, ℕ, ◌+◌, refl, sym, ◌∙◌, ap, subst, [], Ok, Err, Result, length}
+use Rattle.std.proofs.Common.{ℕ, refl, sym, subst, [], Ok, Err, Result}
 use Rattle.std.proofs.Common.{arith, lit≤}
 use Rattle.std.proofs.lemmas.Bool.{false≢true}
 use Rattle.std.specs.Prelude.{IfOk}
 use Rattle.mps_model.specs.declared.call.Call.{Call}
 use Rattle.mps_model.specs.declared.call.Call.TheVariants as call
-use Rattle.mps_model.specs.Answer.{Replied}
-use Rattle.mps_model.specs.Log.{pools_made_by}
 use Rattle.mps_model.specs.World.{World, empty_world}
 use Rattle.mps_first_heap.specs.declared.done.Done.{Done}
 use Rattle.mps_first_heap.specs.HeapState.{HeapState, empty_heap}
 use Rattle.mps_first_heap.specs.Outcome.{outcome}
 use Rattle.mps_first_heap.specs.Outcome.{HasOutcome}
 use Rattle.mps_first_heap.specs.StandsFor.{Past, Agrees, StandsFor, world_of, step_of}
-use Rattle.mps_first_heap.specs.Built.{IsInRange}
-use Rattle.mps_first_heap.specs.RightStep.{IsRightStep, IsLegalCall, StandsAfter, IsUnsupportedExactly, IsNewPoolNumber, ArePoolsCounted, number_of_new_pool}
+use Rattle.mps_commands.specs.Range.{IsInRange}
+use Rattle.mps_first_heap.specs.RightStep.{IsRightStep, IsLegalCall, StandsAfter, IsUnsupportedExactly, IsItsAnswer}
 use Rattle.mps_first_heap.proofs.Steps.{unsupported_step}
 use Rattle.mps_first_heap.proofs.Numbers.{right_number}
 use Rattle.mps_first_heap.proofs.Inits.{right_init}
 use Rattle.mps_first_heap.proofs.Commits.{right_commit}
 use Rattle.mps_first_heap.proofs.Reserves.{right_reserve}
 use Rattle.mps_first_heap.proofs.Makings.{right_arena, right_table, right_pool, right_point}
-use Rattle.mps_first_heap.proofs.PoolNumbers.{pools_in, counts_pools}
+use Rattle.mps_first_heap.proofs.Replies.{reply_of_outcome}
 use Rattle.mps_first_heap.proofs.Exact.{IsExact, exact_unsupported, by_form}
 use Rattle.mps_first_heap.proofs.ExactUses.{exact_number, exact_init, exact_commit}
 use Rattle.mps_first_heap.proofs.ExactReserves.{exact_reserve}
@@ -81,21 +79,10 @@ unsupported_exactly h new c r range came = ok_then r came (λ done e w s.
     subst (λ (d : Done). IsExact w c d.reply) (sym e.is_done)
     (subst (λ (v : World). IsExact v c (outcome h c).done.reply) (sym s.world) (exact_call h s.past c range s.agrees)))
 
-pub new_pool_number : {E : Type 0} (h new : HeapState) (c : Call) (r : Result Done E)
-    → IfOk r (λ done. HasOutcome (outcome h c) done new) → IfOk r (λ done. IsNewPoolNumber h c done)
-new_pool_number h new c r came = ok_then r came (λ done e w s.
-    subst (λ (d : Done). d.pool ≡ number_of_new_pool w c (Replied d.reply)) (sym e.is_done)
-    (subst (λ (v : World). (outcome h c).done.pool ≡ number_of_new_pool v c (Replied (outcome h c).done.reply)) (sym s.world)
-    (counts_pools h s.past c s.agrees).number))
-
-pub pools_counted : {E : Type 0} (h new : HeapState) (c : Call) (r : Result Done E) → IsInRange c
-    → IfOk r (λ done. HasOutcome (outcome h c) done new) → IfOk r (λ done. ArePoolsCounted h c done)
-pools_counted h new c r range came = ok_then r came (λ done e w line s.
-    let stands = (came_right h new c done range e w line s).stands in
-    let counts = counts_pools h s.past c s.agrees in
-    ap (λ (v : World). length v.pools) stands.world ∙ ap pools_in e.is_state ∙ counts.count
-    ∙ ap (λ (v : World). length v.pools + pools_made_by c (Replied (outcome h c).done.reply)) (sym s.world)
-    ∙ ap (λ (d : Done). length w.pools + pools_made_by c (Replied d.reply)) (sym e.is_done))
+pub answer_is_reply : {E : Type 0} (h new : HeapState) (c : Call) (r : Result Done E)
+    → IfOk r (λ done. HasOutcome (outcome h c) done new) → IfOk r (λ done. IsItsAnswer done.reply)
+answer_is_reply h new c r came = ok_then r came (λ done e.
+    subst (λ (d : Done). IsItsAnswer d.reply) (sym e.is_done) (reply_of_outcome h c))
 
 -- ---- before the first call
 

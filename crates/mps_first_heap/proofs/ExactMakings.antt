@@ -15,7 +15,7 @@ use Rattle.mps_model.specs.Checked.{Act, Checked, Numbered, pool_named, refuse_w
 use Rattle.mps_model.specs.Making.{most_slots, act_table, act_pool, act_point}
 use Rattle.mps_model.specs.World.{World, Pool}
 use Rattle.mps_first_heap.specs.HeapState.{HeapState, is_name_taken, is_pool}
-use Rattle.mps_first_heap.specs.Outcome.{accepted_if, pool_made_if, is_arena_made, may_make_first, is_amc, is_implemented_pool, is_exact, after_arena, after_table, after_pool, after_point}
+use Rattle.mps_first_heap.specs.Outcome.{accepted_if, is_arena_made, may_make_first, is_amc, is_implemented_pool, is_exact, after_arena, after_table, after_pool, after_point}
 use Rattle.mps_first_heap.specs.StandsFor.{Past, Agrees, world_of, one_if, point_with, some_if, reservation_of_words, front_pool}
 use Rattle.mps_first_heap.specs.Built.{is_built, is_unreported}
 use Rattle.mps_first_heap.proofs.Worlds.{parts_by, world_of-parts}
@@ -32,7 +32,7 @@ accepted_reply : (h after : HeapState) (b : Bool) → (accepted_if b h after).do
 accepted_reply h after true = refl
 accepted_reply h after false = refl
 
-pool_reply : (h after : HeapState) (b : Bool) → (pool_made_if b h after).done.reply ≡ made_reply b
+pool_reply : (h after : HeapState) (b : Bool) → (accepted_if b h after).done.reply ≡ made_reply b
 pool_reply h after true = refl
 pool_reply h after false = refl
 

@@ -10,7 +10,7 @@ pub mod Segments
 pub mod Reserves
 pub mod NamedThings
 pub mod Makings
-pub mod PoolNumbers
+pub mod Replies
 pub mod Refusals
 pub mod Exact
 pub mod ExactUses

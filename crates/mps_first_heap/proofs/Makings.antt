@@ -18,7 +18,7 @@ use Rattle.mps_model.specs.History.{with_client_remembered}
 use Rattle.mps_model.specs.Reply.{answer_from, world_from}
 use Rattle.mps_model.specs.Making.{most_slots}
 use Rattle.mps_first_heap.specs.HeapState.{HeapState, is_named, is_name_taken, is_pool}
-use Rattle.mps_first_heap.specs.Outcome.{reply_only, accepted_if, pool_made_if, is_arena_made, may_make_first, is_amc, is_implemented_pool, is_exact, arena_made, after_arena, after_table, after_pool, after_point}
+use Rattle.mps_first_heap.specs.Outcome.{reply_only, accepted_if, is_arena_made, may_make_first, is_amc, is_implemented_pool, is_exact, arena_made, after_arena, after_table, after_pool, after_point}
 use Rattle.mps_first_heap.specs.StandsFor.{Past, Agrees, world_of, world_with, step_of, address_in_slot, is_null_or_below, end_of_objects, IsBlockAt, thing_of}
 use Rattle.mps_first_heap.specs.RightStep.{IsRightStep}
 use Rattle.mps_first_heap.proofs.Worlds.{parts_by, world_by, world_of-parts, is_named-some}
@@ -213,8 +213,8 @@ right_pool_of_kind h p line name may kind.Lo format k f = absurd (false≢true k
 
 pool_where : (h : HeapState) (p : Past) (line : ℕ) (name : Name) (kind : Kind) (format : ℕ) → Agrees h p → (b : Bool)
     → (is_implemented_pool kind format && may_make_first h h.pool name) ≡ b
-    → IsRightStep (world_of h p) (step_of line (call.Pool name kind format) (pool_made_if b h (with_pool h name)).done)
-    (pool_made_if b h (with_pool h name)).state
+    → IsRightStep (world_of h p) (step_of line (call.Pool name kind format) (accepted_if b h (with_pool h name)).done)
+    (accepted_if b h (with_pool h name)).state
 pool_where h p line name kind format a false e = unsupported_step h p line (call.Pool name kind format) a
 pool_where h p line name kind format a true e =
     let both = and_parts (is_implemented_pool kind format) (may_make_first h h.pool name) e in

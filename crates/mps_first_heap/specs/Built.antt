@@ -1,5 +1,5 @@
 -- What is built: which calls the heap supports, and which of them take memory.
-use Rattle.std.specs.Prelude.{◌≤◌, Bool, true, false, nat_lt, not, ◌||◌, ◌==◌, if◌then◌else◌, Ok, Err, length, ◌≡◌, ◌∷◌, [], None, refl}
+use Rattle.std.specs.Prelude.{Bool, true, false, nat_lt, not, ◌||◌, ◌==◌, if◌then◌else◌, Ok, Err, length, ◌≡◌, ◌∷◌, [], None, refl}
 use Rattle.mps_base.specs.declared.names.Kind.TheVariants as kind
 use Rattle.mps_base.specs.declared.names.Rank.TheVariants as rank
 use Rattle.mps_base.specs.declared.refusal.Refusal.{Refusal}
@@ -8,18 +8,11 @@ use Rattle.mps_model.specs.declared.call.Call.{Call}
 use Rattle.mps_model.specs.declared.call.Call.TheVariants as call
 use Rattle.mps_base.specs.declared.names.Name.{Name}
 use Rattle.mps_model.specs.FirstCall.{is_arena}
-use Rattle.mps_model.specs.Making.{most_slots}
 use Rattle.mps_model.specs.World.{World, Collected, empty_world}
 use Rattle.mps_model.specs.Checked.{Act, Checked}
 use Rattle.mps_model.specs.Reply.{act}
+use Rattle.mps_commands.specs.Built.{Built}
 use Rattle.mps_first_heap.specs.HeapState.{front_format}
-use Rattle.mps_base.specs.Address.{max_grains}
-
--- the numbers of a call are in the ranges of the script
-abbrev pub IsInRange : Call → Type 0
-IsInRange (call.Arena grains limit) = (1 ≤ grains) × (grains ≤ max_grains) × (limit ≤ max_grains)
-IsInRange (call.Table table length) = (1 ≤ length) × (length ≤ most_slots)
-IsInRange _ = Unit {0}
 
 -- what is built: whether a call has one of eight forms
 abbrev pub is_built : Call → Bool
@@ -68,6 +61,10 @@ abbrev pub call_takes_memory : Call → Bool
 call_takes_memory (call.Arena grains limit) = true
 call_takes_memory (call.Table table length) = true
 call_takes_memory _ = false
+
+-- both, as a machine says them
+abbrev pub first_built : Built
+first_built = record { is_unsupported = is_unsupported_call; takes_memory = call_takes_memory }
 
 -- the name `p`
 abbrev example : Name

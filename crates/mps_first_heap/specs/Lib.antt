@@ -4,3 +4,4 @@ pub mod StandsFor
 pub mod Built
 pub mod View
 pub mod RightStep
+pub mod Made

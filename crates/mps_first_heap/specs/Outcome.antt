@@ -29,13 +29,13 @@ pub record HasOutcome (outcome : Outcome) (done : Done) (state : HeapState) : Ty
   pub is_done : done ≡ outcome.done
   pub is_state : state ≡ outcome.state
 
--- a reply alone: no move, and no pool
+-- a reply alone
 abbrev pub reply_only : Reply → Done
-reply_only reply = record { reply = reply; moved = None; pool = None }
+reply_only reply = record { reply = reply; moved = None }
 
--- accepted, with a move and no pool
+-- accepted, with a move
 abbrev pub ok_with_move : Move → Done
-ok_with_move move = record { reply = reply.Ok; moved = Some move; pool = None }
+ok_with_move move = record { reply = reply.Ok; moved = Some move }
 
 -- a reply alone, and this state
 abbrev pub with_reply : HeapState → Reply → Outcome
@@ -78,15 +78,9 @@ is_amc _ = false
 abbrev pub is_implemented_pool : Kind → (format : ℕ) → Bool
 is_implemented_pool kind format = is_amc kind && format == front_format
 
--- the pool is made where this holds
-abbrev pub pool_made_if : Bool → HeapState → (after : HeapState) → Outcome
-pool_made_if true h after =
-    record { done = record { reply = reply.Ok; moved = None; pool = Some the_pool }; state = after }
-pool_made_if false h after = unsupported h
-
 abbrev pub after_pool : HeapState → Name → Kind → (format : ℕ) → Outcome
 after_pool h name kind format =
-    pool_made_if (is_implemented_pool kind format && may_make_first h h.pool name) h (record h { pool = Some name })
+    accepted_if (is_implemented_pool kind format && may_make_first h h.pool name) h (record h { pool = Some name })
 
 abbrev pub is_exact : Rank → Bool
 is_exact rank.Exact = true

@@ -1,15 +1,15 @@
 -- What a call guarantees, in each world for which the heap stands, and in each line.
-use Rattle.std.specs.Prelude.{◌≡◌, ◌↔◌, ℕ, ◌+◌, nat_lt, IsTrue, Option, length}
+use Rattle.std.specs.Prelude.{◌≡◌, ◌↔◌, ℕ, IsTrue, List}
 use Rattle.mps_model.specs.declared.call.Call.{Call}
+use Rattle.mps_model.specs.declared.reply.Reply.{Reply}
 use Rattle.mps_model.specs.declared.reply.Reply.TheVariants as reply
-use Rattle.mps_model.specs.Answer.{Answer, Replied}
+use Rattle.mps_model.specs.Answer.{Replied, answer_of}
 use Rattle.mps_model.specs.Step.{Step}
 use Rattle.mps_model.specs.World.{World}
-use Rattle.mps_model.specs.Log.{pools_made_by}
 use Rattle.mps_model.specs.History.{IsLegalStep, world_after}
 use Rattle.mps_first_heap.specs.declared.done.Done.{Done}
 use Rattle.mps_first_heap.specs.HeapState.{HeapState}
-use Rattle.mps_first_heap.specs.StandsFor.{StandsFor, step_of, some_if}
+use Rattle.mps_first_heap.specs.StandsFor.{StandsFor, step_of}
 use Rattle.mps_first_heap.specs.Built.{is_unsupported_call}
 
 -- the step is legal, and the new state stands for the world after it
@@ -29,17 +29,6 @@ StandsAfter old call done new = (w : World) (line : ℕ) → StandsFor old w →
 abbrev pub IsUnsupportedExactly : (old : HeapState) → Call → Done → Type 0
 IsUnsupportedExactly old call done = (w : World) → StandsFor old w → (done.reply ≡ reply.Unsupported) ↔ IsTrue (is_unsupported_call w call)
 
--- the number of the pool that a call makes, by its answer: the model numbers pools from 0, in the order of making
-abbrev pub number_of_new_pool : World → Call → Answer → Option ℕ
-number_of_new_pool w call answer = some_if (nat_lt 0 (pools_made_by call answer)) (length w.pools)
-
--- the number of the pool that the call made is the one that the model gives it
-abbrev pub IsNewPoolNumber : (old : HeapState) → Call → Done → Type 0
-IsNewPoolNumber old call done =
-    (w : World) → StandsFor old w → done.pool ≡ number_of_new_pool w call (Replied done.reply)
-
--- the world after the step has the pools before it and those that the call made
-abbrev pub ArePoolsCounted : (old : HeapState) → Call → Done → Type 0
-ArePoolsCounted old call done =
-    (w : World) (line : ℕ) → StandsFor old w
-    → length (world_after w (step_of line call done)).pools ≡ length w.pools + pools_made_by call (Replied done.reply)
+-- the reply is its own answer: it names no words of the arena
+abbrev pub IsItsAnswer : Reply → Type 0
+IsItsAnswer given = (arena : List ℕ) → answer_of arena given ≡ Replied given

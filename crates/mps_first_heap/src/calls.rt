@@ -2,7 +2,8 @@
 ghost use Rattle.std.specs.Prelude.{◌≡◌, IfOk, OnErr, IsTrue};
 ghost use Rattle.mps_first_heap.specs.Outcome.{HasOutcome, outcome};
 ghost use Rattle.mps_first_heap.specs.View.{state_of};
-ghost use Rattle.mps_first_heap.specs.Built.{IsInRange, call_takes_memory};
+ghost use Rattle.mps_commands.specs.Range.{IsInRange};
+ghost use Rattle.mps_first_heap.specs.Built.{call_takes_memory};
 
 use crate::arena::Arena;
 use crate::done::{Done, reply_only};

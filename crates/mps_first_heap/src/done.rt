@@ -15,28 +15,21 @@ pub struct Done {
     pub reply: Reply,
     /// The move that the call made.
     pub moved: Option<Move>,
-    /// The number of the pool that the call made.
-    pub pool: Option<u32>,
 }
 
-/// A reply alone: no move, and no pool.
+/// A reply alone: no move.
 pub fn reply_only(reply: Reply) -> Done
     ensures { result ≡ reply_only reply }
 {
-    Done {
-        reply,
-        moved: None,
-        pool: None,
-    }
+    Done { reply, moved: None }
 }
 
-/// The reply `Ok` with a move, and no pool.
+/// The reply `Ok` with a move.
 pub fn ok_with_move(moved: Move) -> Done
     ensures { result ≡ ok_with_move moved }
 {
     Done {
         reply: Reply::Ok,
         moved: Some(moved),
-        pool: None,
     }
 }

@@ -27,8 +27,9 @@ impl FirstHeap {
     ghost use Rattle.mps_model.specs.World.{empty_world};
     ghost use Rattle.mps_first_heap.specs.StandsFor.{StandsFor};
     ghost use Rattle.mps_first_heap.specs.RightStep.{IsLegalCall, StandsAfter, IsUnsupportedExactly};
-    ghost use Rattle.mps_first_heap.specs.RightStep.{IsNewPoolNumber, ArePoolsCounted};
-    ghost use Rattle.mps_first_heap.specs.Built.{IsInRange, call_takes_memory};
+    ghost use Rattle.mps_first_heap.specs.RightStep.{IsItsAnswer};
+    ghost use Rattle.mps_commands.specs.Range.{IsInRange};
+    ghost use Rattle.mps_first_heap.specs.Built.{call_takes_memory};
 
     /// The heap before its arena is made. It takes no memory.
     pub fn new(alloc: Global) -> FirstHeap
@@ -58,11 +59,17 @@ impl FirstHeap {
         ensures legal { IfOk result (λ done. IsLegalCall self.old call.now done) }
         ensures stands { IfOk result (λ done. StandsAfter self.old call.now done self.new) }
         ensures unsupported { IfOk result (λ done. IsUnsupportedExactly self.old call.now done) }
-        ensures pool { IfOk result (λ done. IsNewPoolNumber self.old call.now done) }
-        ensures counted { IfOk result (λ done. ArePoolsCounted self.old call.now done) }
+        ensures answer { IfOk result (λ done. IsItsAnswer done.reply) }
         ensures err { OnErr result (self.new ≡ self.old) }
         ensures memory { OnErr result (IsTrue (call_takes_memory call.now)) }
     {
         answer(&mut self.arena, alloc, call)
+    }
+
+    /// The words of the arena, from address 0 on.
+    pub fn words(&self) -> &[u64]
+        ensures { result.now ≡ self.now.words }
+    {
+        &self.arena.words
     }
 }

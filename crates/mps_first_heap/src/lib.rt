@@ -6,6 +6,7 @@ mod calls;
 mod done;
 mod heads;
 mod heap;
+mod machine;
 mod making;
 mod names;
 mod reserving;
@@ -13,6 +14,7 @@ mod using;
 
 pub use done::Done;
 pub use heap::FirstHeap;
+pub use machine::FirstMachine;
 
 #[cfg(test)]
 mod tests;

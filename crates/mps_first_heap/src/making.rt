@@ -5,7 +5,7 @@ ghost use Rattle.mps_first_heap.specs.View.{state_of};
 ghost use Rattle.mps_base.specs.Address.{max_grains};
 
 use crate::arena::Arena;
-use crate::done::{Done, THE_POOL, reply_only};
+use crate::done::{Done, reply_only};
 use crate::names::{is_name_taken, is_pool};
 use mps_base::{Kind, Name, Rank, WORDS_OF_GRAIN};
 use mps_model::Reply;
@@ -85,11 +85,7 @@ pub fn make_pool(heap: &mut Arena, name: Name, kind: Kind, format: u64) -> Done
         return reply_only(Reply::Unsupported);
     }
     heap.pool = Some(name);
-    Done {
-        reply: Reply::Ok,
-        moved: None,
-        pool: Some(THE_POOL),
-    }
+    reply_only(Reply::Ok)
 }
 
 /// Makes the point, where there is none yet.

@@ -1,6 +1,6 @@
 // Scripts: calls on a new heap, and what each does.
 ghost use Rattle.std.specs.Prelude.{IsTrue};
-ghost use Rattle.mps_first_heap.specs.Built.{IsInRange};
+ghost use Rattle.mps_commands.specs.Range.{IsInRange};
 
 use crate::{Done, FirstHeap};
 use mps_base::{Addr, Kind, Move, Name, Rank, Refusal, Slot};
@@ -125,15 +125,10 @@ fn is_in_range(call: &Call) -> bool
     match *call {
         Call::Arena { grains, limit } => 1 <= grains && grains <= 2048 && limit <= 2048,
         Call::Table { length, .. } => 1 <= length && length <= 65536,
+        Call::Pool { format, .. } => 1 <= format && format <= 3,
+        Call::Limit { .. } | Call::Chain { .. } | Call::PoolOnChain { .. } => false,
+        Call::Area { .. } | Call::Blocks { .. } => false,
         _ => true,
-    }
-}
-
-/// The number of the pool that a call makes, by its reply.
-fn new_pool(call: &Call, reply: Reply) -> Option<u32> {
-    match *call {
-        Call::Pool { .. } if reply == Reply::Ok => Some(0),
-        _ => None,
     }
 }
 
@@ -142,9 +137,8 @@ fn run(rt: &impl Abort, alloc: Global, steps: &[Step]) {
     let mut heap = FirstHeap::new(alloc);
     for &(call, reply, moved) in steps {
         assert!(rt; is_in_range(&call), "at {call:?}");
-        let pool = new_pool(&call, reply);
         let done = heap.call(alloc, &call).expect(rt, "memory");
-        assert_eq!(rt; done, Done { reply, moved, pool }, "at {call:?}");
+        assert_eq!(rt; done, Done { reply, moved }, "at {call:?}");
     }
 }
 

@@ -3,12 +3,9 @@ use Rattle.std.specs.Prelude.{ℕ, ◌≡◌, ◌==◌, nat_lt, Bool, false, if�
 use Rattle.std.specs.List.{slice_split}
 use Rattle.mps_model.specs.declared.call.Call.{Call}
 use Rattle.mps_script.specs.declared.line.BadLine.{BadLine}
+use Rattle.mps_words.specs.Lines.{is_line_feed, max_line_bytes}
 use Rattle.mps_words.specs.Word.{words}
 use Rattle.mps_script.specs.Form.{command_call}
-
--- the byte ends a line
-abbrev pub is_line_feed : ℕ → Bool
-is_line_feed b = b == 10
 
 -- without the last part where that is empty
 abbrev pub without_empty_last : List (List ℕ) → List (List ℕ)
@@ -20,10 +17,6 @@ without_empty_last (l ∷ m ∷ ls) = l ∷ without_empty_last (m ∷ ls)
 -- the lines of a script: each ends at a line feed or at the end
 abbrev pub lines_of : List ℕ → List (List ℕ)
 lines_of script = without_empty_last (slice_split is_line_feed script)
-
--- the most bytes of a line
-abbrev pub max_line_bytes : ℕ
-max_line_bytes = 4096
 
 -- the word begins with `#`
 abbrev pub begins_comment : List ℕ → Bool

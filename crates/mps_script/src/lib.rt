@@ -14,5 +14,5 @@ mod script;
 mod several;
 
 pub use laws::a_script_grows_line_by_line;
-pub use line::{BadLine, MAX_LINE_BYTES, call_of};
+pub use line::{BadLine, call_of};
 pub use script::next_call;

@@ -4,14 +4,11 @@ ghost use Rattle.mps_script.specs.Line.{begins_comment, call_of_line};
 
 use crate::commands::command_call;
 use mps_model::Call;
-use mps_words::next_word;
+use mps_words::{MAX_LINE_BYTES, next_word};
 
 /// The line is in the form of no command, or has more than 4096 bytes.
 #[derive(Clone, Copy, Debug, PartialEq, Eq)]
 pub struct BadLine;
-
-/// The most bytes of a line.
-pub const MAX_LINE_BYTES: usize = 4096;
 
 /// The word begins a comment.
 fn is_comment(word: &[u8]) -> bool

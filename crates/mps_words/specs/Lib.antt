@@ -1,3 +1,4 @@
+pub mod Lines
 pub mod Word
 pub mod Reading
 pub mod Number

@@ -5,6 +5,9 @@ ghost use Rattle.mps_words.specs.Word.{words, is_space, cut_at, only_word};
 
 use mps_base::length_before;
 
+/// The most bytes of a line of a script, without its line feed.
+pub const MAX_LINE_BYTES: usize = 4096;
+
 /// The index of the first byte of a word, where there is one.
 fn start_of_word(bytes: &[u8]) -> Option<usize>
     ensures index { result ≡ position (λ byte. not (is_space byte)) bytes.now }

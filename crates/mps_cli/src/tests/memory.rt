@@ -1,5 +1,6 @@
 // A run without memory.
 use super::{FIRST, FIRST_ANSWERS, run};
+use crate::mps::{NoWords, start};
 use mps_desk::MemDesk;
 use std::alloc::Global;
 use std::process::Abort;
@@ -20,6 +21,20 @@ fn check_memory(rt: &impl Abort, alloc: Global, desk: &mut MemDesk) -> Result<()
     assert_eq!(rt; desk.reported(), report_of(status), "{status}");
     compare_answers(rt, desk, status);
     Ok(())
+}
+
+/// Where there is no memory for the words, nothing but that is reported.
+#[test]
+fn words_without_memory(rt: HostRuntime) {
+    let mut desk = MemDesk::new(rt.alloc());
+    check_words_without_memory(&rt, rt.alloc(), &mut desk);
+}
+
+fn check_words_without_memory(rt: &impl Abort, alloc: Global, desk: &mut MemDesk) {
+    let status = start(alloc, Err(NoWords::OutOfMemory), desk);
+    assert_eq!(rt; status, 8);
+    assert_eq!(rt; desk.reported(), report_of(8));
+    assert!(rt; desk.printed().is_empty());
 }
 
 fn compare_answers(rt: &impl Abort, desk: &MemDesk, status: u8) {

@@ -5,7 +5,7 @@ use Rattle.mps_first_heap.specs.HeapState.{HeapState}
 use Rattle.mps_first_heap.specs.Outcome.{outcome}
 use Rattle.mps_first_heap.specs.Outcome.{HasOutcome}
 use Rattle.mps_first_heap.specs.View.{state_of}
-use Rattle.mps_first_heap.proofs.AllCalls.{legal_call, stands_after, unsupported_exactly, new_pool_number, pools_counted}
+use Rattle.mps_first_heap.proofs.AllCalls.{legal_call, stands_after, unsupported_exactly, answer_is_reply}
 use Rattle.mps_first_heap.proofs.heap.FirstHeap.call.Goals as goal
 
 pub returns-clause-legal : goal.returns-clause-legal
@@ -26,14 +26,8 @@ returns-clause-unsupported c =
     (subst (λ (k : HeapState). IfOk c.answer.result (λ done. HasOutcome (outcome k c.args.call.now) done (state_of c.answer.new.heap)))
     c.self.view_is c.answer.ensures.ok)
 
-pub returns-clause-pool : goal.returns-clause-pool
-returns-clause-pool c =
-    new_pool_number c.args.self.now (state_of c.answer.new.heap) c.args.call.now c.answer.result
-    (subst (λ (k : HeapState). IfOk c.answer.result (λ done. HasOutcome (outcome k c.args.call.now) done (state_of c.answer.new.heap)))
-    c.self.view_is c.answer.ensures.ok)
-
-pub returns-clause-counted : goal.returns-clause-counted
-returns-clause-counted c =
-    pools_counted c.args.self.now (state_of c.answer.new.heap) c.args.call.now c.answer.result c.requires
+pub returns-clause-answer : goal.returns-clause-answer
+returns-clause-answer c =
+    answer_is_reply c.args.self.now (state_of c.answer.new.heap) c.args.call.now c.answer.result
     (subst (λ (k : HeapState). IfOk c.answer.result (λ done. HasOutcome (outcome k c.args.call.now) done (state_of c.answer.new.heap)))
     c.self.view_is c.answer.ensures.ok)

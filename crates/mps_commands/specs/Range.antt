@@ -1,0 +1,56 @@
+-- The ranges of the numbers of a call, as a script has them.
+use Rattle.std.specs.Prelude.{Bool, true, false, ℕ, ◌≤◌, ◌≡◌, nat_le, IsTrue, refl}
+use Rattle.std.specs.List.{list_all}
+use Rattle.mps_base.specs.Address.{max_grains}
+use Rattle.mps_base.specs.declared.names.Kind.{Kind}
+use Rattle.mps_base.specs.declared.names.Kind.TheVariants as kind
+use Rattle.mps_model.specs.declared.call.Call.{Call}
+use Rattle.mps_model.specs.declared.call.Call.TheVariants as call
+use Rattle.mps_model.specs.Making.{most_slots}
+
+-- the most generations of a chain
+abbrev pub most_generations : ℕ
+most_generations = 8
+
+-- the number of the last format
+abbrev pub last_format : ℕ
+last_format = 3
+
+-- whether the largest arena has at least these grains
+abbrev pub are_grains : ℕ → Bool
+are_grains count = nat_le count max_grains
+
+-- whether a pool of this kind may stand on a chain
+abbrev pub may_be_on_chain : Kind → Bool
+may_be_on_chain kind.Amc = true
+may_be_on_chain kind.Amcz = true
+may_be_on_chain _ = false
+
+-- the length of a table, an area or a table of blocks
+abbrev pub IsLength : ℕ → Type 0
+IsLength length = (1 ≤ length) × (length ≤ most_slots)
+
+-- the number of a format
+abbrev pub IsFormat : ℕ → Type 0
+IsFormat format = (1 ≤ format) × (format ≤ last_format)
+
+-- the numbers of a call are in the ranges of the script; other calls than these have none
+abbrev pub IsInRange : Call → Type 0
+IsInRange (call.Arena grains limit) = (1 ≤ grains) × (grains ≤ max_grains) × (limit ≤ max_grains)
+IsInRange (call.Limit limit) = limit ≤ max_grains
+IsInRange (call.Chain chain count capacities) = (1 ≤ count) × (count ≤ most_generations) × IsTrue (list_all are_grains capacities)
+IsInRange (call.Pool pool kind format) = IsFormat format
+IsInRange (call.PoolOnChain pool kind format chain) = IsTrue (may_be_on_chain kind) × IsFormat format
+IsInRange (call.Table table length) = IsLength length
+IsInRange (call.Area area length) = IsLength length
+IsInRange (call.Blocks blocks length) = IsLength length
+IsInRange _ = Unit {0}
+
+pub a_limit_of_all_grains : are_grains 2048 ≡ true
+a_limit_of_all_grains = refl
+
+pub a_limit_of_more_grains : are_grains 2049 ≡ false
+a_limit_of_more_grains = refl
+
+pub no_pool_of_leaves_on_a_chain : may_be_on_chain kind.Lo ≡ false
+no_pool_of_leaves_on_a_chain = refl

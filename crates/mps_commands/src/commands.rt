@@ -1,0 +1,55 @@
+// A machine that answers the commands of a script.
+ghost use Rattle.std.specs.Prelude.{◌≡◌, ℕ, List, IfOk, OnErr, IsTrue};
+ghost use Rattle.mps_base.specs.declared.moves.Move.{Move};
+ghost use Rattle.mps_model.specs.Answer.{answer_of};
+ghost use Rattle.mps_model.specs.World.{World};
+ghost use Rattle.mps_commands.specs.Built.{Built};
+ghost use Rattle.mps_commands.specs.Range.{IsInRange};
+ghost use Rattle.mps_commands.specs.RightAnswer.{IsLegalIn, StandsAfter, IsUnsupportedExactly, StandsStill};
+
+use mps_base::Move;
+use mps_model::{Call, Reply};
+use std::alloc::AllocError;
+
+/// A machine that answers commands, one after another, as the model says. It stands for worlds of the model, and after each
+/// answer for the worlds after that step.
+///
+/// Who runs commands on it needs no other promise: it is proved once for every machine. A machine may not be let go of but
+/// by `finish`.
+pub trait Commands {
+    /// The worlds for which the machine stands.
+    ghost stands_for: { Self → World → Type 0 };
+
+    /// The moves of the last call.
+    ghost moves: { Self → List Move };
+
+    /// The words of the arena.
+    ghost words: { Self → List ℕ };
+
+    /// What is built, and what takes memory.
+    ghost built: { Built };
+
+    /// Answers a call. An `Err` says that memory is out: then nothing was done.
+    fn answer(&mut self, call: &Call) -> Result<Reply, AllocError>
+        requires { IsInRange call.now }
+        // In each line the call with its moves and its answer is a legal step.
+        ensures legal { IfOk result (λ reply. IsLegalIn (stands_for self.old) call.now (moves self.new)
+            (answer_of (words self.new) reply)) }
+        // The machine then stands for the world after that step.
+        ensures stands { IfOk result (λ reply. StandsAfter (stands_for self.old) (stands_for self.new) call.now (moves self.new)
+            (answer_of (words self.new) reply)) }
+        ensures unsupported { IfOk result (λ reply. IsUnsupportedExactly built (stands_for self.old) call.now reply) }
+        ensures unchanged { OnErr result (StandsStill (stands_for self.old) (stands_for self.new)) }
+        ensures memory { OnErr result (IsTrue (built.takes_memory call.now)) };
+
+    /// The moves that the last call made, in order.
+    fn moves(&self) -> &[Move]
+        ensures { result.now ≡ moves self.now };
+
+    /// The words of the arena, its word 0 at address 0. A reply `Words` names some of them.
+    fn words(&self) -> &[u64]
+        ensures { result.now ≡ words self.now };
+
+    /// Ends the machine.
+    fn finish(self);
+}

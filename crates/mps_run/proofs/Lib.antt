@@ -1,0 +1,12 @@
+mod InRange
+pub mod Following
+pub mod Leaving
+pub mod LineByLine
+pub mod LogFile
+pub mod Pieces
+pub mod RecordBytes
+pub mod Records
+pub mod Reported
+pub mod SoFar
+pub mod Steps
+pub mod Turns

@@ -1,0 +1,29 @@
+// Laws of a run, which follow from what it leaves.
+ghost use Rattle.std.specs.Prelude.{◌≡◌, ◌≢◌, ℕ, List, Some, true};
+ghost use Rattle.mps_desk.specs.Desk.{Outside, Files};
+ghost use Rattle.mps_commands.specs.Built.{Built};
+ghost use Rattle.mps_log_reader.specs.Ending.{is_input_verdict};
+ghost use Rattle.mps_run.specs.Following.{Answered, RanWhole, HoldsLog};
+ghost use Rattle.mps_run.specs.Run.{RunsScript};
+
+/// With every status but that of a failed write, what was printed is the answer line of each step of a legal history of the first
+/// lines, and nothing else: no answer was cut short.
+pub fn answers_are_whole()
+    ensures { (built : Built) (log script : List ℕ) (status : ℕ) (old new : Outside) → RunsScript built log script status old new
+        → status ≢ 4 → (bytes : List ℕ) → old.text script ≡ Some bytes → Answered built bytes old new }
+{}
+
+/// Where the end of the script or one of its lines ends the run, what was printed and logged is that of a legal history of the
+/// commands up to there, and nothing else.
+pub fn a_whole_run_leaves_one_history()
+    ensures { (built : Built) (log script : List ℕ) (status : ℕ) (old new : Outside) → (r : RunsScript built log script status old new)
+        → is_input_verdict status ≡ true → (bytes : List ℕ) → old.text script ≡ Some bytes → RanWhole built r.ends bytes old new }
+{}
+
+/// Where a desk knows its files and what was logged, the file of the log's name then holds the header and the records of that
+/// history, and nothing else; every other file is as it was.
+pub fn the_file_of_the_log()
+    ensures { (built : Built) (log script : List ℕ) (status : ℕ) (old new : Outside) → RunsScript built log script status old new
+        → is_input_verdict status ≡ true → (files : Files) → old.files ≡ Some files → (before : List ℕ) → old.logged ≡ Some before
+        → (bytes : List ℕ) → old.text script ≡ Some bytes → HoldsLog built log bytes files new }
+{}

@@ -1,0 +1,15 @@
+//! The run of a script: line after line over any machine that answers commands, with its answers and its log, on any desk.
+#![tactic(auto)]
+
+mod bad_script_line;
+mod laws;
+mod lines;
+mod log;
+mod print;
+mod progress;
+mod run;
+mod step;
+
+pub use bad_script_line::BadScriptLine;
+pub use laws::{a_whole_run_leaves_one_history, answers_are_whole, the_file_of_the_log};
+pub use run::run_script;

@@ -1,0 +1,147 @@
+// One line of a script, and its command.
+ghost use Rattle.std.specs.Prelude.{◌≡◌, ◌≢◌, ◌+◌, ◌<◌, ◌≤◌, ◌∷◌, ◌++◌, [], true, false, Err, IfErr, OnOk, OnErr};
+ghost use Rattle.mps_desk.specs.Desk.{IsSteady};
+ghost use Rattle.mps_base.specs.Record.{records_bytes};
+ghost use Rattle.mps_model.specs.Answer.{Replied, answer_of};
+ghost use Rattle.mps_model.specs.Log.{pools_made_by, pools_of_accepted as pools_if_accepted, records_of, records_of_command};
+ghost use Rattle.mps_model.specs.Text.{line_of_answer};
+ghost use Rattle.mps_commands.specs.Range.{IsInRange};
+ghost use Rattle.mps_report.specs.Streams.{LogTakes};
+ghost use Rattle.mps_run.specs.Ending.{HasCause, RunsOn, is_verdict};
+ghost use Rattle.mps_run.specs.Running.{LineRan, LineStops, StepsRan, LogsThenPrints, CommandStops};
+
+use crate::bad_script_line::BadScriptLine;
+use crate::log::log_records;
+use crate::print::print;
+use crate::progress::Progress;
+use mps_base::Move;
+use mps_commands::Commands;
+use mps_desk::Desk;
+use mps_model::{Call, Reply};
+use mps_report::Stop;
+use mps_script::next_call;
+
+/// Runs the line after those that were run, wherever it comes from.
+pub fn run_line<D: Desk, C: Commands>(
+    desk: &mut D,
+    commands: &mut C,
+    progress: &mut Progress,
+    bytes: &[u8],
+) -> Result<(), Stop<BadScriptLine>>
+    requires bounded { progress.old.lines < 4294967295 }
+    requires pools { progress.old.pools ≤ progress.old.lines }
+    ensures ran { OnOk result (LineRan C.built (C.stands_for commands.old) (C.stands_for commands.new) progress.old progress.new bytes.now
+        (D.outside desk.old) (D.outside desk.new)) }
+    ensures stops { IfErr result (λ why. LineStops C.built why (C.stands_for commands.old) progress.old bytes.now
+        (D.outside desk.old) (D.outside desk.new)) }
+    ensures cause { HasCause result (D.outside desk.old) (D.outside desk.new) }
+    ensures steady { is_verdict result ≡ true → IsSteady (D.outside desk.old) (D.outside desk.new) }
+    ensures input { (D.outside desk.new).input ≡ (D.outside desk.old).input }
+    ensures takes { LogTakes (D.outside desk.old) (D.outside desk.new) }
+    ensures runs { RunsOn (D.outside desk.old) (D.outside desk.new) }
+{
+    let line = progress.lines + 1;
+    match next_call(progress.has_arena, bytes) {
+        Ok(None) => {
+            progress.lines = line;
+            Ok(())
+        }
+        Ok(Some(call)) => {
+            progress.lines = line;
+            progress.has_arena = true;
+            run_call(desk, commands, line, &mut progress.pools, &call)
+        }
+        Err(_) => Err(Stop::Bad(BadScriptLine { line })),
+    }
+}
+
+/// Runs one command. `pools` counts the pools that were made.
+fn run_call<D: Desk, C: Commands>(
+    desk: &mut D,
+    commands: &mut C,
+    line: u32,
+    pools: &mut u32,
+    call: &Call,
+) -> Result<(), Stop<BadScriptLine>>
+    requires range { IsInRange call.now }
+    requires fits { pools.old < 4294967295 }
+    ensures ran { OnOk result (StepsRan C.built (C.stands_for commands.old) (C.stands_for commands.new)
+        (record { line = line; call = call.now } ∷ []) pools.old pools.new
+        (D.outside desk.old) (D.outside desk.new)) }
+    ensures stops { IfErr result (λ why. CommandStops C.built why (C.stands_for commands.old) line call.now pools.old
+        (D.outside desk.old) (D.outside desk.new)) }
+    ensures no_verdict { OnErr result (is_verdict result ≡ false) }
+    ensures cause { HasCause result (D.outside desk.old) (D.outside desk.new) }
+    ensures steady { OnOk result (IsSteady (D.outside desk.old) (D.outside desk.new)) }
+    ensures input { (D.outside desk.new).input ≡ (D.outside desk.old).input }
+    ensures takes { LogTakes (D.outside desk.old) (D.outside desk.new) }
+    ensures runs { RunsOn (D.outside desk.old) (D.outside desk.new) }
+{
+    let Ok(reply) = commands.answer(call) else {
+        return Err(Stop::OutOfMemory);
+    };
+    let before = *pools;
+    *pools += pools_made(call, &reply);
+    log_then_print(
+        desk,
+        line,
+        before,
+        call,
+        &reply,
+        commands.moves(),
+        commands.words(),
+    )
+}
+
+/// How many pools a command makes.
+fn pools_made(call: &Call, reply: &Reply) -> u32
+    ensures count { result ≡ pools_made_by call.now (Replied reply.now) }
+    ensures at_most { result ≤ 1 }
+{
+    match *reply {
+        Reply::Ok => pools_of_accepted(call),
+        _ => 0,
+    }
+}
+
+/// How many pools a command makes where it is accepted.
+fn pools_of_accepted(call: &Call) -> u32
+    ensures count { result ≡ pools_if_accepted call.now }
+    ensures at_most { result ≤ 1 }
+{
+    match *call {
+        Call::Pool { .. } => 1,
+        Call::PoolOnChain { .. } => 1,
+        Call::PoolMfs { .. } => 1,
+        Call::PoolMvff { .. } => 1,
+        _ => 0,
+    }
+}
+
+/// Writes the records of a command that was answered, and then prints its answer.
+fn log_then_print<D: Desk>(
+    desk: &mut D,
+    line: u32,
+    pools: u32,
+    call: &Call,
+    reply: &Reply,
+    moves: &[Move],
+    words: &[u64],
+) -> Result<(), Stop<BadScriptLine>>
+    ensures does { LogsThenPrints
+        (records_bytes (records_of moves.now line ++ records_of_command pools call.now (Replied reply.now) line))
+        (line_of_answer (answer_of words.now reply.now)) result (D.outside desk.old) (D.outside desk.new) }
+    ensures cause { HasCause result (D.outside desk.old) (D.outside desk.new) }
+    ensures steady { OnOk result (IsSteady (D.outside desk.old) (D.outside desk.new)) }
+    ensures input { (D.outside desk.new).input ≡ (D.outside desk.old).input }
+    ensures takes { LogTakes (D.outside desk.old) (D.outside desk.new) }
+    ensures runs { RunsOn (D.outside desk.old) (D.outside desk.new) }
+{
+    let Ok(()) = log_records(desk, line, pools, call, reply, moves) else {
+        return Err(Stop::LogFailed);
+    };
+    let Ok(()) = print(desk, reply, words) else {
+        return Err(Stop::WriteFailed);
+    };
+    Ok(())
+}
