@@ -80,7 +80,7 @@ all_right P (x ∷ xs) ys all = all_right P xs ys all.1
 -- ---- extents
 
 -- a fact of all extents is one of each live object's
-of_extents : (P : Run → Type 0) (objects : List Object) (addresses : List (Option Address))
+pub of_extents : (P : Run → Type 0) (objects : List Object) (addresses : List (Option Address))
     → AllByRecursion P (extents_of objects addresses)
     → (id : Id) (at : Address) (o : Object) → entry_at addresses id ≡ Some at → slice_get objects id ≡ Some o → P (extent at (size_of o))
 of_extents P [] addresses all id at o e x = absurd (none-some o x)

@@ -22,7 +22,7 @@ all_at p [] i x all e = absurd (none-some x e)
 all_at p (y ∷ ys) zero x all e = subst (λ z. p z ≡ true) (same_Some y x e) (and_parts (p y) (list_all p ys) all).0
 all_at p (y ∷ ys) (suc i) x all e = all_at p ys i x (and_parts (p y) (list_all p ys) all).1 e
 
-shaped_at : (likes cells : List Cell) (k : ℕ) (c : Cell) → are_shaped likes cells ≡ true → slice_get cells k ≡ Some c
+pub shaped_at : (likes cells : List Cell) (k : ℕ) (c : Cell) → are_shaped likes cells ≡ true → slice_get cells k ≡ Some c
     → (like : Cell) × (slice_get likes k ≡ Some like) × (is_shaped like c ≡ true)
 shaped_at [] [] k c all e = absurd (none-some c e)
 shaped_at [] (d ∷ ds) k c all e = absurd (false≢true all)
@@ -31,13 +31,13 @@ shaped_at (like ∷ likes) (d ∷ ds) zero c all e =
     (like, refl, subst (λ x. is_shaped like x ≡ true) (same_Some d c e) (and_parts (is_shaped like d) (are_shaped likes ds) all).0)
 shaped_at (like ∷ likes) (d ∷ ds) (suc k) c all e = shaped_at likes ds k c (and_parts (is_shaped like d) (are_shaped likes ds) all).1 e
 
-shaped_length : (likes cells : List Cell) → are_shaped likes cells ≡ true → length likes ≡ length cells
+pub shaped_length : (likes cells : List Cell) → are_shaped likes cells ≡ true → length likes ≡ length cells
 shaped_length [] [] all = refl
 shaped_length [] (d ∷ ds) all = absurd (false≢true all)
 shaped_length (like ∷ likes) [] all = absurd (false≢true all)
 shaped_length (like ∷ likes) (d ∷ ds) all = ap suc (shaped_length likes ds (and_parts (is_shaped like d) (are_shaped likes ds) all).1)
 
-new_at : (f : Layout) (head first count k : ℕ) (like : Cell) → slice_get (new_cells_from f head first count) k ≡ Some like
+pub new_at : (f : Layout) (head first count k : ℕ) (like : Cell) → slice_get (new_cells_from f head first count) k ≡ Some like
     → is_reference_cell like ≡ f.is_reference head (first + k)
 new_at f head first zero k like e = absurd (none-some like e)
 new_at f head first (suc count) zero like e =
@@ -50,11 +50,11 @@ new_at f head first (suc count) zero like e =
 new_at f head first (suc count) (suc k) like e =
     new_at f head (first + 1) count k like e ∙ ap (f.is_reference head) (let z : first + 1 + k ≡ first + suc k = omega arith in z)
 
-new_length : (f : Layout) (head first count : ℕ) → length (new_cells_from f head first count) ≡ count
+pub new_length : (f : Layout) (head first count : ℕ) → length (new_cells_from f head first count) ≡ count
 new_length f head first zero = refl
 new_length f head first (suc count) = ap suc (new_length f head (first + 1) count)
 
-same_kind : (like c : Cell) → is_shaped like c ≡ true → is_reference_cell c ≡ is_reference_cell like
+pub same_kind : (like c : Cell) → is_shaped like c ≡ true → is_reference_cell c ≡ is_reference_cell like
 same_kind HeadCell HeadCell e = refl
 same_kind HeadCell (NumberCell n) e = absurd (false≢true e)
 same_kind HeadCell (ReferenceCell t tag) e = absurd (false≢true e)
@@ -65,12 +65,12 @@ same_kind (ReferenceCell u own) HeadCell e = absurd (false≢true e)
 same_kind (ReferenceCell u own) (NumberCell n) e = absurd (false≢true e)
 same_kind (ReferenceCell u own) (ReferenceCell t tag) e = refl
 
-low_tag : (like : Cell) (t : Option Id) (tag : ℕ) → is_shaped like (ReferenceCell t tag) ≡ true → tag < 8
+pub low_tag : (like : Cell) (t : Option Id) (tag : ℕ) → is_shaped like (ReferenceCell t tag) ≡ true → tag < 8
 low_tag HeadCell t tag e = absurd (false≢true e)
 low_tag (NumberCell m) t tag e = absurd (false≢true e)
 low_tag (ReferenceCell u own) t tag e = ltb-true tag 8 e
 
-head_like : (c : Cell) → is_shaped HeadCell c ≡ true → c ≡ HeadCell
+pub head_like : (c : Cell) → is_shaped HeadCell c ≡ true → c ≡ HeadCell
 head_like HeadCell e = refl
 head_like (NumberCell n) e = absurd (false≢true e)
 head_like (ReferenceCell t tag) e = absurd (false≢true e)

@@ -11,7 +11,7 @@ use mps_base::Addr;
 use std::marker::Model;
 
 /// What a client depends on: an epoch, and the zones of the addresses that it added since.
-#[derive(Drop)]
+#[derive(Clone, Copy)]
 pub struct Ld {
     epoch: u64,
     zones: u64,
@@ -23,6 +23,8 @@ impl Model for Ld {
     ghost Value = { LdState };
 
     ghost view = { λ d. record { epoch = d.epoch; zones = d.zones } };
+
+    ghost inverse = { λ d. record { epoch = d.epoch; zones = d.zones } };
 }
 
 impl Ld {

@@ -1,0 +1,11 @@
+pub mod State
+pub mod Finding
+pub mod Objects
+pub mod Areas
+pub mod Allocating
+pub mod Manual
+pub mod Making
+pub mod Finalizing
+pub mod Depending
+pub mod Arena
+pub mod Coming
