@@ -1,0 +1,5 @@
+pub mod Blocks
+pub mod Dropping
+pub mod Making
+pub mod Ready
+pub mod References

@@ -1,0 +1,185 @@
+// What a call finds by its words.
+#![tactic(auto)]
+
+ghost use Rattle.std.specs.Prelude.{◌≡◌, ◌<◌, Some, IsTrue, IfOk};
+ghost use Rattle.mps_buffer.specs.Points.{point_at};
+ghost use Rattle.mps_root.specs.State.{HasItem, HasPlace};
+ghost use Rattle.mps_outcome.specs.State.{pool_over, format_over};
+ghost use Rattle.mps_outcome.specs.Finding.{as_pool, as_table, as_area, as_blocks, as_point, as_dependency, key_named, pool_named, point_named, slot_in, word_in, block_place_in, object_at, object_in};
+
+use super::State;
+use crate::pools::{format_of_pool, pool_of_segment};
+use mps_base::{Addr, Name, Refusal, Slot};
+use mps_buffer::Point;
+use mps_format::Format;
+use mps_names::Thing;
+use mps_outcome::{Block, Entry, Kept, Pool};
+use mps_root::Stored;
+
+impl<F: Format> State<F> {
+    /// The number of the pool that has a name.
+    fn number_of_pool(&self, name: Name) -> Result<u32, Refusal>
+        ensures { result ≡ key_named self.now name as_pool }
+    {
+        let Some(Thing::Pool(number)) = self.names.get(name) else {
+            return Err(Refusal::BadName);
+        };
+        Ok(number)
+    }
+
+    /// The key of the table that has a name.
+    fn key_of_table(&self, name: Name) -> Result<usize, Refusal>
+        ensures { result ≡ key_named self.now name as_table }
+    {
+        let Some(Thing::Table(key)) = self.names.get(name) else {
+            return Err(Refusal::BadName);
+        };
+        Ok(key)
+    }
+
+    /// The key of the area that has a name.
+    fn key_of_area(&self, name: Name) -> Result<usize, Refusal>
+        ensures { result ≡ key_named self.now name as_area }
+    {
+        let Some(Thing::Area(key)) = self.names.get(name) else {
+            return Err(Refusal::BadName);
+        };
+        Ok(key)
+    }
+
+    /// The number of the table of blocks that has a name.
+    fn number_of_blocks(&self, name: Name) -> Result<usize, Refusal>
+        ensures { result ≡ key_named self.now name as_blocks }
+    {
+        let Some(Thing::Blocks(number)) = self.names.get(name) else {
+            return Err(Refusal::BadName);
+        };
+        Ok(number)
+    }
+
+    /// The key of the point that has a name.
+    fn key_of_point(&self, name: Name) -> Result<u32, Refusal>
+        ensures { result ≡ key_named self.now name as_point }
+    {
+        let Some(Thing::Point(key)) = self.names.get(name) else {
+            return Err(Refusal::BadName);
+        };
+        Ok(key)
+    }
+
+    /// The number of the dependency that has a name.
+    pub(crate) fn number_of_dependency(&self, name: Name) -> Result<u32, Refusal>
+        ensures { result ≡ key_named self.now name as_dependency }
+    {
+        let Some(Thing::Dependency(number)) = self.names.get(name) else {
+            return Err(Refusal::BadName);
+        };
+        Ok(number)
+    }
+
+    /// The pool that has a name.
+    pub(crate) fn pool_named(&self, name: Name) -> Result<Kept<Pool<F>>, Refusal>
+        ensures { result ≡ pool_named self.now name }
+    {
+        let key = self.number_of_pool(name)?;
+        let value = *self.pools.get(key as usize).ok_or(Refusal::BadName)?;
+        Ok(Kept { key, value })
+    }
+
+    /// The point that has a name.
+    pub(crate) fn point_named(&self, name: Name) -> Result<Kept<Point>, Refusal>
+        ensures value { result ≡ point_named self.now name }
+        ensures there { IfOk result (λ p. point_at self.now.points p.key ≡ Some p.value) }
+    {
+        let key = self.key_of_point(name)?;
+        let value = self.points.get(key).ok_or(Refusal::BadName)?;
+        Ok(Kept { key, value })
+    }
+
+    /// A slot of a table.
+    pub(crate) fn slot_in(&self, slot: Slot) -> Result<Entry<u64>, Refusal>
+        ensures value { result ≡ slot_in self.now slot }
+        ensures fits { IfOk result (λ e. HasItem self.now.roots.tables e.key e.index) }
+    {
+        let key = self.key_of_table(slot.name)?;
+        let slots = self.roots.slots(key).ok_or(Refusal::BadName)?;
+        let index = slot.index as usize;
+        let value = *slots.get(index).ok_or(Refusal::BadIndex)?;
+        Ok(Entry { key, index, value })
+    }
+
+    /// A word of an area.
+    pub(crate) fn word_in(&self, place: Slot) -> Result<Entry<Stored>, Refusal>
+        ensures value { result ≡ word_in self.now place }
+        ensures fits { IfOk result (λ e. HasItem self.now.roots.areas e.key e.index) }
+    {
+        let key = self.key_of_area(place.name)?;
+        let words = self.roots.words(key).ok_or(Refusal::BadName)?;
+        let index = place.index as usize;
+        let value = *words.get(index).ok_or(Refusal::BadIndex)?;
+        Ok(Entry { key, index, value })
+    }
+
+    /// A place of a table of blocks.
+    pub(crate) fn block_place_in(&self, place: Slot) -> Result<Entry<u64>, Refusal>
+        ensures value { result ≡ block_place_in self.now place }
+        ensures fits { IfOk result (λ e. HasPlace self.now.roots.blocks e.key e.index) }
+    {
+        let key = self.number_of_blocks(place.name)?;
+        if key >= self.roots.block_tables() {
+            return Err(Refusal::BadName);
+        }
+        let places = self.roots.places(key);
+        let index = place.index as usize;
+        let value = *places.get(index).ok_or(Refusal::BadIndex)?;
+        Ok(Entry { key, index, value })
+    }
+
+    /// The pool of the segment that is held over an address.
+    pub(crate) fn pool_over(&self, at: u64) -> Option<Pool<F>>
+        ensures { result ≡ pool_over self.now at }
+    {
+        let number = pool_of_segment(&self.segs, at)?;
+        self.pools.get(number as usize).copied()
+    }
+
+    /// The format of the objects in the segment that is held over an address.
+    fn format_over(&self, at: u64) -> Option<F>
+        ensures { result ≡ format_over self.now at }
+    {
+        let pool = self.pool_over(at)?;
+        format_of_pool(pool)
+    }
+
+    /// The object at an address that stands in a slot.
+    pub(crate) fn object_at(&self, address: u64) -> Result<Block<F>, Refusal>
+        ensures value { result ≡ object_at F.layout self.now address }
+        ensures valid { IfOk result (λ b. IsTrue ((F.layout b.format).is_valid b.head)) }
+        ensures nonzero { IfOk result (λ b. 0 < b.at) }
+    {
+        if address == 0 {
+            return Err(Refusal::NullRef);
+        }
+        let format = self.format_over(address).ok_or(Refusal::NullRef)?;
+        let word = Addr(address).word();
+        let head = *self.segs.words().get(word).ok_or(Refusal::NullRef)?;
+        if !format.accepts(head) {
+            return Err(Refusal::NullRef);
+        }
+        Ok(Block {
+            at: address,
+            format,
+            head,
+        })
+    }
+
+    /// The object that a slot refers to.
+    pub(crate) fn object_in(&self, slot: Slot) -> Result<Block<F>, Refusal>
+        ensures value { result ≡ object_in F.layout self.now slot }
+        ensures valid { IfOk result (λ b. IsTrue ((F.layout b.format).is_valid b.head)) }
+        ensures nonzero { IfOk result (λ b. 0 < b.at) }
+    {
+        let from = self.slot_in(slot)?;
+        self.object_at(from.value)
+    }
+}

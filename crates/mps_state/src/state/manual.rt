@@ -1,0 +1,146 @@
+// The calls on manual blocks.
+#![tactic(auto)]
+
+ghost use Rattle.std.specs.Prelude.{◌≡◌, ◌<◌, ℕ, IfOk, Contains};
+ghost use Rattle.mps_base.specs.Address.{word_of};
+ghost use Rattle.mps_root.specs.State.{HasPlace};
+ghost use Rattle.mps_outcome.specs.Coming.{Comes, ComesMoving};
+ghost use Rattle.mps_outcome.specs.Manual.{is_block_over, with_block_place, block_allocated, block_in, block_freed, word_in_block, word_loaded, word_stored};
+
+use super::State;
+use super::areas::block_over;
+use crate::cells::write_word;
+use crate::pools::{is_automatic, pool_of_segment};
+use mps_base::{Addr, BYTES_OF_WORD, Name, Refusal, Slot, Trail};
+use mps_format::Format;
+use mps_outcome::Entry;
+use mps_seg::Segs;
+
+/// The most words that a block may have.
+const MAX_BLOCK_WORDS: u64 = 65_536;
+
+impl<F: Format> State<F> {
+    /// Writes a place of a table of blocks that was found.
+    fn set_place(&mut self, place: Entry<u64>, at: u64)
+        requires { HasPlace self.old.roots.blocks place.key place.index }
+        ensures { self.new ≡ with_block_place self.old place at }
+    {
+        self.roots.set_place(place.key, place.index, at);
+    }
+
+    /// Makes a block of n words, all 0, in a manual pool, and puts it in a place. Refuses `WrongPool` where the pool is automatic,
+    /// `BadSize` where it has no blocks of this size, `NameTaken` where the place has a block, and `CommitLimit` and `NoRun` where there
+    /// is no room.
+    pub fn alloc(
+        &mut self,
+        trail: &mut Trail,
+        pool: Name,
+        words: u64,
+        place: Slot,
+    ) -> Result<(), Refusal>
+        requires { 1 < trail.old.spare }
+        ensures { ComesMoving self.old trail.old (block_allocated self.old trail.old pool words place) result self.new trail.new }
+    {
+        let from = self.pool_named(pool)?;
+        if is_automatic(from.value) {
+            return Err(Refusal::WrongPool);
+        }
+        let into = self.block_place_in(place)?;
+        let takes = self.manual.takes(from.key, words).ok_or(Refusal::BadName)?;
+        if !takes {
+            return Err(Refusal::BadSize);
+        }
+        if into.value != 0 {
+            return Err(Refusal::NameTaken);
+        }
+        let at = self
+            .manual
+            .alloc(&mut self.segs, trail, from.key, words as u32)?;
+        self.set_place(into, at.0);
+        Ok(())
+    }
+
+    /// The address of the manual block in a place.
+    #[tactic(auto, using(crate::proofs::Blocks::begins_block))]
+    fn block_in(&self, place: Entry<u64>) -> Result<u64, Refusal>
+        ensures value { result ≡ block_in self.now place }
+        ensures block { IfOk result (λ at. (words : ℕ) × Contains self.now.segs.blocks (record { from = word_of at; count = words })) }
+    {
+        if place.value == 0 {
+            return Err(Refusal::NotABlock);
+        }
+        if !is_block_over(&self.segs, place.value, place.value) {
+            return Err(Refusal::NotABlock);
+        }
+        Ok(place.value)
+    }
+
+    /// Frees the block in a place, and empties the place. Refuses `NotABlock` where it is empty.
+    pub fn free(&mut self, trail: &mut Trail, place: Slot) -> Result<(), Refusal>
+        requires { 1 < trail.old.spare }
+        ensures { ComesMoving self.old trail.old (block_freed self.old trail.old place) result self.new trail.new }
+    {
+        let from = self.block_place_in(place)?;
+        let at = self.block_in(from)?;
+        let pool = pool_of_segment(&self.segs, at).ok_or(Refusal::NotABlock)?;
+        if pool as usize >= self.manual.pools() {
+            return Err(Refusal::NotABlock);
+        }
+        self.manual.free(&mut self.segs, trail, pool, Addr(at));
+        self.set_place(from, 0);
+        Ok(())
+    }
+
+    /// The number of word `k` of a block.
+    fn word_in_block(&self, at: u64, k: u64) -> Result<usize, Refusal>
+        ensures { result ≡ word_in_block self.now at k }
+    {
+        if k >= MAX_BLOCK_WORDS {
+            return Err(Refusal::BadIndex);
+        }
+        let word = Addr(at).word() + k as usize;
+        let _ = self.segs.grains(); // the address of a word fits
+        if word >= self.segs.words().len() {
+            return Err(Refusal::BadIndex);
+        }
+        if !is_block_over(&self.segs, at + BYTES_OF_WORD * k, at) {
+            return Err(Refusal::BadIndex);
+        }
+        Ok(word)
+    }
+
+    /// Word `k` of the block in a place. Refuses `BadIndex` where the block has no such word.
+    pub fn load(&self, place: Slot, k: u64) -> Result<u64, Refusal>
+        ensures { result ≡ word_loaded self.now place k }
+    {
+        let from = self.block_place_in(place)?;
+        let at = self.block_in(from)?;
+        let word = self.word_in_block(at, k)?;
+        self.segs
+            .words()
+            .get(word)
+            .copied()
+            .ok_or(Refusal::BadIndex)
+    }
+
+    /// Writes word `k` of the block in a place.
+    pub fn store(&mut self, place: Slot, k: u64, value: u64) -> Result<(), Refusal>
+        ensures { Comes self.old (word_stored self.old place k value) result self.new }
+    {
+        let into = self.block_place_in(place)?;
+        let at = self.block_in(into)?;
+        let word = self.word_in_block(at, k)?;
+        write_word(&mut self.segs, word, value);
+        Ok(())
+    }
+}
+
+/// Whether the block over a byte begins at an address.
+pub(crate) fn is_block_over(segs: &Segs, byte: u64, at: u64) -> bool
+    ensures { result ≡ is_block_over segs.now byte at }
+{
+    match block_over(segs, byte) {
+        Some(from) => from == at,
+        None => false,
+    }
+}
