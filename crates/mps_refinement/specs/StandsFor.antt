@@ -1,0 +1,204 @@
+-- When the state of a heap stands for a world of the model.
+use Rattle.std.specs.Prelude.{◌≡◌, ℕ, ◌+◌, ◌%◌, ◌<◌, ◌≤◌, ◌==◌, Bool, true, false, not, IsTrue, Option, Some, None, option_map, IsSome, List, [], map, length, slice_get}
+use Rattle.std.specs.Option.{option_map_or}
+use Rattle.mps_base.specs.Address.{Address, Id, max_grains, word_of}
+use Rattle.mps_base.specs.declared.names.Name.{Name}
+use Rattle.mps_base.specs.Name.{same_name}
+use Rattle.mps_bits.specs.Table.{bit}
+use Rattle.mps_buffer.specs.declared.point.Held.{Held}
+use Rattle.mps_buffer.specs.declared.point.Point.{Point}
+use Rattle.mps_buffer.specs.Points.{PointsState, point_at, run_of}
+use Rattle.mps_format.specs.Layout.{Layout, IsLawful}
+use Rattle.mps_image.specs.AtRest.{StandsAtRest}
+use Rattle.mps_image.specs.Memory.{words_of_arena}
+use Rattle.mps_laws.specs.Replay.{reached}
+use Rattle.mps_laws.specs.WellFormed.{is_arena_made_once}
+use Rattle.mps_laws.proofs.Naming.{AreTakenOnce}
+use Rattle.mps_ld.specs.State.{LdState}
+use Rattle.mps_ld.specs.Flips.{AreFlips}
+use Rattle.mps_model.specs.Graph as graph
+use Rattle.mps_model.specs.Graph.{Graph, AreaWord, PlainWord, Hold, Reservation, Slots, thing_in, entry_at}
+use Rattle.mps_model.specs.Making.{live_roots, live_slots, live_points}
+use Rattle.mps_model.specs.Step.{History}
+use Rattle.mps_model.specs.History.{IsLegalHistoryOf}
+use Rattle.mps_model.specs.World as world
+use Rattle.mps_model.specs.World.{World, PointMemory, Dependency, Collected, OneSize, AnySize}
+use Rattle.mps_names.specs.State.{thing_named}
+use Rattle.mps_names.specs.declared.names.Thing.{Thing}
+use Rattle.mps_names.specs.declared.names.Thing.TheVariants as thing
+use Rattle.mps_root.specs.State.{kept}
+use Rattle.mps_root.specs.declared.roots.Stored.{Stored}
+use Rattle.mps_outcome.specs.State.{HeapState, size_of_pool}
+use Rattle.mps_outcome.specs.declared.pool.ArenaState.{ArenaState}
+use Rattle.mps_outcome.specs.declared.pool.ArenaState.TheVariants as arena
+use Rattle.mps_outcome.specs.declared.pool.Pool.{Pool}
+use Rattle.mps_outcome.specs.declared.pool.Pool.TheVariants as pool
+use Rattle.mps_refinement.specs.Numbering.{AreNumbered}
+
+-- What the heap doesn't keep: the model's number of what is kept under a key.
+pub record Past : Type 0 where
+  pub table_number : ℕ → ℕ
+  pub area_number : ℕ → ℕ
+  pub point_number : ℕ → ℕ
+
+-- ---- what slots and words of areas hold
+
+-- the address of what a reference leads to, where objects have these addresses; 0 is null
+abbrev pub address_of_target : (addresses : List (Option Address)) → Option Id → Address
+address_of_target addresses None = 0
+address_of_target addresses (Some id) = option_map_or (λ at. at) (entry_at addresses id) 0
+
+abbrev pub address_of_id : (addresses : List (Option Address)) → Id → Address
+address_of_id addresses id = address_of_target addresses (Some id)
+
+-- slots, or places of a table of blocks, hold the addresses of what they refer to
+abbrev pub AreSlots : (addresses : List (Option Address)) → (number : ℕ) → List Address → Slots → Type 0
+AreSlots addresses number slots ids = slots ≡ map (address_of_target addresses) ids
+
+-- what is stored for a word of an area: what it shows, and whether it holds an object
+abbrev pub stored_word : (addresses : List (Option Address)) → AreaWord → Stored
+stored_word addresses (PlainWord number) = record { word = number; holds = false }
+stored_word addresses (Hold id offset) = record { word = option_map_or (λ at. at + offset) (entry_at addresses id) 0; holds = true }
+
+abbrev pub AreWords : (addresses : List (Option Address)) → (number : ℕ) → List Stored → List AreaWord → Type 0
+AreWords addresses number stored words = stored ≡ map (stored_word addresses) words
+
+-- ---- points
+
+-- what is kept of a reservation is that of the model's, with its address; it is doomed where a flip came since it was made
+pub record IsHeld (flips : ℕ) (held : Held) (r : Reservation) (reserved_at : Address) : Type 0 where
+  pub at : held.at.0 ≡ reserved_at
+  pub head : held.head ≡ r.head
+  pub words : held.words ≡ length r.cells
+  pub doomed : r.is_doomed ≡ not (held.flips == flips)
+
+-- both have a reservation, and the one stands for the other, or neither has
+pub data AreHeldAlike (flips : ℕ) (reserved_at : Address) : Option Held → Option Reservation → Type 0 where
+  BothHeld : {held : Held} {r : Reservation} → IsHeld flips held r reserved_at → AreHeldAlike flips reserved_at (Some held) (Some r)
+  NoneHeld : AreHeldAlike flips reserved_at None None
+
+-- a point of the heap stands for a point of the model with what that has in the arena
+pub record IsPoint (flips : ℕ) (is_copying : ℕ → Bool) (memories : List PointMemory) (number : ℕ) (p : Point) (q : graph.Point) : Type 0 where
+  pub pool : p.pool ≡ q.pool
+  pub rank : p.rank ≡ q.rank
+  pub copying : p.is_copying ≡ is_copying q.pool
+  pub memory : PointMemory
+  pub has : slice_get memories number ≡ Some memory
+  pub buffer : run_of p.buffer ≡ memory.buffer
+  pub reservation : AreHeldAlike flips memory.reserved_at p.reservation q.reservation
+
+-- ---- pools, dependencies and the arena's state
+
+module _ {F : Type 0} (layout : F → Layout) where
+  -- a pool of the heap stands for a pool of the model, where the numbers of formats mean these
+  abbrev pub IsPool : (formats : ℕ → Layout) → Pool F → world.Pool → Type 0
+  IsPool formats (pool.Automatic kind format) q =
+      (q ≡ record { kind = Collected kind; format = q.format; chain = None }) × (formats q.format ≡ layout format)
+  IsPool formats (pool.OneSize words) q = q ≡ record { kind = OneSize words; format = 0; chain = None }
+  IsPool formats pool.AnySize q = q ≡ record { kind = AnySize; format = 0; chain = None }
+
+  -- so do all, by their numbers
+  pub record ArePools (formats : ℕ → Layout) (pools : List (Pool F)) (numbered : List world.Pool) : Type 0 where
+    pub count : length numbered ≡ length pools
+    pub each : (number : ℕ) (p : Pool F) → slice_get pools number ≡ Some p
+        → (q : world.Pool) × (slice_get numbered number ≡ Some q) × IsPool formats p q
+
+-- what is kept of a dependency: its epoch and its zones
+abbrev pub kept_of : Dependency → LdState
+kept_of d = record { epoch = d.epoch; zones = d.zones }
+
+abbrev pub state_of : ArenaState → world.ArenaState
+state_of arena.Unclamped = world.Unclamped
+state_of arena.Clamped = world.Clamped
+state_of arena.Parked = world.Parked
+
+-- ---- names
+
+-- what a thing is called in the model
+abbrev pub numbered_thing : Past → Thing → graph.Thing
+numbered_thing past (thing.Chain number) = graph.ChainThing number
+numbered_thing past (thing.Pool number) = graph.PoolThing number
+numbered_thing past (thing.Table key) = graph.TableThing (past.table_number key)
+numbered_thing past (thing.Area key) = graph.AreaThing (past.area_number key)
+numbered_thing past (thing.Blocks number) = graph.BlocksThing number
+numbered_thing past (thing.Point key) = graph.PointThing (past.point_number key)
+numbered_thing past (thing.Dependency number) = graph.DependencyThing number
+
+-- a thing is there
+abbrev pub IsThere : {F : Type 0} → HeapState F → Thing → Type 0
+IsThere h (thing.Chain number) = ⊥
+IsThere h (thing.Pool number) = number < length h.pools
+IsThere h (thing.Table key) = IsSome (kept h.roots.tables key)
+IsThere h (thing.Area key) = IsSome (kept h.roots.areas key)
+IsThere h (thing.Blocks number) = number < length h.roots.blocks
+IsThere h (thing.Point key) = IsSome (point_at h.points key)
+IsThere h (thing.Dependency number) = number < length h.dependencies
+
+-- names stand for the same things in both, each for one that is there, and no two for the same
+pub record AreNamed {F : Type 0} (past : Past) (h : HeapState F) (names : List graph.NamedThing) : Type 0 where
+  pub named : (name : Name) → thing_in names name ≡ option_map (numbered_thing past) (thing_named h.names name)
+  pub there : (name : Name) (thing : Thing) → thing_named h.names name ≡ Some thing → IsThere h thing
+  pub unique : (name other : Name) (thing : Thing) → thing_named h.names name ≡ Some thing → thing_named h.names other ≡ Some thing
+      → same_name name other ≡ true
+  pub once : AreTakenOnce names
+
+-- ---- the arena where no collection runs
+
+-- it has no more grains than an arena may have, no segment is condemned, and open reservations lie in it, at words, also those that a
+-- flip ended
+pub record IsArenaAtRest (grains : ℕ) (condemned : List Bool) (points : PointsState) : Type 0 where
+  pub at_most : grains ≤ max_grains
+  pub not_condemned : (grain : ℕ) → bit condemned grain ≡ false
+  pub within : (key : ℕ) (p : Point) (held : Held) → point_at points key ≡ Some p → p.reservation ≡ Some held
+      → word_of held.at.0 + held.words ≤ words_of_arena grains
+  pub aligned : (key : ℕ) (p : Point) (held : Held) → point_at points key ≡ Some p → p.reservation ≡ Some held → held.at.0 % 8 ≡ 0
+
+-- ---- all of it
+
+-- the parts of a heap stand for those of a world in which no collection runs
+pub record AreParts {F : Type 0} (layout : F → Layout) (past : Past) (h : HeapState F) (w : World) : Type 0 where
+  -- the arena: its size and its limit, its segments, and its words, marks and runs
+  pub grains : h.segs.grains ≡ w.grains
+  pub limit : h.segs.limit ≡ w.limit
+  pub segments : h.segs.segments ≡ w.segments
+  pub image : StandsAtRest h.segs w
+  pub resting : IsArenaAtRest h.segs.grains h.segs.condemned h.points
+  -- the roots, and how many there are
+  pub tables : AreNumbered (AreSlots w.addresses) past.table_number (kept h.roots.tables) w.graph.tables
+  pub areas : AreNumbered (AreWords w.addresses) past.area_number (kept h.roots.areas) w.graph.areas
+  pub blocks : h.roots.blocks ≡ map (map (address_of_target w.addresses)) w.graph.blocks
+  pub roots_counted : h.live_roots ≡ live_roots w.graph
+  pub slots_counted : h.live_slots ≡ live_slots w.graph
+  -- the points
+  pub points : AreNumbered (IsPoint (length w.flips) (world.is_copying_pool w) w.point_memories) past.point_number (point_at h.points)
+      w.graph.points
+  pub points_counted : h.live_points ≡ live_points w.graph
+  -- registrations and messages
+  pub registered : h.finals.registered ≡ map (address_of_id w.addresses) w.graph.registered
+  pub messages : h.finals.messages ≡ map (address_of_id w.addresses) w.graph.messages
+  -- flips and dependencies
+  pub flips : AreFlips h.epochs w.flips
+  pub point_flips : h.points.flips ≡ length w.flips
+  pub dependencies : h.dependencies ≡ map kept_of w.dependencies
+  -- the formats are lawful; pools, none of which is on a chain, names and the arena's state
+  pub lawful : (number : ℕ) → IsLawful (w.formats number)
+  pub pools : ArePools layout w.formats h.pools w.pools
+  pub sizes : h.sizes ≡ map size_of_pool h.pools
+  pub chains : w.chains ≡ []
+  pub names : AreNamed past h w.graph.names
+  pub state : w.state ≡ state_of h.arena
+  -- no collection runs
+  pub at_rest : w.collection ≡ None
+
+-- a legal history reaches a world, in which the arena is made by the first command alone
+pub record IsReached (w : World) : Type 0 where
+  pub history : History
+  pub legal : IsLegalHistoryOf w.formats history
+  pub once : IsTrue (is_arena_made_once history)
+  pub is : w ≡ reached w.formats history
+
+-- The state of a heap stands for a world.
+pub record StandsFor {F : Type 0} (layout : F → Layout) (h : HeapState F) (w : World) : Type 0 where
+  pub past : Past
+  pub parts : AreParts layout past h w
+  pub reached : IsReached w
