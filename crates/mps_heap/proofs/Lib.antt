@@ -1,0 +1,2 @@
+pub mod NewHeaps
+pub mod Results

@@ -1,0 +1,50 @@
+-- What was right of a result is right of what is told of it.
+use Rattle.std.proofs.Common.{◌≡◌, ◌≢◌, ℕ, refl, sym, subst, [], Result, Ok, Err}
+use Rattle.mps_base.specs.declared.address.Addr.{Addr}
+use Rattle.mps_base.specs.declared.refusal.Refusal.{Refusal}
+use Rattle.mps_base.specs.declared.refusal.Refusal.TheVariants as refusal
+use Rattle.mps_format.specs.Layout.{Layout}
+use Rattle.mps_model.specs.declared.call.Call.{Call}
+use Rattle.mps_model.specs.declared.call.Call.TheVariants as call
+use Rattle.mps_model.specs.World.{World}
+use Rattle.mps_outcome.specs.Arena.{BlockBegins}
+use Rattle.mps_outcome.specs.Manual.{is_block_over}
+use Rattle.mps_outcome.specs.State.{HeapState}
+use Rattle.mps_refinement.specs.Answering.{answer_to}
+use Rattle.mps_refinement.specs.Making.{IsRightMaking, IsRightMakingIn}
+use Rattle.mps_refinement.specs.RightStep.{IsRight}
+use Rattle.mps_refinement.proofs.Dumps.{dump_answers, dump_is_refused}
+use Rattle.mps_heap.specs.Answers.{says_words}
+use Rattle.mps_heap.specs.Results.{without_key}
+use Rattle.std.specs.Prelude.{MatchResult, false}
+
+module _ {F : Type 0} (layout : F → Layout) where
+  pub making_without_key : (h after : HeapState F) (c : Call) (made : Result ℕ Refusal) (told : Result (Unit {0}) Refusal)
+      → told ≡ without_key made → IsRightMaking layout h c made after → IsRightMaking layout h c told after
+  making_without_key h after c made told is right =
+      subst (λ r. IsRightMaking layout h c r after) (sym is) (of_made made right)
+    where
+      of_made : (r : Result ℕ Refusal) → IsRightMaking layout h c r after → IsRightMaking layout h c (without_key r) after
+      of_made (Ok key) right = record { answered = λ other. right.answered (λ e. absurd cc); out_of_memory = λ e. absurd cc }
+      of_made (Err refusal.OutOfMemory) right = record { answered = λ other. absurd (other refl); out_of_memory = λ e. right.out_of_memory refl }
+      of_made (Err _) right = record { answered = λ other. right.answered (λ e. absurd cc); out_of_memory = λ e. absurd cc }
+
+  pub making_in_without_key : (Has : World → Type 0) (h after : HeapState F) (c : Call) (made : Result ℕ Refusal)
+      (told : Result (Unit {0}) Refusal) → told ≡ without_key made → IsRightMakingIn layout Has h c made after
+      → IsRightMakingIn layout Has h c told after
+  making_in_without_key Has h after c made told is right =
+      subst (λ r. IsRightMakingIn layout Has h c r after) (sym is) (of_made made right)
+    where
+      of_made : (r : Result ℕ Refusal) → IsRightMakingIn layout Has h c r after → IsRightMakingIn layout Has h c (without_key r) after
+      of_made (Ok key) right = record { answered = λ other. right.answered (λ e. absurd cc); out_of_memory = λ e. absurd cc }
+      of_made (Err refusal.OutOfMemory) right = record { answered = λ other. absurd (other refl); out_of_memory = λ e. right.out_of_memory refl }
+      of_made (Err _) right = record { answered = λ other. right.answered (λ e. absurd cc); out_of_memory = λ e. absurd cc }
+
+  pub dump_is_right_of : (h : HeapState F) (at : Addr) (result : Result ℕ Refusal)
+      → MatchResult result (λ words. BlockBegins h at.0 words)
+      (λ why. (why ≡ refusal.NotABlock) × (is_block_over h.segs at.0 at.0 ≡ false))
+      → IsRight layout h (call.Dump at.0) [] (answer_to (says_words h.segs.words at) result) h
+  dump_is_right_of h at (Ok words) begins = dump_answers layout h at.0 words begins
+  dump_is_right_of h at (Err why) none =
+      subst (λ w. IsRight layout h (call.Dump at.0) [] (answer_to (says_words h.segs.words at) (Err w)) h) (sym none.0)
+      (dump_is_refused layout h at.0 none.1)

@@ -1,0 +1,18 @@
+use Rattle.std.proofs.Common.{subst, []}
+use Rattle.mps_model.specs.declared.call.Call.TheVariants as call
+use Rattle.mps_refinement.specs.Answering.{answer_to, says_ok}
+use Rattle.mps_refinement.specs.RightStep.{IsRight}
+use Rattle.mps_refinement.proofs.DependencyAdded.{dependency_added_right}
+use Rattle.mps_refinement.proofs.Staying.{stays}
+use Rattle.mps_heap.proofs.heap.Heap.ld_add.Goals as goal
+
+pub invariant_of-self : goal.invariant_of-self
+invariant_of-self g c =
+    stays g.F.Format.layout c.self.inside.state c.ld_add.new.self (call.DependencyAdd c.args.name c.args.slot) [] (answer_to says_ok c.ld_add.result) c.self.invariant
+    (dependency_added_right g.F.Format.layout c.self.inside.state c.args.name c.args.slot c.ld_add.result c.ld_add.new.self c.ld_add.ensures)
+
+pub returns : goal.returns
+returns g c = record {
+  right = subst (λ h. IsRight g.F.Format.layout h (call.DependencyAdd c.args.name c.args.slot) [] (answer_to says_ok c.ld_add.result) c.ld_add.new.self) c.self.view_is
+      (dependency_added_right g.F.Format.layout c.self.inside.state c.args.name c.args.slot c.ld_add.result c.ld_add.new.self c.ld_add.ensures);
+}

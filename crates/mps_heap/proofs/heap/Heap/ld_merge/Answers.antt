@@ -1,0 +1,18 @@
+use Rattle.std.proofs.Common.{subst, []}
+use Rattle.mps_model.specs.declared.call.Call.TheVariants as call
+use Rattle.mps_refinement.specs.Answering.{answer_to, says_ok}
+use Rattle.mps_refinement.specs.RightStep.{IsRight}
+use Rattle.mps_refinement.proofs.Dependencies.{dependency_merge_is_right}
+use Rattle.mps_refinement.proofs.Staying.{stays}
+use Rattle.mps_heap.proofs.heap.Heap.ld_merge.Goals as goal
+
+pub invariant_of-self : goal.invariant_of-self
+invariant_of-self g c =
+    stays g.F.Format.layout c.self.inside.state c.ld_merge.new.self (call.DependencyMerge c.args.name c.args.source) [] (answer_to says_ok c.ld_merge.result) c.self.invariant
+    (dependency_merge_is_right g.F.Format.layout c.self.inside.state c.args.name c.args.source c.ld_merge.result c.ld_merge.new.self c.ld_merge.ensures)
+
+pub returns : goal.returns
+returns g c = record {
+  right = subst (λ h. IsRight g.F.Format.layout h (call.DependencyMerge c.args.name c.args.source) [] (answer_to says_ok c.ld_merge.result) c.ld_merge.new.self) c.self.view_is
+      (dependency_merge_is_right g.F.Format.layout c.self.inside.state c.args.name c.args.source c.ld_merge.result c.ld_merge.new.self c.ld_merge.ensures);
+}

@@ -1,0 +1,18 @@
+use Rattle.std.proofs.Common.{subst, []}
+use Rattle.mps_model.specs.declared.call.Call.TheVariants as call
+use Rattle.mps_refinement.specs.Answering.{answer_to, says_ok}
+use Rattle.mps_refinement.specs.RightStep.{IsRight}
+use Rattle.mps_refinement.proofs.Dependencies.{dependency_reset_is_right}
+use Rattle.mps_refinement.proofs.Staying.{stays}
+use Rattle.mps_heap.proofs.heap.Heap.ld_reset.Goals as goal
+
+pub invariant_of-self : goal.invariant_of-self
+invariant_of-self g c =
+    stays g.F.Format.layout c.self.inside.state c.ld_reset.new.self (call.DependencyReset c.args.name) [] (answer_to says_ok c.ld_reset.result) c.self.invariant
+    (dependency_reset_is_right g.F.Format.layout c.self.inside.state c.args.name c.ld_reset.result c.ld_reset.new.self c.ld_reset.ensures)
+
+pub returns : goal.returns
+returns g c = record {
+  right = subst (λ h. IsRight g.F.Format.layout h (call.DependencyReset c.args.name) [] (answer_to says_ok c.ld_reset.result) c.ld_reset.new.self) c.self.view_is
+      (dependency_reset_is_right g.F.Format.layout c.self.inside.state c.args.name c.ld_reset.result c.ld_reset.new.self c.ld_reset.ensures);
+}

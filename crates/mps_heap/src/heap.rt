@@ -1,0 +1,64 @@
+// The heap.
+#![tactic(auto)]
+
+mod allocating;
+mod areas;
+mod arena;
+mod depending;
+mod finalizing;
+mod making;
+mod manual;
+mod objects;
+mod results;
+
+ghost use Rattle.std.specs.Prelude.{◌≡◌, ◌≤◌, ◌<◌, IfOk};
+ghost use Rattle.mps_base.specs.Address.{max_grains};
+ghost use Rattle.mps_heap.specs.Right.{IsNewHeap};
+
+use mps_format::Format;
+use mps_state::State;
+use std::alloc::{AllocError, Global};
+use std::marker::Model;
+
+/// A heap, generic in the format of its objects. It stands for a world of the model, and after each call for the world after that call.
+/// It can't be let go but by `finish`, which ends its open reservations.
+pub struct Heap<F: Format> {
+    state: State<F>,
+}
+
+impl<F: Format> Model for Heap<F> {
+    ghost use Rattle.mps_outcome.specs.State.{HeapState};
+    ghost use Rattle.mps_refinement.specs.StandsForSome.{StandsForSome};
+
+    ghost Value = { HeapState F };
+
+    ghost view = { λ h. h.state };
+
+    ghost invariant = { λ h. StandsForSome F.layout h.state };
+}
+
+impl<F: Format> Heap<F> {
+    /// A heap in a new arena of the grains 1 to `grains`, in which nothing was made, with a commit limit in grains. All memory that the
+    /// arena's calls ever need is taken here and by the calls that make things.
+    pub fn new(alloc: Global, grains: u32, limit: u32) -> Result<Heap<F>, AllocError>
+        requires nonzero { 0 < grains }
+        requires at_most { grains ≤ max_grains }
+        ensures right { IfOk result (λ heap. IsNewHeap F.layout grains limit heap) }
+    {
+        let state = State::new(alloc, grains, limit)?;
+        Ok(Heap { state })
+    }
+
+    /// The words of the arena, by their address divided by 8.
+    pub fn words(&self) -> &[u64]
+        ensures { result.now ≡ self.now.segs.words }
+    {
+        self.state.words()
+    }
+
+    /// Ends each open reservation, and lets the heap go.
+    pub fn finish(self) {
+        let Heap { state } = self;
+        state.finish();
+    }
+}

@@ -1,0 +1,41 @@
+// Areas, whose words may lie in objects.
+#![tactic(auto)]
+
+ghost use Rattle.std.specs.Prelude.{[]};
+ghost use Rattle.mps_model.specs.declared.call.Call.TheVariants as call;
+ghost use Rattle.mps_refinement.specs.RightStep.{IsRight};
+ghost use Rattle.mps_refinement.specs.Answering.{answer_to, says_block, says_ok, says_word};
+
+use super::Heap;
+use mps_base::{Refusal, Slot};
+use mps_format::Format;
+
+impl<F: Format> Heap<F> {
+    /// Stores a word in an area, and says whether it holds an object from now on: one in which the word lies.
+    pub fn poke(&mut self, place: Slot, word: u64) -> Result<bool, Refusal>
+        ensures right { IsRight F.layout self.old (call.Poke place word) [] (answer_to says_block result) self.new }
+    {
+        self.state.poke(place, word)
+    }
+
+    /// A word of an area.
+    pub fn peek(&self, place: Slot) -> Result<u64, Refusal>
+        ensures right { IsRight F.layout self.now (call.Peek place) [] (answer_to says_word result) self.now }
+    {
+        self.state.peek(place)
+    }
+
+    /// Stores the address of the object in a slot in an area, where it holds the object.
+    pub fn pin(&mut self, place: Slot, slot: Slot) -> Result<(), Refusal>
+        ensures right { IsRight F.layout self.old (call.Pin place slot) [] (answer_to says_ok result) self.new }
+    {
+        self.state.pin(place, slot)
+    }
+
+    /// A slot becomes the object that a word of an area holds. Refuses `NotARef` where it holds none.
+    pub fn take(&mut self, slot: Slot, place: Slot) -> Result<(), Refusal>
+        ensures right { IsRight F.layout self.old (call.Take slot place) [] (answer_to says_ok result) self.new }
+    {
+        self.state.take(slot, place)
+    }
+}

@@ -1,0 +1,87 @@
+// Slots and objects.
+#![tactic(auto)]
+
+ghost use Rattle.std.specs.Prelude.{[]};
+ghost use Rattle.mps_model.specs.declared.call.Call.TheVariants as call;
+ghost use Rattle.mps_refinement.specs.RightStep.{IsRight};
+ghost use Rattle.mps_refinement.specs.Answering.{answer_to, says_bool, says_head, says_number, says_ok};
+ghost use Rattle.mps_heap.specs.Answers.{says_address};
+
+use super::Heap;
+use super::results::as_address;
+use mps_base::{Addr, Refusal, Slot};
+use mps_format::Format;
+
+impl<F: Format> Heap<F> {
+    /// A slot becomes what another is.
+    pub fn copy(&mut self, target: Slot, source: Slot) -> Result<(), Refusal>
+        ensures right { IsRight F.layout self.old (call.Copy target source) [] (answer_to says_ok result) self.new }
+    {
+        self.state.copy(target, source)
+    }
+
+    /// A slot becomes null.
+    pub fn clear(&mut self, slot: Slot) -> Result<(), Refusal>
+        ensures right { IsRight F.layout self.old (call.Clear slot) [] (answer_to says_ok result) self.new }
+    {
+        self.state.clear(slot)
+    }
+
+    /// Whether two slots are both null or hold the same object.
+    pub fn same(&self, slot: Slot, other: Slot) -> Result<bool, Refusal>
+        ensures right { IsRight F.layout self.now (call.Same slot other) [] (answer_to says_bool result) self.now }
+    {
+        self.state.same(slot, other)
+    }
+
+    /// Whether a slot is null.
+    pub fn is_null(&self, slot: Slot) -> Result<bool, Refusal>
+        ensures right { IsRight F.layout self.now (call.Null slot) [] (answer_to says_bool result) self.now }
+    {
+        self.state.is_null(slot)
+    }
+
+    /// The head of the object in a slot. Refuses `NullRef` where the slot is null.
+    pub fn head(&self, slot: Slot) -> Result<u64, Refusal>
+        ensures right { IsRight F.layout self.now (call.Head slot) [] (answer_to says_head result) self.now }
+    {
+        self.state.head(slot)
+    }
+
+    /// The address of the object in a slot. The object stays there until the next flip.
+    pub fn addr(&self, slot: Slot) -> Result<Addr, Refusal>
+        ensures right { IsRight F.layout self.now (call.Address slot) [] (answer_to says_address result) self.now }
+    {
+        as_address(self.state.addr(slot))
+    }
+
+    /// The number in a cell of the object in a slot. Refuses `NullRef`, `BadIndex` past the last cell, and `NotANumber` where the cell is a
+    /// reference or the head.
+    pub fn num(&self, slot: Slot, cell: u64) -> Result<u64, Refusal>
+        ensures right { IsRight F.layout self.now (call.Number slot cell) [] (answer_to says_number result) self.now }
+    {
+        self.state.num(slot, cell)
+    }
+
+    /// Writes a number into a cell of the object in a slot. Refuses as `num` does.
+    pub fn set_num(&mut self, slot: Slot, cell: u64, n: u64) -> Result<(), Refusal>
+        ensures right { IsRight F.layout self.old (call.SetNumber slot cell n) [] (answer_to says_ok result) self.new }
+    {
+        self.state.set_num(slot, cell, n)
+    }
+
+    /// A slot becomes what a cell of the object in another slot refers to. Refuses `NullRef`, `BadIndex`, and `NotARef` where the cell is no
+    /// reference.
+    pub fn get(&mut self, target: Slot, source: Slot, cell: u64) -> Result<(), Refusal>
+        ensures right { IsRight F.layout self.old (call.Get target source cell) [] (answer_to says_ok result) self.new }
+    {
+        self.state.get(target, source, cell)
+    }
+
+    /// A cell of the object in a slot refers to what another slot has. Refuses as `get` does.
+    pub fn put(&mut self, target: Slot, cell: u64, source: Slot) -> Result<(), Refusal>
+        ensures right { IsRight F.layout self.old (call.Put target cell source) [] (answer_to says_ok result) self.new }
+    {
+        self.state.put(target, cell, source)
+    }
+}

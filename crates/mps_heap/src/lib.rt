@@ -1,0 +1,8 @@
+//! A heap: a client makes pools, roots and points in it, reserves and commits objects, and reads and writes them. Each call answers
+//! what the graph machine of the model answers, and its moves are legal.
+#![tactic(auto)]
+
+mod heap;
+
+pub use heap::Heap;
+pub use mps_outcome::Committed;
