@@ -167,6 +167,13 @@ impl Roots {
         self.areas[key][index] = word;
     }
 
+    /// How many tables of blocks were made.
+    pub fn block_tables(&self) -> usize
+        ensures { result ≡ length self.now.blocks }
+    {
+        self.blocks.len()
+    }
+
     /// The places of a table of blocks.
     pub fn places(&self, number: usize) -> &[u64]
         requires { number < length self.now.blocks }
