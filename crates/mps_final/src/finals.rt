@@ -1,7 +1,7 @@
 // Registrations and messages.
 #![tactic(auto)]
 
-ghost use Rattle.std.specs.Prelude.{◌≡◌, ◌<◌, ◌≤◌, [], length, slice_get, slice_index_or, slice_set, drop, IfOk, IfErr, IsOk, MatchResult};
+ghost use Rattle.std.specs.Prelude.{◌≡◌, ◌<◌, ◌≤◌, [], length, slice_get, slice_index_or, slice_set, drop, IfOk, IfErr, OnOk, IsOk, MatchResult};
 ghost use Rattle.std.specs.Option.{option_map, MatchOption};
 ghost use Rattle.mps_final.specs.State.{FinalsState, no_finals, max_finals, finals_count, with_registration, with_registered_at, without_registration, posted, position_of};
 
@@ -63,6 +63,7 @@ impl Finals {
     pub fn register(&mut self, at: Addr) -> Result<(), Refusal>
         requires { 0 < at.0 }
         ensures state { MatchResult result (λ _. self.new ≡ with_registration self.old at.0) (λ _. self.new ≡ self.old) }
+        ensures few { OnOk result (finals_count self.old < max_finals) }
         ensures fits { finals_count self.old < max_finals → IsOk result }
         ensures full { IfErr result (λ why. (why ≡ Refusal.TooMany max_finals) × (finals_count self.old ≡ max_finals)) }
     {
