@@ -65,8 +65,8 @@ rm mpsio.log
 
 yes live | timeout 20 "$program" run -o /dev/full >/dev/null 2>report
 tell "yes live | run -o /dev/full" "5 mps: log failed" "${PIPESTATUS[1]} $(cat report)"
-yes live | timeout 20 "$program" run >/dev/full 2>report
-tell "yes live | run > /dev/full" "4 mps: write failed" "${PIPESTATUS[1]} $(cat report)"
+{ echo arena 8 8; yes live; } | timeout 20 "$program" run >/dev/full 2>report
+tell "an arena and yes live | run > /dev/full" "4 mps: write failed" "${PIPESTATUS[1]} $(cat report)"
 { cat "$example"; head -c 5000 /dev/zero; } | "$program" run -o a >/dev/full 2>report
 tell "a bad line, output full" "4 mps: write failed" "${PIPESTATUS[1]} $(cat report)"
 { cat "$example"; head -c 5000 /dev/zero; } | "$program" run -o a >out 2>/dev/full
