@@ -156,7 +156,8 @@ module _ (line : ℕ) (w : World) where
   abbrev the_step : Call → List Move → Answer → Step
   the_step c ms answer = record { line = line; call = c; moves = ms; answer = answer }
 
-  step_grains : (c : Call) (ms : List Move) (answer : Answer) → makes_arena c ≡ false
+  -- a step that doesn't make the arena leaves its grains
+  pub step_grains : (c : Call) (ms : List Move) (answer : Answer) → makes_arena c ≡ false
       → (world_after w (the_step c ms answer)).grains ≡ w.grains
   step_grains c ms answer h =
       elim (is_unsupported answer) as (λ b. (if b then w else world_after_call w c ms answer).grains ≡ w.grains) [

@@ -79,3 +79,4 @@ pub mod LiveBlocks
 pub mod NewHeap
 pub mod Staying
 pub mod Appending
+pub mod Room

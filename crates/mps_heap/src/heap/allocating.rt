@@ -5,7 +5,7 @@ ghost use Rattle.std.specs.Prelude.{[], ◌<◌};
 ghost use Rattle.mps_model.specs.declared.call.Call.TheVariants as call;
 ghost use Rattle.mps_refinement.specs.RightStep.{IsRight};
 ghost use Rattle.mps_refinement.specs.Answering.{answer_to, says_committed, says_ok};
-ghost use Rattle.mps_refinement.specs.RightMoving.{IsRightMoving};
+ghost use Rattle.mps_refinement.specs.RightMoving.{IsRightMoving, KeepsRoom};
 
 use super::Heap;
 use mps_base::{Name, Refusal, Slot, Trail};
@@ -18,6 +18,7 @@ impl<F: Format> Heap<F> {
     pub fn reserve(&mut self, trail: &mut Trail, x: Name, head: u64) -> Result<(), Refusal>
         requires fits { 0 < trail.old.spare }
         ensures right { IsRightMoving F.layout self.old (call.Reserve x head) trail.old.moves trail.new.moves (answer_to says_ok result) self.new }
+        ensures room { KeepsRoom trail.old trail.new }
     {
         self.state.reserve(trail, x, head)
     }
@@ -41,6 +42,7 @@ impl<F: Format> Heap<F> {
     pub fn commit(&mut self, trail: &mut Trail, x: Name, target: Slot) -> Result<Committed, Refusal>
         requires fits { 0 < trail.old.spare }
         ensures right { IsRightMoving F.layout self.old (call.Commit x target) trail.old.moves trail.new.moves (answer_to says_committed result) self.new }
+        ensures room { KeepsRoom trail.old trail.new }
     {
         self.state.commit(trail, x, target)
     }

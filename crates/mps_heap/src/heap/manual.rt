@@ -5,7 +5,7 @@ ghost use Rattle.std.specs.Prelude.{[], ◌<◌};
 ghost use Rattle.mps_model.specs.declared.call.Call.TheVariants as call;
 ghost use Rattle.mps_refinement.specs.RightStep.{IsRight};
 ghost use Rattle.mps_refinement.specs.Answering.{answer_to, says_number, says_ok};
-ghost use Rattle.mps_refinement.specs.RightMoving.{IsRightMoving};
+ghost use Rattle.mps_refinement.specs.RightMoving.{IsRightMoving, KeepsRoom};
 
 use super::Heap;
 use mps_base::{Name, Refusal, Slot, Trail};
@@ -23,6 +23,7 @@ impl<F: Format> Heap<F> {
     ) -> Result<(), Refusal>
         requires fits { 1 < trail.old.spare }
         ensures right { IsRightMoving F.layout self.old (call.Alloc pool words place) trail.old.moves trail.new.moves (answer_to says_ok result) self.new }
+        ensures room { KeepsRoom trail.old trail.new }
     {
         self.state.alloc(trail, pool, words, place)
     }
@@ -31,6 +32,7 @@ impl<F: Format> Heap<F> {
     pub fn free(&mut self, trail: &mut Trail, place: Slot) -> Result<(), Refusal>
         requires fits { 1 < trail.old.spare }
         ensures right { IsRightMoving F.layout self.old (call.Free place) trail.old.moves trail.new.moves (answer_to says_ok result) self.new }
+        ensures room { KeepsRoom trail.old trail.new }
     {
         self.state.free(trail, place)
     }

@@ -1,8 +1,10 @@
 use Rattle.std.proofs.Common.{subst}
 use Rattle.mps_model.specs.declared.call.Call.TheVariants as call
+use Rattle.mps_outcome.specs.Allocating.{committed}
 use Rattle.mps_refinement.specs.Answering.{answer_to, says_committed}
 use Rattle.mps_refinement.specs.RightMoving.{IsRightMoving}
 use Rattle.mps_refinement.proofs.Appending.{commit_is_right_after}
+use Rattle.mps_refinement.proofs.Room.{keeps_room, commit_keeps_room}
 use Rattle.mps_refinement.proofs.Staying.{is_ready, stays}
 use Rattle.mps_heap.proofs.heap.Heap.commit.Goals as goal
 
@@ -11,13 +13,21 @@ commit-requires g c = record { ready = is_ready g.F.Format.layout c.self.inside.
 
 pub invariant_of-self : goal.invariant_of-self
 invariant_of-self g c =
-    let moved = commit_is_right_after g.F.Format.layout c.self.inside.state c.args.trail.now c.args.x c.args.target c.commit.result c.commit.new.self c.commit.new.trail c.commit.ensures in
-    stays g.F.Format.layout c.self.inside.state c.commit.new.self (call.Commit c.args.x c.args.target) moved.moves (answer_to says_committed c.commit.result) c.self.invariant moved.right
+    let moved = commit_is_right_after g.F.Format.layout c.self.inside.state c.args.trail.now c.args.x c.args.target c.commit.result
+        c.commit.new.self c.commit.new.trail c.commit.ensures in
+    stays g.F.Format.layout c.self.inside.state c.commit.new.self (call.Commit c.args.x c.args.target) moved.moves (answer_to
+        says_committed c.commit.result) c.self.invariant moved.right
 
 pub returns : goal.returns
 returns g c = record {
   right = subst
-      (λ h. IsRightMoving g.F.Format.layout h (call.Commit c.args.x c.args.target) c.args.trail.now.moves c.commit.new.trail.moves (answer_to says_committed c.commit.result) c.commit.new.self)
+      (λ h. IsRightMoving g.F.Format.layout h (call.Commit c.args.x c.args.target) c.args.trail.now.moves c.commit.new.trail.moves
+          (answer_to says_committed c.commit.result) c.commit.new.self)
       c.self.view_is
-      (commit_is_right_after g.F.Format.layout c.self.inside.state c.args.trail.now c.args.x c.args.target c.commit.result c.commit.new.self c.commit.new.trail c.commit.ensures);
+      (commit_is_right_after g.F.Format.layout c.self.inside.state c.args.trail.now c.args.x c.args.target c.commit.result
+          c.commit.new.self c.commit.new.trail c.commit.ensures);
+  room = keeps_room c.args.trail.now c.self.inside.state (committed c.self.inside.state c.args.trail.now c.args.x c.args.target)
+      c.commit.result c.commit.new.self
+      c.commit.new.trail c.commit.ensures (commit_keeps_room g.F.Format.layout c.self.inside.state c.args.trail.now c.args.x
+          c.args.target c.requires.fits);
 }

@@ -8,11 +8,13 @@ use Rattle.mps_heap.proofs.heap.Heap.copy.Goals as goal
 
 pub invariant_of-self : goal.invariant_of-self
 invariant_of-self g c =
-    stays g.F.Format.layout c.self.inside.state c.copy.new.self (call.Copy c.args.target c.args.source) [] (answer_to says_ok c.copy.result) c.self.invariant
+    stays g.F.Format.layout c.self.inside.state c.copy.new.self (call.Copy c.args.target c.args.source) [] (answer_to says_ok
+        c.copy.result) c.self.invariant
     (copied_right g.F.Format.layout c.self.inside.state c.args.target c.args.source c.copy.result c.copy.new.self c.copy.ensures)
 
 pub returns : goal.returns
 returns g c = record {
-  right = subst (λ h. IsRight g.F.Format.layout h (call.Copy c.args.target c.args.source) [] (answer_to says_ok c.copy.result) c.copy.new.self) c.self.view_is
+  right = subst (λ h. IsRight g.F.Format.layout h (call.Copy c.args.target c.args.source) [] (answer_to says_ok c.copy.result)
+      c.copy.new.self) c.self.view_is
       (copied_right g.F.Format.layout c.self.inside.state c.args.target c.args.source c.copy.result c.copy.new.self c.copy.ensures);
 }

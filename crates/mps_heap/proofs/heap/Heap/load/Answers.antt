@@ -7,6 +7,7 @@ use Rattle.mps_heap.proofs.heap.Heap.load.Goals as goal
 
 pub returns : goal.returns
 returns g c = record {
-  right = subst (λ h. IsRight g.F.Format.layout h (call.Load c.args.place c.args.word) [] (answer_to says_number c.load.result) h) c.self.view_is
+  right = subst (λ h. IsRight g.F.Format.layout h (call.Load c.args.place c.args.word) [] (answer_to says_number c.load.result) h)
+      c.self.view_is
       (load_is_right g.F.Format.layout c.self.inside.state c.args.place c.args.word c.load.result c.load.ensures);
 }

@@ -7,6 +7,7 @@ use Rattle.mps_heap.proofs.heap.Heap.num.Goals as goal
 
 pub returns : goal.returns
 returns g c = record {
-  right = subst (λ h. IsRight g.F.Format.layout h (call.Number c.args.slot c.args.cell) [] (answer_to says_number c.num.result) h) c.self.view_is
+  right = subst (λ h. IsRight g.F.Format.layout h (call.Number c.args.slot c.args.cell) [] (answer_to says_number c.num.result) h)
+      c.self.view_is
       (number_right g.F.Format.layout c.self.inside.state c.args.slot c.args.cell c.num.result c.num.ensures);
 }

@@ -1,8 +1,10 @@
 use Rattle.std.proofs.Common.{subst}
 use Rattle.mps_model.specs.declared.call.Call.TheVariants as call
+use Rattle.mps_outcome.specs.Allocating.{reserved}
 use Rattle.mps_refinement.specs.Answering.{answer_to, says_ok}
 use Rattle.mps_refinement.specs.RightMoving.{IsRightMoving}
 use Rattle.mps_refinement.proofs.Appending.{reserve_is_right_after}
+use Rattle.mps_refinement.proofs.Room.{keeps_room, reserve_keeps_room}
 use Rattle.mps_refinement.proofs.Staying.{is_ready, stays}
 use Rattle.mps_heap.proofs.heap.Heap.reserve.Goals as goal
 
@@ -11,13 +13,21 @@ reserve-requires g c = record { ready = is_ready g.F.Format.layout c.self.inside
 
 pub invariant_of-self : goal.invariant_of-self
 invariant_of-self g c =
-    let moved = reserve_is_right_after g.F.Format.layout c.self.inside.state c.args.trail.now c.args.x c.args.head c.reserve.result c.reserve.new.self c.reserve.new.trail c.reserve.ensures in
-    stays g.F.Format.layout c.self.inside.state c.reserve.new.self (call.Reserve c.args.x c.args.head) moved.moves (answer_to says_ok c.reserve.result) c.self.invariant moved.right
+    let moved = reserve_is_right_after g.F.Format.layout c.self.inside.state c.args.trail.now c.args.x c.args.head c.reserve.result
+        c.reserve.new.self c.reserve.new.trail c.reserve.ensures in
+    stays g.F.Format.layout c.self.inside.state c.reserve.new.self (call.Reserve c.args.x c.args.head) moved.moves (answer_to says_ok
+        c.reserve.result) c.self.invariant moved.right
 
 pub returns : goal.returns
 returns g c = record {
   right = subst
-      (λ h. IsRightMoving g.F.Format.layout h (call.Reserve c.args.x c.args.head) c.args.trail.now.moves c.reserve.new.trail.moves (answer_to says_ok c.reserve.result) c.reserve.new.self)
+      (λ h. IsRightMoving g.F.Format.layout h (call.Reserve c.args.x c.args.head) c.args.trail.now.moves c.reserve.new.trail.moves
+          (answer_to says_ok c.reserve.result) c.reserve.new.self)
       c.self.view_is
-      (reserve_is_right_after g.F.Format.layout c.self.inside.state c.args.trail.now c.args.x c.args.head c.reserve.result c.reserve.new.self c.reserve.new.trail c.reserve.ensures);
+      (reserve_is_right_after g.F.Format.layout c.self.inside.state c.args.trail.now c.args.x c.args.head c.reserve.result
+          c.reserve.new.self c.reserve.new.trail c.reserve.ensures);
+  room = keeps_room c.args.trail.now c.self.inside.state (reserved g.F.Format.layout c.self.inside.state c.args.trail.now c.args.x
+      c.args.head) c.reserve.result c.reserve.new.self
+      c.reserve.new.trail c.reserve.ensures (reserve_keeps_room g.F.Format.layout c.self.inside.state c.args.trail.now c.args.x
+          c.args.head c.requires.fits);
 }

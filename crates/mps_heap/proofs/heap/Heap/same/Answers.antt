@@ -7,6 +7,7 @@ use Rattle.mps_heap.proofs.heap.Heap.same.Goals as goal
 
 pub returns : goal.returns
 returns g c = record {
-  right = subst (λ h. IsRight g.F.Format.layout h (call.Same c.args.slot c.args.other) [] (answer_to says_bool c.same.result) h) c.self.view_is
+  right = subst (λ h. IsRight g.F.Format.layout h (call.Same c.args.slot c.args.other) [] (answer_to says_bool c.same.result) h)
+      c.self.view_is
       (are_same_right g.F.Format.layout c.self.inside.state c.args.slot c.args.other c.same.result c.same.ensures);
 }
