@@ -1,0 +1,70 @@
+-- The calls that a heap answers, in groups.
+use Rattle.std.specs.Prelude.{Bool, true, false}
+use Rattle.mps_model.specs.declared.call.Call.{Call}
+use Rattle.mps_model.specs.declared.call.Call.TheVariants as call
+
+-- a call that may make moves where no collection runs
+abbrev pub may_move : Call → Bool
+may_move (call.Reserve point head) = true
+may_move (call.Commit point target) = true
+may_move (call.Alloc pool words place) = true
+may_move (call.Free place) = true
+may_move _ = false
+
+-- a call on slots, or on the words of objects, reservations and manual blocks
+abbrev pub is_on_words : Call → Bool
+is_on_words (call.Get target source cell) = true
+is_on_words (call.Put target cell source) = true
+is_on_words (call.Number slot cell) = true
+is_on_words (call.SetNumber slot cell value) = true
+is_on_words (call.Copy target source) = true
+is_on_words (call.Clear slot) = true
+is_on_words (call.Same slot other) = true
+is_on_words (call.Null slot) = true
+is_on_words (call.Head slot) = true
+is_on_words (call.Address slot) = true
+is_on_words (call.InitNumber point cell value) = true
+is_on_words (call.InitReference point cell source) = true
+is_on_words (call.Load place word) = true
+is_on_words (call.Store place word value) = true
+is_on_words _ = false
+
+-- a call on an area, a registration, a message or a dependency
+abbrev pub is_on_areas : Call → Bool
+is_on_areas (call.Poke word value) = true
+is_on_areas (call.Peek word) = true
+is_on_areas (call.Pin word slot) = true
+is_on_areas (call.Take slot word) = true
+is_on_areas (call.Finalize slot) = true
+is_on_areas (call.Definalize slot) = true
+is_on_areas (call.Message slot) = true
+is_on_areas (call.DependencyReset dependency) = true
+is_on_areas (call.DependencyAdd dependency slot) = true
+is_on_areas (call.DependencyMerge dependency source) = true
+is_on_areas (call.DependencyStale dependency) = true
+is_on_areas _ = false
+
+-- a call on the arena, or one that drops a thing
+abbrev pub is_on_arena : Call → Bool
+is_on_arena (call.Limit limit) = true
+is_on_arena call.Committed = true
+is_on_arena call.Clamp = true
+is_on_arena call.Park = true
+is_on_arena call.Release = true
+is_on_arena call.Live = true
+is_on_arena (call.Dump at) = true
+is_on_arena (call.DropRoot root) = true
+is_on_arena (call.DropPoint point) = true
+is_on_arena _ = false
+
+-- a call that makes a thing in the arena
+abbrev pub makes_thing : Call → Bool
+makes_thing (call.Pool pool kind format) = true
+makes_thing (call.PoolMfs pool words) = true
+makes_thing (call.PoolMvff pool) = true
+makes_thing (call.Table table length) = true
+makes_thing (call.Area area length) = true
+makes_thing (call.Blocks blocks length) = true
+makes_thing (call.Point point pool rank) = true
+makes_thing (call.Dependency dependency) = true
+makes_thing _ = false

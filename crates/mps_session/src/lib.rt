@@ -1,0 +1,15 @@
+//! The session of a script: the heap as a machine that answers commands, the arena's making among them.
+#![tactic(auto)]
+
+mod areas;
+mod arena;
+mod made;
+mod making;
+mod moving;
+mod objects;
+mod replies;
+mod session;
+#[cfg(test)]
+mod tests;
+
+pub use session::Session;

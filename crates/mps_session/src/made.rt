@@ -1,0 +1,91 @@
+// A heap with the moves of its last call.
+ghost use Rattle.std.specs.Prelude.{◌≡◌, ◌<◌, ◌≤◌, IfOk, OnErr, IsTrue, []};
+ghost use Rattle.mps_base.specs.Address.{max_grains};
+ghost use Rattle.mps_commands.specs.Range.{IsInRange};
+ghost use Rattle.mps_format.specs.AnyFormat.{any_layout};
+ghost use Rattle.mps_heap.specs.Right.{IsNewHeap};
+ghost use Rattle.mps_session.specs.Built.{is_answered, takes_memory};
+ghost use Rattle.mps_session.specs.Standing.{AnswersRightly, StandsStill};
+
+use crate::{areas, arena, making, moving, objects};
+use mps_base::{Move, Trail};
+use mps_format::AnyFormat;
+use mps_heap::Heap;
+use mps_model::{Call, Reply};
+use std::alloc::{AllocError, Global};
+use std::marker::Model;
+
+/// The most moves that a call makes where no collection runs: those of a segment and of the block in it.
+const MOST_MOVES: u32 = 2;
+
+/// A heap, and the moves of the last call.
+pub struct Made {
+    heap: Heap<AnyFormat>,
+    trail: Trail,
+}
+
+impl Model for Made {
+    ghost use Rattle.mps_session.specs.Session.{HasRoom, MadeState};
+
+    ghost Value = { MadeState };
+
+    ghost view = { λ m. record { heap = m.heap; trail = m.trail } };
+
+    ghost invariant = { λ m. HasRoom m.trail };
+}
+
+impl Made {
+    /// The heap of a new arena, which made no move. The numbers are in grains.
+    pub fn new(alloc: Global, grains: u32, limit: u32) -> Result<Made, AllocError>
+        requires nonzero { 0 < grains }
+        requires at_most { grains ≤ max_grains }
+        ensures right { IfOk result (λ made. IsNewHeap any_layout grains limit made.heap) }
+        ensures unmoved { IfOk result (λ made. made.trail.moves ≡ []) }
+    {
+        let trail = Trail::new(alloc, MOST_MOVES)?;
+        let heap = Heap::new(alloc, grains, limit)?;
+        Ok(Made { heap, trail })
+    }
+
+    /// Answers a call. An `Err` says that memory is out.
+    pub fn answer(&mut self, call: &Call) -> Result<Reply, AllocError>
+        requires range { IsInRange call.now }
+        ensures right { IfOk result (λ reply. AnswersRightly (is_answered call.now) self.old.heap call.now self.new.trail.moves reply self.new.heap) }
+        ensures unchanged { OnErr result (StandsStill self.old.heap self.new.heap) }
+        ensures memory { OnErr result (IsTrue (takes_memory call.now)) }
+    {
+        self.trail.clear();
+        if let Some(reply) = moving::answer(&mut self.heap, &mut self.trail, call) {
+            return Ok(reply);
+        }
+        if let Some(reply) = objects::answer(&mut self.heap, call) {
+            return Ok(reply);
+        }
+        if let Some(reply) = areas::answer(&mut self.heap, call) {
+            return Ok(reply);
+        }
+        if let Some(reply) = arena::answer(&mut self.heap, call) {
+            return Ok(reply);
+        }
+        making::answer(&mut self.heap, call)
+    }
+    /// The moves of the last call.
+    pub fn moves(&self) -> &[Move]
+        ensures { result.now ≡ self.now.trail.moves }
+    {
+        self.trail.moves()
+    }
+
+    /// The words of the arena.
+    pub fn words(&self) -> &[u64]
+        ensures { result.now ≡ self.now.heap.segs.words }
+    {
+        self.heap.words()
+    }
+
+    /// Ends the heap.
+    pub fn finish(self) {
+        let Made { heap, trail: _ } = self;
+        heap.finish();
+    }
+}
