@@ -12,5 +12,5 @@ commit x t.0
 # Neither the segment that the pool holds nor the commit limit has room for two words more.
 reserve x f:2:0
 
-# Reading a reference isn't built yet.
+# The object has no reference cell: refusal 5.
 get t.0 t.0 1

@@ -18,7 +18,7 @@ use Rattle.mps_workload.specs.Ending.{FailsWithin}
 use Rattle.mps_workload.specs.Script.{script as generated_script}
 use Rattle.mps_args.specs.Meaning.{Meaning, Runs, Converts, Reads, Lists, Generates}
 use Rattle.mps_args.specs.Words.{meaning}
-use Rattle.mps_first_heap.specs.Built.{first_built}
+use Rattle.mps_session.specs.Built.{session_built}
 use Rattle.mps_run.specs.Leaving.{LeavesRun}
 use Rattle.mps_run.specs.LogFile.{IsInFile}
 use Rattle.mps_run.specs.Run.{RunsScript}
@@ -104,7 +104,7 @@ pub record GeneratesScript (seed count : ℕ) (status : ℕ) (old new : Outside)
 -- what is done with a status, by what the words ask for
 abbrev pub DoesAsAsked : Option Meaning → (status : ℕ) → (old new : Outside) → Type 0
 DoesAsAsked None status old new = ReportsUsage old new
-DoesAsAsked (Some (Runs log script)) status old new = RunsScript first_built log script status old new
+DoesAsAsked (Some (Runs log script)) status old new = RunsScript session_built log script status old new
 DoesAsAsked (Some (Converts log kinds)) status old new = ConvertsLog log kinds status old new
 DoesAsAsked (Some (Reads text)) status old new = ReadsText text status old new
 DoesAsAsked (Some (Lists log)) status old new = ListsBlocks log status old new
@@ -120,7 +120,7 @@ a_log_by_its_name old new does = does.in_file refl
 
 pub a_script_by_its_name : (old new : Outside) (bytes : List ℕ)
     → (does : DoesAsAsked (meaning (codes "run" ∷ codes "-o" ∷ codes "a" ∷ codes "s" ∷ [])) 0 old new)
-    → old.text (codes "s") ≡ Some bytes → LeavesRun first_built does.ends bytes old new
+    → old.text (codes "s") ≡ Some bytes → LeavesRun session_built does.ends bytes old new
 a_script_by_its_name old new bytes does is_known = does.leaves bytes is_known
 
 pub a_log_is_converted_whole : (old new : Outside) (bytes : List ℕ)

@@ -2,7 +2,7 @@
 ghost use Rattle.std.specs.Prelude.{◌≡◌, ◌≢◌, ℕ, List, Some, true};
 ghost use Rattle.mps_desk.specs.Desk.{Outside, Files};
 ghost use Rattle.mps_args.specs.Meaning.{Runs};
-ghost use Rattle.mps_first_heap.specs.Built.{first_built};
+ghost use Rattle.mps_session.specs.Built.{session_built};
 ghost use Rattle.mps_log_reader.specs.Ending.{is_input_verdict};
 ghost use Rattle.mps_run.specs.Following.{Answered, RanWhole, HoldsLog};
 ghost use Rattle.mps_cli.specs.Asked.{DoesAsAsked};
@@ -11,11 +11,11 @@ ghost use Rattle.mps_cli.specs.Asked.{DoesAsAsked};
 /// to a line that ends it, leaves one history; and its log is what the file of the log's name holds, where the desk knows its files.
 pub fn a_run_by_its_words()
     ensures answered { (log script : List ℕ) (status : ℕ) (old new : Outside) → DoesAsAsked (Some (Runs log script)) status old new
-        → status ≢ 4 → (bytes : List ℕ) → old.text script ≡ Some bytes → Answered first_built bytes old new }
+        → status ≢ 4 → (bytes : List ℕ) → old.text script ≡ Some bytes → Answered session_built bytes old new }
     ensures ran { (log script : List ℕ) (status : ℕ) (old new : Outside) → (does : DoesAsAsked (Some (Runs log script)) status old new)
         → is_input_verdict status ≡ true → (bytes : List ℕ) → old.text script ≡ Some bytes
-        → RanWhole first_built does.ends bytes old new }
+        → RanWhole session_built does.ends bytes old new }
     ensures file { (log script : List ℕ) (status : ℕ) (old new : Outside) → DoesAsAsked (Some (Runs log script)) status old new
         → is_input_verdict status ≡ true → (files : Files) → old.files ≡ Some files → (before : List ℕ) → old.logged ≡ Some before
-        → (bytes : List ℕ) → old.text script ≡ Some bytes → HoldsLog first_built log bytes files new }
+        → (bytes : List ℕ) → old.text script ≡ Some bytes → HoldsLog session_built log bytes files new }
 {}

@@ -12,7 +12,7 @@ ghost use Rattle.mps_cli.specs.declared.mps.NoWords.TheVariants.{NotText, OutOfM
 
 use mps_args::{Command, command_of};
 use mps_desk::Desk;
-use mps_first_heap::FirstMachine;
+use mps_session::Session;
 use mps_report::{NoBadPlace, Notice, Stop, report_ending};
 use mps_run::run_script;
 use mps_tools::{blocks, cnv, generate, txt};
@@ -96,7 +96,7 @@ fn run_command<D: Desk>(alloc: Global, command: Command<'_>, desk: &mut D) -> u8
 {
     match command {
         Command::Run { log, script } => {
-            run_script(alloc, FirstMachine::new(alloc), log, script, desk)
+            run_script(alloc, Session::new(alloc), log, script, desk)
         },
         Command::Convert { log, kinds } => cnv(alloc, log, kinds, desk),
         Command::Read { text } => txt(alloc, text, desk),

@@ -42,10 +42,10 @@ const FULL_ARENA: &[u8] =
     get t.0 t.0 1";
 
 const FULL_ARENA_ANSWERS: &[u8] =
-    b"ok\nok\nok\nok\nrefused 4\nok\nok\nrefused 10 1 1 1\nunsupported\n";
+    b"ok\nok\nok\nok\nrefused 4\nok\nok\nrefused 10 1 1 1\nrefused 5\n";
 
 /// A command that isn't built.
-const NOT_BUILT: &[u8] = b"# x\n arena  8   9 \nlive\n";
+const NOT_BUILT: &[u8] = b"# x\n arena  8   9 \ncollect\n";
 
 const NOT_BUILT_ANSWERS: &[u8] = b"ok\nunsupported\n";
 
