@@ -52,7 +52,8 @@ module _ (s s1 : PointsState) (segs : SegsState) (key : ℕ) (ready : IsReady s 
   is_open = record {
     there =
         ap (λ (x : PointsState). point_at x key) reserved
-        ∙ get_or-set_same s.points key (Some (opened ready.point placement h)) None (some_within s.points key ready.point ready.there.there);
+        ∙ get_or-set_same s.points key (Some (opened ready.point placement h)) None (some_within s.points key ready.point
+        ready.there.there);
     reserved = refl;
   }
 

@@ -32,7 +32,8 @@ pub(crate) fn place(
     requires at_hand { IsAtHand segs.old p.now.buffer }
     ensures value { MatchResult result (λ placed. answer_of_placement (placement_at p.now segs.old words) ≡ Ok placed.at)
         (λ why. answer_of_placement (placement_at p.now segs.old words) ≡ Err why) }
-    ensures state { MatchResult result (λ _. segs.new ≡ with_place segs.old p.now (placement_at p.now segs.old words)) (λ _. segs.new ≡ segs.old) }
+    ensures state { MatchResult result (λ _. segs.new ≡ with_place segs.old p.now (placement_at p.now segs.old words))
+        (λ _. segs.new ≡ segs.old) }
     ensures moves { MatchResult result (λ _. trail.new ≡ moves_after (placement_at p.now segs.old words) p.now.pool 0 trail.old)
         (λ _. trail.new ≡ trail.old) }
     ensures buffer { IfOk result (λ placed. placed.buffer ≡ buffer_after p.now (placement_at p.now segs.old words) words) }

@@ -26,8 +26,11 @@ module _ {F : Type 0} (layout : F → Layout) where
     where
       of_made : (r : Result ℕ Refusal) → IsRightMaking layout h c r after → IsRightMaking layout h c (without_key r) after
       of_made (Ok key) right = record { answered = λ other. right.answered (λ e. absurd cc); out_of_memory = λ e. absurd cc }
-      of_made (Err refusal.OutOfMemory) right = record { answered = λ other. absurd (other refl); out_of_memory = λ e.
-          right.out_of_memory refl }
+      of_made (Err refusal.OutOfMemory) right = record {
+        answered = λ other. absurd (other refl);
+        out_of_memory = λ e.
+            right.out_of_memory refl;
+      }
       of_made (Err _) right = record { answered = λ other. right.answered (λ e. absurd cc); out_of_memory = λ e. absurd cc }
 
   pub making_in_without_key : (Has : World → Type 0) (h after : HeapState F) (c : Call) (made : Result ℕ Refusal)
@@ -38,8 +41,11 @@ module _ {F : Type 0} (layout : F → Layout) where
     where
       of_made : (r : Result ℕ Refusal) → IsRightMakingIn layout Has h c r after → IsRightMakingIn layout Has h c (without_key r) after
       of_made (Ok key) right = record { answered = λ other. right.answered (λ e. absurd cc); out_of_memory = λ e. absurd cc }
-      of_made (Err refusal.OutOfMemory) right = record { answered = λ other. absurd (other refl); out_of_memory = λ e.
-          right.out_of_memory refl }
+      of_made (Err refusal.OutOfMemory) right = record {
+        answered = λ other. absurd (other refl);
+        out_of_memory = λ e.
+            right.out_of_memory refl;
+      }
       of_made (Err _) right = record { answered = λ other. right.answered (λ e. absurd cc); out_of_memory = λ e. absurd cc }
 
   pub dump_is_right_of : (h : HeapState F) (at : Addr) (result : Result ℕ Refusal)

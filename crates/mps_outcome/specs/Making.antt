@@ -87,7 +87,10 @@ module _ {F : Type 0} where
   -- what is left of the roots where one is dropped, and how many slots go
   abbrev pub roots_without : HeapState F → Option Thing → Option (RootsState × ℕ)
   roots_without h (Some (thing.Table key)) =
-      option_map (λ (slots : List ℕ). (record h.roots { tables = without h.roots.tables key; order = without_key h.roots.order key }, length slots))
+      option_map (λ (slots : List ℕ). (
+        record h.roots { tables = without h.roots.tables key; order = without_key h.roots.order key },
+        length slots,
+      ))
       (kept h.roots.tables key)
   roots_without h (Some (thing.Area key)) =
       option_map (λ (words : List Stored). (record h.roots { areas = without h.roots.areas key }, length words)) (kept h.roots.areas key)

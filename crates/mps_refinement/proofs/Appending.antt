@@ -111,13 +111,15 @@ module _ {F A : Type 0} where
   after_refusal trail (Err why) f g is = refl
 
   ok_appends : (trail : Moves) (answer : A) (state : HeapState F) (t u : Moves) → t ≡ after_moves trail.moves u
-      → Appends trail (Ok (record { answer = answer; state = state; trail = t })) (Ok (record { answer = answer; state = state; trail = u }))
+      → Appends trail (Ok (record { answer = answer; state = state; trail = t }))
+      (Ok (record { answer = answer; state = state; trail = u }))
   ok_appends trail answer state t u is = ap (λ (x : Moves). Ok (record { answer = answer; state = state; trail = x })) is
 
   module _ (layout : F → Layout) (h : HeapState F) (c : Call) (trail : Moves) (says : A → Answer) where
     -- what is known of the call over a fresh trail
     abbrev IsRightFresh : Checked (Moved F A) → Type 0
-    IsRightFresh x = (result : Checked A) (after : HeapState F) (trail_after : Moves) → ComesMoving h (fresh trail) x result after trail_after
+    IsRightFresh x =
+        (result : Checked A) (after : HeapState F) (trail_after : Moves) → ComesMoving h (fresh trail) x result after trail_after
         → IsRight layout h c trail_after.moves (answer_to says result) after
 
     of_fresh : (y : Checked (Moved F A)) → IsRightFresh y → (result : Checked A) (after : HeapState F) (trail_after : Moves)
@@ -145,7 +147,8 @@ module _ {F A : Type 0} where
 -- ---- the calls
 
 module _ {F : Type 0} (layout : F → Layout) (h : HeapState F) (trail : Moves) where
-  reserve_appends : (name : Name) (head : ℕ) → Appends trail (reserved layout h trail name head) (reserved layout h (fresh trail) name head)
+  reserve_appends : (name : Name) (head : ℕ)
+      → Appends trail (reserved layout h trail name head) (reserved layout h (fresh trail) name head)
   reserve_appends name head =
       after_check trail (check_reserve layout h name head) _ _ (λ r.
       after_check trail (answer_of_placement _) _ _ (λ at.

@@ -54,7 +54,8 @@ pub in_order_still : (low high most : ℕ) (rs : List Run) → high ≤ most →
 in_order_still low high most [] few ascending = omega (arith, few, ascending)
 in_order_still low high most (r ∷ rs) few ascending = (ascending.0, ascending.1, in_order_still (end_of r) high most rs few ascending.2)
 
-pub aligned_otherwise : (ss : List Segment) → AreAligned ss → AllByRecursion (λ (t : Segment). t.base ≡ address_of_grain (grain_of t.base)) ss
+pub aligned_otherwise : (ss : List Segment) → AreAligned ss
+    → AllByRecursion (λ (t : Segment). t.base ≡ address_of_grain (grain_of t.base)) ss
 aligned_otherwise [] all = tt
 aligned_otherwise (s ∷ ss) all = (sym all.0, aligned_otherwise ss all.1)
 

@@ -107,7 +107,8 @@ module _ {F : Type 0} (layout : F → Layout) (h : HeapState F) (c : Call) (chec
       refused_right why e after untouched = λ w line has st.
           let m = alike w st.past has st.parts st.reached in
           let still = untouched_stands layout h after w untouched st in
-          answered_is_right layout w line c (answer_of_making {A = ℕ} (Err why)) (Err why) after quiet arena refl st.reached st.parts.at_rest
+          answered_is_right layout w line c (answer_of_making {A = ℕ} (Err why)) (Err why) after quiet arena refl st.reached
+          st.parts.at_rest
           (m.comes ∙ ap (λ x. x >> done m.made) (same_err (λ a b. Unit {0}) checks m.models why m.alike e)) refl
           (record { past = still.past; parts = still.parts })
 

@@ -93,7 +93,10 @@ module _ {F : Type 0} (layout : F → Layout) where
           | inr e ↦ some.lawful number l e
         ];
     stands = λ formats are.
-        let s = some.stands formats (record { lawful = are.lawful; first = λ number l is. are.first number l (slice_get-still some.used (layout format) number l is) }) in
+        let s = some.stands formats (record {
+          lawful = are.lawful;
+          first = λ number l is. are.first number l (slice_get-still some.used (layout format) number l is);
+        }) in
         of_world formats s (are.first number (layout format) (slice_get-last some.used (layout format)));
   }
     where
@@ -114,7 +117,8 @@ module _ {F : Type 0} (layout : F → Layout) where
       out is formats s =
           record { world = s.world; formats_are = s.formats_are; stands = (right number).out_of_memory is s.world s.stands }
 
-      of_result : (r : Result A Refusal) → result ≡ r → (formats : ℕ → Layout) → StandsWith layout h formats → formats number ≡ layout format
+      of_result : (r : Result A Refusal) → result ≡ r → (formats : ℕ → Layout) → StandsWith layout h formats
+          → formats number ≡ layout format
           → StandsWith layout after formats
       of_result (Ok a) is formats s means = answered (λ e. absurd (let f = sym is ∙ e in absurd cc)) formats s means
       of_result (Err refusal.OutOfMemory) is formats s means = out is formats s

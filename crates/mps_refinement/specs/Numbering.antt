@@ -4,7 +4,8 @@ use Rattle.mps_model.specs.Graph.{entry_at}
 
 -- each thing that is kept under a key is the one that has the key's number, and no two keys in use have the same number. `Fits` says
 -- when a thing of the heap, by its number, stands for one of the model
-pub record AreNumbered {A B : Type 0} (Fits : ℕ → A → B → Type 0) (number : ℕ → ℕ) (kept : ℕ → Option A) (entries : List (Option B)) : Type 0
+pub record AreNumbered {A B : Type 0} (Fits : ℕ → A → B → Type 0) (number : ℕ → ℕ) (kept : ℕ → Option A)
+    (entries : List (Option B)) : Type 0
   where
     pub there : (key : ℕ) (a : A) → kept key ≡ Some a → (b : B) × (entry_at entries (number key) ≡ Some b) × Fits (number key) a b
     pub apart : (key other : ℕ) (a b : A) → kept key ≡ Some a → kept other ≡ Some b → number key ≡ number other → key ≡ other

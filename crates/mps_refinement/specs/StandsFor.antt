@@ -78,7 +78,8 @@ pub data AreHeldAlike (flips : ℕ) (reserved_at : Address) : Option Held → Op
   NoneHeld : AreHeldAlike flips reserved_at None None
 
 -- a point of the heap stands for a point of the model with what that has in the arena
-pub record IsPoint (flips : ℕ) (is_copying : ℕ → Bool) (memories : List PointMemory) (number : ℕ) (p : Point) (q : graph.Point) : Type 0 where
+pub record IsPoint (flips : ℕ) (is_copying : ℕ → Bool) (memories : List PointMemory) (number : ℕ) (p : Point)
+    (q : graph.Point) : Type 0 where
   pub pool : p.pool ≡ q.pool
   pub rank : p.rank ≡ q.rank
   pub copying : p.is_copying ≡ is_copying q.pool

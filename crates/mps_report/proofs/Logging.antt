@@ -75,7 +75,15 @@ takes_after_reading a b c d f reads g = takes_then a b d f (takes_then b c d (ta
 -- ---- pieces
 
 only_logs_self : (a : Outside) → OnlyLogs a a
-only_logs_self a = record { asked = refl; input = refl; in_faults = refl; printed = refl; out_faults = refl; reported = refl; err_faults = refl }
+only_logs_self a = record {
+  asked = refl;
+  input = refl;
+  in_faults = refl;
+  printed = refl;
+  out_faults = refl;
+  reported = refl;
+  err_faults = refl;
+}
 
 only_logs_then : (a b c : Outside) → OnlyLogs a b → OnlyLogs b c → OnlyLogs a c
 only_logs_then a b c f g = record {
@@ -156,7 +164,8 @@ part_of_second a b c first second l p =
     let parts : first ++ second ≡ some ++ drop p.count second =
     ap (λ (xs : List ℕ). first ++ xs) (sym (take-append-drop p.count second))
     ∙ sym (append_assoc first (take p.count second) (drop p.count second)) in
-    let taken : take (length some) (first ++ second) ≡ some = ap (take (length some)) parts ∙ take-append_seam some (drop p.count second) in
+    let taken : take (length some) (first ++ second) ≡ some = ap (take (length some)) parts ∙ take-append_seam some (drop p.count
+    second) in
     let both = takes_then a b c (takes_of_logs a b first l) (takes_of_part b c second p) in
     record {
       count = length some;

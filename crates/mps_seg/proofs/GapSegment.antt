@@ -22,7 +22,8 @@ segment_at grain Free = record { base = address_of_grain grain; grains = 0; pool
 segment_at grain (First n p g r) = record { base = address_of_grain grain; grains = n; pool = p; generation = g; rank = r }
 
 segment_of_entry : (at : ℕ) (entries : List Entry) (i n p g : ℕ) (r : Rank) → get_or entries i Free ≡ First n p g r
-    → Contains (segments_of_entries at entries) (record { base = address_of_grain (at + i); grains = n; pool = p; generation = g; rank = r })
+    → Contains (segments_of_entries at entries)
+    (record { base = address_of_grain (at + i); grains = n; pool = p; generation = g; rank = r })
 unfolding segments_of_entries
 segment_of_entry at [] i n p g r is = cc
 segment_of_entry at (Free ∷ entries) zero n p g r is = cc

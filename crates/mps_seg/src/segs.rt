@@ -74,7 +74,8 @@ impl Segs {
         })
     }
 
-    /// Takes a new segment for `words` words and returns its base. It isn't condemned, and its summary is empty. Refuses `CommitLimit` and `NoRun` as the arena does.
+    /// Takes a new segment for `words` words and returns its base. It isn't condemned, and its summary is empty. Refuses `CommitLimit` and
+    /// `NoRun` as the arena does.
     pub fn take(
         &mut self,
         trail: &mut Trail,
@@ -94,7 +95,8 @@ impl Segs {
         } }
         ensures moves { trail.new ≡ moves_after (placement_for self.old words) pool generation trail.old }
         ensures free { IfOk result (λ base. CanCover self.new (record { from = word_of base.0; count = words })) }
-        ensures all_free { IfOk result (λ base. CanCover self.new (record { from = word_of base.0; count = words_of_grain * grains_needed words })) }
+        ensures all_free { IfOk result (λ base.
+            CanCover self.new (record { from = word_of base.0; count = words_of_grain * grains_needed words })) }
     {
         let grains = (words + (WORDS_OF_GRAIN as u32 - 1)) / WORDS_OF_GRAIN as u32;
         let base = self.arena.take_run(grains)?;

@@ -22,7 +22,7 @@ use Rattle.mps_refinement.specs.RightMoving.{IsRightMoving}
 use Rattle.mps_refinement.specs.RightStep.{IsRight, IsRightIn, step_of}
 use Rattle.mps_refinement.specs.StandsFor.{StandsFor}
 use Rattle.mps_session.specs.Groups.{makes_thing}
-use Rattle.mps_session.specs.Standing.{AnswersRightly, Answered, IsAnswered, IsNumbered, StandsStill}
+use Rattle.mps_session.specs.Standing.{AnswersRightly, Answered, IsAnswered, HasScriptFormats, HeapStandsStill}
 use Rattle.mps_session.specs.Told.{Tells}
 
 -- in a world, where the reply tells the answer
@@ -69,13 +69,13 @@ answered_pool {h} {after} {c} {d} is came (Ok given) number format numbered make
       supported = tells.supported;
     })
   where
-    means : (w : World) → IsNumbered w → MeansLayout number (any_layout format) w
+    means : (w : World) → HasScriptFormats w → MeansLayout number (any_layout format) w
     means w formats =
         ap (λ f. f number) formats ∙ ap numbered_layout (sym numbered) ∙ numbered_layout-number_of format
 
 pub pool_unchanged : {h after : HeapState AnyFormat} {d : Call} {A : Type 0} (came : Result A Refusal) {E : Type 0} (told : Result Reply E)
     {Has : World → Type 0} → OnErr told (came ≡ Err refusal.OutOfMemory) → IsRightMakingIn any_layout Has h d came after
-    → OnErr told (StandsStill h after)
+    → OnErr told (HeapStandsStill h after)
 pool_unchanged came (Ok given) is right = tt
 pool_unchanged came (Err e) is right = right.out_of_memory is
 

@@ -24,8 +24,8 @@ use Rattle.mps_model.specs.declared.reply.Reply.{Reply}
 use Rattle.mps_model.specs.declared.reply.Reply.TheVariants as reply
 use Rattle.mps_outcome.specs.State.{HeapState}
 use Rattle.mps_session.specs.Built.{is_answered, is_built, is_unsupported_call}
-use Rattle.mps_session.specs.Session.{MadeState, moves_of, words_of}
-use Rattle.mps_session.specs.Standing.{AnswersRightly, Answered, BeginsRightly, Begun, HeapStands, NotBegun, NotSupported, Stands}
+use Rattle.mps_session.specs.Session.{MadeState, last_moves, arena_words}
+use Rattle.mps_session.specs.Standing.{AnswersRightly, Answered, BeginsRightly, Begun, HeapStands, NotBegun, NotSupported, SessionStands}
 
 -- a reply is `unsupported` exactly where a call is
 abbrev pub IsExact : World → Call → Reply → Type 0
@@ -44,7 +44,8 @@ numbers_are_lawful number =
 
 -- ---- steps
 
-step_same : (line : ℕ) {c d : Call} {ms ns : List Move} {a b : Answer} → c ≡ d → ms ≡ ns → a ≡ b → step_in line c ms a ≡ step_in line d ns b
+step_same : (line : ℕ) {c d : Call} {ms ns : List Move} {a b : Answer} → c ≡ d → ms ≡ ns → a ≡ b
+    → step_in line c ms a ≡ step_in line d ns b
 step_same line {c} {d} {ms} {ns} {a} {b} call moves answer =
     ap (λ k. step_in line k ms a) call ∙ ap (λ m. step_in line d m a) moves ∙ ap (λ x. step_in line d ns x) answer
 
@@ -57,15 +58,16 @@ pub record StepsTo (After : World → Type 0) (w : World) (s : Step) : Type 0 wh
 
 module _ (c : Call) (given : Reply) where
   pub begins_in : (after : Option MadeState) → BeginsRightly c given after → (w : World) (line : ℕ) → w ≡ empty_world
-      → StepsTo (Stands after) w (step_in line c (moves_of after) (answer_of (words_of after) given))
+      → StepsTo (SessionStands after) w (step_in line c (last_moves after) (answer_of (arena_words after) given))
   begins_in after begins w line empty =
-      subst (λ (v : World). StepsTo (Stands after) v (step_in line c (moves_of after) (answer_of (words_of after) given))) (sym empty)
+      subst (λ (v : World). StepsTo (SessionStands after) v (step_in line c (last_moves after) (answer_of (arena_words after) given)))
+      (sym empty)
       (of_empty after begins)
     where
       of_empty : (after : Option MadeState) → BeginsRightly c given after
-          → StepsTo (Stands after) empty_world (step_in line c (moves_of after) (answer_of (words_of after) given))
+          → StepsTo (SessionStands after) empty_world (step_in line c (last_moves after) (answer_of (arena_words after) given))
       of_empty None (NotBegun other is) =
-          subst (StepsTo (Stands None) empty_world) (sym (step_same line refl refl (ap (answer_of []) is)))
+          subst (StepsTo (SessionStands None) empty_world) (sym (step_same line refl refl (ap (answer_of []) is)))
           (record { legal = refl; stands = refl })
       of_empty (Some made) (Begun grains limit _ is some told new none) =
           let r = new numbered_layout numbers_are_lawful line in

@@ -29,21 +29,21 @@ abbrev pub is_unsupported_call : World → Call → Bool
 is_unsupported_call w c = if has_arena w then not (is_answered c) else not (is_arena c)
 
 -- whether a call takes memory: all that make something do
-abbrev pub takes_memory : Call → Bool
-takes_memory (call.Arena grains limit) = true
-takes_memory (call.Pool pool kind format) = true
-takes_memory (call.PoolMfs pool words) = true
-takes_memory (call.PoolMvff pool) = true
-takes_memory (call.Table table length) = true
-takes_memory (call.Area area length) = true
-takes_memory (call.Blocks blocks length) = true
-takes_memory (call.Point point pool rank) = true
-takes_memory (call.Dependency dependency) = true
-takes_memory _ = false
+abbrev pub call_takes_memory : Call → Bool
+call_takes_memory (call.Arena grains limit) = true
+call_takes_memory (call.Pool pool kind format) = true
+call_takes_memory (call.PoolMfs pool words) = true
+call_takes_memory (call.PoolMvff pool) = true
+call_takes_memory (call.Table table length) = true
+call_takes_memory (call.Area area length) = true
+call_takes_memory (call.Blocks blocks length) = true
+call_takes_memory (call.Point point pool rank) = true
+call_takes_memory (call.Dependency dependency) = true
+call_takes_memory _ = false
 
 -- both, as a machine says them
 abbrev pub session_built : Built
-session_built = record { is_unsupported = is_unsupported_call; takes_memory = takes_memory }
+session_built = record { is_unsupported = is_unsupported_call; takes_memory = call_takes_memory }
 
 -- the world after `arena 1 1`
 abbrev example_world : World

@@ -14,14 +14,14 @@ abbrev pub most_moves : ℕ
 most_moves = 2
 
 -- the trail has room for the moves of one call
-abbrev pub HasRoom : Moves → Type 0
-HasRoom trail = most_moves ≤ trail.spare + length trail.moves
+abbrev pub HasRoomForMoves : Moves → Type 0
+HasRoomForMoves trail = most_moves ≤ trail.spare + length trail.moves
 
-abbrev pub moves_of : Option MadeState → List Move
-moves_of None = []
-moves_of (Some made) = made.trail.moves
+abbrev pub last_moves : Option MadeState → List Move
+last_moves None = []
+last_moves (Some made) = made.trail.moves
 
 -- the words of the arena
-abbrev pub words_of : Option MadeState → List ℕ
-words_of None = []
-words_of (Some made) = made.heap.segs.words
+abbrev pub arena_words : Option MadeState → List ℕ
+arena_words None = []
+arena_words (Some made) = made.heap.segs.words

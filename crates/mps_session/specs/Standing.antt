@@ -18,24 +18,24 @@ use Rattle.mps_refinement.specs.StandsFor.{StandsFor}
 use Rattle.mps_session.specs.Session.{MadeState}
 
 -- the numbers of formats mean the three of a script
-abbrev pub IsNumbered : World → Type 0
-IsNumbered w = w.formats ≡ numbered_layout
+abbrev pub HasScriptFormats : World → Type 0
+HasScriptFormats w = w.formats ≡ numbered_layout
 
 -- a heap stands for a world of a script, in which the arena was made
 pub record HeapStands (h : HeapState AnyFormat) (w : World) : Type 0 where
   pub heap : StandsFor any_layout h w
-  pub formats : IsNumbered w
+  pub formats : HasScriptFormats w
   pub arena : 0 < w.grains
 
 -- a session stands for the empty world, until the arena is made
-abbrev pub Stands : Option MadeState → World → Type 0
-Stands None w = w ≡ empty_world
-Stands (Some made) w = HeapStands made.heap w
+abbrev pub SessionStands : Option MadeState → World → Type 0
+SessionStands None w = w ≡ empty_world
+SessionStands (Some made) w = HeapStands made.heap w
 
 -- a call made these moves and got this reply, rightly in each world of a script for which the heap stood
 pub record IsAnswered (before : HeapState AnyFormat) (c : Call) (moves : List Move) (given : Reply) (after : HeapState AnyFormat) : Type 0
   where
-    pub right : (w : World) (line : ℕ) → IsNumbered w → StandsFor any_layout before w
+    pub right : (w : World) (line : ℕ) → HasScriptFormats w → StandsFor any_layout before w
         → IsRightIn any_layout w (step_of line c moves (answer_of after.segs.words given)) after
     pub supported : given ≢ reply.Unsupported
 
@@ -52,5 +52,5 @@ pub data BeginsRightly (c : Call) (given : Reply) : Option MadeState → Type 0 
   NotBegun : is_arena c ≡ false → given ≡ reply.Unsupported → BeginsRightly c given None
 
 -- it stands for what it stood for
-abbrev pub StandsStill : (before after : HeapState AnyFormat) → Type 0
-StandsStill before after = (w : World) → StandsFor any_layout before w → StandsFor any_layout after w
+abbrev pub HeapStandsStill : (before after : HeapState AnyFormat) → Type 0
+HeapStandsStill before after = (w : World) → StandsFor any_layout before w → StandsFor any_layout after w

@@ -4,8 +4,8 @@ ghost use Rattle.mps_base.specs.Address.{max_grains};
 ghost use Rattle.mps_commands.specs.Range.{IsInRange};
 ghost use Rattle.mps_format.specs.AnyFormat.{any_layout};
 ghost use Rattle.mps_heap.specs.Right.{IsNewHeap};
-ghost use Rattle.mps_session.specs.Built.{is_answered, takes_memory};
-ghost use Rattle.mps_session.specs.Standing.{AnswersRightly, StandsStill};
+ghost use Rattle.mps_session.specs.Built.{is_answered, call_takes_memory};
+ghost use Rattle.mps_session.specs.Standing.{AnswersRightly, HeapStandsStill};
 
 use crate::{areas, arena, making, moving, objects};
 use mps_base::{Move, Trail};
@@ -25,13 +25,13 @@ pub struct Made {
 }
 
 impl Model for Made {
-    ghost use Rattle.mps_session.specs.Session.{HasRoom, MadeState};
+    ghost use Rattle.mps_session.specs.Session.{HasRoomForMoves, MadeState};
 
     ghost Value = { MadeState };
 
     ghost view = { λ m. record { heap = m.heap; trail = m.trail } };
 
-    ghost invariant = { λ m. HasRoom m.trail };
+    ghost invariant = { λ m. HasRoomForMoves m.trail };
 }
 
 impl Made {
@@ -50,9 +50,10 @@ impl Made {
     /// Answers a call. An `Err` says that memory is out.
     pub fn answer(&mut self, call: &Call) -> Result<Reply, AllocError>
         requires range { IsInRange call.now }
-        ensures right { IfOk result (λ reply. AnswersRightly (is_answered call.now) self.old.heap call.now self.new.trail.moves reply self.new.heap) }
-        ensures unchanged { OnErr result (StandsStill self.old.heap self.new.heap) }
-        ensures memory { OnErr result (IsTrue (takes_memory call.now)) }
+        ensures right { IfOk result (λ reply.
+            AnswersRightly (is_answered call.now) self.old.heap call.now self.new.trail.moves reply self.new.heap) }
+        ensures unchanged { OnErr result (HeapStandsStill self.old.heap self.new.heap) }
+        ensures memory { OnErr result (IsTrue (call_takes_memory call.now)) }
     {
         self.trail.clear();
         if let Some(reply) = moving::answer(&mut self.heap, &mut self.trail, call) {

@@ -2,7 +2,7 @@
 ghost use Rattle.std.specs.Prelude.{IfOk, IsTrue, OnErr, []};
 ghost use Rattle.mps_commands.specs.Range.{IsInRange};
 ghost use Rattle.mps_session.specs.Groups.{makes_thing};
-ghost use Rattle.mps_session.specs.Standing.{AnswersRightly, StandsStill};
+ghost use Rattle.mps_session.specs.Standing.{AnswersRightly, HeapStandsStill};
 
 use crate::replies::made;
 use mps_format::AnyFormat;
@@ -14,7 +14,7 @@ use std::alloc::AllocError;
 pub fn answer(heap: &mut Heap<AnyFormat>, call: &Call) -> Result<Reply, AllocError>
     requires range { IsInRange call.now }
     ensures right { IfOk result (λ reply. AnswersRightly (makes_thing call.now) heap.old call.now [] reply heap.new) }
-    ensures unchanged { OnErr result (StandsStill heap.old heap.new) }
+    ensures unchanged { OnErr result (HeapStandsStill heap.old heap.new) }
     ensures memory { OnErr result (IsTrue (makes_thing call.now)) }
 {
     match *call {

@@ -3,8 +3,8 @@ ghost use Rattle.std.specs.Prelude.{◌≡◌, IfOk, None, OnErr, true};
 ghost use Rattle.mps_commands.specs.Range.{IsInRange};
 ghost use Rattle.mps_model.specs.FirstCall.{is_arena};
 ghost use Rattle.mps_session.specs.Built.{session_built};
-ghost use Rattle.mps_session.specs.Session.{moves_of, words_of};
-ghost use Rattle.mps_session.specs.Standing.{BeginsRightly, Stands};
+ghost use Rattle.mps_session.specs.Session.{last_moves, arena_words};
+ghost use Rattle.mps_session.specs.Standing.{BeginsRightly, SessionStands};
 
 use crate::made::Made;
 use mps_base::Move;
@@ -47,11 +47,11 @@ impl Session {
 }
 
 impl Commands for Session {
-    ghost stands_for = { λ s. Stands s.made };
+    ghost stands_for = { λ s. SessionStands s.made };
 
-    ghost moves = { λ s. moves_of s.made };
+    ghost moves = { λ s. last_moves s.made };
 
-    ghost words = { λ s. words_of s.made };
+    ghost words = { λ s. arena_words s.made };
 
     ghost built = { session_built };
 

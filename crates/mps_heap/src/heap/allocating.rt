@@ -13,11 +13,12 @@ use mps_format::Format;
 use mps_outcome::Committed;
 
 impl<F: Format> Heap<F> {
-    /// Reserves a block with this head at a point. Its numbers are 0 and its references null. Refuses `BadHead` where the pool takes no such
-    /// block, `Open` where the point has an open reservation, and `CommitLimit` and `NoRun` where there is no room.
+    /// Reserves a block with this head at a point. Its numbers are 0 and its references null. Refuses `BadHead` where the pool takes no
+    /// such block, `Open` where the point has an open reservation, and `CommitLimit` and `NoRun` where there is no room.
     pub fn reserve(&mut self, trail: &mut Trail, x: Name, head: u64) -> Result<(), Refusal>
         requires fits { 0 < trail.old.spare }
-        ensures right { IsRightMoving F.layout self.old (call.Reserve x head) trail.old.moves trail.new.moves (answer_to says_ok result) self.new }
+        ensures right { IsRightMoving F.layout self.old (call.Reserve x head) trail.old.moves trail.new.moves
+            (answer_to says_ok result) self.new }
         ensures room { KeepsRoom trail.old trail.new }
     {
         self.state.reserve(trail, x, head)
@@ -41,7 +42,8 @@ impl<F: Format> Heap<F> {
     /// `NotOpen`.
     pub fn commit(&mut self, trail: &mut Trail, x: Name, target: Slot) -> Result<Committed, Refusal>
         requires fits { 0 < trail.old.spare }
-        ensures right { IsRightMoving F.layout self.old (call.Commit x target) trail.old.moves trail.new.moves (answer_to says_committed result) self.new }
+        ensures right { IsRightMoving F.layout self.old (call.Commit x target) trail.old.moves trail.new.moves
+            (answer_to says_committed result) self.new }
         ensures room { KeepsRoom trail.old trail.new }
     {
         self.state.commit(trail, x, target)

@@ -22,7 +22,8 @@ impl<F: Format> Heap<F> {
         place: Slot,
     ) -> Result<(), Refusal>
         requires fits { 1 < trail.old.spare }
-        ensures right { IsRightMoving F.layout self.old (call.Alloc pool words place) trail.old.moves trail.new.moves (answer_to says_ok result) self.new }
+        ensures right { IsRightMoving F.layout self.old (call.Alloc pool words place) trail.old.moves trail.new.moves
+            (answer_to says_ok result) self.new }
         ensures room { KeepsRoom trail.old trail.new }
     {
         self.state.alloc(trail, pool, words, place)
@@ -31,7 +32,8 @@ impl<F: Format> Heap<F> {
     /// Frees the block in a place, which is empty then. Refuses `NotABlock` where it was empty.
     pub fn free(&mut self, trail: &mut Trail, place: Slot) -> Result<(), Refusal>
         requires fits { 1 < trail.old.spare }
-        ensures right { IsRightMoving F.layout self.old (call.Free place) trail.old.moves trail.new.moves (answer_to says_ok result) self.new }
+        ensures right { IsRightMoving F.layout self.old (call.Free place) trail.old.moves trail.new.moves
+            (answer_to says_ok result) self.new }
         ensures room { KeepsRoom trail.old trail.new }
     {
         self.state.free(trail, place)

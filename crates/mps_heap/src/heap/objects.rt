@@ -70,8 +70,8 @@ impl<F: Format> Heap<F> {
         self.state.set_num(slot, cell, n)
     }
 
-    /// A slot becomes what a cell of the object in another slot refers to. Refuses `NullRef`, `BadIndex`, and `NotARef` where the cell is no
-    /// reference.
+    /// A slot becomes what a cell of the object in another slot refers to. Refuses `NullRef`, `BadIndex`, and `NotARef` where the cell is
+    /// no reference.
     pub fn get(&mut self, target: Slot, source: Slot, cell: u64) -> Result<(), Refusal>
         ensures right { IsRight F.layout self.old (call.Get target source cell) [] (answer_to says_ok result) self.new }
     {

@@ -12,11 +12,13 @@ returns-in-Pool-clause-unchanged c =
     pool_unchanged c.pool.result c.made.result c.made.ensures.out_of_memory (c.pool.ensures.right c.in-Pool.format)
 
 pub returns-in-PoolMfs-clause-right : goal.returns-in-PoolMfs-clause-right
-returns-in-PoolMfs-clause-right c = answered_making c.in-PoolMfs.is c.pool_mfs.result c.made-in-PoolMfs.result refl c.made-in-PoolMfs.ensures.told
+returns-in-PoolMfs-clause-right c = answered_making c.in-PoolMfs.is c.pool_mfs.result c.made-in-PoolMfs.result refl
+    c.made-in-PoolMfs.ensures.told
     c.made-in-PoolMfs.ensures.done c.pool_mfs.ensures.right
 
 pub returns-in-PoolMvff-clause-right : goal.returns-in-PoolMvff-clause-right
-returns-in-PoolMvff-clause-right c = answered_making c.in-PoolMvff.is c.pool_mvff.result c.made-in-PoolMvff.result refl c.made-in-PoolMvff.ensures.told
+returns-in-PoolMvff-clause-right c = answered_making c.in-PoolMvff.is c.pool_mvff.result c.made-in-PoolMvff.result refl
+    c.made-in-PoolMvff.ensures.told
     c.made-in-PoolMvff.ensures.done c.pool_mvff.ensures.right
 
 pub returns-in-Table-clause-right : goal.returns-in-Table-clause-right
@@ -28,7 +30,8 @@ returns-in-Area-clause-right c = answered_making c.in-Area.is c.area.result c.ma
     c.made-in-Area.ensures.done c.area.ensures.right
 
 pub returns-in-Blocks-clause-right : goal.returns-in-Blocks-clause-right
-returns-in-Blocks-clause-right c = answered_making c.in-Blocks.is c.blocks-in-Blocks.result c.made-in-Blocks.result refl c.made-in-Blocks.ensures.told
+returns-in-Blocks-clause-right c = answered_making c.in-Blocks.is c.blocks-in-Blocks.result c.made-in-Blocks.result refl
+    c.made-in-Blocks.ensures.told
     c.made-in-Blocks.ensures.done c.blocks-in-Blocks.ensures.right
 
 pub returns-in-Point-clause-right : goal.returns-in-Point-clause-right
@@ -36,5 +39,6 @@ returns-in-Point-clause-right c = answered_making c.in-Point.is c.point.result c
     c.made-in-Point.ensures.done c.point.ensures.right
 
 pub returns-in-Dependency-clause-right : goal.returns-in-Dependency-clause-right
-returns-in-Dependency-clause-right c = answered_making c.in-Dependency.is c.ld.result c.made-in-Dependency.result refl c.made-in-Dependency.ensures.told
+returns-in-Dependency-clause-right c = answered_making c.in-Dependency.is c.ld.result c.made-in-Dependency.result refl
+    c.made-in-Dependency.ensures.told
     c.made-in-Dependency.ensures.done c.ld.ensures.right

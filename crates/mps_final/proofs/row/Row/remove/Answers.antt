@@ -16,7 +16,8 @@ invariant_of-self c =
     let i = c.seek-found.result.index in
     let P : Cursor → Type 0 = λ cursor. IsSoundRow (set old.entries.items i 0) (old.count - 1) cursor.position cursor.index in
     let W : List ℕ → Type 0 = λ xs. c.args.position < length xs in (
-      subst P (sym c.seek-found.ensures.cursor) (sound_gone old.entries.items old.count old.cursor.position old.cursor.index c.args.position i
+      subst P (sym c.seek-found.ensures.cursor) (sound_gone old.entries.items old.count old.cursor.position old.cursor.index
+          c.args.position i
           c.self.invariant.0 (there c) (subst W (sym c.self.view_is) c.requires)),
       c.self.invariant.1,
     )

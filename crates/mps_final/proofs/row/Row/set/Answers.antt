@@ -14,7 +14,8 @@ invariant_of-self c =
     let old = c.self.inside in
     let i = c.seek-found.result.index in
     let P : Cursor → Type 0 = λ cursor. IsSoundRow (set old.entries.items i c.args.at) old.count cursor.position cursor.index in (
-      subst P (sym c.seek-found.ensures.cursor) (sound_set old.entries.items old.count old.cursor.position old.cursor.index c.args.position i
+      subst P (sym c.seek-found.ensures.cursor) (sound_set old.entries.items old.count old.cursor.position old.cursor.index
+          c.args.position i
           c.args.at c.self.invariant.0 (there c) c.requires.nonzero),
       c.self.invariant.1,
     )
@@ -22,5 +23,6 @@ invariant_of-self c =
 pub returns : goal.returns
 returns c =
     let entry = there c in
-    live_set c.self.inside.entries.items c.args.position c.seek-found.result.index c.args.at entry.within entry.lives entry.before c.requires.nonzero
+    live_set c.self.inside.entries.items c.args.position c.seek-found.result.index c.args.at entry.within entry.lives entry.before
+    c.requires.nonzero
     ∙ ap (λ (xs : List ℕ). set xs c.args.position c.args.at) c.self.view_is

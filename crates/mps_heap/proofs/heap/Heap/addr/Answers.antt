@@ -11,6 +11,6 @@ returns g c = record {
   right = subst (λ h. IsRight g.F.Format.layout h (call.Address c.args.slot) [] (answer_to says_address c.as_address.result) h)
       c.self.view_is
       (subst (λ a. IsRight g.F.Format.layout c.self.inside.state (call.Address c.args.slot) [] a c.self.inside.state) (sym
-          c.as_address.ensures.same)
+      c.as_address.ensures.same)
       (address_right g.F.Format.layout c.self.inside.state c.args.slot c.addr.result c.addr.ensures));
 }

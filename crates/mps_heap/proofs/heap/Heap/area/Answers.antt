@@ -16,7 +16,7 @@ returns g c = record {
   right = subst (λ h. IsRightMaking g.F.Format.layout h (call.Area c.args.name c.args.n) c.without_key.result c.area.new.self)
       c.self.view_is
       (making_without_key g.F.Format.layout c.self.inside.state c.area.new.self (call.Area c.args.name c.args.n) c.area.result
-          c.without_key.result
+      c.without_key.result
       c.without_key.ensures.value
       (area_is_right g.F.Format.layout c.self.inside.state c.args.name c.args.n c.area.result c.area.new.self c.area.ensures));
 }

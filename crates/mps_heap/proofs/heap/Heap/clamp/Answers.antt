@@ -10,7 +10,7 @@ use Rattle.mps_heap.proofs.heap.Heap.clamp.Goals as goal
 pub invariant_of-self : goal.invariant_of-self
 invariant_of-self g c =
     stays g.F.Format.layout c.self.inside.state c.clamp.new.self call.Clamp [] (Replied reply.Ok) c.self.invariant (clamp_is_right
-        g.F.Format.layout c.self.inside.state c.clamp.new.self c.clamp.ensures)
+    g.F.Format.layout c.self.inside.state c.clamp.new.self c.clamp.ensures)
 
 pub returns : goal.returns
 returns g c = record {

@@ -9,7 +9,7 @@ use Rattle.mps_heap.proofs.heap.Heap.clear.Goals as goal
 pub invariant_of-self : goal.invariant_of-self
 invariant_of-self g c =
     stays g.F.Format.layout c.self.inside.state c.clear.new.self (call.Clear c.args.slot) [] (answer_to says_ok c.clear.result)
-        c.self.invariant
+    c.self.invariant
     (cleared_right g.F.Format.layout c.self.inside.state c.args.slot c.clear.result c.clear.new.self c.clear.ensures)
 
 pub returns : goal.returns

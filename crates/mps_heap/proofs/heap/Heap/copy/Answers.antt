@@ -9,7 +9,7 @@ use Rattle.mps_heap.proofs.heap.Heap.copy.Goals as goal
 pub invariant_of-self : goal.invariant_of-self
 invariant_of-self g c =
     stays g.F.Format.layout c.self.inside.state c.copy.new.self (call.Copy c.args.target c.args.source) [] (answer_to says_ok
-        c.copy.result) c.self.invariant
+    c.copy.result) c.self.invariant
     (copied_right g.F.Format.layout c.self.inside.state c.args.target c.args.source c.copy.result c.copy.new.self c.copy.ensures)
 
 pub returns : goal.returns

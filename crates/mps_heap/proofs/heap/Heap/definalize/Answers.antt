@@ -9,7 +9,7 @@ use Rattle.mps_heap.proofs.heap.Heap.definalize.Goals as goal
 pub invariant_of-self : goal.invariant_of-self
 invariant_of-self g c =
     stays g.F.Format.layout c.self.inside.state c.definalize.new.self (call.Definalize c.args.slot) [] (answer_to says_ok
-        c.definalize.result) c.self.invariant
+    c.definalize.result) c.self.invariant
     (unregistered_right g.F.Format.layout c.self.inside.state c.args.slot c.definalize.result c.definalize.new.self c.definalize.ensures)
 
 pub returns : goal.returns
@@ -17,5 +17,5 @@ returns g c = record {
   right = subst (λ h. IsRight g.F.Format.layout h (call.Definalize c.args.slot) [] (answer_to says_ok c.definalize.result)
       c.definalize.new.self) c.self.view_is
       (unregistered_right g.F.Format.layout c.self.inside.state c.args.slot c.definalize.result c.definalize.new.self
-          c.definalize.ensures);
+      c.definalize.ensures);
 }

@@ -9,7 +9,7 @@ use Rattle.mps_heap.proofs.heap.Heap.drop_root.Goals as goal
 pub invariant_of-self : goal.invariant_of-self
 invariant_of-self g c =
     stays g.F.Format.layout c.self.inside.state c.drop_root.new.self (call.DropRoot c.args.name) [] (answer_to says_ok
-        c.drop_root.result) c.self.invariant
+    c.drop_root.result) c.self.invariant
     (droproot_is_right g.F.Format.layout c.self.inside.state c.args.name c.drop_root.result c.drop_root.new.self c.drop_root.ensures)
 
 pub returns : goal.returns

@@ -10,6 +10,6 @@ pub returns : goal.returns
 returns g c = record {
   right = subst
       (λ h. IsRight g.F.Format.layout h (call.Dump c.args.at.0) [] (answer_to (says_words h.segs.words c.args.at) c.dump.result) h)
-          c.self.view_is
+      c.self.view_is
       (dump_is_right_of g.F.Format.layout c.self.inside.state c.args.at c.dump.result c.dump.ensures);
 }

@@ -9,7 +9,7 @@ use Rattle.mps_heap.proofs.heap.Heap.finalize.Goals as goal
 pub invariant_of-self : goal.invariant_of-self
 invariant_of-self g c =
     stays g.F.Format.layout c.self.inside.state c.finalize.new.self (call.Finalize c.args.slot) [] (answer_to says_ok
-        c.finalize.result) c.self.invariant
+    c.finalize.result) c.self.invariant
     (registered_right g.F.Format.layout c.self.inside.state c.args.slot c.finalize.result c.finalize.new.self c.finalize.ensures)
 
 pub returns : goal.returns

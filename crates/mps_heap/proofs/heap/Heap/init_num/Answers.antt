@@ -9,14 +9,14 @@ use Rattle.mps_heap.proofs.heap.Heap.init_num.Goals as goal
 pub invariant_of-self : goal.invariant_of-self
 invariant_of-self g c =
     stays g.F.Format.layout c.self.inside.state c.init_num.new.self (call.InitNumber c.args.x c.args.cell c.args.n) [] (answer_to
-        says_ok c.init_num.result) c.self.invariant
+    says_ok c.init_num.result) c.self.invariant
     (number_init_is_right g.F.Format.layout c.self.inside.state c.args.x c.args.cell c.args.n c.init_num.result c.init_num.new.self
-        c.init_num.ensures)
+    c.init_num.ensures)
 
 pub returns : goal.returns
 returns g c = record {
   right = subst (λ h. IsRight g.F.Format.layout h (call.InitNumber c.args.x c.args.cell c.args.n) [] (answer_to says_ok
       c.init_num.result) c.init_num.new.self) c.self.view_is
       (number_init_is_right g.F.Format.layout c.self.inside.state c.args.x c.args.cell c.args.n c.init_num.result c.init_num.new.self
-          c.init_num.ensures);
+      c.init_num.ensures);
 }

@@ -9,14 +9,14 @@ use Rattle.mps_heap.proofs.heap.Heap.init_ref.Goals as goal
 pub invariant_of-self : goal.invariant_of-self
 invariant_of-self g c =
     stays g.F.Format.layout c.self.inside.state c.init_ref.new.self (call.InitReference c.args.x c.args.cell c.args.source) []
-        (answer_to says_ok c.init_ref.result) c.self.invariant
+    (answer_to says_ok c.init_ref.result) c.self.invariant
     (reference_init_is_right g.F.Format.layout c.self.inside.state c.args.x c.args.cell c.args.source c.init_ref.result
-        c.init_ref.new.self c.init_ref.ensures)
+    c.init_ref.new.self c.init_ref.ensures)
 
 pub returns : goal.returns
 returns g c = record {
   right = subst (λ h. IsRight g.F.Format.layout h (call.InitReference c.args.x c.args.cell c.args.source) [] (answer_to says_ok
       c.init_ref.result) c.init_ref.new.self) c.self.view_is
       (reference_init_is_right g.F.Format.layout c.self.inside.state c.args.x c.args.cell c.args.source c.init_ref.result
-          c.init_ref.new.self c.init_ref.ensures);
+      c.init_ref.new.self c.init_ref.ensures);
 }

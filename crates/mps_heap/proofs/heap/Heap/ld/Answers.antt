@@ -15,7 +15,7 @@ pub returns : goal.returns
 returns g c = record {
   right = subst (λ h. IsRightMaking g.F.Format.layout h (call.Dependency c.args.name) c.without_key.result c.ld.new.self) c.self.view_is
       (making_without_key g.F.Format.layout c.self.inside.state c.ld.new.self (call.Dependency c.args.name) c.ld.result
-          c.without_key.result
+      c.without_key.result
       c.without_key.ensures.value
       (dependency_is_right g.F.Format.layout c.self.inside.state c.args.name c.ld.result c.ld.new.self c.ld.ensures));
 }

@@ -9,7 +9,7 @@ use Rattle.mps_heap.proofs.heap.Heap.message.Goals as goal
 pub invariant_of-self : goal.invariant_of-self
 invariant_of-self g c =
     stays g.F.Format.layout c.self.inside.state c.message.new.self (call.Message c.args.slot) [] (answer_to says_message
-        c.message.result) c.self.invariant
+    c.message.result) c.self.invariant
     (message_right g.F.Format.layout c.self.inside.state c.args.slot c.message.result c.message.new.self c.message.ensures)
 
 pub returns : goal.returns

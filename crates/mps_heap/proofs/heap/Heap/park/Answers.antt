@@ -10,7 +10,7 @@ use Rattle.mps_heap.proofs.heap.Heap.park.Goals as goal
 pub invariant_of-self : goal.invariant_of-self
 invariant_of-self g c =
     stays g.F.Format.layout c.self.inside.state c.park.new.self call.Park [] (Replied reply.Ok) c.self.invariant (park_is_right
-        g.F.Format.layout c.self.inside.state c.park.new.self c.park.ensures)
+    g.F.Format.layout c.self.inside.state c.park.new.self c.park.ensures)
 
 pub returns : goal.returns
 returns g c = record {

@@ -9,7 +9,7 @@ use Rattle.mps_heap.proofs.heap.Heap.poke.Goals as goal
 pub invariant_of-self : goal.invariant_of-self
 invariant_of-self g c =
     stays g.F.Format.layout c.self.inside.state c.poke.new.self (call.Poke c.args.place c.args.word) [] (answer_to says_block
-        c.poke.result) c.self.invariant
+    c.poke.result) c.self.invariant
     (poked_right g.F.Format.layout c.self.inside.state c.args.place c.args.word c.poke.result c.poke.new.self c.poke.ensures)
 
 pub returns : goal.returns

@@ -11,7 +11,7 @@ invariant_of-self g c =
     pool_stays g.F.Format.layout c.self.inside.state c.pool.new.self c.args.name c.args.kind c.args.format c.pool.result
     (g.met.F.Format.lawful c.args.format) c.self.invariant
     (λ number. pool_is_right g.F.Format.layout c.self.inside.state c.args.name c.args.kind c.args.format number c.pool.result
-        c.pool.new.self c.pool.ensures)
+    c.pool.new.self c.pool.ensures)
 
 pub returns : goal.returns
 returns g c = record {
@@ -21,5 +21,5 @@ returns g c = record {
       (making_in_without_key g.F.Format.layout (MeansLayout number (g.F.Format.layout c.args.format)) c.self.inside.state c.pool.new.self
       (call.Pool c.args.name c.args.kind number) c.pool.result c.without_key.result c.without_key.ensures.value
       (pool_is_right g.F.Format.layout c.self.inside.state c.args.name c.args.kind c.args.format number c.pool.result c.pool.new.self
-          c.pool.ensures));
+      c.pool.ensures));
 }

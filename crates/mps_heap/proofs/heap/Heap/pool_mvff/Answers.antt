@@ -9,7 +9,7 @@ use Rattle.mps_heap.proofs.heap.Heap.pool_mvff.Goals as goal
 pub invariant_of-self : goal.invariant_of-self
 invariant_of-self g c =
     making_stays g.F.Format.layout c.self.inside.state c.pool_mvff.new.self (call.PoolMvff c.args.name) c.pool_mvff.result
-        c.self.invariant
+    c.self.invariant
     (pool_mvff_is_right g.F.Format.layout c.self.inside.state c.args.name c.pool_mvff.result c.pool_mvff.new.self c.pool_mvff.ensures)
 
 pub returns : goal.returns
@@ -17,7 +17,7 @@ returns g c = record {
   right = subst (λ h. IsRightMaking g.F.Format.layout h (call.PoolMvff c.args.name) c.without_key.result c.pool_mvff.new.self)
       c.self.view_is
       (making_without_key g.F.Format.layout c.self.inside.state c.pool_mvff.new.self (call.PoolMvff c.args.name) c.pool_mvff.result
-          c.without_key.result
+      c.without_key.result
       c.without_key.ensures.value
       (pool_mvff_is_right g.F.Format.layout c.self.inside.state c.args.name c.pool_mvff.result c.pool_mvff.new.self c.pool_mvff.ensures));
 }

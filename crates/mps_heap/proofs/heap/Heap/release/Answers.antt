@@ -10,7 +10,7 @@ use Rattle.mps_heap.proofs.heap.Heap.release.Goals as goal
 pub invariant_of-self : goal.invariant_of-self
 invariant_of-self g c =
     stays g.F.Format.layout c.self.inside.state c.release.new.self call.Release [] (Replied reply.Ok) c.self.invariant
-        (release_is_right g.F.Format.layout c.self.inside.state c.release.new.self c.release.ensures)
+    (release_is_right g.F.Format.layout c.self.inside.state c.release.new.self c.release.ensures)
 
 pub returns : goal.returns
 returns g c = record {

@@ -14,20 +14,20 @@ reserve-requires g c = record { ready = is_ready g.F.Format.layout c.self.inside
 pub invariant_of-self : goal.invariant_of-self
 invariant_of-self g c =
     let moved = reserve_is_right_after g.F.Format.layout c.self.inside.state c.args.trail.now c.args.x c.args.head c.reserve.result
-        c.reserve.new.self c.reserve.new.trail c.reserve.ensures in
+    c.reserve.new.self c.reserve.new.trail c.reserve.ensures in
     stays g.F.Format.layout c.self.inside.state c.reserve.new.self (call.Reserve c.args.x c.args.head) moved.moves (answer_to says_ok
-        c.reserve.result) c.self.invariant moved.right
+    c.reserve.result) c.self.invariant moved.right
 
 pub returns : goal.returns
 returns g c = record {
   right = subst
       (λ h. IsRightMoving g.F.Format.layout h (call.Reserve c.args.x c.args.head) c.args.trail.now.moves c.reserve.new.trail.moves
-          (answer_to says_ok c.reserve.result) c.reserve.new.self)
+      (answer_to says_ok c.reserve.result) c.reserve.new.self)
       c.self.view_is
       (reserve_is_right_after g.F.Format.layout c.self.inside.state c.args.trail.now c.args.x c.args.head c.reserve.result
-          c.reserve.new.self c.reserve.new.trail c.reserve.ensures);
+      c.reserve.new.self c.reserve.new.trail c.reserve.ensures);
   room = keeps_room c.args.trail.now c.self.inside.state (reserved g.F.Format.layout c.self.inside.state c.args.trail.now c.args.x
       c.args.head) c.reserve.result c.reserve.new.self
       c.reserve.new.trail c.reserve.ensures (reserve_keeps_room g.F.Format.layout c.self.inside.state c.args.trail.now c.args.x
-          c.args.head c.requires.fits);
+      c.args.head c.requires.fits);
 }

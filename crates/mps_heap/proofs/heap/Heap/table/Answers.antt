@@ -16,7 +16,7 @@ returns g c = record {
   right = subst (λ h. IsRightMaking g.F.Format.layout h (call.Table c.args.name c.args.n) c.without_key.result c.table.new.self)
       c.self.view_is
       (making_without_key g.F.Format.layout c.self.inside.state c.table.new.self (call.Table c.args.name c.args.n) c.table.result
-          c.without_key.result
+      c.without_key.result
       c.without_key.ensures.value
       (table_is_right g.F.Format.layout c.self.inside.state c.args.name c.args.n c.table.result c.table.new.self c.table.ensures));
 }

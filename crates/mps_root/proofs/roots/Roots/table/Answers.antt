@@ -6,7 +6,8 @@ pub returns : goal.returns
 returns c = table_made_from c.self.view_is (record {
   tables = row_made_in_room (λ slots. slots.items) c.self.inside.tables c.reserve.new.self c.insert_reserved-key.new.self
       c.insert_reserved-key.result c.in_ok-slots.slots _ (ap (λ s. s.slots) c.reserve.ensures.rest_kept)
-      (c.in_ok-slots.ensures.items_if_clones_equal (λ y h. h)) c.insert_reserved-key.ensures.was_vacant c.insert_reserved-key.ensures.updates;
+      (c.in_ok-slots.ensures.items_if_clones_equal (λ y h. h)) c.insert_reserved-key.ensures.was_vacant
+      c.insert_reserved-key.ensures.updates;
   order = c.in-Ok.ensures.items ∙ ap (λ (keys : List ℕ). keys ++ c.insert_reserved-key.result ∷ []) c.reserve-2.ensures.items;
   areas = refl;
   blocks = refl;

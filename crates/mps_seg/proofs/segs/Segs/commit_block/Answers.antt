@@ -38,4 +38,8 @@ invariant_of-self c =
     let now : c.use_free.new.free ≡ with_fewer_free s.firsts.items s.free c.args.at.0 c.args.words =
     c.use_free.ensures ∙ ap (λ (fs : List ℕ). with_fewer_free fs s.free c.args.at.0 c.args.words) c.deref.ensures.value
     in
-    rw (c.commit_block.ensures, now) (facts.held (with_run (run_at c.args.at.0 c.args.words) s.extents.blocks) s.extents.reservations, facts.counted, c.self.invariant.2)
+    rw (c.commit_block.ensures, now) (
+      facts.held (with_run (run_at c.args.at.0 c.args.words) s.extents.blocks) s.extents.reservations,
+      facts.counted,
+      c.self.invariant.2,
+    )

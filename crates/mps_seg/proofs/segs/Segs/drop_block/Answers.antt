@@ -40,7 +40,12 @@ invariant_of-self c =
     let now : c.return_free.new.free ≡ with_more_free s.firsts.items s.free c.args.at.0 c.args.words =
     c.return_free.ensures ∙ ap (λ (fs : List ℕ). with_more_free fs s.free c.args.at.0 c.args.words) c.deref.ensures.value
     in
-    rw (c.drop_block.ensures.state, c.clear.ensures, now) (facts.held (without_run (word_of c.args.at.0) s.extents.blocks) s.extents.reservations, facts.counted, marked_without s.arena.grains s.marks s.condemned s.summaries.items c.self.invariant.2 _)
+    rw (c.drop_block.ensures.state, c.clear.ensures, now) (
+      facts.held (without_run (word_of c.args.at.0) s.extents.blocks)
+          s.extents.reservations,
+      facts.counted,
+      marked_without s.arena.grains s.marks s.condemned s.summaries.items c.self.invariant.2 _,
+    )
 
 pub returns-clause-free : goal.returns-clause-free
 returns-clause-free c =

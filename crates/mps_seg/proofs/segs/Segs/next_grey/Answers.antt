@@ -6,6 +6,7 @@ pub overflow_mul-result : goal.overflow_mul-result
 overflow_mul-result c =
     let s = c.self.inside in
     let within =
-    grey_within s.arena.grains s.marks s.condemned s.summaries.items c.self.invariant.2 c.args.rank c.in_ok-word.word c.in_ok-word.ensures.sound
+    grey_within s.arena.grains s.marks s.condemned s.summaries.items c.self.invariant.2 c.args.rank c.in_ok-word.word
+    c.in_ok-word.ensures.sound
     in
     omega (arith, within, c.self.invariant.0.at_most)

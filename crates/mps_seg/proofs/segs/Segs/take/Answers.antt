@@ -92,7 +92,12 @@ invariant_of-self-2 c =
     let marked =
     marked_taken s.arena.grains s.marks s.condemned s.summaries.items c.self.invariant.2 (grain_of c.in_ok-base.base.0)
     in
-    rw (c.take_run.ensures.state, facts.held_is, now, c.set.ensures, c.clear.ensures.state) (facts.held, facts.counted c.note_first.new.firsts noted, marked)
+    rw (c.take_run.ensures.state, facts.held_is, now, c.set.ensures, c.clear.ensures.state) (
+      facts.held,
+      facts.counted
+          c.note_first.new.firsts noted,
+      marked,
+    )
 
 pub returns-clause-state : goal.returns-clause-state
 returns-clause-state c =
@@ -144,6 +149,7 @@ returns-clause-all_free c =
     let now = c.take_run.ensures.state ∙ ap (λ (rs : List Run). record s.arena { held = rs }) facts.held_is in
     let table = set s.table.items (grain_of c.in_ok-base.base.0) (new_entry a.words a.pool a.generation a.rank) in
     let P : ArenaMemory → Type 0 = λ arena.
-    IsOpenRun arena.grains (map grains_of_segment (segments_in table)) s.extents.covered (run_at c.in_ok-base.base.0 (words_of_grain * grains_needed a.words))
+    IsOpenRun arena.grains (map grains_of_segment (segments_in table)) s.extents.covered (run_at c.in_ok-base.base.0 (words_of_grain *
+    grains_needed a.words))
     in
     subst P (sym now) facts.all_free

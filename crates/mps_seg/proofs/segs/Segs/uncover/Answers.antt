@@ -33,7 +33,11 @@ invariant_of-self c =
     let now : c.return_free.new.free ≡ with_more_free s.firsts.items s.free c.args.at.0 c.args.words =
     c.return_free.ensures ∙ ap (λ (fs : List ℕ). with_more_free fs s.free c.args.at.0 c.args.words) c.deref.ensures.value
     in
-    rw (c.uncover.ensures.state, now) (facts.held s.extents.blocks (without_run (word_of c.args.at.0) s.extents.reservations), facts.counted, c.self.invariant.2)
+    rw (c.uncover.ensures.state, now) (
+      facts.held s.extents.blocks (without_run (word_of c.args.at.0) s.extents.reservations),
+      facts.counted,
+      c.self.invariant.2,
+    )
 
 pub returns-clause-free : goal.returns-clause-free
 returns-clause-free c =

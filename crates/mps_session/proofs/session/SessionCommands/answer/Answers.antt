@@ -1,5 +1,5 @@
 use Rattle.std.proofs.Common.{subst}
-use Rattle.mps_session.specs.Standing.{Stands}
+use Rattle.mps_session.specs.Standing.{SessionStands}
 use Rattle.mps_session.proofs.Standing.{answers_in, begins_exactly, begins_in, ok_then}
 use Rattle.mps_session.proofs.session.SessionCommands.answer.Goals as goal
 
@@ -7,19 +7,19 @@ pub returns-in-Some-clause-stands : goal.returns-in-Some-clause-stands
 returns-in-Some-clause-stands c =
     ok_then c.answer.result c.answer.ensures.right (λ given answers w line stood.
     (answers_in c.in-Some.made.heap c.answer.new.self.heap c.args.call.now c.answer.new.self.trail.moves given answers w line
-    (subst (λ o. Stands o w) c.in-Some.is stood)).stands)
+    (subst (λ o. SessionStands o w) c.in-Some.is stood)).stands)
 
 pub returns-clause-legal : goal.returns-clause-legal
 returns-clause-legal c =
     ok_then c.begin.result c.begin.ensures.right (λ given begins w line stood.
-    (begins_in c.args.call.now given c.begin.new.self.made begins w line (subst (λ o. Stands o w) c.in_default.is stood)).legal)
+    (begins_in c.args.call.now given c.begin.new.self.made begins w line (subst (λ o. SessionStands o w) c.in_default.is stood)).legal)
 
 pub returns-clause-stands : goal.returns-clause-stands
 returns-clause-stands c =
     ok_then c.begin.result c.begin.ensures.right (λ given begins w line stood.
-    (begins_in c.args.call.now given c.begin.new.self.made begins w line (subst (λ o. Stands o w) c.in_default.is stood)).stands)
+    (begins_in c.args.call.now given c.begin.new.self.made begins w line (subst (λ o. SessionStands o w) c.in_default.is stood)).stands)
 
 pub returns-clause-unsupported : goal.returns-clause-unsupported
 returns-clause-unsupported c =
     ok_then c.begin.result c.begin.ensures.right (λ given begins w stood.
-    begins_exactly c.args.call.now given c.begin.new.self.made begins w (subst (λ o. Stands o w) c.in_default.is stood))
+    begins_exactly c.args.call.now given c.begin.new.self.made begins w (subst (λ o. SessionStands o w) c.in_default.is stood))
