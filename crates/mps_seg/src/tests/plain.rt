@@ -1,17 +1,19 @@
 // Plain tables of four grains, and many pseudo-random steps in which the segments are compared with them.
-use super::calls::{fill, free_over, give_over, grey_at, grey_over};
+use super::calls::{fill, free_over, give_over, grey_at, grey_over, keep_at, marks_at, summary_at};
 use crate::Segs;
 use mps_base::Addr;
 use std::alloc::{AllocError, Global};
 
 /// What plain tables say: where the block begins that owns a word, how many words the block has that begins at a word, whether that
-/// block is grey, and which grains are held, each as a segment of one grain.
+/// block is grey and whether it is kept; which grains are held, each as a segment of one grain, and the summary of each.
 #[derive(Drop)]
 struct Plain {
     owners: Vec<u64>,
     sizes: Vec<u64>,
     grey: Vec<u64>,
-    held: Vec<u64>,
+    kept: Vec<u64>,
+    held: [u64; 5],
+    summaries: [u64; 5],
 }
 
 impl Plain {
@@ -20,7 +22,9 @@ impl Plain {
             owners: vec![in alloc; 0u64; 2560]?,
             sizes: vec![in alloc; 0u64; 2560]?,
             grey: vec![in alloc; 0u64; 2560]?,
-            held: vec![in alloc; 0u64; 5]?,
+            kept: vec![in alloc; 0u64; 2560]?,
+            held: [0; 5],
+            summaries: [0; 5],
         })
     }
 
@@ -51,6 +55,7 @@ impl Plain {
         for grain in 1..5u64 {
             if entry(&self.held, grain) == 0 {
                 write(&mut self.held, grain, 1, 1);
+                write(&mut self.summaries, grain, 1, 0);
                 return 512 * grain;
             }
         }
@@ -105,7 +110,9 @@ fn agree_on_fill(alloc: Global, plain: &mut Plain, segs: &mut Segs, words: u32) 
         write(&mut plain.owners, want, words as u64, want);
         write(&mut plain.sizes, want, 1, words as u64);
     }
-    got == want && agree_on_greying(plain, segs, want, words % 2 == 0)
+    got == want
+        && agree_on_greying(plain, segs, want, words % 2 == 0)
+        && agree_on_keeping(plain, segs, want, words % 3 == 0)
 }
 
 /// Makes the block that begins at a word grey in both where asked, and says whether they agree on which block of its grain is the
@@ -117,6 +124,17 @@ fn agree_on_greying(plain: &mut Plain, segs: &mut Segs, word: u64, grey: bool) -
         write(&mut plain.grey, word, 1, 1);
     }
     grey_over(segs, at).map_or(0, |found| found.0 / 8) == lowest_grey(&plain.grey, word / 512)
+}
+
+/// Keeps the block that begins at a word in both where asked, and says whether they agree on whether it is kept.
+fn agree_on_keeping(plain: &mut Plain, segs: &mut Segs, word: u64, keep: bool) -> bool {
+    let at = Addr(word.wrapping_mul(8));
+    if keep && word != 0 && word < 2560 {
+        keep_at(segs, at);
+        write(&mut plain.kept, word, 1, 1);
+    }
+    let [_, kept, _] = marks_at(segs, at);
+    kept == (entry(&plain.kept, word) == 1)
 }
 
 /// The lowest word of a grain that is marked, or 0.
@@ -137,20 +155,57 @@ fn agree_on_free(alloc: Global, plain: &mut Plain, segs: &mut Segs, word: u64) -
     if owner != 0 {
         let words = entry(&plain.sizes, owner);
         write(&mut plain.owners, owner, words, 0);
+        write(&mut plain.sizes, owner, 1, 0);
         write(&mut plain.grey, owner, 1, 0);
+        write(&mut plain.kept, owner, 1, 0);
     }
-    let grey = agree_on_greying(plain, segs, word, false);
+    let marks = agree_on_greying(plain, segs, word, false)
+        && agree_on_keeping(plain, segs, owner, false);
     let given = plain.give(word / 512);
-    grey && got == owner && give_over(alloc, segs, Addr(word.wrapping_mul(8))) == given
+    marks && got == owner && give_over(alloc, segs, Addr(word.wrapping_mul(8))) == given
 }
 
-/// One step of the number's choice in both, and whether they agree.
-fn agree_once(alloc: Global, plain: &mut Plain, segs: &mut Segs, seed: u64) -> bool {
+/// How many entries of a table aren't 0.
+fn count_used(table: &[u64]) -> usize {
+    let mut used = 0usize;
+    for e in table {
+        if *e != 0 {
+            used = used.saturating_add(1);
+        }
+    }
+    used
+}
+
+/// Whether both have as many blocks and as many words in them.
+fn agree_on_counts(plain: &Plain, segs: &Segs) -> bool {
+    segs.live_blocks() == count_used(&plain.sizes) && segs.live_words() == count_used(&plain.owners)
+}
+
+/// Notes in both that a word refers to a zone, and says whether they agree on the summary of the grain of that word.
+fn agree_on_writes(plain: &mut Plain, segs: &mut Segs, word: u64, zone: u64) -> bool {
+    let grain = word / 512;
+    segs.note_write(Addr(word.wrapping_mul(8)), Addr(zone.wrapping_mul(4096)));
+    if entry(&plain.held, grain) == 1 {
+        let zones = entry(&plain.summaries, grain) | 1 << (zone % 64);
+        write(&mut plain.summaries, grain, 1, zones);
+    }
+    summary_at(segs, Addr(grain.wrapping_mul(4096))).0 == entry(&plain.summaries, grain)
+}
+
+/// A block made or freed in both, of the number's choice, and whether they agree.
+fn agree_on_block(alloc: Global, plain: &mut Plain, segs: &mut Segs, seed: u64) -> bool {
     if seed >> 63 == 0 {
         agree_on_fill(alloc, plain, segs, ((seed >> 33) % 64) as u32 + 1)
     } else {
         agree_on_free(alloc, plain, segs, (seed >> 40) % 2560)
     }
+}
+
+/// One step of the number's choice in both, and whether they agree.
+fn agree_once(alloc: Global, plain: &mut Plain, segs: &mut Segs, seed: u64) -> bool {
+    agree_on_block(alloc, plain, segs, seed)
+        && agree_on_counts(plain, segs)
+        && agree_on_writes(plain, segs, (seed >> 20) % 2560, (seed >> 45) % 64)
 }
 
 /// 2,000 pseudo-random steps in both: the first number at which they disagree.
