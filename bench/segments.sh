@@ -1,6 +1,6 @@
 #!/bin/sh
-# Measures how long calls on the segments take: a block made in the lowest gap of a pool or in a new segment, and freed again; words
-# copied, beside a copy between two vectors; references noted in summaries; and grey blocks found and blackened.
+# Measures how long calls on the segments take: the largest arena made; a block made in the lowest gap of a pool or in a new segment,
+# and freed again; words copied, beside a copy between two vectors; references noted in summaries; and grey blocks found and blackened.
 # It makes a program over a copy of the crates, proves it, and runs it.
 home=$(cd "$(dirname "$0")/.." && pwd)
 folder=$(mktemp -d)
@@ -219,7 +219,9 @@ fn time_copies(rt: &HostRuntime, segs: &mut Segs, words: u32, times: usize) -> i
     println!(rt; "{words} words copied in {} ns; between two vectors in {} ns", copied / times, plain / times)
 }
 
-fn time_all(rt: &HostRuntime, segs: &mut Segs) -> io::Result<()> {
+fn time_all(rt: &HostRuntime, segs: &mut Segs, began: Instant) -> io::Result<()> {
+    let made = began.elapsed(rt)?.as_micros();
+    println!(rt; "the largest arena made in {made} us")?;
     time_blocks(rt, segs, 1_000, 2, 15)?;
     time_blocks(rt, segs, 10_000, 2, 15)?;
     time_blocks(rt, segs, 100_000, 2, 15)?;
@@ -235,8 +237,9 @@ fn time_all(rt: &HostRuntime, segs: &mut Segs) -> io::Result<()> {
 }
 
 fn main(rt: HostRuntime) -> io::Result<()> {
+    let began = Instant::now(&rt)?;
     let mut segs = Segs::new(rt.alloc(), 2048, 2048)?;
-    let done = time_all(&rt, &mut segs);
+    let done = time_all(&rt, &mut segs, began);
     drop(segs);
     done
 }
