@@ -1,10 +1,11 @@
-// Blocks that are reserved and committed at one point, one after the other.
+// Blocks that are reserved and committed at one point, one after the other; and a reservation that is given up.
 ghost use Rattle.std.specs.Prelude.{◌^◌, ◌<◌, ◌≤◌};
 ghost use Rattle.mps_base.specs.Address.{max_block_words};
 ghost use Rattle.mps_buffer.specs.Tokens.{IsReady, NoneIsOpen};
 
-use crate::OpenPoints;
+use crate::{OpenPoints, Points};
 use mps_base::{Addr, Rank, Refusal, Trail};
+use mps_format::{Format, Front};
 use mps_seg::Segs;
 use std::alloc::{AllocError, Global};
 use std::process::Abort;
@@ -129,5 +130,35 @@ fn blocks_lie_one_after_the_other(rt: HostRuntime) -> Result<(), AllocError> {
     make_all(&rt, rt.alloc(), &mut points, &mut segs);
     points.finish(&mut segs);
     assert_eq!(rt; segs.live_words(), 1023);
+    Ok(())
+}
+
+/// A head of the format `front`: three words without a reference.
+const HEAD: u64 = 0x301;
+
+/// Makes a point of a pool that doesn't move blocks, reserves a block at it by its head, and gives it up. Whether a block of a grain
+/// fits before, meanwhile and after.
+fn give_up(points: &mut Points, segs: &mut Segs, trail: &mut Trail) -> Result<[bool; 3], Refusal>
+    requires { 0 < trail.old.spare }
+{
+    let key = points.add(4, Rank::Weak, false)?;
+    let before = points.fits(segs, key, 512);
+    if !Front.accepts(HEAD) {
+        return Err(Refusal::BadHead);
+    }
+    let token = points.reserve(segs, trail, key, &Front, HEAD)?;
+    let meanwhile = points.fits(segs, key, 512);
+    points.abandon(segs, token);
+    Ok([before, meanwhile, points.fits(segs, key, 512)])
+}
+
+#[test]
+fn words_are_free_once_given_up(rt: HostRuntime) -> Result<(), AllocError> {
+    let mut points = Points::new(rt.alloc())?;
+    let mut trail = Trail::new(rt.alloc(), 1)?;
+    let mut segs = Segs::new(rt.alloc(), 3, 2)?;
+    let fits = give_up(&mut points, &mut segs, &mut trail);
+    drop(segs);
+    assert!(rt; fits == Ok([false, false, true]));
     Ok(())
 }
