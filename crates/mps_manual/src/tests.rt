@@ -111,7 +111,15 @@ fn compare_made(rt: &impl Abort, alloc: Global, manual: &Manual, segs: &mut Segs
     assert!(rt; answer == case.answer, "{} words", case.words);
 }
 
+/// Which sizes the two pools have; there is no third.
+fn compare_sizes(rt: &impl Abort, manual: &Manual) {
+    assert!(rt; manual.takes(0, 65_536) == Some(true) && manual.takes(0, 65_537) == Some(false));
+    assert!(rt; manual.takes(1, 500) == Some(true) && manual.takes(1, 499) == Some(false));
+    assert!(rt; manual.takes(2, 500) == None);
+}
+
 fn compare_all(rt: &impl Abort, alloc: Global, manual: &Manual, segs: &mut Segs) {
+    compare_sizes(rt, manual);
     for case in &CASES {
         compare_made(rt, alloc, manual, segs, case);
     }
