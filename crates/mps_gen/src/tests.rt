@@ -11,6 +11,8 @@ fn knows_targets_and_what_is_due(rt: HostRuntime) {
     let on_none = chains.pool(None);
     assert!(rt; chains.chain_of(on_chain) == Some(0));
     assert!(rt; chains.chain_of(on_none) == None);
+    assert!(rt; chains.generations_of(on_chain) == Some(2));
+    assert!(rt; chains.generations_of(on_none) == None);
     assert_eq!(rt; chains.target(on_chain, 0), 1);
     assert_eq!(rt; chains.target(on_chain, 1), 1);
     assert_eq!(rt; chains.target(on_none, 0), 0);
