@@ -1,7 +1,8 @@
 #!/bin/sh
 # Measures how many lines a second `mps run` answers, and how much memory it takes at most: on a script of 1,000,000 lines that
-# read a number, and on one of as many lines that take turns through all commands, of which most are refused or not built, so
-# that reading them is most of the work.
+# read a number, on one of as many lines that take turns through all commands, of which most are refused or not built, so
+# that reading them is most of the work, and on one of 20,000 lines of 4,096 bytes, most of them spaces. Each is run five
+# times, and the least processor time counts: of a line, and of a byte of the script.
 home=$(cd "$(dirname "$0")/.." && pwd)
 folder=$(mktemp -d)
 cd "$folder" || exit 1
@@ -63,16 +64,27 @@ dump 0x1000
 F
 cp "$home/examples/first.mps" commands
 awk '{ line[NR] = $0 } END { for (i = 0; i < 1000000; i++) print line[i % NR + 1] }' forms >> commands
+cp "$home/examples/first.mps" long
+awk 'BEGIN { for (i = 0; i < 20000; i++) printf "num%4091s 2\n", "t.0" }' >> long
 "$home/mps" run < "$home/examples/first.mps" > /dev/null || exit 1
-python3 - "$home/mps" numbers commands <<'P'
-import resource, subprocess, sys, time
-for name in sys.argv[2:]:
-    began = time.time()
+python3 - "$home/mps" numbers commands long <<'P'
+import os, subprocess, sys
+
+REPEATS = 5
+
+def run(program, name):
+    """The processor time in seconds, the status and the peak memory in KiB."""
     with open(name, 'rb') as script, open('answers', 'wb') as answers:
-        status = subprocess.call([sys.argv[1], 'run'], stdin=script, stdout=answers)
-    took = time.time() - began
-    most = resource.getrusage(resource.RUSAGE_CHILDREN).ru_maxrss
+        child = subprocess.Popen([program, 'run'], stdin=script, stdout=answers)
+        _, status, used = os.wait4(child.pid, 0)
+        child.returncode = os.waitstatus_to_exitcode(status)
+    return used.ru_utime + used.ru_stime, child.returncode, used.ru_maxrss
+
+for name in sys.argv[2:]:
+    took, status, most = min(run(sys.argv[1], name) for _ in range(REPEATS))
     lines = sum(1 for _ in open('answers', 'rb'))
-    print(f'{name}: status {status}, {lines} answers in {took:.2f} seconds: {lines / took:.0f} lines a second, at most {most} KiB')
+    size = os.path.getsize(name)
+    print(f'{name}: status {status}, {lines} answers in {took:.3f} seconds: {1e9 * took / lines:.1f} ns a line, '
+          f'{1e9 * took / size:.2f} ns a byte, at most {most} KiB')
 P
 rm -r "$folder"

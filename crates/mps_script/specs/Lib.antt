@@ -3,3 +3,4 @@ pub mod Form
 pub mod Examples
 pub mod Line
 pub mod Script
+pub mod Filled

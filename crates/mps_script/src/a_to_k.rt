@@ -1,112 +1,282 @@
 // The forms of the commands whose words begin with a letter `a` to `k`.
 ghost use Rattle.std.specs.Prelude.{◌≡◌};
+ghost use Rattle.mps_model.specs.declared.call.Call.TheVariants as call;
+ghost use Rattle.mps_numerals.specs.Decimal.{decimal_number};
 ghost use Rattle.mps_words.specs.Word.{words};
-ghost use Rattle.mps_script.specs.Form.{call_in, a_to_b_forms, c_forms, d_to_f_forms, g_to_k_forms};
+ghost use Rattle.mps_words.specs.Number.{prefixed_hexadecimal};
+ghost use Rattle.mps_words.specs.Name.{name_of, slot_of};
+ghost use Rattle.mps_words.specs.Reading.{named_in};
+ghost use Rattle.mps_script.specs.Calls.{none, one, two, three};
+ghost use Rattle.mps_script.specs.Filled.{filled};
+ghost use Rattle.mps_script.specs.Form.{call_in, grains_from, length_of_root, ranks, a_to_b_forms, c_forms, d_to_f_forms, g_to_k_forms};
 
 use crate::chain::chain;
 use crate::grains::grains_limit;
 use crate::roots::{name_length, name_name_rank};
 use crate::several::{alone, hexadecimal, init};
 use mps_model::Call;
-use mps_words::{name, name_decimal_slot, name_slot, slot, slot_slot, slot_slot_decimal};
+use mps_words::{is_word, name, name_decimal_slot, name_slot, slot, slot_slot, slot_slot_decimal};
 
 /// The call of a command whose word begins with a letter `a` to `b`.
-pub fn call_of_a_to_b(word: &[u8], arguments: &[u8]) -> Option<Call>
-    ensures { result ≡ call_in a_to_b_forms word.now (words arguments.now) }
+pub fn call_of_a_to_b(word: &[u8], arguments: &[u8], into: &mut Call) -> Option<()>
+    ensures { filled result into.new ≡ call_in a_to_b_forms word.now (words arguments.now) }
 {
-    if word == b"addr".as_slice() {
-        let slot = slot(arguments)?;
-        Some(Call::Address { slot })
-    } else if word == b"alloc".as_slice() {
-        let (pool, (words, place)) = name_decimal_slot(arguments)?;
-        Some(Call::Alloc { pool, words, place })
-    } else if word == b"ap".as_slice() {
-        let (point, (pool, rank)) = name_name_rank(arguments)?;
-        Some(Call::Point { point, pool, rank })
-    } else if word == b"area".as_slice() {
-        let (area, length) = name_length(arguments)?;
-        Some(Call::Area { area, length })
-    } else if word == b"arena".as_slice() {
-        let (grains, limit) = grains_limit(arguments)?;
-        Some(Call::Arena { grains, limit })
-    } else if word == b"blocks".as_slice() {
-        let (blocks, length) = name_length(arguments)?;
-        Some(Call::Blocks { blocks, length })
+    if is_word(word, b"addr") {
+        address(arguments, into)
+    } else if is_word(word, b"alloc") {
+        alloc(arguments, into)
+    } else if is_word(word, b"ap") {
+        point(arguments, into)
+    } else if is_word(word, b"area") {
+        area(arguments, into)
+    } else if is_word(word, b"arena") {
+        arena(arguments, into)
+    } else if is_word(word, b"blocks") {
+        blocks(arguments, into)
     } else {
         None
     }
 }
 
 /// The call of a command whose word begins with `c`.
-pub fn call_of_c(word: &[u8], arguments: &[u8]) -> Option<Call>
-    ensures { result ≡ call_in c_forms word.now (words arguments.now) }
+pub fn call_of_c(word: &[u8], arguments: &[u8], into: &mut Call) -> Option<()>
+    ensures { filled result into.new ≡ call_in c_forms word.now (words arguments.now) }
 {
-    if word == b"chain".as_slice() {
-        chain(arguments)
-    } else if word == b"clamp".as_slice() {
-        alone(arguments, Call::Clamp)
-    } else if word == b"clear".as_slice() {
-        let slot = slot(arguments)?;
-        Some(Call::Clear { slot })
-    } else if word == b"collect".as_slice() {
-        alone(arguments, Call::Collect)
-    } else if word == b"commit".as_slice() {
-        let (point, target) = name_slot(arguments)?;
-        Some(Call::Commit { point, target })
-    } else if word == b"committed".as_slice() {
-        alone(arguments, Call::Committed)
-    } else if word == b"copy".as_slice() {
-        let (target, source) = slot_slot(arguments)?;
-        Some(Call::Copy { target, source })
+    if is_word(word, b"chain") {
+        chain(arguments, into)
+    } else if is_word(word, b"clamp") {
+        clamp(arguments, into)
+    } else if is_word(word, b"clear") {
+        clear(arguments, into)
+    } else if is_word(word, b"collect") {
+        collect(arguments, into)
+    } else if is_word(word, b"commit") {
+        commit(arguments, into)
+    } else if is_word(word, b"committed") {
+        committed(arguments, into)
+    } else if is_word(word, b"copy") {
+        copy(arguments, into)
     } else {
         None
     }
 }
 
 /// The call of a command whose word begins with a letter `d` to `f`.
-pub fn call_of_d_to_f(word: &[u8], arguments: &[u8]) -> Option<Call>
-    ensures { result ≡ call_in d_to_f_forms word.now (words arguments.now) }
+pub fn call_of_d_to_f(word: &[u8], arguments: &[u8], into: &mut Call) -> Option<()>
+    ensures { filled result into.new ≡ call_in d_to_f_forms word.now (words arguments.now) }
 {
-    if word == b"definalize".as_slice() {
-        let slot = slot(arguments)?;
-        Some(Call::Definalize { slot })
-    } else if word == b"dropap".as_slice() {
-        let point = name(arguments)?;
-        Some(Call::DropPoint { point })
-    } else if word == b"droproot".as_slice() {
-        let root = name(arguments)?;
-        Some(Call::DropRoot { root })
-    } else if word == b"dump".as_slice() {
-        let at = hexadecimal(arguments)?;
-        Some(Call::Dump { at })
-    } else if word == b"finalize".as_slice() {
-        let slot = slot(arguments)?;
-        Some(Call::Finalize { slot })
-    } else if word == b"free".as_slice() {
-        let place = slot(arguments)?;
-        Some(Call::Free { place })
+    if is_word(word, b"definalize") {
+        definalize(arguments, into)
+    } else if is_word(word, b"dropap") {
+        drop_point(arguments, into)
+    } else if is_word(word, b"droproot") {
+        drop_root(arguments, into)
+    } else if is_word(word, b"dump") {
+        dump(arguments, into)
+    } else if is_word(word, b"finalize") {
+        finalize(arguments, into)
+    } else if is_word(word, b"free") {
+        free(arguments, into)
     } else {
         None
     }
 }
 
 /// The call of a command whose word begins with a letter `g` to `k`.
-pub fn call_of_g_to_k(word: &[u8], arguments: &[u8]) -> Option<Call>
-    ensures { result ≡ call_in g_to_k_forms word.now (words arguments.now) }
+pub fn call_of_g_to_k(word: &[u8], arguments: &[u8], into: &mut Call) -> Option<()>
+    ensures { filled result into.new ≡ call_in g_to_k_forms word.now (words arguments.now) }
 {
-    if word == b"get".as_slice() {
-        let (target, (source, cell)) = slot_slot_decimal(arguments)?;
-        Some(Call::Get {
-            target,
-            source,
-            cell,
-        })
-    } else if word == b"head".as_slice() {
-        let slot = slot(arguments)?;
-        Some(Call::Head { slot })
-    } else if word == b"init".as_slice() {
-        init(arguments)
+    if is_word(word, b"get") {
+        get(arguments, into)
+    } else if is_word(word, b"head") {
+        head(arguments, into)
+    } else if is_word(word, b"init") {
+        init(arguments, into)
     } else {
         None
     }
+}
+
+/// `addr S`.
+fn address(arguments: &[u8], into: &mut Call) -> Option<()>
+    ensures { filled result into.new ≡ one slot_of call.Address (words arguments.now) }
+{
+    let slot = slot(arguments)?;
+    *into = Call::Address { slot };
+    Some(())
+}
+
+/// `alloc P SIZE B.I`.
+fn alloc(arguments: &[u8], into: &mut Call) -> Option<()>
+    ensures { filled result into.new ≡ three name_of decimal_number slot_of call.Alloc (words arguments.now) }
+{
+    let (pool, (words, place)) = name_decimal_slot(arguments)?;
+    *into = Call::Alloc { pool, words, place };
+    Some(())
+}
+
+/// `ap X P exact` or `ap X P weak`.
+fn point(arguments: &[u8], into: &mut Call) -> Option<()>
+    ensures { filled result into.new ≡ three name_of name_of (named_in ranks) call.Point (words arguments.now) }
+{
+    let (point, (pool, rank)) = name_name_rank(arguments)?;
+    *into = Call::Point { point, pool, rank };
+    Some(())
+}
+
+/// `area A N`.
+fn area(arguments: &[u8], into: &mut Call) -> Option<()>
+    ensures { filled result into.new ≡ two name_of length_of_root call.Area (words arguments.now) }
+{
+    let (area, length) = name_length(arguments)?;
+    *into = Call::Area { area, length };
+    Some(())
+}
+
+/// `arena GRAINS LIMIT`.
+fn arena(arguments: &[u8], into: &mut Call) -> Option<()>
+    ensures { filled result into.new ≡ two (grains_from 1) (grains_from 0) call.Arena (words arguments.now) }
+{
+    let (grains, limit) = grains_limit(arguments)?;
+    *into = Call::Arena { grains, limit };
+    Some(())
+}
+
+/// `blocks B N`.
+fn blocks(arguments: &[u8], into: &mut Call) -> Option<()>
+    ensures { filled result into.new ≡ two name_of length_of_root call.Blocks (words arguments.now) }
+{
+    let (blocks, length) = name_length(arguments)?;
+    *into = Call::Blocks { blocks, length };
+    Some(())
+}
+
+/// `clamp`.
+fn clamp(arguments: &[u8], into: &mut Call) -> Option<()>
+    ensures { filled result into.new ≡ none call.Clamp (words arguments.now) }
+{
+    alone(arguments)?;
+    *into = Call::Clamp;
+    Some(())
+}
+
+/// `clear S`.
+fn clear(arguments: &[u8], into: &mut Call) -> Option<()>
+    ensures { filled result into.new ≡ one slot_of call.Clear (words arguments.now) }
+{
+    let slot = slot(arguments)?;
+    *into = Call::Clear { slot };
+    Some(())
+}
+
+/// `collect`.
+fn collect(arguments: &[u8], into: &mut Call) -> Option<()>
+    ensures { filled result into.new ≡ none call.Collect (words arguments.now) }
+{
+    alone(arguments)?;
+    *into = Call::Collect;
+    Some(())
+}
+
+/// `commit X SLOT`.
+fn commit(arguments: &[u8], into: &mut Call) -> Option<()>
+    ensures { filled result into.new ≡ two name_of slot_of call.Commit (words arguments.now) }
+{
+    let (point, target) = name_slot(arguments)?;
+    *into = Call::Commit { point, target };
+    Some(())
+}
+
+/// `committed`.
+fn committed(arguments: &[u8], into: &mut Call) -> Option<()>
+    ensures { filled result into.new ≡ none call.Committed (words arguments.now) }
+{
+    alone(arguments)?;
+    *into = Call::Committed;
+    Some(())
+}
+
+/// `copy DST SRC`.
+fn copy(arguments: &[u8], into: &mut Call) -> Option<()>
+    ensures { filled result into.new ≡ two slot_of slot_of call.Copy (words arguments.now) }
+{
+    let (target, source) = slot_slot(arguments)?;
+    *into = Call::Copy { target, source };
+    Some(())
+}
+
+/// `definalize S`.
+fn definalize(arguments: &[u8], into: &mut Call) -> Option<()>
+    ensures { filled result into.new ≡ one slot_of call.Definalize (words arguments.now) }
+{
+    let slot = slot(arguments)?;
+    *into = Call::Definalize { slot };
+    Some(())
+}
+
+/// `dropap X`.
+fn drop_point(arguments: &[u8], into: &mut Call) -> Option<()>
+    ensures { filled result into.new ≡ one name_of call.DropPoint (words arguments.now) }
+{
+    let point = name(arguments)?;
+    *into = Call::DropPoint { point };
+    Some(())
+}
+
+/// `droproot R`.
+fn drop_root(arguments: &[u8], into: &mut Call) -> Option<()>
+    ensures { filled result into.new ≡ one name_of call.DropRoot (words arguments.now) }
+{
+    let root = name(arguments)?;
+    *into = Call::DropRoot { root };
+    Some(())
+}
+
+/// `dump HEX`.
+fn dump(arguments: &[u8], into: &mut Call) -> Option<()>
+    ensures { filled result into.new ≡ one prefixed_hexadecimal call.Dump (words arguments.now) }
+{
+    let at = hexadecimal(arguments)?;
+    *into = Call::Dump { at };
+    Some(())
+}
+
+/// `finalize S`.
+fn finalize(arguments: &[u8], into: &mut Call) -> Option<()>
+    ensures { filled result into.new ≡ one slot_of call.Finalize (words arguments.now) }
+{
+    let slot = slot(arguments)?;
+    *into = Call::Finalize { slot };
+    Some(())
+}
+
+/// `free B.I`.
+fn free(arguments: &[u8], into: &mut Call) -> Option<()>
+    ensures { filled result into.new ≡ one slot_of call.Free (words arguments.now) }
+{
+    let place = slot(arguments)?;
+    *into = Call::Free { place };
+    Some(())
+}
+
+/// `get DST SRC K`.
+fn get(arguments: &[u8], into: &mut Call) -> Option<()>
+    ensures { filled result into.new ≡ three slot_of slot_of decimal_number call.Get (words arguments.now) }
+{
+    let (target, (source, cell)) = slot_slot_decimal(arguments)?;
+    *into = Call::Get {
+        target,
+        source,
+        cell,
+    };
+    Some(())
+}
+
+/// `head S`.
+fn head(arguments: &[u8], into: &mut Call) -> Option<()>
+    ensures { filled result into.new ≡ one slot_of call.Head (words arguments.now) }
+{
+    let slot = slot(arguments)?;
+    *into = Call::Head { slot };
+    Some(())
 }

@@ -1,5 +1,6 @@
 // The form of the command that makes a chain.
 ghost use Rattle.std.specs.Prelude.{◌≡◌, length, option_map};
+ghost use Rattle.mps_script.specs.Filled.{filled};
 ghost use Rattle.mps_words.specs.Word.{words};
 ghost use Rattle.mps_script.specs.Form.{chain, capacities, padded};
 
@@ -34,15 +35,16 @@ fn capacities(arguments: &[u8]) -> Option<(u8, [u64; MAX_GENERATIONS])>
 }
 
 /// `chain C CAPS`, after `chain`.
-pub fn chain(arguments: &[u8]) -> Option<Call>
-    ensures { result ≡ chain (words arguments.now) }
+pub fn chain(arguments: &[u8], into: &mut Call) -> Option<()>
+    ensures { filled result into.new ≡ chain (words arguments.now) }
 {
     let (word, rest) = next_word(arguments)?;
     let chain = name_of(word)?;
     let (count, capacities) = capacities(rest)?;
-    Some(Call::Chain {
+    *into = Call::Chain {
         chain,
         count,
         capacities,
-    })
+    };
+    Some(())
 }

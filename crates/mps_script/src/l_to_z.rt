@@ -1,7 +1,14 @@
 // The forms of the commands whose words begin with a letter `l` to `z`.
 ghost use Rattle.std.specs.Prelude.{◌≡◌};
+ghost use Rattle.mps_model.specs.declared.call.Call.TheVariants as call;
+ghost use Rattle.mps_numerals.specs.Decimal.{decimal_number};
 ghost use Rattle.mps_words.specs.Word.{words};
-ghost use Rattle.mps_script.specs.Form.{call_in, l_forms, m_to_o_forms, p_to_r_forms, s_to_z_forms};
+ghost use Rattle.mps_words.specs.Number.{number_of};
+ghost use Rattle.mps_words.specs.Name.{name_of, slot_of};
+ghost use Rattle.mps_words.specs.Head.{head_of};
+ghost use Rattle.mps_script.specs.Calls.{none, one, two, three};
+ghost use Rattle.mps_script.specs.Filled.{filled};
+ghost use Rattle.mps_script.specs.Form.{call_in, grains_from, length_of_root, l_forms, m_to_o_forms, p_to_r_forms, s_to_z_forms};
 
 use crate::grains::grains;
 use crate::pools::pool;
@@ -9,119 +16,314 @@ use crate::roots::name_length;
 use crate::several::{alone, name_head, start};
 use mps_model::Call;
 use mps_words::{
-    decimal, name, name_name, name_slot, slot, slot_decimal, slot_decimal_slot, slot_decimal_value,
-    slot_slot, slot_value,
+    decimal, is_word, name, name_name, name_slot, slot, slot_decimal, slot_decimal_slot,
+    slot_decimal_value, slot_slot, slot_value,
 };
 
 /// The call of a command whose word begins with `l`.
-pub fn call_of_l(word: &[u8], arguments: &[u8]) -> Option<Call>
-    ensures { result ≡ call_in l_forms word.now (words arguments.now) }
+pub fn call_of_l(word: &[u8], arguments: &[u8], into: &mut Call) -> Option<()>
+    ensures { filled result into.new ≡ call_in l_forms word.now (words arguments.now) }
 {
-    if word == b"ld".as_slice() {
-        let dependency = name(arguments)?;
-        Some(Call::Dependency { dependency })
-    } else if word == b"ldadd".as_slice() {
-        let (dependency, slot) = name_slot(arguments)?;
-        Some(Call::DependencyAdd { dependency, slot })
-    } else if word == b"ldmerge".as_slice() {
-        let (dependency, source) = name_name(arguments)?;
-        Some(Call::DependencyMerge { dependency, source })
-    } else if word == b"ldreset".as_slice() {
-        let dependency = name(arguments)?;
-        Some(Call::DependencyReset { dependency })
-    } else if word == b"ldstale".as_slice() {
-        let dependency = name(arguments)?;
-        Some(Call::DependencyStale { dependency })
-    } else if word == b"limit".as_slice() {
-        let limit = grains(arguments)?;
-        Some(Call::Limit { limit })
-    } else if word == b"live".as_slice() {
-        alone(arguments, Call::Live)
-    } else if word == b"load".as_slice() {
-        let (place, word) = slot_decimal(arguments)?;
-        Some(Call::Load { place, word })
+    if is_word(word, b"ld") {
+        dependency(arguments, into)
+    } else if is_word(word, b"ldadd") {
+        dependency_add(arguments, into)
+    } else if is_word(word, b"ldmerge") {
+        dependency_merge(arguments, into)
+    } else if is_word(word, b"ldreset") {
+        dependency_reset(arguments, into)
+    } else if is_word(word, b"ldstale") {
+        dependency_stale(arguments, into)
+    } else if is_word(word, b"limit") {
+        limit(arguments, into)
+    } else if is_word(word, b"live") {
+        live(arguments, into)
+    } else if is_word(word, b"load") {
+        load(arguments, into)
     } else {
         None
     }
 }
 
 /// The call of a command whose word begins with a letter `m` to `o`.
-pub fn call_of_m_to_o(word: &[u8], arguments: &[u8]) -> Option<Call>
-    ensures { result ≡ call_in m_to_o_forms word.now (words arguments.now) }
+pub fn call_of_m_to_o(word: &[u8], arguments: &[u8], into: &mut Call) -> Option<()>
+    ensures { filled result into.new ≡ call_in m_to_o_forms word.now (words arguments.now) }
 {
-    if word == b"message".as_slice() {
-        let slot = slot(arguments)?;
-        Some(Call::Message { slot })
-    } else if word == b"null".as_slice() {
-        let slot = slot(arguments)?;
-        Some(Call::Null { slot })
-    } else if word == b"num".as_slice() {
-        let (slot, cell) = slot_decimal(arguments)?;
-        Some(Call::Number { slot, cell })
+    if is_word(word, b"message") {
+        message(arguments, into)
+    } else if is_word(word, b"null") {
+        null(arguments, into)
+    } else if is_word(word, b"num") {
+        number(arguments, into)
     } else {
         None
     }
 }
 
 /// The call of a command whose word begins with a letter `p` to `r`.
-pub fn call_of_p_to_r(word: &[u8], arguments: &[u8]) -> Option<Call>
-    ensures { result ≡ call_in p_to_r_forms word.now (words arguments.now) }
+pub fn call_of_p_to_r(word: &[u8], arguments: &[u8], into: &mut Call) -> Option<()>
+    ensures { filled result into.new ≡ call_in p_to_r_forms word.now (words arguments.now) }
 {
-    if word == b"park".as_slice() {
-        alone(arguments, Call::Park)
-    } else if word == b"peek".as_slice() {
-        let word = slot(arguments)?;
-        Some(Call::Peek { word })
-    } else if word == b"pin".as_slice() {
-        let (word, slot) = slot_slot(arguments)?;
-        Some(Call::Pin { word, slot })
-    } else if word == b"poke".as_slice() {
-        let (word, value) = slot_value(arguments)?;
-        Some(Call::Poke { word, value })
-    } else if word == b"pool".as_slice() {
-        pool(arguments)
-    } else if word == b"put".as_slice() {
-        let (target, (cell, source)) = slot_decimal_slot(arguments)?;
-        Some(Call::Put {
-            target,
-            cell,
-            source,
-        })
-    } else if word == b"release".as_slice() {
-        alone(arguments, Call::Release)
-    } else if word == b"reserve".as_slice() {
-        let (point, head) = name_head(arguments)?;
-        Some(Call::Reserve { point, head })
+    if is_word(word, b"park") {
+        park(arguments, into)
+    } else if is_word(word, b"peek") {
+        peek(arguments, into)
+    } else if is_word(word, b"pin") {
+        pin(arguments, into)
+    } else if is_word(word, b"poke") {
+        poke(arguments, into)
+    } else if is_word(word, b"pool") {
+        pool(arguments, into)
+    } else if is_word(word, b"put") {
+        put(arguments, into)
+    } else if is_word(word, b"release") {
+        release(arguments, into)
+    } else if is_word(word, b"reserve") {
+        reserve(arguments, into)
     } else {
         None
     }
 }
 
 /// The call of a command whose word begins with a letter `s` to `z`.
-pub fn call_of_s_to_z(word: &[u8], arguments: &[u8]) -> Option<Call>
-    ensures { result ≡ call_in s_to_z_forms word.now (words arguments.now) }
+pub fn call_of_s_to_z(word: &[u8], arguments: &[u8], into: &mut Call) -> Option<()>
+    ensures { filled result into.new ≡ call_in s_to_z_forms word.now (words arguments.now) }
 {
-    if word == b"same".as_slice() {
-        let (slot, other) = slot_slot(arguments)?;
-        Some(Call::Same { slot, other })
-    } else if word == b"setnum".as_slice() {
-        let (slot, (cell, value)) = slot_decimal_value(arguments)?;
-        Some(Call::SetNumber { slot, cell, value })
-    } else if word == b"start".as_slice() {
-        start(arguments)
-    } else if word == b"step".as_slice() {
-        let units = decimal(arguments)?;
-        Some(Call::Step { units })
-    } else if word == b"store".as_slice() {
-        let (place, (word, value)) = slot_decimal_value(arguments)?;
-        Some(Call::Store { place, word, value })
-    } else if word == b"table".as_slice() {
-        let (table, length) = name_length(arguments)?;
-        Some(Call::Table { table, length })
-    } else if word == b"take".as_slice() {
-        let (slot, word) = slot_slot(arguments)?;
-        Some(Call::Take { slot, word })
+    if is_word(word, b"same") {
+        same(arguments, into)
+    } else if is_word(word, b"setnum") {
+        set_number(arguments, into)
+    } else if is_word(word, b"start") {
+        start(arguments, into)
+    } else if is_word(word, b"step") {
+        step(arguments, into)
+    } else if is_word(word, b"store") {
+        store(arguments, into)
+    } else if is_word(word, b"table") {
+        table(arguments, into)
+    } else if is_word(word, b"take") {
+        take(arguments, into)
     } else {
         None
     }
+}
+
+/// `ld D`.
+fn dependency(arguments: &[u8], into: &mut Call) -> Option<()>
+    ensures { filled result into.new ≡ one name_of call.Dependency (words arguments.now) }
+{
+    let dependency = name(arguments)?;
+    *into = Call::Dependency { dependency };
+    Some(())
+}
+
+/// `ldadd D S`.
+fn dependency_add(arguments: &[u8], into: &mut Call) -> Option<()>
+    ensures { filled result into.new ≡ two name_of slot_of call.DependencyAdd (words arguments.now) }
+{
+    let (dependency, slot) = name_slot(arguments)?;
+    *into = Call::DependencyAdd { dependency, slot };
+    Some(())
+}
+
+/// `ldmerge D E`.
+fn dependency_merge(arguments: &[u8], into: &mut Call) -> Option<()>
+    ensures { filled result into.new ≡ two name_of name_of call.DependencyMerge (words arguments.now) }
+{
+    let (dependency, source) = name_name(arguments)?;
+    *into = Call::DependencyMerge { dependency, source };
+    Some(())
+}
+
+/// `ldreset D`.
+fn dependency_reset(arguments: &[u8], into: &mut Call) -> Option<()>
+    ensures { filled result into.new ≡ one name_of call.DependencyReset (words arguments.now) }
+{
+    let dependency = name(arguments)?;
+    *into = Call::DependencyReset { dependency };
+    Some(())
+}
+
+/// `ldstale D`.
+fn dependency_stale(arguments: &[u8], into: &mut Call) -> Option<()>
+    ensures { filled result into.new ≡ one name_of call.DependencyStale (words arguments.now) }
+{
+    let dependency = name(arguments)?;
+    *into = Call::DependencyStale { dependency };
+    Some(())
+}
+
+/// `limit N`.
+fn limit(arguments: &[u8], into: &mut Call) -> Option<()>
+    ensures { filled result into.new ≡ one (grains_from 0) call.Limit (words arguments.now) }
+{
+    let limit = grains(arguments)?;
+    *into = Call::Limit { limit };
+    Some(())
+}
+
+/// `live`.
+fn live(arguments: &[u8], into: &mut Call) -> Option<()>
+    ensures { filled result into.new ≡ none call.Live (words arguments.now) }
+{
+    alone(arguments)?;
+    *into = Call::Live;
+    Some(())
+}
+
+/// `load B.I K`.
+fn load(arguments: &[u8], into: &mut Call) -> Option<()>
+    ensures { filled result into.new ≡ two slot_of decimal_number call.Load (words arguments.now) }
+{
+    let (place, word) = slot_decimal(arguments)?;
+    *into = Call::Load { place, word };
+    Some(())
+}
+
+/// `message S`.
+fn message(arguments: &[u8], into: &mut Call) -> Option<()>
+    ensures { filled result into.new ≡ one slot_of call.Message (words arguments.now) }
+{
+    let slot = slot(arguments)?;
+    *into = Call::Message { slot };
+    Some(())
+}
+
+/// `null S`.
+fn null(arguments: &[u8], into: &mut Call) -> Option<()>
+    ensures { filled result into.new ≡ one slot_of call.Null (words arguments.now) }
+{
+    let slot = slot(arguments)?;
+    *into = Call::Null { slot };
+    Some(())
+}
+
+/// `num S K`.
+fn number(arguments: &[u8], into: &mut Call) -> Option<()>
+    ensures { filled result into.new ≡ two slot_of decimal_number call.Number (words arguments.now) }
+{
+    let (slot, cell) = slot_decimal(arguments)?;
+    *into = Call::Number { slot, cell };
+    Some(())
+}
+
+/// `park`.
+fn park(arguments: &[u8], into: &mut Call) -> Option<()>
+    ensures { filled result into.new ≡ none call.Park (words arguments.now) }
+{
+    alone(arguments)?;
+    *into = Call::Park;
+    Some(())
+}
+
+/// `peek A.I`.
+fn peek(arguments: &[u8], into: &mut Call) -> Option<()>
+    ensures { filled result into.new ≡ one slot_of call.Peek (words arguments.now) }
+{
+    let word = slot(arguments)?;
+    *into = Call::Peek { word };
+    Some(())
+}
+
+/// `pin A.I S`.
+fn pin(arguments: &[u8], into: &mut Call) -> Option<()>
+    ensures { filled result into.new ≡ two slot_of slot_of call.Pin (words arguments.now) }
+{
+    let (word, slot) = slot_slot(arguments)?;
+    *into = Call::Pin { word, slot };
+    Some(())
+}
+
+/// `poke A.I VALUE`.
+fn poke(arguments: &[u8], into: &mut Call) -> Option<()>
+    ensures { filled result into.new ≡ two slot_of number_of call.Poke (words arguments.now) }
+{
+    let (word, value) = slot_value(arguments)?;
+    *into = Call::Poke { word, value };
+    Some(())
+}
+
+/// `put DST K SRC`.
+fn put(arguments: &[u8], into: &mut Call) -> Option<()>
+    ensures { filled result into.new ≡ three slot_of decimal_number slot_of call.Put (words arguments.now) }
+{
+    let (target, (cell, source)) = slot_decimal_slot(arguments)?;
+    *into = Call::Put {
+        target,
+        cell,
+        source,
+    };
+    Some(())
+}
+
+/// `release`.
+fn release(arguments: &[u8], into: &mut Call) -> Option<()>
+    ensures { filled result into.new ≡ none call.Release (words arguments.now) }
+{
+    alone(arguments)?;
+    *into = Call::Release;
+    Some(())
+}
+
+/// `reserve X HEAD`.
+fn reserve(arguments: &[u8], into: &mut Call) -> Option<()>
+    ensures { filled result into.new ≡ two name_of head_of call.Reserve (words arguments.now) }
+{
+    let (point, head) = name_head(arguments)?;
+    *into = Call::Reserve { point, head };
+    Some(())
+}
+
+/// `same S S2`.
+fn same(arguments: &[u8], into: &mut Call) -> Option<()>
+    ensures { filled result into.new ≡ two slot_of slot_of call.Same (words arguments.now) }
+{
+    let (slot, other) = slot_slot(arguments)?;
+    *into = Call::Same { slot, other };
+    Some(())
+}
+
+/// `setnum S K VALUE`.
+fn set_number(arguments: &[u8], into: &mut Call) -> Option<()>
+    ensures { filled result into.new ≡ three slot_of decimal_number number_of call.SetNumber (words arguments.now) }
+{
+    let (slot, (cell, value)) = slot_decimal_value(arguments)?;
+    *into = Call::SetNumber { slot, cell, value };
+    Some(())
+}
+
+/// `step N`.
+fn step(arguments: &[u8], into: &mut Call) -> Option<()>
+    ensures { filled result into.new ≡ one decimal_number call.Step (words arguments.now) }
+{
+    let units = decimal(arguments)?;
+    *into = Call::Step { units };
+    Some(())
+}
+
+/// `store B.I K VALUE`.
+fn store(arguments: &[u8], into: &mut Call) -> Option<()>
+    ensures { filled result into.new ≡ three slot_of decimal_number number_of call.Store (words arguments.now) }
+{
+    let (place, (word, value)) = slot_decimal_value(arguments)?;
+    *into = Call::Store { place, word, value };
+    Some(())
+}
+
+/// `table T N`.
+fn table(arguments: &[u8], into: &mut Call) -> Option<()>
+    ensures { filled result into.new ≡ two name_of length_of_root call.Table (words arguments.now) }
+{
+    let (table, length) = name_length(arguments)?;
+    *into = Call::Table { table, length };
+    Some(())
+}
+
+/// `take S A.I`.
+fn take(arguments: &[u8], into: &mut Call) -> Option<()>
+    ensures { filled result into.new ≡ two slot_of slot_of call.Take (words arguments.now) }
+{
+    let (slot, word) = slot_slot(arguments)?;
+    *into = Call::Take { slot, word };
+    Some(())
 }

@@ -33,8 +33,9 @@ pub fn call_of(line: &[u8]) -> Result<Option<Call>, BadLine>
     if is_comment(word) {
         return Ok(None);
     }
-    match command_call(word, arguments) {
+    let mut call = Call::Committed;
+    match command_call(word, arguments, &mut call) {
         None => Err(BadLine),
-        Some(call) => Ok(Some(call)),
+        Some(()) => Ok(Some(call)),
     }
 }

@@ -1,5 +1,6 @@
 // The forms of the command that makes a pool.
 ghost use Rattle.std.specs.Prelude.{◌≡◌};
+ghost use Rattle.mps_script.specs.Filled.{filled};
 ghost use Rattle.mps_words.specs.Word.{words};
 ghost use Rattle.mps_words.specs.Name.{name_of as name_in};
 ghost use Rattle.mps_words.specs.Reading.{named_in, pair};
@@ -8,21 +9,21 @@ ghost use Rattle.mps_script.specs.Form.{kinds, kinds_on_chains, formats, automat
 use mps_base::{Kind, Name};
 use mps_model::Call;
 use mps_numerals::decimal_number;
-use mps_words::{name, name_of, next_word, only_word};
+use mps_words::{is_word, name, name_of, next_word, only_word};
 
 /// A kind of automatic pool.
 fn kind_of(word: &[u8]) -> Option<Kind>
     ensures { result ≡ named_in kinds word.now }
 {
-    if word == b"amc".as_slice() {
+    if is_word(word, b"amc") {
         Some(Kind::Amc)
-    } else if word == b"amcz".as_slice() {
+    } else if is_word(word, b"amcz") {
         Some(Kind::Amcz)
-    } else if word == b"ams".as_slice() {
+    } else if is_word(word, b"ams") {
         Some(Kind::Ams)
-    } else if word == b"awl".as_slice() {
+    } else if is_word(word, b"awl") {
         Some(Kind::Awl)
-    } else if word == b"lo".as_slice() {
+    } else if is_word(word, b"lo") {
         Some(Kind::Lo)
     } else {
         None
@@ -33,9 +34,9 @@ fn kind_of(word: &[u8]) -> Option<Kind>
 fn kind_on_chain(word: &[u8]) -> Option<Kind>
     ensures { result ≡ named_in kinds_on_chains word.now }
 {
-    if word == b"amc".as_slice() {
+    if is_word(word, b"amc") {
         Some(Kind::Amc)
-    } else if word == b"amcz".as_slice() {
+    } else if is_word(word, b"amcz") {
         Some(Kind::Amcz)
     } else {
         None
@@ -46,11 +47,11 @@ fn kind_on_chain(word: &[u8]) -> Option<Kind>
 fn format_of(word: &[u8]) -> Option<u64>
     ensures { result ≡ named_in formats word.now }
 {
-    if word == b"front".as_slice() {
+    if is_word(word, b"front") {
         Some(1)
-    } else if word == b"mapped".as_slice() {
+    } else if is_word(word, b"mapped") {
         Some(2)
-    } else if word == b"leaf".as_slice() {
+    } else if is_word(word, b"leaf") {
         Some(3)
     } else {
         None
@@ -58,15 +59,16 @@ fn format_of(word: &[u8]) -> Option<u64>
 }
 
 /// `pool P KIND FORMAT`, after `pool`.
-fn automatic_pool(arguments: &[u8]) -> Option<Call>
-    ensures { result ≡ automatic_pool (words arguments.now) }
+fn automatic_pool(arguments: &[u8], into: &mut Call) -> Option<()>
+    ensures { filled result into.new ≡ automatic_pool (words arguments.now) }
 {
     let (first, rest) = next_word(arguments)?;
     let pool = name_of(first)?;
     let (second, rest) = next_word(rest)?;
     let kind = kind_of(second)?;
     let format = format_of(only_word(rest)?)?;
-    Some(Call::Pool { pool, kind, format })
+    *into = Call::Pool { pool, kind, format };
+    Some(())
 }
 
 /// A format and a chain.
@@ -78,62 +80,65 @@ fn format_chain(arguments: &[u8]) -> Option<(u64, Name)>
 }
 
 /// `pool P KIND FORMAT C`, after `pool`.
-fn pool_on_chain(arguments: &[u8]) -> Option<Call>
-    ensures { result ≡ pool_on_chain (words arguments.now) }
+fn pool_on_chain(arguments: &[u8], into: &mut Call) -> Option<()>
+    ensures { filled result into.new ≡ pool_on_chain (words arguments.now) }
 {
     let (first, rest) = next_word(arguments)?;
     let pool = name_of(first)?;
     let (second, rest) = next_word(rest)?;
     let kind = kind_on_chain(second)?;
     let (format, chain) = format_chain(rest)?;
-    Some(Call::PoolOnChain {
+    *into = Call::PoolOnChain {
         pool,
         kind,
         format,
         chain,
-    })
+    };
+    Some(())
 }
 
 /// `pool P mfs SIZE`, after `pool`.
-fn pool_mfs(arguments: &[u8]) -> Option<Call>
-    ensures { result ≡ pool_mfs (words arguments.now) }
+fn pool_mfs(arguments: &[u8], into: &mut Call) -> Option<()>
+    ensures { filled result into.new ≡ pool_mfs (words arguments.now) }
 {
     let (first, rest) = next_word(arguments)?;
     let pool = name_of(first)?;
     let (second, rest) = next_word(rest)?;
-    if second == b"mfs".as_slice() {
+    if is_word(second, b"mfs") {
         let words = decimal_number(only_word(rest)?)?;
-        Some(Call::PoolMfs { pool, words })
+        *into = Call::PoolMfs { pool, words };
+        Some(())
     } else {
         None
     }
 }
 
 /// `pool P mvff`, after `pool`.
-fn pool_mvff(arguments: &[u8]) -> Option<Call>
-    ensures { result ≡ pool_mvff (words arguments.now) }
+fn pool_mvff(arguments: &[u8], into: &mut Call) -> Option<()>
+    ensures { filled result into.new ≡ pool_mvff (words arguments.now) }
 {
     let (first, rest) = next_word(arguments)?;
     let pool = name_of(first)?;
-    if only_word(rest)? == b"mvff".as_slice() {
-        Some(Call::PoolMvff { pool })
+    if is_word(only_word(rest)?, b"mvff") {
+        *into = Call::PoolMvff { pool };
+        Some(())
     } else {
         None
     }
 }
 
 /// The forms of `pool`.
-pub fn pool(arguments: &[u8]) -> Option<Call>
-    ensures { result ≡ pool (words arguments.now) }
+pub fn pool(arguments: &[u8], into: &mut Call) -> Option<()>
+    ensures { filled result into.new ≡ pool (words arguments.now) }
 {
-    if let Some(call) = automatic_pool(arguments) {
-        return Some(call);
+    if automatic_pool(arguments, into).is_some() {
+        return Some(());
     }
-    if let Some(call) = pool_on_chain(arguments) {
-        return Some(call);
+    if pool_on_chain(arguments, into).is_some() {
+        return Some(());
     }
-    if let Some(call) = pool_mfs(arguments) {
-        return Some(call);
+    if pool_mfs(arguments, into).is_some() {
+        return Some(());
     }
-    pool_mvff(arguments)
+    pool_mvff(arguments, into)
 }

@@ -6,7 +6,7 @@ ghost use Rattle.mps_words.specs.Reading.{named_in, pair, onto};
 ghost use Rattle.mps_script.specs.Form.{ranks, length_of_root};
 
 use mps_base::{Name, Rank};
-use mps_words::{name_of, next_word, number_within, only_word};
+use mps_words::{is_word, name_of, next_word, number_within, only_word};
 
 /// The most slots of a table, words of an area and places of a table of blocks.
 const MAX_SLOTS: u64 = 65_536;
@@ -26,9 +26,9 @@ pub fn name_length(arguments: &[u8]) -> Option<(Name, u64)>
 fn rank_of(word: &[u8]) -> Option<Rank>
     ensures { result ≡ named_in ranks word.now }
 {
-    if word == b"exact".as_slice() {
+    if is_word(word, b"exact") {
         Some(Rank::Exact)
-    } else if word == b"weak".as_slice() {
+    } else if is_word(word, b"weak") {
         Some(Rank::Weak)
     } else {
         None

@@ -1,10 +1,12 @@
 // Words of one command alone, and the commands that have several forms.
 ghost use Rattle.std.specs.Prelude.{◌≡◌};
+ghost use Rattle.mps_script.specs.Filled.{filled};
 ghost use Rattle.mps_words.specs.Word.{words};
 ghost use Rattle.mps_words.specs.Name.{name_of as name_in};
 ghost use Rattle.mps_words.specs.Number.{prefixed_hexadecimal as hexadecimal_of};
 ghost use Rattle.mps_words.specs.Head.{head_of as head_in};
 ghost use Rattle.mps_words.specs.Reading.{single, pair};
+ghost use Rattle.mps_model.specs.declared.call.Call.{Call};
 ghost use Rattle.mps_script.specs.Calls.{none};
 ghost use Rattle.mps_script.specs.Form.{init, start};
 
@@ -15,12 +17,12 @@ use mps_words::{
     head_of, name_decimal, name_of, next_word, only_word, prefixed_hexadecimal, slot, value,
 };
 
-/// The call where no word is left.
-pub fn alone(arguments: &[u8], call: Call) -> Option<Call>
-    ensures { result ≡ none call (words arguments.now) }
+/// No word is left.
+pub fn alone(arguments: &[u8]) -> Option<()>
+    ensures { (c : Call) → filled result c ≡ none c (words arguments.now) }
 {
     match next_word(arguments) {
-        None => Some(call),
+        None => Some(()),
         Some(_) => None,
     }
 }
@@ -41,33 +43,36 @@ pub fn name_head(arguments: &[u8]) -> Option<(Name, u64)>
 }
 
 /// `init X K VALUE` or `init X K SLOT`.
-pub fn init(arguments: &[u8]) -> Option<Call>
-    ensures { result ≡ init (words arguments.now) }
+pub fn init(arguments: &[u8], into: &mut Call) -> Option<()>
+    ensures { filled result into.new ≡ init (words arguments.now) }
 {
     let (first, rest) = next_word(arguments)?;
     let point = name_of(first)?;
     let (second, rest) = next_word(rest)?;
     let cell = decimal_number(second)?;
     match value(rest) {
-        Some(value) => Some(Call::InitNumber { point, cell, value }),
+        Some(value) => *into = Call::InitNumber { point, cell, value },
         None => {
             let source = slot(rest)?;
-            Some(Call::InitReference {
+            *into = Call::InitReference {
                 point,
                 cell,
                 source,
-            })
+            };
         }
     }
+    Some(())
 }
 
 /// `start` or `start C I`.
-pub fn start(arguments: &[u8]) -> Option<Call>
-    ensures { result ≡ start (words arguments.now) }
+pub fn start(arguments: &[u8], into: &mut Call) -> Option<()>
+    ensures { filled result into.new ≡ start (words arguments.now) }
 {
-    if let Some(call) = alone(arguments, Call::Start) {
-        return Some(call);
+    if alone(arguments).is_some() {
+        *into = Call::Start;
+        return Some(());
     }
     let (chain, generation) = name_decimal(arguments)?;
-    Some(Call::StartChain { chain, generation })
+    *into = Call::StartChain { chain, generation };
+    Some(())
 }

@@ -15,4 +15,4 @@ pub use arguments::{
 pub use head::head_of;
 pub use names::{name_of, slot_of};
 pub use number::{number_of, number_within, prefixed_hexadecimal};
-pub use words::{MAX_LINE_BYTES, next_word, only_word};
+pub use words::{MAX_LINE_BYTES, is_word, next_word, only_word};

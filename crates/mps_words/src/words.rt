@@ -1,6 +1,7 @@
 // The words of a line, one after another.
 ghost use Rattle.std.specs.Prelude.{◌≡◌, ◌==◌, ◌∷◌, ◌<◌, ◌≤◌, [], length, not, position, IfSome, Some, None, MatchOption};
 ghost use Rattle.std.specs.List.{position_or_len};
+ghost use Rattle.std.specs.Str.{bytes_eq};
 ghost use Rattle.mps_words.specs.Word.{words, is_space, cut_at, only_word};
 
 use mps_base::length_before;
@@ -46,6 +47,22 @@ pub fn next_word(bytes: &[u8]) -> Option<(&[u8], &[u8])>
     let line = &bytes[start..];
     let end = length_before(b' ', line);
     Some((&line[..end], &line[end..]))
+}
+
+/// The word is this text. It is compared byte by byte, as such a text is short.
+#[inline(always)]
+pub fn is_word(word: &[u8], text: &[u8]) -> bool
+    ensures { result ≡ bytes_eq word.now text.now }
+{
+    if word.len() != text.len() {
+        return false;
+    }
+    for index in 0..text.len() {
+        if word[index] != text[index] {
+            return false;
+        }
+    }
+    true
 }
 
 /// The one word, where there is one and no other.
