@@ -23,6 +23,7 @@ fn keys_are_given_out_again(rt: HostRuntime) -> Result<(), AllocError> {
     roots.drop_area(area);
     assert!(rt; roots.words(area).is_none());
     let number = roots.blocks(1)?;
+    assert_eq!(rt; roots.block_tables(), 1);
     roots.set_place(number, 0, 8);
     assert_eq!(rt; roots.place(number, 0), 8);
     assert_eq!(rt; roots.places(number).len(), 1);

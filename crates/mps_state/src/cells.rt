@@ -6,6 +6,7 @@ ghost use Rattle.mps_base.specs.Address.{word_of};
 ghost use Rattle.mps_model.specs.Graph.{has_references};
 ghost use Rattle.mps_outcome.specs.Finding.{cell_at, number_cell_at, reference_cell_at, retargeted};
 
+use crate::items::item;
 use mps_base::{Addr, BYTES_OF_WORD, Refusal};
 use mps_format::Format;
 use mps_outcome::{Block, CellFound};
@@ -62,7 +63,9 @@ fn cell_at<F: Format>(words: &[u64], b: &Block<F>, k: u64) -> Result<CellFound, 
         return Err(Refusal::BadIndex);
     }
     let word = word_of_cell(b.at, k);
-    let value = *words.get(word).ok_or(Refusal::BadIndex)?;
+    let Some(value) = item(words, word) else {
+        return Err(Refusal::BadIndex);
+    };
     Ok(CellFound { word, value })
 }
 

@@ -2,6 +2,7 @@
 #![tactic(auto)]
 
 mod cells;
+mod items;
 mod pools;
 mod state;
 

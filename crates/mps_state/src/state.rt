@@ -75,9 +75,15 @@ impl<F: Format> State<F> {
         ensures state { IfOk result (λ h. h ≡ new_heap grains limit h.names) }
         ensures names { IfOk result (λ h. h.names.entries ≡ []) }
     {
-        let segs = Segs::new(alloc, grains, limit)?;
         let finals = Finals::new(alloc)?;
-        let points = OpenPoints::new(alloc)?;
+        let segs = Segs::new(alloc, grains, limit)?;
+        let points = match OpenPoints::new(alloc) {
+            Ok(points) => points,
+            Err(why) => {
+                drop(segs);
+                return Err(why);
+            }
+        };
         Ok(State {
             segs,
             roots: Roots::new(alloc),
@@ -108,20 +114,27 @@ impl<F: Format> State<F> {
     {
         let State {
             segs,
-            roots: _,
+            roots,
             live_roots: _,
             live_slots: _,
             points,
             live_points: _,
-            finals: _,
+            finals,
             epochs: _,
-            dependencies: _,
-            pools: _,
-            manual: _,
-            names: _,
+            dependencies,
+            pools,
+            manual,
+            names,
             arena: _,
         } = self;
         let mut segs = segs;
         points.finish(&mut segs);
+        drop(segs);
+        drop(roots);
+        drop(finals);
+        drop(dependencies);
+        drop(pools);
+        drop(manual);
+        drop(names);
     }
 }

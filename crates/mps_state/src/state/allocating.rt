@@ -11,6 +11,7 @@ ghost use Rattle.mps_outcome.specs.Allocating.{check_reserve, reserved, block_he
 
 use super::State;
 use crate::cells::{number_cell_at, reference_cell_at, with_target, write_word};
+use crate::items::item;
 use crate::pools::{format_of_pool, takes_head};
 use mps_base::{Name, Refusal, Slot, Trail};
 use mps_buffer::{Held, Point};
@@ -26,11 +27,12 @@ impl<F: Format> State<F> {
         ensures at_most { IfOk result (λ r. r.words ≤ max_block_words) }
     {
         let point = self.point_named(name)?;
-        let pool = *self
-            .pools
-            .get(point.value.pool as usize)
-            .ok_or(Refusal::BadName)?;
-        let format = format_of_pool(pool).ok_or(Refusal::WrongPool)?;
+        let Some(pool) = item(&self.pools, point.value.pool as usize) else {
+            return Err(Refusal::BadName);
+        };
+        let Some(format) = format_of_pool(pool) else {
+            return Err(Refusal::WrongPool);
+        };
         if !takes_head(pool, format, head) {
             return Err(Refusal::BadHead);
         }
@@ -59,8 +61,12 @@ impl<F: Format> State<F> {
         ensures value { result ≡ block_held F.layout self.now point held }
         ensures valid { IfOk result (λ b. IsTrue ((F.layout b.format).is_valid b.head)) }
     {
-        let pool = *self.pools.get(point.pool as usize).ok_or(Refusal::NotOpen)?;
-        let format = format_of_pool(pool).ok_or(Refusal::NotOpen)?;
+        let Some(pool) = item(&self.pools, point.pool as usize) else {
+            return Err(Refusal::NotOpen);
+        };
+        let Some(format) = format_of_pool(pool) else {
+            return Err(Refusal::NotOpen);
+        };
         if !format.accepts(held.head) {
             return Err(Refusal::NotOpen);
         }
@@ -136,5 +142,8 @@ fn reservation_of(point: Point) -> Result<Held, Refusal>
     ensures value { result ≡ required point.reservation Refusal.NotOpen }
     ensures open { IfOk result (λ held. point.reservation ≡ Some held) }
 {
-    point.reservation.ok_or(Refusal::NotOpen)
+    match point.reservation {
+        Some(held) => Ok(held),
+        None => Err(Refusal::NotOpen),
+    }
 }

@@ -83,7 +83,10 @@ impl<F: Format> State<F> {
         if !word.holds {
             return Err(Refusal::NotARef);
         }
-        block_over(&self.segs, word.word).ok_or(Refusal::NotARef)
+        match block_over(&self.segs, word.word) {
+            Some(at) => Ok(at),
+            None => Err(Refusal::NotARef),
+        }
     }
 
     /// A slot becomes the object that a word of an area holds. Refuses `NotARef` where it holds none.

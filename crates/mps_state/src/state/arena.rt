@@ -9,7 +9,7 @@ ghost use Rattle.mps_outcome.specs.Manual.{is_block_over};
 ghost use Rattle.mps_outcome.specs.Arena.{held_grains, limit_set, with_arena, BlockBegins};
 
 use super::State;
-use super::manual::is_block_over;
+use super::manual::begins_block;
 use mps_base::{Addr, Refusal};
 use mps_format::Format;
 use mps_outcome::ArenaState;
@@ -61,12 +61,11 @@ impl<F: Format> State<F> {
     }
 
     /// How many words the block has that begins at an address. Refuses `NotABlock` where none begins there.
-    #[tactic(auto, using(crate::proofs::Blocks::begins_block))]
     pub fn dump(&self, at: u64) -> Result<u32, Refusal>
         ensures { MatchResult result (λ words. BlockBegins self.now at words)
             (λ why. (why ≡ Refusal.NotABlock) × (is_block_over self.now.segs at at ≡ false)) }
     {
-        if !is_block_over(&self.segs, at, at) {
+        if !begins_block(&self.segs, at) {
             return Err(Refusal::NotABlock);
         }
         Ok(self.segs.block_words(Addr(at)))

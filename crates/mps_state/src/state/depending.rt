@@ -8,6 +8,7 @@ ghost use Rattle.mps_outcome.specs.Finding.{dependency_named};
 ghost use Rattle.mps_outcome.specs.Depending.{with_dependency, dependency_reset, dependency_added, dependency_merged, is_dependency_stale};
 
 use super::State;
+use crate::items::item;
 use mps_base::{Addr, Name, Refusal, Slot};
 use mps_format::Format;
 use mps_ld::Ld;
@@ -19,7 +20,9 @@ impl<F: Format> State<F> {
         ensures { result ≡ dependency_named self.now name }
     {
         let key = self.number_of_dependency(name)?;
-        let value = *self.dependencies.get(key as usize).ok_or(Refusal::BadName)?;
+        let Some(value) = item(&self.dependencies, key as usize) else {
+            return Err(Refusal::BadName);
+        };
         Ok(Kept { key, value })
     }
 

@@ -8,6 +8,7 @@ ghost use Rattle.mps_outcome.specs.State.{pool_over, format_over};
 ghost use Rattle.mps_outcome.specs.Finding.{as_pool, as_table, as_area, as_blocks, as_point, as_dependency, key_named, pool_named, point_named, slot_in, word_in, block_place_in, object_at, object_in};
 
 use super::State;
+use crate::items::item;
 use crate::pools::{format_of_pool, pool_of_segment};
 use mps_base::{Addr, Name, Refusal, Slot};
 use mps_buffer::Point;
@@ -82,7 +83,9 @@ impl<F: Format> State<F> {
         ensures { result ≡ pool_named self.now name }
     {
         let key = self.number_of_pool(name)?;
-        let value = *self.pools.get(key as usize).ok_or(Refusal::BadName)?;
+        let Some(value) = item(&self.pools, key as usize) else {
+            return Err(Refusal::BadName);
+        };
         Ok(Kept { key, value })
     }
 
@@ -92,7 +95,9 @@ impl<F: Format> State<F> {
         ensures there { IfOk result (λ p. point_at self.now.points p.key ≡ Some p.value) }
     {
         let key = self.key_of_point(name)?;
-        let value = self.points.get(key).ok_or(Refusal::BadName)?;
+        let Some(value) = self.points.get(key) else {
+            return Err(Refusal::BadName);
+        };
         Ok(Kept { key, value })
     }
 
@@ -102,9 +107,13 @@ impl<F: Format> State<F> {
         ensures fits { IfOk result (λ e. HasItem self.now.roots.tables e.key e.index) }
     {
         let key = self.key_of_table(slot.name)?;
-        let slots = self.roots.slots(key).ok_or(Refusal::BadName)?;
+        let Some(slots) = self.roots.slots(key) else {
+            return Err(Refusal::BadName);
+        };
         let index = slot.index as usize;
-        let value = *slots.get(index).ok_or(Refusal::BadIndex)?;
+        let Some(value) = item(slots, index) else {
+            return Err(Refusal::BadIndex);
+        };
         Ok(Entry { key, index, value })
     }
 
@@ -114,9 +123,13 @@ impl<F: Format> State<F> {
         ensures fits { IfOk result (λ e. HasItem self.now.roots.areas e.key e.index) }
     {
         let key = self.key_of_area(place.name)?;
-        let words = self.roots.words(key).ok_or(Refusal::BadName)?;
+        let Some(words) = self.roots.words(key) else {
+            return Err(Refusal::BadName);
+        };
         let index = place.index as usize;
-        let value = *words.get(index).ok_or(Refusal::BadIndex)?;
+        let Some(value) = item(words, index) else {
+            return Err(Refusal::BadIndex);
+        };
         Ok(Entry { key, index, value })
     }
 
@@ -131,7 +144,9 @@ impl<F: Format> State<F> {
         }
         let places = self.roots.places(key);
         let index = place.index as usize;
-        let value = *places.get(index).ok_or(Refusal::BadIndex)?;
+        let Some(value) = item(places, index) else {
+            return Err(Refusal::BadIndex);
+        };
         Ok(Entry { key, index, value })
     }
 
@@ -140,7 +155,7 @@ impl<F: Format> State<F> {
         ensures { result ≡ pool_over self.now at }
     {
         let number = pool_of_segment(&self.segs, at)?;
-        self.pools.get(number as usize).copied()
+        item(&self.pools, number as usize)
     }
 
     /// The format of the objects in the segment that is held over an address.
@@ -160,9 +175,12 @@ impl<F: Format> State<F> {
         if address == 0 {
             return Err(Refusal::NullRef);
         }
-        let format = self.format_over(address).ok_or(Refusal::NullRef)?;
-        let word = Addr(address).word();
-        let head = *self.segs.words().get(word).ok_or(Refusal::NullRef)?;
+        let Some(format) = self.format_over(address) else {
+            return Err(Refusal::NullRef);
+        };
+        let Some(head) = item(self.segs.words(), Addr(address).word()) else {
+            return Err(Refusal::NullRef);
+        };
         if !format.accepts(head) {
             return Err(Refusal::NullRef);
         }

@@ -1,15 +1,17 @@
 // The calls on manual blocks.
 #![tactic(auto)]
 
-ghost use Rattle.std.specs.Prelude.{◌≡◌, ◌<◌, ℕ, IfOk, Contains};
+ghost use Rattle.std.specs.Prelude.{◌≡◌, ◌<◌, ℕ, true, IfOk, Contains};
 ghost use Rattle.mps_base.specs.Address.{word_of};
 ghost use Rattle.mps_root.specs.State.{HasPlace};
 ghost use Rattle.mps_outcome.specs.Coming.{Comes, ComesMoving};
 ghost use Rattle.mps_outcome.specs.Manual.{is_block_over, with_block_place, block_allocated, block_in, block_freed, word_in_block, word_loaded, word_stored};
+ghost use Rattle.mps_state.specs.Placed.{allocated_into, freed_at};
 
 use super::State;
 use super::areas::block_over;
 use crate::cells::write_word;
+use crate::items::item;
 use crate::pools::{is_automatic, pool_of_segment};
 use mps_base::{Addr, BYTES_OF_WORD, Name, Refusal, Slot, Trail};
 use mps_format::Format;
@@ -46,7 +48,24 @@ impl<F: Format> State<F> {
             return Err(Refusal::WrongPool);
         }
         let into = self.block_place_in(place)?;
-        let takes = self.manual.takes(from.key, words).ok_or(Refusal::BadName)?;
+        self.alloc_into(trail, from.key, words, into)
+    }
+
+    /// Makes a block of n words in the manual pool with a number, and puts it in a place that was found.
+    fn alloc_into(
+        &mut self,
+        trail: &mut Trail,
+        pool: u32,
+        words: u64,
+        into: Entry<u64>,
+    ) -> Result<(), Refusal>
+        requires place { HasPlace self.old.roots.blocks into.key into.index }
+        requires fits { 1 < trail.old.spare }
+        ensures { ComesMoving self.old trail.old (allocated_into self.old trail.old pool words into) result self.new trail.new }
+    {
+        let Some(takes) = self.manual.takes(pool, words) else {
+            return Err(Refusal::BadName);
+        };
         if !takes {
             return Err(Refusal::BadSize);
         }
@@ -55,13 +74,12 @@ impl<F: Format> State<F> {
         }
         let at = self
             .manual
-            .alloc(&mut self.segs, trail, from.key, words as u32)?;
+            .alloc(&mut self.segs, trail, pool, words as u32)?;
         self.set_place(into, at.0);
         Ok(())
     }
 
     /// The address of the manual block in a place.
-    #[tactic(auto, using(crate::proofs::Blocks::begins_block))]
     fn block_in(&self, place: Entry<u64>) -> Result<u64, Refusal>
         ensures value { result ≡ block_in self.now place }
         ensures block { IfOk result (λ at. (words : ℕ) × Contains self.now.segs.blocks (record { from = word_of at; count = words })) }
@@ -69,7 +87,7 @@ impl<F: Format> State<F> {
         if place.value == 0 {
             return Err(Refusal::NotABlock);
         }
-        if !is_block_over(&self.segs, place.value, place.value) {
+        if !begins_block(&self.segs, place.value) {
             return Err(Refusal::NotABlock);
         }
         Ok(place.value)
@@ -82,7 +100,19 @@ impl<F: Format> State<F> {
     {
         let from = self.block_place_in(place)?;
         let at = self.block_in(from)?;
-        let pool = pool_of_segment(&self.segs, at).ok_or(Refusal::NotABlock)?;
+        self.free_at(trail, from, at)
+    }
+
+    /// Frees the block at an address, and empties the place that was found.
+    fn free_at(&mut self, trail: &mut Trail, from: Entry<u64>, at: u64) -> Result<(), Refusal>
+        requires place { HasPlace self.old.roots.blocks from.key from.index }
+        requires block { (words : ℕ) × Contains self.old.segs.blocks (record { from = word_of at; count = words }) }
+        requires fits { 1 < trail.old.spare }
+        ensures { ComesMoving self.old trail.old (freed_at self.old trail.old from at) result self.new trail.new }
+    {
+        let Some(pool) = pool_of_segment(&self.segs, at) else {
+            return Err(Refusal::NotABlock);
+        };
         if pool as usize >= self.manual.pools() {
             return Err(Refusal::NotABlock);
         }
@@ -116,11 +146,10 @@ impl<F: Format> State<F> {
         let from = self.block_place_in(place)?;
         let at = self.block_in(from)?;
         let word = self.word_in_block(at, k)?;
-        self.segs
-            .words()
-            .get(word)
-            .copied()
-            .ok_or(Refusal::BadIndex)
+        match item(self.segs.words(), word) {
+            Some(value) => Ok(value),
+            None => Err(Refusal::BadIndex),
+        }
     }
 
     /// Writes word `k` of the block in a place.
@@ -133,6 +162,15 @@ impl<F: Format> State<F> {
         write_word(&mut self.segs, word, value);
         Ok(())
     }
+}
+
+/// Whether a block begins at an address.
+#[tactic(auto, using(crate::proofs::Blocks::begins_block))]
+pub(crate) fn begins_block(segs: &Segs, at: u64) -> bool
+    ensures value { result ≡ is_block_over segs.now at at }
+    ensures block { result ≡ true → (words : ℕ) × Contains segs.now.blocks (record { from = word_of at; count = words }) }
+{
+    is_block_over(segs, at, at)
 }
 
 /// Whether the block over a byte begins at an address.
