@@ -12,6 +12,7 @@ use crate::items::item;
 use mps_base::{Addr, Name, Refusal, Slot};
 use mps_format::Format;
 use mps_ld::Ld;
+use mps_names::Thing;
 use mps_outcome::Kept;
 
 impl<F: Format> State<F> {
@@ -19,7 +20,9 @@ impl<F: Format> State<F> {
     fn dependency_named(&self, name: Name) -> Result<Kept<Ld>, Refusal>
         ensures { result ≡ dependency_named self.now name }
     {
-        let key = self.number_of_dependency(name)?;
+        let Some(Thing::Dependency(key)) = self.names.get(name) else {
+            return Err(Refusal::BadName);
+        };
         let Some(value) = item(&self.dependencies, key as usize) else {
             return Err(Refusal::BadName);
         };

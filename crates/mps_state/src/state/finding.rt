@@ -5,7 +5,7 @@ ghost use Rattle.std.specs.Prelude.{◌≡◌, ◌<◌, Some, IsTrue, IfOk};
 ghost use Rattle.mps_buffer.specs.Points.{point_at};
 ghost use Rattle.mps_root.specs.State.{HasItem, HasPlace};
 ghost use Rattle.mps_outcome.specs.State.{pool_over, format_over};
-ghost use Rattle.mps_outcome.specs.Finding.{as_pool, as_table, as_area, as_blocks, as_point, as_dependency, key_named, pool_named, point_named, slot_in, word_in, block_place_in, object_at, object_in};
+ghost use Rattle.mps_outcome.specs.Finding.{pool_named, point_named, slot_in, word_in, block_place_in, object_at, object_in};
 
 use super::State;
 use crate::items::item;
@@ -18,71 +18,13 @@ use mps_outcome::{Block, Entry, Kept, Pool};
 use mps_root::Stored;
 
 impl<F: Format> State<F> {
-    /// The number of the pool that has a name.
-    fn number_of_pool(&self, name: Name) -> Result<u32, Refusal>
-        ensures { result ≡ key_named self.now name as_pool }
-    {
-        let Some(Thing::Pool(number)) = self.names.get(name) else {
-            return Err(Refusal::BadName);
-        };
-        Ok(number)
-    }
-
-    /// The key of the table that has a name.
-    fn key_of_table(&self, name: Name) -> Result<usize, Refusal>
-        ensures { result ≡ key_named self.now name as_table }
-    {
-        let Some(Thing::Table(key)) = self.names.get(name) else {
-            return Err(Refusal::BadName);
-        };
-        Ok(key)
-    }
-
-    /// The key of the area that has a name.
-    fn key_of_area(&self, name: Name) -> Result<usize, Refusal>
-        ensures { result ≡ key_named self.now name as_area }
-    {
-        let Some(Thing::Area(key)) = self.names.get(name) else {
-            return Err(Refusal::BadName);
-        };
-        Ok(key)
-    }
-
-    /// The number of the table of blocks that has a name.
-    fn number_of_blocks(&self, name: Name) -> Result<usize, Refusal>
-        ensures { result ≡ key_named self.now name as_blocks }
-    {
-        let Some(Thing::Blocks(number)) = self.names.get(name) else {
-            return Err(Refusal::BadName);
-        };
-        Ok(number)
-    }
-
-    /// The key of the point that has a name.
-    fn key_of_point(&self, name: Name) -> Result<u32, Refusal>
-        ensures { result ≡ key_named self.now name as_point }
-    {
-        let Some(Thing::Point(key)) = self.names.get(name) else {
-            return Err(Refusal::BadName);
-        };
-        Ok(key)
-    }
-
-    /// The number of the dependency that has a name.
-    pub(crate) fn number_of_dependency(&self, name: Name) -> Result<u32, Refusal>
-        ensures { result ≡ key_named self.now name as_dependency }
-    {
-        let Some(Thing::Dependency(number)) = self.names.get(name) else {
-            return Err(Refusal::BadName);
-        };
-        Ok(number)
-    }
-
     /// The pool that has a name.
     pub(crate) fn pool_named(&self, name: Name) -> Result<Kept<Pool<F>>, Refusal>
         ensures { result ≡ pool_named self.now name }
     {
-        let key = self.number_of_pool(name)?;
+        let Some(Thing::Pool(key)) = self.names.get(name) else {
+            return Err(Refusal::BadName);
+        };
         let Some(value) = item(&self.pools, key as usize) else {
             return Err(Refusal::BadName);
         };
@@ -94,7 +36,9 @@ impl<F: Format> State<F> {
         ensures value { result ≡ point_named self.now name }
         ensures there { IfOk result (λ p. point_at self.now.points p.key ≡ Some p.value) }
     {
-        let key = self.key_of_point(name)?;
+        let Some(Thing::Point(key)) = self.names.get(name) else {
+            return Err(Refusal::BadName);
+        };
         let Some(value) = self.points.get(key) else {
             return Err(Refusal::BadName);
         };
@@ -106,7 +50,9 @@ impl<F: Format> State<F> {
         ensures value { result ≡ slot_in self.now slot }
         ensures fits { IfOk result (λ e. HasItem self.now.roots.tables e.key e.index) }
     {
-        let key = self.key_of_table(slot.name)?;
+        let Some(Thing::Table(key)) = self.names.get(slot.name) else {
+            return Err(Refusal::BadName);
+        };
         let Some(slots) = self.roots.slots(key) else {
             return Err(Refusal::BadName);
         };
@@ -122,7 +68,9 @@ impl<F: Format> State<F> {
         ensures value { result ≡ word_in self.now place }
         ensures fits { IfOk result (λ e. HasItem self.now.roots.areas e.key e.index) }
     {
-        let key = self.key_of_area(place.name)?;
+        let Some(Thing::Area(key)) = self.names.get(place.name) else {
+            return Err(Refusal::BadName);
+        };
         let Some(words) = self.roots.words(key) else {
             return Err(Refusal::BadName);
         };
@@ -138,7 +86,9 @@ impl<F: Format> State<F> {
         ensures value { result ≡ block_place_in self.now place }
         ensures fits { IfOk result (λ e. HasPlace self.now.roots.blocks e.key e.index) }
     {
-        let key = self.number_of_blocks(place.name)?;
+        let Some(Thing::Blocks(key)) = self.names.get(place.name) else {
+            return Err(Refusal::BadName);
+        };
         if key >= self.roots.block_tables() {
             return Err(Refusal::BadName);
         }
