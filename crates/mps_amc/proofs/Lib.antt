@@ -1,5 +1,11 @@
 pub mod Copying
 pub mod Found
+pub mod Lost
+pub mod Padded
+pub mod Padding
+pub mod Reclaimed
 pub mod Refused
 pub mod Reopening
 pub mod Tails
+pub mod Walked
+pub mod Within

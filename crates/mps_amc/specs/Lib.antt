@@ -1,2 +1,3 @@
 pub mod Amc
 pub mod Moving
+pub mod Reclaiming

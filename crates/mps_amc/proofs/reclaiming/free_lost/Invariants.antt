@@ -1,0 +1,12 @@
+use Rattle.std.proofs.Common.{◌-◌}
+use Rattle.mps_base.specs.Address.{word_of}
+use Rattle.mps_amc.proofs.Lost.{AreFreedBelow}
+use Rattle.mps_amc.proofs.reclaiming.free_lost.Given as goal
+
+-- the blocks passed so far are freed, and the rest are to go as they were at first
+abbrev pub invariant-loop-at : goal.invariant-loop-at
+invariant-loop-at l =
+    AreFreedBelow l.initial.segs l.initial.trail l.base.0 l.end.0 (word_of l.from.0) l.segs l.trail
+
+abbrev pub decreases-loop-at : goal.decreases-loop-at
+decreases-loop-at l = word_of l.end.0 - word_of l.from.0

@@ -1,0 +1,131 @@
+// A segment is reclaimed at the end of a collection.
+#![tactic(auto)]
+
+ghost use Rattle.std.specs.Prelude.{◌≡◌, ℕ, ◌+◌, ◌%◌, ◌<◌, ◌≤◌, ◌⊎◌, [], ◌∷◌, length, slice_index, IfSome, IfNone, Contains};
+ghost use Rattle.mps_base.specs.Address.{word_of, bytes_of_word};
+ghost use Rattle.mps_base.specs.Run.{runs_within};
+ghost use Rattle.mps_extents.specs.Extents.{is_covered};
+ghost use Rattle.mps_amc.specs.Moving.{run_at};
+ghost use Rattle.mps_amc.specs.Reclaiming.{IsSpan, CanReclaim, lost_between, without_blocks, moves_freed, LiesInPad, ArePadded, IsReclaimed};
+
+use crate::Amc;
+use mps_base::{Addr, BYTES_OF_GRAIN, BYTES_OF_WORD, Move, Trail};
+use mps_format::Format;
+use mps_seg::Segs;
+
+/// The most words that a pad has.
+const MAX_PAD_WORDS: u64 = 65_536;
+
+/// A block: where it begins, and how many words it has.
+#[derive(Clone, Copy)]
+struct Block {
+    at: Addr,
+    words: u32,
+}
+
+impl Amc {
+    /// Reclaims the segment at `base` at the end of a collection. Its blocks that weren't kept are freed, in ascending order. Where
+    /// nothing is left in it it is given back; else the words around its blocks become pads.
+    pub fn reclaim_seg<F: Format>(&self, segs: &mut Segs, trail: &mut Trail, format: &F, base: Addr)
+        requires aligned { base.0 % bytes_of_word ≡ 0 }
+        requires segment { CanReclaim segs.old base.0 trail.old.spare }
+        ensures { IsReclaimed (F.layout format.now) segs.old trail.old base segs.new trail.new }
+    {
+        let _ = segs.grains();
+        let bytes = BYTES_OF_GRAIN * u64::from(segs.segment(base).grains);
+        let end = Addr(base.0 + bytes);
+        free_lost(segs, trail, base, end);
+        if segs.is_empty(base) {
+            segs.give(trail, base);
+        } else {
+            pad_around(segs, format, base, end);
+        }
+    }
+}
+
+/// The lowest block of the segment at `base` that begins at `from` or above. The segment ends at `end`.
+fn next_block(segs: &Segs, base: Addr, from: Addr, end: Addr) -> Option<Block>
+    requires { IsSpan segs.now base.0 end.0 }
+    ensures first { IfSome result (λ b. runs_within (word_of from.0) (word_of end.0) segs.now.blocks
+        ≡ run_at b.at.0 b.words ∷ runs_within (word_of b.at.0 + b.words) (word_of end.0) segs.now.blocks) }
+    ensures none { IfNone result (runs_within (word_of from.0) (word_of end.0) segs.now.blocks ≡ []) }
+    ensures there { IfSome result (λ b. Contains segs.now.blocks (run_at b.at.0 b.words)) }
+    ensures aligned { IfSome result (λ b. b.at.0 % bytes_of_word ≡ 0) }
+    ensures nonzero { IfSome result (λ b. 0 < b.words) }
+    ensures above { IfSome result (λ b. word_of from.0 ≤ word_of b.at.0) }
+    ensures below { IfSome result (λ b. word_of b.at.0 < word_of end.0) }
+    ensures in_arena { IfSome result (λ b. word_of b.at.0 + b.words ≤ length segs.now.words) }
+{
+    let at = segs.walk(base, from)?;
+    let words = segs.block_words(at);
+    Some(Block { at, words })
+}
+
+/// Frees the blocks that begin in the segment from `base` to `end` and weren't kept, in ascending order.
+fn free_lost(segs: &mut Segs, trail: &mut Trail, base: Addr, end: Addr)
+    requires span { IsSpan segs.old base.0 end.0 }
+    requires fits { length (lost_between (word_of base.0) (word_of end.0) segs.old) < trail.old.spare }
+    ensures state { segs.new ≡ without_blocks (lost_between (word_of base.0) (word_of end.0) segs.old) segs.old }
+    ensures moves { trail.new ≡ moves_freed (lost_between (word_of base.0) (word_of end.0) segs.old) trail.old }
+{
+    let _ = segs.grains();
+    let mut from = base;
+    while let Some(Block { at, words }) = next_block(segs, base, from, end) {
+        if !segs.is_kept(at) {
+            segs.drop_block(at, words);
+            trail.push(Move::Free { at });
+        }
+        from = Addr(at.0 + BYTES_OF_WORD * u64::from(words));
+    }
+}
+
+/// Turns the words of the segment from `base` to `end` that no block of it has into pads.
+fn pad_around<F: Format>(segs: &mut Segs, format: &F, base: Addr, end: Addr)
+    requires aligned { base.0 % bytes_of_word ≡ 0 }
+    requires span { IsSpan segs.old base.0 end.0 }
+    ensures state { segs.new ≡ record segs.old { words = segs.new.words } }
+    ensures words { ArePadded (F.layout format.now) (word_of base.0) (word_of end.0)
+        (runs_within (word_of base.0) (word_of end.0) segs.old.blocks) segs.old.words segs.new.words }
+{
+    let _ = segs.grains();
+    let mut from = base;
+    while let Some(Block { at, words }) = next_block(segs, base, from, end) {
+        pad_words(segs, format, from, at);
+        from = Addr(at.0 + BYTES_OF_WORD * u64::from(words));
+    }
+    pad_words(segs, format, from, end);
+}
+
+/// Turns the words from `from` on up to `to` into pads.
+fn pad_words<F: Format>(segs: &mut Segs, format: &F, from: Addr, to: Addr)
+    requires aligned { from.0 % bytes_of_word ≡ 0 }
+    requires in_arena { word_of to.0 ≤ length segs.old.words }
+    ensures state { segs.new ≡ record segs.old { words = segs.new.words } }
+    ensures size { length segs.new.words ≡ length segs.old.words }
+    ensures pads { (i : ℕ) → word_of from.0 ≤ i → i < word_of to.0
+        → LiesInPad (F.layout format.now) (word_of from.0) (word_of to.0) segs.new.words i }
+    ensures others { (i : ℕ) → (i < word_of from.0) ⊎ (word_of to.0 ≤ i) → slice_index segs.new.words i ≡ slice_index segs.old.words i }
+{
+    let mut at = from;
+    while at.word() < to.word() {
+        let words = ((to.word() - at.word()) as u64).min(MAX_PAD_WORDS) as u32;
+        pad_piece(segs, format, at, words);
+        at = Addr(at.0 + BYTES_OF_WORD * u64::from(words));
+    }
+}
+
+/// Turns `words` words into one pad.
+fn pad_piece<F: Format>(segs: &mut Segs, format: &F, at: Addr, words: u32)
+    requires aligned { at.0 % bytes_of_word ≡ 0 }
+    requires in_arena { word_of at.0 + words ≤ length segs.old.words }
+    requires nonzero { 0 < words }
+    requires at_most { words ≤ 65536 }
+    ensures state { segs.new ≡ record segs.old { words = segs.new.words } }
+    ensures size { length segs.new.words ≡ length segs.old.words }
+    ensures head { slice_index segs.new.words (word_of at.0) ≡ (F.layout format.now).pad_head words }
+    ensures others { (i : ℕ) → (i < word_of at.0) ⊎ (word_of at.0 + words ≤ i)
+        → slice_index segs.new.words i ≡ slice_index segs.old.words i }
+{
+    let piece = segs.lend_mut(at, words);
+    format.pad(piece);
+}

@@ -1,0 +1,112 @@
+-- What is known of the segment over an address, of its pool and of where its blocks move.
+use Rattle.std.proofs.Common.{ℕ, ◌<◌, ◌≡◌, Bool, true, false, not, Option, Some, None, List, Contains, length, get_or, refl, sym, ap, ◌∙◌, subst}
+use Rattle.std.specs.Prelude.{option_map, slice_get}
+use Rattle.std.proofs.lemmas.Option.{slice_get_within, get_or_from_slice_get}
+use Rattle.mps_base.specs.Address.{grain_of}
+use Rattle.mps_base.specs.Generation.{target_generation}
+use Rattle.mps_base.specs.Segment.{Segment, segment_over}
+use Rattle.mps_base.specs.declared.address.Addr.{Addr}
+use Rattle.mps_format.specs.Layout.{Layout}
+use Rattle.mps_seg.specs.Segs.{SegsState, base_address}
+use Rattle.mps_seg.specs.Collecting.{info_of, is_condemned_at, bit_of}
+use Rattle.mps_seg.specs.declared.segment_info.SegmentInfo.{SegmentInfo}
+use Rattle.mps_amc.proofs.Found.{over_is_there}
+use Rattle.mps_gen.specs.State.{ChainsState, generations_of}
+use Rattle.mps_base.specs.Trail.{Moves}
+use Rattle.mps_trace.specs.Trace.{TraceState, Traced, traced, CanKeep, CanFix, target_of}
+
+pub some_over : (o : Option Segment) (base : Addr) → Some base ≡ option_map base_address o → (t : Segment) × (o ≡ Some t)
+some_over None base is = let never : Some base ≡ None = is in cc
+some_over (Some t) base is = (t, refl)
+
+pub base_is : (o : Option Segment) (base : Addr) (t : Segment) → Some base ≡ option_map base_address o → o ≡ Some t → t.base ≡ base.0
+base_is o base t is over =
+    let both : Some base ≡ Some (base_address t) = is ∙ ap (λ (x : Option Segment). option_map base_address x) over in
+    let same : base ≡ base_address t = cc in
+    sym (ap (λ (a : Addr). a.0) same)
+
+-- whether the segment over an address is condemned
+pub condemned_is : (s : SegsState) (at : Addr) (t : Segment) → segment_over s.segments at.0 ≡ Some t
+    → (info_of s t).is_condemned ≡ is_condemned_at s at.0
+condemned_is s at t over = sym (ap (λ (o : Option Segment). bit_of s.condemned (option_map (λ (x : Segment). grain_of x.base) o)) over)
+
+pub not_true : (b : Bool) → not b ≡ true → b ≡ false
+not_true true is = sym is
+not_true false is = refl
+
+pub not_false : (b : Bool) → not b ≡ false → b ≡ true
+not_false true is = refl
+not_false false is = sym is
+
+pub same_info : (a b : SegmentInfo) → Some a ≡ Some b → a ≡ b
+same_info a b is = cc
+
+pub same_format : {F : Type 0} (a b : F) → Some a ≡ Some b → a ≡ b
+same_format a b is = cc
+
+-- an entry that is read is the format that is listed
+pub format_read : {F : Type 0} (formats : List (Option F)) (pool : ℕ) (o : Option F) (format : F) → slice_get formats pool ≡ Some (Some format)
+    → o ≡ get_or formats pool o → o ≡ Some format
+format_read formats pool o format listed read = read ∙ get_or_from_slice_get formats pool (Some format) o listed
+
+-- the format that is read is that of the pool of the segment over an address
+pub format_is : {F : Type 0} (t t' : TraceState F) → t' ≡ t → (s : SegsState) (at : Addr) (info : SegmentInfo) (seg : Segment) (format : F)
+    → segment_over s.segments at.0 ≡ Some seg
+    → ((x : Segment) → segment_over s.segments at.0 ≡ Some x → Some info ≡ Some (info_of s x))
+    → slice_get t.formats seg.pool ≡ Some (Some format) → (o : Option F) → o ≡ get_or t'.formats info.pool o → (got : F) → o ≡ Some got
+    → got ≡ format
+format_is {F} t t' same s at info seg format over found listed o read got is =
+    let pool = ap (λ (i : SegmentInfo). i.pool) (same_info info (info_of s seg) (found seg over)) in
+    let there : slice_get t'.formats info.pool ≡ Some (Some format) =
+    ap (λ (n : ℕ). slice_get t'.formats n) pool ∙ ap (λ (u : TraceState F). slice_get u.formats seg.pool) same ∙ listed
+    in
+    same_format got format (sym is ∙ format_read t'.formats info.pool o format there read)
+
+-- the format of a pool that is listed, as the fields of the collector have it
+module _ {F : Type 0} (t t' : TraceState F) (same : t' ≡ t) (s : SegsState) (at : Addr) (info : SegmentInfo) (seg : Segment) (format : F)
+    (over : segment_over s.segments at.0 ≡ Some seg) (begins : seg.base ≡ at.0)
+    (told : (x : Segment) → Contains s.segments x → x.base ≡ at.0 → info ≡ info_of s x)
+    (listed : slice_get t.formats seg.pool ≡ Some (Some format))
+  where
+    listed_at : slice_get t'.formats info.pool ≡ Some (Some format)
+    listed_at =
+        let pool = ap (λ (i : SegmentInfo). i.pool) (told seg (over_is_there s.segments at.0 seg over) begins) in
+        ap (λ (n : ℕ). slice_get t'.formats n) pool ∙ ap (λ (u : TraceState F). slice_get u.formats seg.pool) same ∙ listed
+
+    pub within_at : info.pool < length t'.formats
+    within_at = slice_get_within t'.formats info.pool (Some format) listed_at
+
+    pub format_at : (o : Option F) → o ≡ get_or t'.formats info.pool o → o ≡ Some format
+    format_at o read = format_read t'.formats info.pool o format listed_at read
+
+-- a block in a condemned segment can be kept, as the fields of the collector have it
+pub keep_there : {F : Type 0} (layout : F → Layout) (t t' : TraceState F) (s : SegsState) (m : Moves) (at : Addr) (info : SegmentInfo)
+    → t' ≡ t → CanFix layout t s m at → info.is_condemned ≡ is_condemned_at s at.0 → not info.is_condemned ≡ false
+    → CanKeep layout t'.formats t'.chains (traced t' s m) at.0
+keep_there {F} layout t t' s m at info same can condemned is =
+    let P : TraceState F → Type 0 = λ u. CanFix layout u s m at in
+    (subst P (sym same) can).condemned (sym condemned ∙ not_false info.is_condemned is)
+
+module _ {F : Type 0} (layout : F → Layout) (formats : List (Option F)) (chains : ChainsState) (x : Traced) (at : Addr)
+    (info : SegmentInfo) (keep : CanKeep layout formats chains x at.0)
+    (found : (t : Segment) → segment_over x.segs.segments at.0 ≡ Some t → Some info ≡ Some (info_of x.segs t))
+  where
+    is_known : info ≡ info_of x.segs keep.segment
+    is_known = same_info info (info_of x.segs keep.segment) (found keep.segment keep.over)
+
+    pub pool_is : info.pool ≡ keep.segment.pool
+    pool_is = ap (λ (i : SegmentInfo). i.pool) is_known
+
+    pub generation_is : info.generation ≡ keep.segment.generation
+    generation_is = ap (λ (i : SegmentInfo). i.generation) is_known
+
+    pub listed_is : slice_get formats info.pool ≡ Some (Some keep.format)
+    listed_is = ap (λ (n : ℕ). slice_get formats n) pool_is ∙ keep.listed
+
+    pub pool_within : info.pool < length formats
+    pool_within = slice_get_within formats info.pool (Some keep.format) listed_is
+
+    pub target_is : (n : ℕ) → n ≡ target_generation (generations_of chains info.pool) info.generation → n ≡ target_of chains keep.segment
+    target_is n is =
+        is ∙ ap (λ (p : ℕ). target_generation (generations_of chains p) info.generation) pool_is
+        ∙ ap (λ (g : ℕ). target_generation (generations_of chains keep.segment.pool) g) generation_is

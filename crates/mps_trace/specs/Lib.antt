@@ -1,0 +1,3 @@
+pub mod Reclaim
+pub mod Scan
+pub mod Trace

@@ -1,0 +1,85 @@
+-- What a collection knows of pools, and what it does with an address.
+use Rattle.std.specs.Prelude.{◌≡◌, ℕ, ◌%◌, ◌<◌, true, false, Option, Some, None, List, [], ◌∷◌, ◌++◌, length, slice_get}
+use Rattle.mps_base.specs.Address.{Address, word_of, bytes_of_word}
+use Rattle.mps_base.specs.Segment.{Segment, segment_over}
+use Rattle.mps_base.specs.Generation.{target_generation}
+use Rattle.mps_base.specs.Trail.{Moves}
+use Rattle.mps_base.specs.declared.address.Addr.{Addr}
+use Rattle.mps_format.specs.Layout.{Layout}
+use Rattle.mps_seg.specs.Segs.{SegsState}
+use Rattle.mps_seg.specs.Collecting.{is_condemned_at}
+use Rattle.mps_buffer.specs.Points.{IsAtHand}
+use Rattle.mps_amc.specs.Moving.{IsForwarded, IsUnforwarded, BlockStands, IsBlockOf, size_at}
+use Rattle.mps_amc.specs.Amc.{AmcState, HasTail, tail_of, FixesAt}
+use Rattle.mps_amc.specs.Amc as amc
+use Rattle.mps_gen.specs.State.{ChainsState, no_chains, generations_of}
+
+pub record TraceState (F : Type 0) : Type 0 where
+  -- by pool, the format of its objects; none for a pool that isn't collected
+  pub formats : List (Option F)
+  -- what is at hand of copying pools
+  pub amc : AmcState
+  pub chains : ChainsState
+
+abbrev pub no_pools : {F : Type 0} → TraceState F
+no_pools = record { formats = []; amc = amc.no_pools; chains = no_chains }
+
+-- one more pool, on no chain, with nothing at hand in its one generation
+abbrev pub with_pool : {F : Type 0} → TraceState F → Option F → TraceState F
+with_pool t format = record {
+  formats = t.formats ++ format ∷ [];
+  amc = amc.with_pool t.amc 1;
+  chains = record t.chains { of_pool = t.chains.of_pool ++ None ∷ [] };
+}
+
+-- what a collection changes: the words at hand, the segments, and the moves that it tells
+pub record Traced : Type 0 where
+  pub amc : AmcState
+  pub segs : SegsState
+  pub moves : Moves
+
+abbrev pub traced : {F : Type 0} → TraceState F → SegsState → Moves → Traced
+traced t s m = record { amc = t.amc; segs = s; moves = m }
+
+-- the generation to which the blocks of a segment move
+abbrev pub target_of : ChainsState → Segment → ℕ
+target_of chains t = target_generation (generations_of chains t.pool) t.generation
+
+-- a block in a condemned segment can be fixed
+pub record CanKeep {F : Type 0} (layout : F → Layout) (formats : List (Option F)) (chains : ChainsState) (x : Traced) (at : Address)
+    : Type 0 where
+  pub segment : Segment
+  pub over : segment_over x.segs.segments at ≡ Some segment
+  pub format : F
+  pub listed : slice_get formats segment.pool ≡ Some (Some format)
+  pub known : segment.pool < length chains.of_pool
+  -- a block stands there, if none has moved from there, and else that lies on a word
+  pub block : IsUnforwarded (layout format) x.segs.words at
+      → BlockStands (layout format) x.segs.words at (size_at (layout format) x.segs.words at)
+      × IsBlockOf x.segs at (size_at (layout format) x.segs.words at)
+  pub leads : (to : Address) → IsForwarded (layout format) x.segs.words at to → to % bytes_of_word ≡ 0
+  pub tail : HasTail x.amc segment.pool (target_of chains segment)
+  pub at_hand : IsAtHand x.segs (tail_of x.amc segment.pool (target_of chains segment))
+  pub room : 1 < x.moves.spare
+
+-- an address on a word of the arena. Where it lies in a condemned segment, a block can be fixed there
+pub record CanFixAt {F : Type 0} (layout : F → Layout) (formats : List (Option F)) (chains : ChainsState) (x : Traced) (at : Address)
+    : Type 0 where
+  pub aligned : at % bytes_of_word ≡ 0
+  pub in_arena : word_of at < length x.segs.words
+  pub condemned : is_condemned_at x.segs at ≡ true → CanKeep layout formats chains x at
+
+abbrev pub CanFix : {F : Type 0} → (F → Layout) → TraceState F → SegsState → Moves → Addr → Type 0
+CanFix layout t s m at = CanFixAt layout t.formats t.chains (traced t s m) at.0
+
+-- what is done with an address, and where the block lies then
+pub data FixesTo {F : Type 0} (layout : F → Layout) (formats : List (Option F)) (chains : ChainsState) (x : Traced) (at : Addr)
+    : Traced → (answer : Addr) → Type 0
+  where
+    -- the segment isn't condemned
+    passes : is_condemned_at x.segs at.0 ≡ false → FixesTo layout formats chains x at x at
+    -- the pool of the segment fixes it
+    fixes : {y : Traced} (t : Segment) (format : F) (answer : Addr) → is_condemned_at x.segs at.0 ≡ true
+        → segment_over x.segs.segments at.0 ≡ Some t → slice_get formats t.pool ≡ Some (Some format)
+        → FixesAt (layout format) x.amc x.segs x.moves at (target_of chains t) y.amc y.segs y.moves answer
+        → FixesTo layout formats chains x at y answer

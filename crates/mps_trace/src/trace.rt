@@ -1,0 +1,189 @@
+// The collector's state, and how it fixes references.
+#![tactic(auto)]
+
+ghost use Rattle.std.specs.Prelude.{◌≡◌, ℕ, ◌+◌, ◌%◌, ◌<◌, ◌≤◌, true, false, IsTrue, Some, length, slice_index, slice_get, MatchResult};
+ghost use Rattle.mps_base.specs.Address.{word_of, bytes_of_word};
+ghost use Rattle.mps_base.specs.Segment.{Segment, segment_over};
+ghost use Rattle.mps_seg.specs.Collecting.{is_condemned_at};
+ghost use Rattle.mps_gen.specs.State.{max_pools};
+ghost use Rattle.mps_amc.specs.Amc.{flipped};
+ghost use Rattle.mps_trace.specs.Trace.{traced, FixesTo, CanFix, no_pools, with_pool};
+ghost use Rattle.mps_trace.specs.Reclaim.{CanReclaimAt, Reclaims};
+ghost use Rattle.mps_trace.specs.Scan.{FixesCell, CanFixCell, AreReadyIn, ScansAll, CanScan, Scanned, CanScanGrey, ScansOne, IsDrained};
+
+use crate::finding::segment_at;
+use mps_amc::Amc;
+use mps_base::{Addr, BYTES_OF_WORD, Rank, Trail};
+use mps_format::Format;
+use mps_gen::Chains;
+use mps_seg::Segs;
+use std::alloc::{AllocError, Global};
+use std::marker::Model;
+
+/// What a collection knows of pools: the format of each automatic pool, the words at hand of copying pools, and the chains.
+#[derive(Drop)]
+pub struct Trace<F: Format> {
+    formats: Vec<Option<F>>,
+    amc: Amc,
+    chains: Chains,
+}
+
+impl<F: Format> Model for Trace<F> {
+    ghost use Rattle.mps_trace.specs.Trace.{TraceState};
+
+    ghost Value = { TraceState F };
+
+    ghost view = { λ t. record { formats = t.formats.items; amc = t.amc; chains = t.chains } };
+}
+
+impl<F: Format> Trace<F> {
+    /// No pools. Takes no memory.
+    pub fn new(alloc: Global) -> Trace<F>
+        ensures { result ≡ no_pools }
+    {
+        Trace {
+            formats: Vec::new(alloc),
+            amc: Amc::new(alloc),
+            chains: Chains::new(),
+        }
+    }
+
+    /// One more pool, on no chain. `format` is that of its objects, None where the pool isn't collected.
+    pub fn add_pool(&mut self, alloc: Global, format: Option<F>) -> Result<(), AllocError>
+        requires { length self.old.chains.of_pool < max_pools }
+        ensures { MatchResult result (λ _. self.new ≡ with_pool self.old format) (λ _. self.new ≡ self.old) }
+    {
+        self.formats.push(format)?;
+        match self.amc.add_pool(alloc, 1) {
+            Ok(()) => {
+                self.chains.pool(None);
+                Ok(())
+            }
+            Err(error) => {
+                self.formats.pop();
+                Err(error)
+            }
+        }
+    }
+
+    /// Nothing is at hand for any pool, as a flip leaves it.
+    pub fn flip(&mut self)
+        ensures { self.new ≡ record self.old { amc = flipped self.old.amc } }
+    {
+        self.amc.flip();
+    }
+
+    /// Where the block lies from now on to which an address leads. A block in a segment that isn't condemned lies where it is; any other
+    /// is fixed as its pool does.
+    pub fn fix(&mut self, segs: &mut Segs, trail: &mut Trail, at: Addr) -> Addr
+        requires { CanFix F.layout self.old segs.old trail.old at }
+        ensures fixed { FixesTo F.layout self.old.formats self.old.chains (traced self.old segs.old trail.old) at
+            (traced self.new segs.new trail.new) result }
+        ensures unchanged { self.new ≡ record self.old { amc = self.new.amc } }
+        ensures aligned { result.0 % bytes_of_word ≡ 0 }
+        ensures size { length segs.new.words ≡ length segs.old.words }
+    {
+        let Some(segment) = segment_at(segs, at) else {
+            return at;
+        };
+        if !segment.is_condemned {
+            return at;
+        }
+        let Some(format) = self.formats[segment.pool as usize] else {
+            unreachable!()
+        };
+        let generation = self.chains.target(segment.pool, segment.generation);
+        self.amc.fix(segs, trail, &format, at, generation)
+    }
+
+    /// Fixes the reference in a cell of the block at `at`: the block to which it leads is fixed, and the cell leads to where that then
+    /// lies. A null reference is left as it is.
+    fn fix_cell(&mut self, segs: &mut Segs, trail: &mut Trail, format: &F, at: Addr, cell: u32)
+        requires aligned { at.0 % bytes_of_word ≡ 0 }
+        requires inside { word_of at.0 + cell < length segs.old.words }
+        requires can { CanFixCell F.layout (F.layout format.now) self.old segs.old trail.old at cell }
+        ensures fixed { FixesCell F.layout (F.layout format.now) self.old.formats self.old.chains at cell
+            (traced self.old segs.old trail.old) (traced self.new segs.new trail.new) }
+        ensures unchanged { self.new ≡ record self.old { amc = self.new.amc } }
+        ensures size { length segs.new.words ≡ length segs.old.words }
+    {
+        let _ = segs.grains(); // so few that the address of a word fits
+        let place = Addr(at.0 + BYTES_OF_WORD * u64::from(cell));
+        let word = segs.word(place);
+        let target = format.target(word);
+        if target.0 == 0 {
+            return;
+        }
+        let to = self.fix(segs, trail, target);
+        segs.set_word(place, format.retarget(word, to));
+        segs.note_write(at, to);
+    }
+
+    /// Fixes the references of the block at `at` with this head, in ascending order.
+    fn fix_cells(&mut self, segs: &mut Segs, trail: &mut Trail, format: &F, head: u64, at: Addr)
+        requires aligned { at.0 % bytes_of_word ≡ 0 }
+        requires valid { IsTrue ((F.layout format.now).is_valid head) }
+        requires inside { word_of at.0 + (F.layout format.now).size head ≤ length segs.old.words }
+        requires ready { AreReadyIn F.layout (F.layout format.now) self.old segs.old trail.old head at }
+        ensures all { ScansAll F.layout (F.layout format.now) self.old.formats self.old.chains head at
+            (traced self.old segs.old trail.old) (traced self.new segs.new trail.new) }
+        ensures unchanged { self.new ≡ record self.old { amc = self.new.amc } }
+        ensures size { length segs.new.words ≡ length segs.old.words }
+    {
+        let mut from = 0;
+        while let Some(cell) = format.ref_from(head, from) {
+            self.fix_cell(segs, trail, format, at, cell);
+            from = cell + 1;
+        }
+    }
+
+    /// Scans the block at `at`: each block to which it refers is fixed, its references lead to where these then lie, and it is grey no
+    /// longer.
+    pub fn scan(&mut self, segs: &mut Segs, trail: &mut Trail, at: Addr)
+        requires { CanScan F.layout self.old segs.old trail.old at }
+        ensures scanned { Scanned F.layout self.old.formats self.old.chains (traced self.old segs.old trail.old) at
+            (traced self.new segs.new trail.new) }
+        ensures unchanged { self.new ≡ record self.old { amc = self.new.amc } }
+    {
+        let Some(segment) = segment_at(segs, at) else {
+            unreachable!()
+        };
+        let Some(format) = self.formats[segment.pool as usize] else {
+            unreachable!()
+        };
+        let head = segs.word(at);
+        self.fix_cells(segs, trail, &format, head, at);
+        let _ = segs.grains(); // its words are those of the marks
+        segs.blacken(at);
+    }
+
+    /// Scans one of the grey blocks that aren't weak, and returns whether there was one. Which one it is is open.
+    pub fn scan_next(&mut self, segs: &mut Segs, trail: &mut Trail) -> bool
+        requires { CanScanGrey F.layout self.old segs.old trail.old }
+        ensures scanned { result ≡ true → ScansOne F.layout self.old.formats self.old.chains (traced self.old segs.old trail.old)
+            (traced self.new segs.new trail.new) }
+        ensures drained { result ≡ false → IsDrained segs.old }
+        ensures idle { result ≡ false → (segs.new ≡ segs.old) × (trail.new ≡ trail.old) × (self.new ≡ self.old) }
+        ensures unchanged { self.new ≡ record self.old { amc = self.new.amc } }
+    {
+        let Some(grey) = segs.next_grey(Rank::Exact) else {
+            return false;
+        };
+        let at = Addr(BYTES_OF_WORD * grey.word() as u64);
+        self.scan(segs, trail, at);
+        true
+    }
+
+    /// Reclaims the segment at `base` as its pool does: what a collection didn't keep is freed, and the segment is given back where nothing
+    /// is left in it.
+    pub fn reclaim(&self, segs: &mut Segs, trail: &mut Trail, base: Addr)
+        requires { CanReclaimAt F.layout self.now segs.old trail.old base }
+        ensures { Reclaims F.layout self.now.formats segs.old trail.old base segs.new trail.new }
+    {
+        let pool = segs.segment(base).pool;
+        let Some(format) = self.formats[pool as usize] else {
+            unreachable!()
+        };
+        self.amc.reclaim_seg(segs, trail, &format, base);
+    }
+}
