@@ -165,7 +165,8 @@ impl MemDesk {
 }
 
 impl Desk for MemDesk {
-    ghost use Rattle.std.specs.Prelude.{◌≡◌, ◌<◌, ◌↔◌, min, [], ◌∷◌, ◌++◌, length, take, drop, Some, None, refl, IsErr, IsNone, IfOk, OnOk, OnErr};
+    ghost use Rattle.std.specs.Prelude.{◌≡◌, ◌<◌, ◌↔◌, min, [], ◌∷◌, ◌++◌, length, take, drop};
+    ghost use Rattle.std.specs.Prelude.{Some, None, refl, IsErr, IsNone, IfOk, OnOk, OnErr};
     ghost use Rattle.mps_desk.specs.Desk.{AreNext, SameElsewhere, text_in, opening, making, made_for_log, after_log};
     ghost use Rattle.mps_desk.specs.MemDesk.{outside_of, one_more_call, next_count, IsNextListed};
 

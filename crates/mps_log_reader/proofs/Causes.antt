@@ -305,7 +305,8 @@ read_status : {E : Type 0} (a b : Outside) (why : Stop E) → CauseOfReader a b 
 read_status a b stop.ReadFailed h e = h
 read_status a b why h e = absurd (omega (arith, e))
 
-write_status : {E : Type 0} (a b : Outside) (why : Stop E) → CauseOfReader a b why → status_of why ≡ 4 → HasRisen a.out_faults b.out_faults
+write_status : {E : Type 0} (a b : Outside) (why : Stop E) → CauseOfReader a b why → status_of why ≡ 4
+    → HasRisen a.out_faults b.out_faults
 write_status a b stop.WriteFailed h e = h
 write_status a b why h e = absurd (omega (arith, e))
 
@@ -314,7 +315,8 @@ steady_status : {E : Type 0} (why : Stop E) (P : Type 0) → status_of why ≡ 0
 steady_status stop.ReadFailed P e = absurd (omega (arith, e))
 steady_status why P e = absurd (omega (arith, e))
 
-printing_status : {E : Type 0} (T : Type 0) (a b c : Outside) (why : Stop E) → KeepsPrinting {T = T} a b (Err why) → c.out_faults ≡ b.out_faults
+printing_status : {E : Type 0} (T : Type 0) (a b c : Outside) (why : Stop E) → KeepsPrinting {T = T} a b (Err why)
+    → c.out_faults ≡ b.out_faults
     → is_input_verdict (status_of why) ≡ true → c.out_faults ≡ a.out_faults
 printing_status T a b c stop.ReadFailed h e v = absurd (let wrong : false ≡ true = v in cc)
 printing_status T a b c stop.WriteFailed h e v = absurd (let wrong : false ≡ true = v in cc)
@@ -350,7 +352,8 @@ status_is_justified {T = T} a b c text (Err why) status r f steady printing zero
     }
 
 -- what was asked for by name, by the status
-asks_status : {E : Type 0} (T : Type 0) (name : List ℕ) (a b : Outside) (why : Stop E) (status : ℕ) → AsksForInput {T = T} name a b (Err why)
+asks_status : {E : Type 0} (T : Type 0) (name : List ℕ) (a b : Outside) (why : Stop E) (status : ℕ)
+    → AsksForInput {T = T} name a b (Err why)
     → status ≡ status_of why → AsksWith name a b status
 asks_status T name a b stop.OutOfMemory status h is = record { whole = λ other. absurd (other is); at_most = h }
 asks_status T name a b stop.ReadFailed status h is = record { whole = λ other. h; at_most = inr h }

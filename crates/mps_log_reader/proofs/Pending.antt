@@ -96,7 +96,8 @@ reads-then a b c x y z e f = record {
 
 -- some bytes came
 pub reads_some : (a b : Outside) (x : Buffered) (room : List ℕ) (at count : ℕ) → take at room ≡ x.pending
-    → a.input ≡ option_map (λ left. take count (drop at room) ++ left) b.input → a.in_faults ≤ b.in_faults → b.in_faults ≡ a.in_faults → OnlyReads a b
+    → a.input ≡ option_map (λ left. take count (drop at room) ++ left) b.input → a.in_faults ≤ b.in_faults → b.in_faults ≡ a.in_faults
+    → OnlyReads a b
     → ReadsMore a b x (buffered (take (at + count - 0) (drop 0 room)) x.ended x.failed)
 reads_some a b x room at count kept input counted steady others =
     let count-is : at + count - 0 ≡ at + count = omega arith in
@@ -114,7 +115,8 @@ reads_some a b x room at count kept input counted steady others =
 
 -- the end came
 pub reads_end : (a b : Outside) (x : Buffered) (room : List ℕ) (at : ℕ) → take at room ≡ x.pending
-    → a.input ≡ option_map (λ left. [] ++ left) b.input → IfSome a.input (λ left. left ≡ []) → a.in_faults ≤ b.in_faults → b.in_faults ≡ a.in_faults → OnlyReads a b
+    → a.input ≡ option_map (λ left. [] ++ left) b.input → IfSome a.input (λ left. left ≡ []) → a.in_faults ≤ b.in_faults
+    → b.in_faults ≡ a.in_faults → OnlyReads a b
     → ReadsMore a b x (buffered (take (at - 0) (drop 0 room)) true x.failed)
 reads_end a b x room at kept input ended counted steady others =
     let at-is : at - 0 ≡ at = omega arith in

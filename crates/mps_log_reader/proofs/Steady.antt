@@ -63,7 +63,8 @@ module _ {E : Type 0} (a b c d : Outside) (x y : Buffered) (ending : Result (Uni
       → (result ≡ ending) ⊎ ((result ≡ Err stop.WriteFailed) × HasRisen c.out_faults d.out_faults) → KeepsPrinting a d result
   keeps_flushed result keeps (inl same) =
       subst (λ (r : Result (Unit {0}) (Stop E)). KeepsPrinting a d r) (sym same)
-      (both_keep a b c d ending opens.out_faults works.printing (subst (λ (r : Result (Unit {0}) (Stop E)). KeepsPrinting c d r) same keeps))
+      (both_keep a b c d ending opens.out_faults works.printing
+      (subst (λ (r : Result (Unit {0}) (Stop E)). KeepsPrinting c d r) same keeps))
   keeps_flushed result keeps (inr failed) =
       subst (λ (r : Result (Unit {0}) (Stop E)). KeepsPrinting a d r) (sym failed.0) tt
 

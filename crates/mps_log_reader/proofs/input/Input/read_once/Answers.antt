@@ -27,5 +27,6 @@ returns-in-Ok-clause-read g c =
     (buffered (take (at + c.in-Ok.count - 0) (drop 0 r)) i.ended i.failed))
     (sym now-is)
     (reads_some (g.D.Desk.outside c.args.desk.now)
-    (g.D.Desk.outside c.read_after.new.desk) before now at c.in-Ok.count kept c.in-Ok.ensures.read c.read_after.ensures.counted c.in-Ok.ensures.steady
+    (g.D.Desk.outside c.read_after.new.desk) before now at c.in-Ok.count kept c.in-Ok.ensures.read c.read_after.ensures.counted
+        c.in-Ok.ensures.steady
     c.read_after.ensures.others))
