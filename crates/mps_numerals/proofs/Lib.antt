@@ -2,3 +2,4 @@ pub mod Decimals
 pub mod Digits
 pub mod Hexadecimals
 pub mod Values
+pub mod Written

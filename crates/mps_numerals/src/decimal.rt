@@ -2,9 +2,8 @@
 ghost use Rattle.std.specs.Prelude.{◌≡◌, ℕ, ◌+◌, ◌^◌, ◌<◌, ◌≤◌, ◌++◌, length, take, drop, decimal, IfSome};
 ghost use Rattle.mps_numerals.specs.Decimal.{decimal_number as number_of};
 
-use crate::put::put_text;
 use crate::reading::number_in;
-use itoa::Buffer;
+use itoa::write_digits;
 
 /// The number that the text writes; None where it is no decimal number below 2^64.
 pub fn decimal_number(text: &[u8]) -> Option<u64>
@@ -17,6 +16,37 @@ pub fn decimal_number(text: &[u8]) -> Option<u64>
     number_in(10, text)
 }
 
+/// How many digits a number below 10,000 has.
+fn short_digit_count(number: u64) -> usize
+    requires { number < 10000 }
+    ensures value { result ≡ length (decimal number) }
+    ensures at_most { result ≤ 4 }
+{
+    if number < 10 {
+        1
+    } else if number < 100 {
+        2
+    } else if number < 1000 {
+        3
+    } else {
+        4
+    }
+}
+
+/// How many digits a number has.
+fn digit_count(number: u64) -> usize
+    ensures value { result ≡ length (decimal number) }
+    ensures at_most { result ≤ 20 }
+{
+    let mut count = 0;
+    let mut left = number;
+    while left >= 10_000 {
+        left /= 10_000;
+        count += 4;
+    }
+    count + short_digit_count(left)
+}
+
 /// Writes the number at the index `at`, and returns the index after it. The bytes before and after it are unchanged.
 pub fn put_decimal(number: u64, out: &mut [u8], at: usize) -> usize
     requires { at + 20 ≤ length out.old }
@@ -25,6 +55,7 @@ pub fn put_decimal(number: u64, out: &mut [u8], at: usize) -> usize
     ensures text { take result out.new ≡ take at out.old ++ decimal number }
     ensures unchanged { drop result out.new ≡ drop result out.old }
 {
-    let mut buffer = Buffer::new();
-    put_text(buffer.format(number).as_bytes(), out, at)
+    let end = at + digit_count(number);
+    let _ = write_digits(number, out, end);
+    end
 }

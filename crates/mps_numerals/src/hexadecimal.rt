@@ -1,11 +1,10 @@
 // Hexadecimal numbers in texts: lower case, without leading zeros.
 
-ghost use Rattle.std.specs.Prelude.{◌≡◌, ◌<◌, ◌≤◌, ◌+◌, ◌++◌, ◌^◌, ℕ, false, length, take, drop, IfSome};
+ghost use Rattle.std.specs.Prelude.{◌≡◌, ◌<◌, ◌≤◌, ◌+◌, ◌∷◌, ◌++◌, ◌^◌, ℕ, false, length, take, drop, IfSome};
 ghost use Rattle.std.specs.Fmt.{digit_glyph};
 ghost use Rattle.mps_numerals.specs.Hexadecimal.{hexadecimal};
 ghost use Rattle.mps_numerals.specs.Reading.{number_in as number_of};
 
-use crate::put::put_text;
 use crate::reading::number_in;
 
 /// The digit of a number below 16.
@@ -20,20 +19,45 @@ fn glyph(digit: u64) -> u8
     }
 }
 
-/// Writes the digits of a number at the end of the room, and returns the index of the first one.
-fn digits_at_end(number: u64, room: &mut [u8; 16]) -> usize
-    ensures in_bounds { result < 16 }
-    ensures digits { drop result room.new ≡ hexadecimal number }
+/// How many digits a number has.
+fn digit_count(number: u64) -> usize
+    ensures value { result ≡ length (hexadecimal number) }
+    ensures at_most { result ≤ 16 }
 {
-    let mut at = 15;
-    room[at] = glyph(number % 16);
-    let mut rest = number / 16;
-    while rest != 0 {
-        at -= 1;
-        room[at] = glyph(rest % 16);
-        rest /= 16;
+    let mut count = 1;
+    let mut left = number;
+    while left >= 16 {
+        left /= 16;
+        count += 1;
     }
-    at
+    count
+}
+
+/// Writes a digit at the index `at`.
+fn write_digit(digit: u64, out: &mut [u8], at: usize)
+    requires { (digit < 16) × (at < length out.old) }
+    ensures written { drop at out.new ≡ digit_glyph false digit ∷ drop (at + 1) out.old }
+    ensures before { take at out.new ≡ take at out.old }
+{
+    out[at] = glyph(digit);
+}
+
+/// Writes the digits of a number so that they end before the index `end`, and returns the index of the first one.
+fn write_digits(number: u64, out: &mut [u8], end: usize) -> usize
+    requires { (length (hexadecimal number) ≤ end) × (end ≤ length out.old) }
+    ensures start { result + length (hexadecimal number) ≡ end }
+    ensures written { drop result out.new ≡ hexadecimal number ++ drop end out.old }
+    ensures before { take result out.new ≡ take result out.old }
+{
+    let mut left = number;
+    let mut at = end;
+    while left >= 16 {
+        write_digit(left % 16, out, at - 1);
+        left /= 16;
+        at -= 1;
+    }
+    write_digit(left, out, at - 1);
+    at - 1
 }
 
 /// Writes the number at the index `at`, and returns the index after it. The bytes before and after it are unchanged.
@@ -44,9 +68,9 @@ pub fn put_hexadecimal(number: u64, out: &mut [u8], at: usize) -> usize
     ensures text { take result out.new ≡ take at out.old ++ hexadecimal number }
     ensures unchanged { drop result out.new ≡ drop result out.old }
 {
-    let mut room = [0u8; 16];
-    let from = digits_at_end(number, &mut room);
-    put_text(&room[from..], out, at)
+    let end = at + digit_count(number);
+    let _ = write_digits(number, out, end);
+    end
 }
 
 /// The number that the text writes in lower case without leading zeros; None where it is in another form, or has more
