@@ -1,4 +1,5 @@
 pub mod Decimals
+pub mod DigitValues
 pub mod Digits
 pub mod Hexadecimals
 pub mod Values

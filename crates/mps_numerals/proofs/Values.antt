@@ -1,6 +1,6 @@
 -- The number that digits write, digit by digit.
-use Rattle.std.proofs.Common.{◌≡◌, ℕ, ◌+◌, ◌*◌, ◌^◌, ◌<◌, ◌≤◌, Some, None, List, [], ◌∷◌, length, drop, get_or, refl, ◌∙◌, ap, sym, add-one, drop-cons, arith, take, take_all, Bool, true, false, nat_lt, Option, if◌then◌else◌}
-use Rattle.std.proofs.Math.Nat.{le-mul_of_pos_right}
+use Rattle.std.proofs.Common.{◌≡◌, ℕ, ◌+◌, ◌*◌, ◌^◌, ◌<◌, ◌≤◌, Some, None, List, [], ◌∷◌, length, drop, get_or, refl, ◌∙◌, ap, sym, subst, add-one, drop-cons, arith, take, take_all, Bool, true, false, nat_lt, Option, if◌then◌else◌}
+use Rattle.std.proofs.Math.Nat.{le-mul_of_pos_right, mul-le-mul_left, pow-suc, pow-le-pow_right}
 use Rattle.std.proofs.lemmas.Grind.{common_steps}
 use Rattle.std.proofs.lemmas.List.Folds.{list_all_more, list_all_at}
 use Rattle.mps_numerals.specs.Reading.{value_after, digits_value, digit_of, are_digits, below_word, value_in}
@@ -37,6 +37,18 @@ all_read base n i bs h fits e =
     let none : drop i bs ≡ [] = grind (arith, common_steps) in
     let same : digits_value base bs ≡ n = e ∙ ap (value_after base n) none in
     rw same (grind (arith, common_steps))
+
+-- ---- few digits
+
+-- one digit more of a base up to 16
+pub fits_more : (base n digit i : ℕ) → base ≤ 16 → digit < base → n < 16 ^ i → n * base + digit < 16 ^ (i + 1)
+fits_more base n digit i some small fits =
+    let most : n * base ≤ n * 16 = mul-le-mul_left n some in
+    subst (λ (k : ℕ). n * base + digit < 16 ^ k) (sym (add-one i)) (omega (arith, most, fits, small, some, pow-suc 16 i))
+
+-- 15 digits write no number that is too large
+pub few_fit : (i : ℕ) → i ≤ 15 → 16 ^ i ≤ 2 ^ 60
+few_fit i few = pow-le-pow_right {n = 16} (omega arith) few
 
 -- what is not below is at least
 pub at_least : (a b : ℕ) → (a < b → ⊥) → b ≤ a

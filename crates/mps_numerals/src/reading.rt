@@ -1,17 +1,28 @@
 // The number that digits of a base write.
-ghost use Rattle.std.specs.Prelude.{◌≡◌, ◌≤◌};
+ghost use Rattle.std.specs.Prelude.{◌≡◌, ◌≤◌, length};
 ghost use Rattle.mps_numerals.specs.Reading.{digit_of, is_canonical, value_in, number_in};
+
+/// What a digit stands for, by its byte: up to 15 for `f`; 16 for a byte that is no digit.
+static DIGIT_VALUES: [u8; 256] = [
+    16, 16, 16, 16, 16, 16, 16, 16, 16, 16, 16, 16, 16, 16, 16, 16, 16, 16, 16, 16, 16, 16, 16, 16,
+    16, 16, 16, 16, 16, 16, 16, 16, 16, 16, 16, 16, 16, 16, 16, 16, 16, 16, 16, 16, 16, 16, 16, 16,
+    0, 1, 2, 3, 4, 5, 6, 7, 8, 9, 16, 16, 16, 16, 16, 16, 16, 16, 16, 16, 16, 16, 16, 16, 16, 16,
+    16, 16, 16, 16, 16, 16, 16, 16, 16, 16, 16, 16, 16, 16, 16, 16, 16, 16, 16, 16, 16, 16, 16, 10,
+    11, 12, 13, 14, 15, 16, 16, 16, 16, 16, 16, 16, 16, 16, 16, 16, 16, 16, 16, 16, 16, 16, 16, 16,
+    16, 16, 16, 16, 16, 16, 16, 16, 16, 16, 16, 16, 16, 16, 16, 16, 16, 16, 16, 16, 16, 16, 16, 16,
+    16, 16, 16, 16, 16, 16, 16, 16, 16, 16, 16, 16, 16, 16, 16, 16, 16, 16, 16, 16, 16, 16, 16, 16,
+    16, 16, 16, 16, 16, 16, 16, 16, 16, 16, 16, 16, 16, 16, 16, 16, 16, 16, 16, 16, 16, 16, 16, 16,
+    16, 16, 16, 16, 16, 16, 16, 16, 16, 16, 16, 16, 16, 16, 16, 16, 16, 16, 16, 16, 16, 16, 16, 16,
+    16, 16, 16, 16, 16, 16, 16, 16, 16, 16, 16, 16, 16, 16, 16, 16, 16, 16, 16, 16, 16, 16, 16, 16,
+    16, 16, 16, 16, 16, 16, 16, 16, 16, 16, 16, 16, 16, 16,
+];
 
 /// What a digit stands for, up to 15 for `f`; 16 for a byte that is no digit.
 fn digit_of(byte: u8) -> u64
     ensures value { result ≡ digit_of byte }
     ensures at_most { result ≤ 16 }
 {
-    match byte {
-        b'0'..=b'9' => u64::from(byte - b'0'),
-        b'a'..=b'f' => u64::from(byte - b'a') + 10,
-        _ => 16,
-    }
+    u64::from(DIGIT_VALUES[byte as usize])
 }
 
 /// Whether there are one byte or more, and no leading zero but in `0`.
@@ -25,8 +36,25 @@ fn is_canonical(digits: &[u8]) -> bool
     }
 }
 
-/// The number that digits of a base write; None where a byte is no digit, or the number is 2^64 or more.
-fn value_in(base: u64, digits: &[u8]) -> Option<u64>
+/// The same of at most 15 digits of a base up to 16, which write no number too large.
+fn value_of_few(base: u64, digits: &[u8]) -> Option<u64>
+    requires base { (1 ≤ base) × (base ≤ 16) }
+    requires few { length digits.now ≤ 15 }
+    ensures { result ≡ value_in base digits.now }
+{
+    let mut n: u64 = 0;
+    for b in digits {
+        let next = digit_of(*b);
+        if next >= base {
+            return None;
+        }
+        n = n * base + next;
+    }
+    Some(n)
+}
+
+/// The same of any digits.
+fn value_of_any(base: u64, digits: &[u8]) -> Option<u64>
     requires { 1 ≤ base }
     ensures { result ≡ value_in base digits.now }
 {
@@ -39,6 +67,18 @@ fn value_in(base: u64, digits: &[u8]) -> Option<u64>
         n = n.checked_mul(base)?.checked_add(next)?;
     }
     Some(n)
+}
+
+/// The number that digits of a base write; None where a byte is no digit, or the number is 2^64 or more.
+fn value_in(base: u64, digits: &[u8]) -> Option<u64>
+    requires { 1 ≤ base }
+    ensures { result ≡ value_in base digits.now }
+{
+    if base <= 16 && digits.len() <= 15 {
+        value_of_few(base, digits)
+    } else {
+        value_of_any(base, digits)
+    }
 }
 
 /// The number that digits of a base write, where they are in the right form.

@@ -1,6 +1,6 @@
 use Rattle.std.proofs.Common.{◌≡◌, ◌<◌, ◌^◌, take, drop, true}
 use Rattle.mps_numerals.specs.Reading.{value_after, digits_value, are_digits}
-use Rattle.mps_numerals.proofs.reading.value_in.Given as goal
+use Rattle.mps_numerals.proofs.reading.value_of_any.Given as goal
 
 abbrev pub invariant-loop-b : goal.invariant-loop-b
 invariant-loop-b l = record {

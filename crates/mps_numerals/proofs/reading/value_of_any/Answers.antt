@@ -1,7 +1,7 @@
 use Rattle.std.proofs.Common.{◌≡◌, ◌≤◌, ◌+◌, ◌*◌, ◌^◌, ◌∙◌, ap, get_or, drop, arith}
 use Rattle.mps_numerals.specs.Reading.{digit_of, value_after}
 use Rattle.mps_numerals.proofs.Values.{overflows, value_step, all_read, at_least, digits_more, no_digit, too_large, all_digits}
-use Rattle.mps_numerals.proofs.reading.value_in.Goals as goal
+use Rattle.mps_numerals.proofs.reading.value_of_any.Goals as goal
 
 pub returns-in_err-checked_mul : goal.returns-in_err-checked_mul
 returns-in_err-checked_mul c =
