@@ -124,7 +124,23 @@ fn move_to_front(room: &mut [u8], from: usize, to: usize)
     ensures size { length room.new ≡ length room.old }
     ensures moved { take (to - from) room.new ≡ take (to - from) (drop from room.old) }
 {
-    room[..to].rotate_left(from);
+    let count = to - from;
+    if count <= from {
+        copy_to_front(room, from, count);
+    } else {
+        room[..to].rotate_left(from);
+    }
+}
+
+/// Copies n bytes to the front, from an index that is n or more.
+fn copy_to_front(room: &mut [u8], from: usize, count: usize)
+    requires apart { count ≤ from }
+    requires fits { from + count ≤ length room.old }
+    ensures size { length room.new ≡ length room.old }
+    ensures copied { take count room.new ≡ take count (drop from room.old) }
+{
+    let (front, rest) = room.split_at_mut(from);
+    front[..count].copy_from_slice(&rest[..count]);
 }
 
 /// Reads some bytes after those that are there, and returns how many: 0 at the end.
