@@ -1,21 +1,19 @@
--- The blocks of a map, found one by one at its addresses in ascending order.
-use Rattle.std.proofs.Common.{◌≡◌, ℕ, ◌+◌, ◌<◌, Bool, true, false, cond, eqb, ltb, ◌||◌, List, [], ◌∷◌, ◌++◌, Option, Some, None, length, drop, get_or, drop-cons, add-one, refl, sym, ap, ◌∙◌}
-use Rattle.std.specs.Prelude.{is_some}
+-- The blocks of a map's entries, in ascending order of their addresses.
+use Rattle.std.proofs.Common.{◌≡◌, ℕ, ◌+◌, ◌<◌, Bool, cond, eqb, ltb, List, [], ◌∷◌, ◌++◌, Option, Some, None, length, map, drop, get_or, drop-cons, add-one, true, false, refl, sym, ap, ◌∙◌, arith}
 use Rattle.std.specs.Cmp.{nat_eq_equiv}
-use Rattle.std.specs.List.{AllByRecursion, IsDistinct, list_any}
-use Rattle.std.specs.List.Sorted.{IsPermutation, IsSorted, IsStrictlySortedBy}
+use Rattle.std.specs.List.{AllByRecursion, IsDistinct}
+use Rattle.std.specs.List.Sorted.{IsPermutation, IsNonDecreasing, IsNonDecreasingBy, IsStrictlySortedBy}
 use Rattle.std.specs.Map.{keys_of}
 use Rattle.std.specs.Ordering.{nat_cmp}
 use Rattle.std.specs.declared.cmp.Ordering.TheVariants.{Less, Equal, Greater}
 use Rattle.std.proofs.lemmas.Bool.{ltb-true, eqb-true}
-use Rattle.std.proofs.lemmas.Grind.{flat_map-append}
-use Rattle.std.proofs.lemmas.List.Sorted.{Contains-permutation, IsNonDecreasingBy-from_sort}
+use Rattle.std.proofs.lemmas.List.{get_or-map, length-map}
+use Rattle.std.proofs.lemmas.List.Sorted.{IsPermutation-map}
 use Rattle.std.proofs.lemmas.Map.Keys.{IsDistinct-IsPermutation, IsStrictlyIncreasing-from_distinct, sorted_from_strictly_increasing}
-use Rattle.std.proofs.lemmas.Map.Made.{is_some-lookup}
-use Rattle.std.proofs.lemmas.Map.Views.{Contains-from_any, list_any-from_Contains}
+use Rattle.indexmap.proofs.MapLemmas.{lookup_permutation}
 use Rattle.mps_model.specs.Replay.{Block, Store, block_at}
 use Rattle.mps_blocks.specs.declared.replay.Extent.{Extent}
-use Rattle.mps_blocks.specs.Entries.{block_of, store_of, block_there, blocks_at}
+use Rattle.mps_blocks.specs.Entries.{block_of, store_of}
 use Rattle.mps_blocks.specs.Listing.{block_line, listing}
 use Rattle.mps_blocks.proofs.Ascending.{Above, Ascends}
 use Rattle.mps_blocks.proofs.Stores.{same_store}
@@ -23,33 +21,17 @@ use Rattle.mps_blocks.proofs.Entries.{Entries, found_at, shown, eqb-sym, ascends
 
 -- ---- what is found
 
-abbrev no_block : Option Block
-no_block = None
+found_case : (c : Bool) (key q : ℕ) (x : Extent) (o : Option Extent) → (c ≡ true → key ≡ q)
+    → cond c (Some (block_of (key, x))) (shown q o) ≡ shown q (cond c (Some x) o)
+found_case true key q x o same = ap (λ (k : ℕ). Some (block_of (k, x))) (same refl)
+found_case false key q x o same = refl
 
-none_both : (c : Bool) → cond c no_block no_block ≡ no_block
-none_both true = refl
-none_both false = refl
-
-there_case : (c : Bool) (o found : Option Extent) (at q : ℕ) (rest : Store) (later : Bool) → eqb at q ≡ c → (c ≡ true → found ≡ o)
-    → block_at rest q ≡ cond later (shown q found) None
-    → block_at (block_there at o ++ rest) q ≡ cond (c || later) (shown q found) None
-there_case true None found at q rest later e same h =
-    h ∙ ap (λ (f : Option Extent). cond later (shown q f) None) (same refl) ∙ none_both later ∙ sym (ap (shown q) (same refl))
-there_case true (Some x) found at q rest later e same h =
-    ap (λ (c : Bool). cond c (Some (block_of (at, x))) (block_at rest q)) e
-    ∙ ap (λ (k : ℕ). Some (block_of (k, x))) (eqb-true at q e)
-    ∙ sym (ap (shown q) (same refl))
-there_case false None found at q rest later e same h = h
-there_case false (Some x) found at q rest later e same h =
-    ap (λ (c : Bool). cond c (Some (block_of (at, x))) (block_at rest q)) e ∙ h
-
-block_at-each : (es : Entries) (addresses : List ℕ) (q : ℕ)
-    → block_at (blocks_at es addresses) q ≡ cond (list_any (eqb q) addresses) (shown q (found_at es q)) None
-block_at-each es [] q = refl
-block_at-each es (at ∷ rest) q =
-    there_case (eqb at q) (found_at es at) (found_at es q) at q (blocks_at es rest) (list_any (eqb q) rest) refl
-    (λ there. ap (found_at es) (sym (eqb-true at q there))) (block_at-each es rest q)
-    ∙ ap (λ (c : Bool). cond (c || list_any (eqb q) rest) (shown q (found_at es q)) None) (eqb-sym at q)
+block_at-map : (es : Entries) (q : ℕ) → block_at (map block_of es) q ≡ shown q (found_at es q)
+block_at-map [] q = refl
+block_at-map (e ∷ es) q =
+    ap (λ (o : Option Block). cond (eqb e.0 q) (Some (block_of e)) o) (block_at-map es q)
+    ∙ found_case (eqb e.0 q) e.0 q e.1 (found_at es q) (eqb-true e.0 q)
+    ∙ ap (λ (c : Bool). shown q (cond c (Some e.1) (found_at es q))) (eqb-sym e.0 q)
 
 -- ---- in order
 
@@ -61,57 +43,44 @@ less_case false false h = absurd cc
 less : (m n : ℕ) → nat_cmp m n ≡ Less → m < n
 less m n h = ltb-true m n (less_case (ltb m n) (eqb m n) h)
 
-above_there : (o : Option Extent) (n at : ℕ) (rest : Store) → n < at → Above n rest → Above n (block_there at o ++ rest)
-above_there None n at rest lt h = h
-above_there (Some x) n at rest lt h = (lt, h)
+above_each : (n : ℕ) (es : Entries) → AllByRecursion (λ (y : ℕ). nat_cmp n y ≡ Less) (keys_of es) → Above n (map block_of es)
+above_each n [] h = tt
+above_each n (e ∷ es) h = (less n e.0 h.0, above_each n es h.1)
 
-above_each : (n : ℕ) (es : Entries) (addresses : List ℕ) → AllByRecursion (λ (y : ℕ). nat_cmp n y ≡ Less) addresses
-    → Above n (blocks_at es addresses)
-above_each n es [] h = tt
-above_each n es (at ∷ rest) h = above_there (found_at es at) n at (blocks_at es rest) (less n at h.0) (above_each n es rest h.1)
-
-ascends_there : (o : Option Extent) (at : ℕ) (rest : Store) → Above at rest → Ascends rest → Ascends (block_there at o ++ rest)
-ascends_there None at rest above h = h
-ascends_there (Some x) at rest above h = (above, h)
-
-ascends_each : (es : Entries) (addresses : List ℕ) → IsStrictlySortedBy nat_cmp addresses → Ascends (blocks_at es addresses)
+ascends_each : (es : Entries) → IsStrictlySortedBy nat_cmp (keys_of es) → Ascends (map block_of es)
 unfolding IsStrictlySortedBy
-ascends_each es [] h = tt
-ascends_each es (at ∷ rest) h =
-    ascends_there (found_at es at) at (blocks_at es rest) (above_each at es rest h.0) (ascends_each es rest h.1)
+ascends_each [] h = tt
+ascends_each (e ∷ es) h = (above_each e.0 es h.0, ascends_each es h.1)
+
+keys_ascend : (es : Entries) → IsNonDecreasingBy (λ (e : ℕ × Extent). e.0) es → IsNonDecreasing (keys_of es)
+keys_ascend es ascending i j d le within =
+    let key : ℕ × Extent → ℕ = λ e. e.0 in
+    let some : ℕ × Extent = (d, record { words = 0; pool = 0 }) in
+    let inside : j < length es = omega (arith, within, length-map es key) in
+    omega (arith, get_or-map key es i some d (omega arith), get_or-map key es j some d inside, ascending i j some le inside)
 
 -- ---- all of them
 
-found_case : (o : Option Extent) (q : ℕ) (c : Bool) → (is_some o ≡ true → c ≡ true) → cond c (shown q o) None ≡ shown q o
-found_case None q c h = none_both c
-found_case (Some x) q c h = ap (λ (d : Bool). cond d (Some (block_of (q, x))) None) (h refl)
-
--- a map's keys in ascending order lead to all of its blocks, in the order of their addresses
-pub all_in_order : (es : Entries) (addresses : List ℕ) → IsDistinct eqb (keys_of es) → IsPermutation (keys_of es) addresses
-    → IsSorted nat_cmp addresses → blocks_at es addresses ≡ store_of es
-all_in_order es addresses distinct permutation sorted =
-    let rising = IsStrictlyIncreasing-from_distinct addresses (IsNonDecreasingBy-from_sort (λ x. x) addresses sorted)
-    (IsDistinct-IsPermutation eqb eqb-sym (keys_of es) addresses permutation distinct) in
-    let listed : (q : ℕ) → is_some (found_at es q) ≡ true → list_any (eqb q) addresses ≡ true = λ q there.
-    list_any-from_Contains nat_eq_equiv q addresses
-    (Contains-permutation (keys_of es) addresses q permutation
-    (Contains-from_any eqb-true q (keys_of es) (sym (is_some-lookup (eqb q) es) ∙ there))) in
-    same_store (blocks_at es addresses) (store_of es)
-    (ascends_each es addresses (sorted_from_strictly_increasing addresses rising)) (ascends-store es)
+-- the entries of a map, sorted by their addresses, are its blocks in order
+pub all_in_order : (es sorted : Entries) → IsDistinct eqb (keys_of es) → IsPermutation es sorted
+    → IsNonDecreasingBy (λ (e : ℕ × Extent). e.0) sorted → map block_of sorted ≡ store_of es
+all_in_order es sorted distinct permutation ascending =
+    let apart : IsDistinct eqb (keys_of sorted) =
+    IsDistinct-IsPermutation eqb eqb-sym (keys_of es) (keys_of sorted) (IsPermutation-map (λ (e : ℕ × Extent). e.0) es sorted permutation)
+    distinct in
+    let rising = IsStrictlyIncreasing-from_distinct (keys_of sorted) (keys_ascend sorted ascending) apart in
+    same_store (map block_of sorted) (store_of es) (ascends_each sorted (sorted_from_strictly_increasing (keys_of sorted) rising))
+    (ascends-store es)
     (λ q.
-    block_at-each es addresses q
-    ∙ found_case (found_at es q) q (list_any (eqb q) addresses) (listed q)
+    block_at-map sorted q
+    ∙ ap (shown q) (lookup_permutation nat_eq_equiv es sorted permutation apart (eqb q) (nat_eq_equiv.congr q))
     ∙ sym (block_at-store es q))
 
 -- ---- the lines
 
--- what is listed from an address on is the line of its block, where there is one, and what is listed after it
-pub listing_next : (es : Entries) (addresses : List ℕ) (i : ℕ) → i < length addresses
-    → listing (blocks_at es (drop i addresses))
-    ≡ listing (block_there (get_or addresses i 0) (found_at es (get_or addresses i 0))) ++ listing (blocks_at es (drop (i + 1) addresses))
-listing_next es addresses i h =
-    let at = get_or addresses i 0 in
-    let rest = drop (i + 1) addresses in
-    let next : drop i addresses ≡ at ∷ rest = rw (add-one, drop-cons addresses i 0) refl in
-    ap (λ (a : List ℕ). listing (blocks_at es a)) next
-    ∙ flat_map-append block_line (block_there at (found_at es at)) (blocks_at es rest)
+-- what is listed from an index on is the line of the block there, and what is listed after it
+pub listing_next : (es : Entries) (i : ℕ) (d : ℕ × Extent) → i < length es
+    → listing (map block_of (drop i es)) ≡ block_line (block_of (get_or es i d)) ++ listing (map block_of (drop (i + 1) es))
+listing_next es i d h =
+    let next : drop i es ≡ get_or es i d ∷ drop (i + 1) es = rw (add-one, drop-cons es i d) refl in
+    ap (λ (a : Entries). listing (map block_of a)) next

@@ -1,6 +1,5 @@
 -- The map that the program keeps, in any order of its entries, as the blocks that it stands for.
-use Rattle.std.specs.Prelude.{◌≡◌, ℕ, Option, Some, None, List, [], ◌∷◌, ◌++◌, nat_eq, refl}
-use Rattle.std.specs.Map.{lookup}
+use Rattle.std.specs.Prelude.{◌≡◌, ℕ, List, [], ◌∷◌, refl}
 use Rattle.mps_blocks.specs.declared.replay.Extent.{Extent}
 use Rattle.mps_model.specs.Replay.{Block, Store, with_block, without_block}
 
@@ -13,16 +12,6 @@ abbrev pub store_of : List (ℕ × Extent) → Store
 store_of [] = []
 store_of (e ∷ es) = with_block (block_of e) (without_block (store_of es) e.0)
 
--- the block at an address, where there is one
-abbrev pub block_there : (at : ℕ) → Option Extent → Store
-block_there at None = []
-block_there at (Some x) = block_of (at, x) ∷ []
-
--- the blocks at some addresses, in the order of these
-abbrev pub blocks_at : List (ℕ × Extent) → (addresses : List ℕ) → Store
-blocks_at es [] = []
-blocks_at es (at ∷ rest) = block_there at (lookup (nat_eq at) es) ++ blocks_at es rest
-
 -- Two entries, the second below the first.
 
 abbrev two : List (ℕ × Extent)
@@ -31,6 +20,3 @@ two = (0x2000, record { words = 3; pool = 0 }) ∷ (0x1000, record { words = 4; 
 pub the_blocks_ascend : store_of two
     ≡ block_of (0x1000, record { words = 4; pool = 1 }) ∷ block_of (0x2000, record { words = 3; pool = 0 }) ∷ []
 the_blocks_ascend = refl
-
-pub an_address_without_a_block : blocks_at two (0x1000 ∷ 0x1800 ∷ []) ≡ block_of (0x1000, record { words = 4; pool = 1 }) ∷ []
-an_address_without_a_block = refl

@@ -15,7 +15,7 @@ ghost use Rattle.mps_blocks.specs.Listed.{ListedWith, IsUnique, ListsPart, HasLi
 ghost use Rattle.mps_blocks.specs.Replaying.{PendingReplays, NextReplays, AllReplay, HasReplayed};
 
 use crate::bad_replay::BadReplay;
-use crate::listing::{print_listing, sorted_addresses};
+use crate::listing::{print_listing, sorted_blocks};
 use crate::replay::{Replay, ReplayFault};
 use mps_desk::Desk;
 use mps_event::{RecordRef, Version, first};
@@ -68,12 +68,11 @@ fn list_blocks<D: Desk>(alloc: Global, log: &str, desk: &mut D) -> Result<(), St
         Err(_) => return Err(Stop::OutOfMemory),
     };
     let replay = replay_log(alloc, log, desk)?;
-    let live = replay.live();
-    let addresses = match sorted_addresses(alloc, live) {
-        Ok(addresses) => addresses,
+    let blocks = match sorted_blocks(alloc, replay.into_live()) {
+        Ok(blocks) => blocks,
         Err(_) => return Err(Stop::OutOfMemory),
     };
-    match print_listing(live, &addresses, &mut output, desk) {
+    match print_listing(&blocks, &mut output, desk) {
         Ok(()) => Ok(()),
         Err(_) => Err(Stop::WriteFailed),
     }

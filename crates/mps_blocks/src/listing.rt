@@ -1,9 +1,8 @@
 // Printing the live blocks.
 
-ghost use Rattle.std.specs.Prelude.{◌≡◌, ◌≤◌, ◌+◌, ◌++◌, [], length, nat_eq, IfOk, OnOk, OnErr};
-ghost use Rattle.std.specs.Map.{lookup};
+ghost use Rattle.std.specs.Prelude.{◌≡◌, ◌≤◌, ◌+◌, ◌++◌, [], length, map, IfOk, OnOk, OnErr};
 ghost use Rattle.mps_report.specs.Streams.{Prints, PrintsPart, Gathers};
-ghost use Rattle.mps_blocks.specs.Entries.{store_of, block_of, block_there, blocks_at};
+ghost use Rattle.mps_blocks.specs.Entries.{store_of, block_of};
 ghost use Rattle.mps_blocks.specs.Listing.{block_line, listing};
 
 use crate::replay::Extent;
@@ -12,69 +11,46 @@ use mps_desk::{Desk, Failed};
 use mps_report::Output;
 use std::alloc::{AllocError, Global};
 
-/// The addresses of the live blocks, in ascending order.
-pub(crate) fn sorted_addresses(
+/// The live blocks, each with its address, in ascending order of their addresses.
+pub(crate) fn sorted_blocks(
     alloc: Global,
-    live: &IndexMap<u64, Extent>,
-) -> Result<Vec<u64>, AllocError>
-    ensures { IfOk result (λ addresses. blocks_at live.now.entries addresses.items ≡ store_of live.now.entries) }
+    live: IndexMap<u64, Extent>,
+) -> Result<Vec<(u64, Extent)>, AllocError>
+    ensures { IfOk result (λ blocks. map block_of blocks.items ≡ store_of live.entries) }
 {
-    let mut addresses = Vec::from_slice(alloc, live.keys().as_slice())?;
-    addresses.sort_unstable();
-    Ok(addresses)
+    let mut blocks: Vec<(u64, Extent)> = live.into_iter().collect(alloc)?;
+    blocks.sort_unstable_by_key(|block| block.0);
+    Ok(blocks)
 }
 
-/// Prints a line for the block at each of these addresses. `Failed` where a write failed, after a prefix of the lines was
-/// printed.
+/// Prints a line for each of these blocks. `Failed` where a write failed, after a prefix of the lines was printed.
 pub(crate) fn print_listing<D: Desk>(
-    live: &IndexMap<u64, Extent>,
-    addresses: &[u64],
+    blocks: &[(u64, Extent)],
     output: &mut Output,
     desk: &mut D,
 ) -> Result<(), Failed>
     requires { output.old ≡ [] }
-    ensures printed { OnOk result (Prints (D.outside desk.old) (D.outside desk.new)
-        (listing (blocks_at live.now.entries addresses.now))) }
-    ensures part { OnErr result (PrintsPart (D.outside desk.old) (D.outside desk.new)
-        (listing (blocks_at live.now.entries addresses.now))) }
+    ensures printed { OnOk result (Prints (D.outside desk.old) (D.outside desk.new) (listing (map block_of blocks.now))) }
+    ensures part { OnErr result (PrintsPart (D.outside desk.old) (D.outside desk.new) (listing (map block_of blocks.now))) }
 {
-    gather_blocks(live, addresses, output, desk)?;
+    gather_blocks(blocks, output, desk)?;
     output.flush(desk)
 }
 
 fn gather_blocks<D: Desk>(
-    live: &IndexMap<u64, Extent>,
-    addresses: &[u64],
+    blocks: &[(u64, Extent)],
     output: &mut Output,
     desk: &mut D,
 ) -> Result<(), Failed>
     requires { output.old ≡ [] }
     ensures gathered { OnOk result (Gathers (D.outside desk.old) (D.outside desk.new) output.old output.new
-        (listing (blocks_at live.now.entries addresses.now))) }
-    ensures part { OnErr result (PrintsPart (D.outside desk.old) (D.outside desk.new)
-        (listing (blocks_at live.now.entries addresses.now))) }
+        (listing (map block_of blocks.now))) }
+    ensures part { OnErr result (PrintsPart (D.outside desk.old) (D.outside desk.new) (listing (map block_of blocks.now))) }
 {
-    for at in addresses {
-        gather_block_at(live, *at, output, desk)?;
+    for block in blocks {
+        gather_block(block.0, &block.1, output, desk)?;
     }
     Ok(())
-}
-
-/// Gathers the line of the block at an address, where there is one.
-fn gather_block_at<D: Desk>(
-    live: &IndexMap<u64, Extent>,
-    at: u64,
-    output: &mut Output,
-    desk: &mut D,
-) -> Result<(), Failed>
-    ensures gathered { OnOk result (Gathers (D.outside desk.old) (D.outside desk.new) output.old output.new
-        (listing (block_there at (lookup (nat_eq at) live.now.entries)))) }
-    ensures part { OnErr result (PrintsPart (D.outside desk.old) (D.outside desk.new) output.old) }
-{
-    match live.get(&at) {
-        Some(extent) => gather_block(at, extent, output, desk),
-        None => Ok(()),
-    }
 }
 
 fn gather_block<D: Desk>(

@@ -55,10 +55,10 @@ impl Replay {
     }
 
     /// The live blocks by their addresses.
-    pub(crate) fn live(&self) -> &IndexMap<u64, Extent>
-        ensures { store_of result.now.entries ≡ self.now.blocks }
+    pub(crate) fn into_live(self) -> IndexMap<u64, Extent>
+        ensures { store_of result.entries ≡ self.blocks }
     {
-        &self.live
+        self.live
     }
 
     /// What a record does to the blocks and the names.
