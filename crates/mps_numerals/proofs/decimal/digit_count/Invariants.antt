@@ -1,4 +1,4 @@
-use Rattle.std.proofs.Common.{◌≡◌, ◌<◌, ◌≤◌, ◌+◌, ◌-◌, ◌^◌, length, decimal}
+use Rattle.std.proofs.Common.{◌≡◌, ◌+◌, length, decimal}
 use Rattle.mps_numerals.proofs.decimal.digit_count.Given as goal
 
 abbrev pub invariant-loop-left : goal.invariant-loop-left

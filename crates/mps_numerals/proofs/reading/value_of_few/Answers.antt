@@ -1,5 +1,4 @@
-use Rattle.std.proofs.Common.{◌≡◌, ◌+◌, ◌*◌, ◌^◌, ◌<◌, ◌≤◌, arith}
-use Rattle.mps_numerals.specs.Reading.{digit_of}
+use Rattle.std.proofs.Common.{◌+◌, arith}
 use Rattle.mps_numerals.proofs.Values.{fits_more, few_fit}
 use Rattle.mps_numerals.proofs.reading.value_of_few.Goals as goal
 
