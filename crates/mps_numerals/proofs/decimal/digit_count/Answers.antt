@@ -14,8 +14,10 @@ loop-left-preserved c = record {
 
 pub overflow_add-result : goal.overflow_add-result
 overflow_add-result c =
-    omega (arith, length-decimal-le 20 c.args.number (omega arith) (omega arith) (omega arith), c.loop-left.invariant.count, c.short_digit_count.ensures.value)
+    let most = length-decimal-le 20 c.args.number (omega arith) (omega arith) (omega arith) in
+    omega (arith, most, c.loop-left.invariant.count, c.short_digit_count.ensures.value)
 
 pub returns-clause-at_most : goal.returns-clause-at_most
 returns-clause-at_most c =
-    omega (arith, length-decimal-le 20 c.args.number (omega arith) (omega arith) (omega arith), c.loop-left.invariant.count, c.short_digit_count.ensures.value)
+    let most = length-decimal-le 20 c.args.number (omega arith) (omega arith) (omega arith) in
+    omega (arith, most, c.loop-left.invariant.count, c.short_digit_count.ensures.value)
