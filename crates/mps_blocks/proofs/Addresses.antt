@@ -1,5 +1,5 @@
 -- The blocks of a map's entries, in ascending order of their addresses.
-use Rattle.std.proofs.Common.{◌≡◌, ℕ, ◌+◌, ◌<◌, Bool, cond, eqb, ltb, List, [], ◌∷◌, ◌++◌, Option, Some, None, length, map, drop, get_or, drop-cons, add-one, true, false, refl, sym, ap, ◌∙◌, arith}
+use Rattle.std.proofs.Common.{◌≡◌, ℕ, ◌+◌, ◌<◌, Bool, cond, eqb, ltb, [], ◌∷◌, ◌++◌, Option, Some, length, map, drop, get_or, drop-cons, add-one, true, false, refl, sym, ap, ◌∙◌, arith}
 use Rattle.std.specs.Cmp.{nat_eq_equiv}
 use Rattle.std.specs.List.{AllByRecursion, IsDistinct}
 use Rattle.std.specs.List.Sorted.{IsPermutation, IsNonDecreasing, IsNonDecreasingBy, IsStrictlySortedBy}
@@ -11,7 +11,7 @@ use Rattle.std.proofs.lemmas.List.{get_or-map, length-map}
 use Rattle.std.proofs.lemmas.List.Sorted.{IsPermutation-map}
 use Rattle.std.proofs.lemmas.Map.Keys.{IsDistinct-IsPermutation, IsStrictlyIncreasing-from_distinct, sorted_from_strictly_increasing}
 use Rattle.indexmap.proofs.MapLemmas.{lookup_permutation}
-use Rattle.mps_model.specs.Replay.{Block, Store, block_at}
+use Rattle.mps_model.specs.Replay.{Block, block_at}
 use Rattle.mps_blocks.specs.declared.replay.Extent.{Extent}
 use Rattle.mps_blocks.specs.Entries.{block_of, store_of}
 use Rattle.mps_blocks.specs.Listing.{block_line, listing}

@@ -80,6 +80,7 @@ impl Input {
     }
 
     /// Reads until n bytes are pending, or all was read, or a read failed.
+    #[inline(always)]
     pub fn fill<D: Desk>(&mut self, count: usize, desk: &mut D)
         requires { count ≤ 65536 }
         ensures read { ReadsMore (D.outside desk.old) (D.outside desk.new) self.old self.new }
@@ -101,6 +102,7 @@ impl Input {
     }
 
     /// Reads some more bytes.
+    #[inline(never)]
     fn read_once<D: Desk>(&mut self, desk: &mut D)
         requires { length self.old.pending < 65536 }
         ensures read { ReadsMore (D.outside desk.old) (D.outside desk.new) self.old self.new }

@@ -1,6 +1,6 @@
-use Rattle.std.proofs.Common.{◌+◌, get_or, drop, map, arith}
+use Rattle.std.proofs.Common.{◌+◌, drop, map, arith}
 use Rattle.mps_blocks.specs.Entries.{block_of}
-use Rattle.mps_blocks.specs.Listing.{block_line, listing}
+use Rattle.mps_blocks.specs.Listing.{listing}
 use Rattle.mps_blocks.proofs.Gathering.{gathered_more, part_printed, on_err_of}
 use Rattle.mps_blocks.proofs.Addresses.{listing_next}
 use Rattle.mps_blocks.proofs.listing.gather_blocks.Goals as goal
