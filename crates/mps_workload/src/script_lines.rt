@@ -14,7 +14,8 @@ fn put_plain(text: &[u8], line: &mut [u8; 64]) -> u32
     put_text(text, line, 0) as u32
 }
 
-/// A line with a number in it.
+/// A line with a number in it. Inlined, so that the texts around it are copied by their known lengths.
+#[inline(always)]
 fn put_number(before: &[u8], number: u64, after: &[u8], line: &mut [u8; 64]) -> u32
     requires { length before.now + 20 + length after.now ≤ 64 }
     ensures text { take result line.new ≡ before.now ++ decimal number ++ after.now }
@@ -25,7 +26,8 @@ fn put_number(before: &[u8], number: u64, after: &[u8], line: &mut [u8; 64]) -> 
     put_text(after, line, at) as u32
 }
 
-/// A line with two numbers in it.
+/// A line with two numbers in it. Inlined for the same reason.
+#[inline(always)]
 fn put_two_numbers(
     before: &[u8],
     first: u64,
