@@ -24,7 +24,9 @@ lost_still low high r s (t ∷ rs) before =
     let rest = lost_still low high r s rs before in
     elim (sides low high t.from) [
       | inl (from, under) ↦
-          let same : is_lost s' t ≡ is_lost s t = ap not (bit-set_other s.marks.kept r.from t.from false (λ e. omega (arith, e, from, before))) in
+          let same : is_lost s' t ≡ is_lost s t =
+          ap not (bit-set_other s.marks.kept r.from t.from false (λ e. omega (arith, e, from, before)))
+          in
           let here : P (t ∷ runs_within low high rs) =
           ap (λ (b : Bool). if b then t ∷ filter (is_lost s') (runs_within low high rs) else filter (is_lost s') (runs_within low high rs))
           same

@@ -102,7 +102,8 @@ module _ (s : SegsState) (base : Addr) (moves : Moves) (can : CanReclaim s base.
           (runs_within (word_of base.0) (word_of (base.0 + 4096 * n)) y.blocks) y.words words'
           in
           let Q : Word → Type 0 =
-          λ high. ArePadded f (word_of base.0) high (runs_within (word_of base.0) high (freed_in s mine).blocks) (freed_in s mine).words words'
+          λ high. ArePadded f (word_of base.0) high (runs_within (word_of base.0) high (freed_in s mine).blocks) (freed_in s mine).words
+          words'
           in
           let R : List ℕ → Type 0 =
           λ ws. ArePadded f (word_of base.0) (word_of (end_of_segment mine))

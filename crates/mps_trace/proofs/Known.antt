@@ -45,8 +45,8 @@ pub same_format : {F : Type 0} (a b : F) → Some a ≡ Some b → a ≡ b
 same_format a b is = cc
 
 -- an entry that is read is the format that is listed
-pub format_read : {F : Type 0} (formats : List (Option F)) (pool : ℕ) (o : Option F) (format : F) → slice_get formats pool ≡ Some (Some format)
-    → o ≡ get_or formats pool o → o ≡ Some format
+pub format_read : {F : Type 0} (formats : List (Option F)) (pool : ℕ) (o : Option F) (format : F)
+    → slice_get formats pool ≡ Some (Some format) → o ≡ get_or formats pool o → o ≡ Some format
 format_read formats pool o format listed read = read ∙ get_or_from_slice_get formats pool (Some format) o listed
 
 -- the format that is read is that of the pool of the segment over an address

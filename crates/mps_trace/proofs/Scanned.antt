@@ -11,5 +11,6 @@ module _ {F : Type 0} (layout : F → Layout) (f : Layout) (t t' : TraceState F)
     pub can_still : (x : Traced) → CanFixCellAt layout f t.formats t.chains x at cell → CanFixCellAt layout f t'.formats t'.chains x at cell
     can_still x can = let P : TraceState F → Type 0 = λ u. CanFixCellAt layout f u.formats u.chains x at cell in subst P (sym same) can
 
-    pub fixes_still : (x y : Traced) → FixesCell layout f t'.formats t'.chains at cell x y → FixesCell layout f t.formats t.chains at cell x y
+    pub fixes_still : (x y : Traced) → FixesCell layout f t'.formats t'.chains at cell x y
+        → FixesCell layout f t.formats t.chains at cell x y
     fixes_still x y fixes = let P : TraceState F → Type 0 = λ u. FixesCell layout f u.formats u.chains at cell x y in subst P same fixes

@@ -39,8 +39,8 @@ loop-at-preserved g c =
       words_written s0 s s' c.loop-at.invariant.1 c.pad_words.ensures.state,
       span_written s s' c.args.base.0 c.args.end.0 c.pad_words.ensures.state c.loop-at.invariant.2,
       subst P ending
-          (padded_to f low high s0.blocks s0.words s.words s'.words from r c.loop-at.invariant.3 (subst N same_blocks found.first) found.above
-          found.below c.pad_words.ensures.size c.pad_words.ensures.pads c.pad_words.ensures.others),
+          (padded_to f low high s0.blocks s0.words s.words s'.words from r c.loop-at.invariant.3 (subst N same_blocks found.first)
+          found.above found.below c.pad_words.ensures.size c.pad_words.ensures.pads c.pad_words.ensures.others),
     )
 
 pub pad_words-requires-2-clause-in_arena : goal.pad_words-requires-2-clause-in_arena

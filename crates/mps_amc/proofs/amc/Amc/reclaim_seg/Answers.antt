@@ -14,7 +14,10 @@ segment-requires g c =
 pub overflow_add-end : goal.overflow_add-end
 overflow_add-end g c =
     let s = c.args.segs.now in
-    let fits = end_fits s c.args.base c.args.trail.now c.requires.segment c.segment.result c.from-bytes.result c.segment.ensures c.from-bytes.ensures in
+    let fits =
+    end_fits s c.args.base c.args.trail.now c.requires.segment c.segment.result c.from-bytes.result c.segment.ensures
+    c.from-bytes.ensures
+    in
     omega (arith, fits, c.requires.segment.inside, c.grains.ensures.at_most)
 
 pub free_lost-requires-clause-span : goal.free_lost-requires-clause-span

@@ -19,8 +19,8 @@ loop-cell-preserved g c =
     let z = traced c.fix_cell.new.self c.fix_cell.new.segs c.fix_cell.new.trail in
     let Q : TraceState g.row.F.Denot → TraceState g.row.F.Denot = λ u. record u { amc = c.fix_cell.new.self.amc } in (
       goes_on c.loop-cell.from c.in-Some.cell c.loop-cell.invariant.0 c.in-Some.ensures.sound
-          (fixes_still g.F.Format.layout (g.F.Format.layout c.args.format.now) c.args.self.now c.loop-cell.self c.loop-cell.invariant.1 c.args.at
-          c.in-Some.cell y z c.fix_cell.ensures.fixed),
+          (fixes_still g.F.Format.layout (g.F.Format.layout c.args.format.now) c.args.self.now c.loop-cell.self c.loop-cell.invariant.1
+          c.args.at c.in-Some.cell y z c.fix_cell.ensures.fixed),
       c.fix_cell.ensures.unchanged ∙ ap Q c.loop-cell.invariant.1,
       c.fix_cell.ensures.size ∙ c.loop-cell.invariant.2,
     )
