@@ -1,3 +1,4 @@
 pub mod Fixed
 pub mod Known
+pub mod Ordered
 pub mod Scanned

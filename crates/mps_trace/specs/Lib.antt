@@ -1,3 +1,4 @@
+pub mod Condemned
 pub mod Reclaim
 pub mod Scan
 pub mod Trace

@@ -1,14 +1,16 @@
 -- What a collection does with the references of one block.
-use Rattle.std.specs.Prelude.{◌≡◌, ℕ, ◌+◌, ◌%◌, ◌<◌, ◌≤◌, true, false, Option, Some, List, IsTrue, length, slice_get, slice_index, slice_set}
+use Rattle.std.specs.Prelude.{◌≡◌, ℕ, ◌+◌, ◌%◌, ◌<◌, ◌≤◌, true, false, Option, Some, List, [], ◌∷◌, IsTrue, length, slice_get, slice_index, slice_set, refl}
 use Rattle.mps_base.specs.Address.{Address, Word, word_of, bytes_of_word}
 use Rattle.mps_base.specs.Segment.{Segment, segment_over}
 use Rattle.mps_base.specs.Trail.{Moves}
 use Rattle.mps_base.specs.declared.address.Addr.{Addr}
 use Rattle.mps_format.specs.Layout.{Layout}
+use Rattle.mps_format.specs.Front.{front_layout}
 use Rattle.mps_format.specs.References.{IsFirstReference, HasNoReference}
 use Rattle.mps_bits.specs.Table.{bit}
-use Rattle.mps_seg.specs.Segs.{SegsState, at_word}
+use Rattle.mps_seg.specs.Segs.{SegsState, at_word, new_segments}
 use Rattle.mps_seg.specs.Collecting.{noting, blackening}
+use Rattle.mps_amc.specs.Amc as amc
 use Rattle.mps_gen.specs.State.{ChainsState}
 use Rattle.mps_trace.specs.Trace.{TraceState, Traced, traced, CanFixAt, FixesTo}
 
@@ -103,3 +105,19 @@ pub record ScansOne {F : Type 0} (layout : F → Layout) (formats : List (Option
 -- nothing but weak blocks is grey
 abbrev pub IsDrained : SegsState → Type 0
 IsDrained s = (word : Word) → bit s.marks.exact word ≡ false
+
+-- ---- vectors: two words, the second of which leads to 0x2000 and has the tag 5
+
+abbrev two_words : Traced
+two_words = record {
+  amc = amc.no_pools;
+  segs = record (new_segments 1 1) { words = 0x201 ∷ 0x2005 ∷ [] };
+  moves = record { moves = []; spare = 0 };
+}
+
+pub a_tag_is_no_part_of_a_target : target_at front_layout two_words (record { 0 = 0 }) 1 ≡ 0x2000
+a_tag_is_no_part_of_a_target = refl
+
+pub a_tag_stays : (redirected front_layout 0x2005 (record { 0 = 0 }) 1 (record { 0 = 0x3008 }) two_words).segs.words
+    ≡ 0x201 ∷ 0x300d ∷ []
+a_tag_stays = refl

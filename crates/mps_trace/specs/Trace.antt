@@ -1,14 +1,15 @@
 -- What a collection knows of pools, and what it does with an address.
-use Rattle.std.specs.Prelude.{◌≡◌, ℕ, ◌%◌, ◌<◌, true, false, Option, Some, None, List, [], ◌∷◌, ◌++◌, length, slice_get}
+use Rattle.std.specs.Prelude.{◌≡◌, ℕ, ◌%◌, ◌<◌, true, false, Option, Some, None, List, [], ◌∷◌, ◌++◌, length, slice_get, refl}
 use Rattle.mps_base.specs.Address.{Address, word_of, bytes_of_word}
 use Rattle.mps_base.specs.Segment.{Segment, segment_over}
 use Rattle.mps_base.specs.Generation.{target_generation}
 use Rattle.mps_base.specs.Trail.{Moves}
 use Rattle.mps_base.specs.declared.address.Addr.{Addr}
+use Rattle.mps_base.specs.declared.names.Rank.TheVariants.{Exact}
 use Rattle.mps_format.specs.Layout.{Layout}
 use Rattle.mps_seg.specs.Segs.{SegsState}
 use Rattle.mps_seg.specs.Collecting.{is_condemned_at}
-use Rattle.mps_buffer.specs.Points.{IsAtHand}
+use Rattle.mps_buffer.specs.Points.{IsAtHand, empty_buffer}
 use Rattle.mps_amc.specs.Moving.{IsForwarded, IsUnforwarded, BlockStands, IsBlockOf, size_at}
 use Rattle.mps_amc.specs.Amc.{AmcState, HasTail, tail_of, FixesAt}
 use Rattle.mps_amc.specs.Amc as amc
@@ -83,3 +84,21 @@ pub data FixesTo {F : Type 0} (layout : F → Layout) (formats : List (Option F)
         → segment_over x.segs.segments at.0 ≡ Some t → slice_get formats t.pool ≡ Some (Some format)
         → FixesAt (layout format) x.amc x.segs x.moves at (target_of chains t) y.amc y.segs y.moves answer
         → FixesTo layout formats chains x at y answer
+
+-- ---- vectors
+
+abbrev segment_of_pool : ℕ → Segment
+segment_of_pool pool = record { base = 0x1000; grains = 1; pool = pool; generation = 0; rank = Exact }
+
+pub a_pool_with_nothing_at_hand : (with_pool {F = ℕ} no_pools (Some 3)).amc.tails ≡ (empty_buffer ∷ []) ∷ []
+a_pool_with_nothing_at_hand = refl
+
+pub a_pool_on_no_chain_has_one_generation : target_of (with_pool {F = ℕ} no_pools (Some 3)).chains (segment_of_pool 0) ≡ 0
+a_pool_on_no_chain_has_one_generation = refl
+
+-- where no pool has a format nothing is fixed
+pub nothing_moves_without_a_pool : (layout : ℕ → Layout) (x y : Traced) (at answer : Addr)
+    → FixesTo layout [] no_chains x at y answer → answer ≡ at
+nothing_moves_without_a_pool layout x y at answer (passes calm) = refl
+nothing_moves_without_a_pool layout x y at answer (fixes t format to condemned over listed fixed) =
+    let never : None ≡ Some (Some format) = listed in cc
