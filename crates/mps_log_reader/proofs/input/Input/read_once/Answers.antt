@@ -28,5 +28,5 @@ returns-in-Ok-clause-read g c =
     (sym now-is)
     (reads_some (g.D.Desk.outside c.args.desk.now)
     (g.D.Desk.outside c.read_after.new.desk) before now at c.in-Ok.count kept c.in-Ok.ensures.read c.read_after.ensures.counted
-        c.in-Ok.ensures.steady
+    c.in-Ok.ensures.steady
     c.read_after.ensures.others))
