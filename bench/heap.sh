@@ -52,6 +52,7 @@ fn place(index: u64) -> Slot {
 }
 
 /// A trail with room for the moves of any call where no collection runs, once it is emptied.
+#[derive(Drop)]
 struct Moves {
     trail: Trail,
 }
