@@ -1,3 +1,4 @@
 pub mod Answers
+pub mod Lending
 pub mod Results
 pub mod Right

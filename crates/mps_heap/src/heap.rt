@@ -6,6 +6,7 @@ mod areas;
 mod arena;
 mod depending;
 mod finalizing;
+mod lending;
 mod making;
 mod manual;
 mod objects;

@@ -27,7 +27,8 @@ use Rattle.mps_outcome.specs.State.{HeapState, format_over}
 use Rattle.mps_refinement.specs.RightStep.{step_of}
 use Rattle.mps_refinement.specs.StandsFor.{AreParts, IsReached, Past, StandsFor}
 use Rattle.mps_model.specs.Graph.{size_of, size_of_body}
-use Rattle.mps_refinement.proofs.LoanSteps.{AreRight, stored_words}
+use Rattle.mps_refinement.specs.Storing.{AreRight}
+use Rattle.mps_refinement.proofs.LoanSteps.{stored_words}
 use Rattle.mps_refinement.proofs.Loans.{IsObjectBorrowed}
 use Rattle.mps_refinement.proofs.Objects.{number_set_right}
 

@@ -23,6 +23,7 @@ use Rattle.mps_outcome.specs.Manual.{block_in, is_block_over, word_in_block, wor
 use Rattle.mps_outcome.specs.Objects.{with_word}
 use Rattle.mps_outcome.specs.State.{HeapState}
 use Rattle.mps_refinement.specs.RightStep.{step_of}
+use Rattle.mps_refinement.specs.Storing.{AreRight, stores}
 use Rattle.mps_refinement.specs.StandsFor.{StandsFor}
 use Rattle.mps_refinement.proofs.BlockWords.{store_is_right}
 use Rattle.mps_refinement.proofs.Loans.{block_borrowed}
@@ -115,16 +116,6 @@ stored_is words from new fits =
         ]
 
 -- ---- steps
-
--- a store of each of some words, from word k on, each answered `ok`
-abbrev pub stores : (line : ℕ) → (place : Slot) → (k : ℕ) → List ℕ → History
-stores line place k [] = []
-stores line place k (x ∷ xs) = step_of line (call.Store place k x) [] (Replied reply.Ok) ∷ stores line place (k + 1) xs
-
--- they are legal, and the heap stands for the world after them
-pub record AreRight {F : Type 0} (layout : F → Layout) (w : World) (steps : History) (after : HeapState F) : Type 0 where
-  pub legal : IsLegalFrom w steps
-  pub stands : StandsFor layout after (world_after_steps w steps)
 
 module _ {F : Type 0} (layout : F → Layout) (line : ℕ) (place : Slot) (at : Address) where
   -- a write of a word changes no other word's number

@@ -50,7 +50,7 @@ pub(crate) fn is_copying<F: Format>(pool: Pool<F>) -> bool
 }
 
 /// Whether the objects of a pool have no references.
-fn is_leaf<F: Format>(pool: Pool<F>) -> bool
+pub(crate) fn is_leaf<F: Format>(pool: Pool<F>) -> bool
     ensures { result ≡ is_leaf_pool pool }
 {
     match pool {

@@ -12,6 +12,7 @@ mod arena;
 mod depending;
 mod finalizing;
 mod finding;
+mod lending;
 mod making;
 mod manual;
 mod objects;

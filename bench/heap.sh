@@ -1,0 +1,269 @@
+#!/bin/sh
+# Measures how long calls of the library's heap take, by a runtime that holds the heap itself, with no script and no log: `put`, `get` and
+# `num` on objects of 8 words; objects of 8 words reserved and committed until the arena is full; manual blocks of 17 words allocated
+# until it is full, and freed; a block allocated and freed again and again; and a word of a block loaded, beside a loan of the block.
+# It makes a program over a copy of the crates, proves it, and runs it.
+home=$(cd "$(dirname "$0")/.." && pwd)
+folder=$(mktemp -d)
+cd "$folder" || exit 1
+mkdir crates
+crates="base bits free numerals arena extents marks seg format model buffer manual final ld names root outcome state laws colours image refinement heap"
+for crate in $crates; do
+    mkdir "crates/mps_$crate"
+    for part in src specs proofs; do
+        [ -d "$home/crates/mps_$crate/$part" ] && cp -r "$home/crates/mps_$crate/$part" "crates/mps_$crate/$part"
+    done
+    grep "^mps_$crate:" "$home/crates.txt" >> crates.txt
+done
+echo 'heap_times: mps_base mps_format mps_heap' >> crates.txt
+program=crates/heap_times
+mkdir -p $program/src
+cat > $program/src/main.rt <<'P'
+// How long calls of the heap take.
+#![tactic(auto)]
+
+use mps_base::{Kind, Name, Rank, Refusal, Slot, Trail};
+use mps_format::Front;
+use mps_heap::Heap;
+use std::alloc::{AllocError, Global};
+use std::io;
+use std::marker::Model;
+use std::time::Instant;
+
+/// The head of an object of 8 words with 3 references.
+const HEAD: u64 = 0x3_0000_0801;
+
+/// The words of a manual block: 30 of them fill a grain but for two words.
+const WORDS: u64 = 17;
+
+/// How many places there are for blocks.
+const PLACES: u32 = 65_000;
+
+fn named(letter: u8) -> Name {
+    Name { len: 1, bytes: [letter, 0, 0, 0, 0, 0, 0, 0, 0, 0, 0, 0, 0, 0, 0, 0] }
+}
+
+fn slot(index: u64) -> Slot {
+    Slot { name: named(b't'), index }
+}
+
+fn place(index: u64) -> Slot {
+    Slot { name: named(b'b'), index }
+}
+
+/// A trail with room for the moves of any call where no collection runs, once it is emptied.
+#[derive(Drop)]
+struct Moves {
+    trail: Trail,
+}
+
+impl Model for Moves {
+    ghost use Rattle.std.specs.Prelude.{ℕ, ◌+◌, ◌≤◌, length};
+
+    ghost Value = { ℕ };
+
+    ghost view = { λ m. m.trail.spare + length m.trail.moves };
+
+    ghost invariant = { λ m. 2 ≤ m.trail.spare + length m.trail.moves };
+}
+
+impl Moves {
+    fn new(alloc: Global) -> Result<Moves, AllocError> {
+        Ok(Moves { trail: Trail::new(alloc, 2)? })
+    }
+
+    fn reserve(&mut self, heap: &mut Heap<Front>) -> Result<(), Refusal> {
+        self.trail.clear();
+        heap.reserve(&mut self.trail, named(b'x'), HEAD)
+    }
+
+    fn commit(&mut self, heap: &mut Heap<Front>, into: Slot) -> Result<(), Refusal> {
+        self.trail.clear();
+        let _ = heap.commit(&mut self.trail, named(b'x'), into)?;
+        Ok(())
+    }
+
+    fn alloc(&mut self, heap: &mut Heap<Front>, into: Slot) -> Result<(), Refusal> {
+        self.trail.clear();
+        heap.alloc(&mut self.trail, named(b'v'), WORDS, into)
+    }
+
+    fn free(&mut self, heap: &mut Heap<Front>, from: Slot) -> Result<(), Refusal> {
+        self.trail.clear();
+        heap.free(&mut self.trail, from)
+    }
+}
+
+fn make(heap: &mut Heap<Front>) -> Result<(), Refusal> {
+    heap.pool(named(b'p'), Kind::Amc, Front)?;
+    heap.pool_mvff(named(b'v'))?;
+    heap.table(named(b't'), 16)?;
+    heap.blocks(named(b'b'), PLACES)?;
+    heap.point(named(b'x'), named(b'p'), Rank::Exact)
+}
+
+fn object(heap: &mut Heap<Front>, moves: &mut Moves, into: Slot) -> Result<(), Refusal> {
+    moves.reserve(heap)?;
+    moves.commit(heap, into)
+}
+
+/// Puts a reference, reads it, and reads a number, a million times each; how many of these were refused.
+fn access(heap: &mut Heap<Front>, times: u64) -> u64 {
+    let mut refused = 0u64;
+    for i in 0..times {
+        let from = slot(i % 2);
+        if heap.put(from, 1 + i % 3, slot(1 - i % 2)).is_err() {
+            refused = refused.wrapping_add(1);
+        }
+    }
+    refused
+}
+
+fn read(heap: &mut Heap<Front>, times: u64) -> u64 {
+    let mut refused = 0u64;
+    for i in 0..times {
+        if heap.get(slot(2), slot(i % 2), 1 + i % 3).is_err() {
+            refused = refused.wrapping_add(1);
+        }
+    }
+    refused
+}
+
+fn numbers(heap: &Heap<Front>, times: u64) -> u64 {
+    let mut sum = 0u64;
+    for i in 0..times {
+        if let Ok(n) = heap.num(slot(i % 2), 4 + i % 4) {
+            sum = sum.wrapping_add(n).wrapping_add(1);
+        }
+    }
+    sum
+}
+
+fn loads(heap: &Heap<Front>, times: u64) -> u64 {
+    let mut sum = 0u64;
+    for i in 0..times {
+        if let Ok(n) = heap.load(place(0), i % WORDS) {
+            sum = sum.wrapping_add(n).wrapping_add(1);
+        }
+    }
+    sum
+}
+
+fn loans(heap: &Heap<Front>, times: u64) -> u64 {
+    let mut sum = 0u64;
+    for i in 0..times {
+        if let Ok(words) = heap.lend(place(0)) {
+            if let Some(n) = words.get((i % WORDS) as usize) {
+                sum = sum.wrapping_add(*n).wrapping_add(1);
+            }
+        }
+    }
+    sum
+}
+
+fn writes(heap: &mut Heap<Front>, times: u64) -> u64 {
+    let mut done = 0u64;
+    for i in 0..times {
+        if heap.lend_mut(place(0), |words: &mut [u64]| words.fill(i)).is_ok() {
+            done = done.wrapping_add(1);
+        }
+    }
+    done
+}
+
+fn fill_objects(heap: &mut Heap<Front>, moves: &mut Moves, most: u64) -> u64 {
+    for i in 0..most {
+        if object(heap, moves, slot(3)).is_err() {
+            return i;
+        }
+    }
+    most
+}
+
+fn fill_blocks(heap: &mut Heap<Front>, moves: &mut Moves, most: u64) -> u64 {
+    for i in 0..most {
+        if moves.alloc(heap, place(i)).is_err() {
+            return i;
+        }
+    }
+    most
+}
+
+fn free_blocks(heap: &mut Heap<Front>, moves: &mut Moves, count: u64) -> u64 {
+    for i in 0..count {
+        if moves.free(heap, place(i)).is_err() {
+            return i;
+        }
+    }
+    count
+}
+
+fn come_and_go(heap: &mut Heap<Front>, moves: &mut Moves, times: u64) -> u64 {
+    for i in 0..times {
+        if moves.alloc(heap, place(1)).is_err() || moves.free(heap, place(1)).is_err() {
+            return i;
+        }
+    }
+    times
+}
+
+fn show(rt: &HostRuntime, what: &str, count: u64, began: &Instant) -> io::Result<()> {
+    let took = began.elapsed(rt)?.as_nanos();
+    let count = u128::from(count.max(1));
+    println!(rt; "{what}: {count} times, {}.{} ns each", took / count, 10 * (took % count) / count)
+}
+
+fn time_accesses(rt: &HostRuntime, heap: &mut Heap<Front>, times: u64) -> io::Result<()> {
+    let began = Instant::now(rt)?;
+    let refused = access(heap, times);
+    show(rt, "put", times.saturating_sub(refused), &began)?;
+    let began = Instant::now(rt)?;
+    let refused = read(heap, times);
+    show(rt, "get", times.saturating_sub(refused), &began)?;
+    let began = Instant::now(rt)?;
+    show(rt, "num", numbers(heap, times), &began)
+}
+
+fn time_words(rt: &HostRuntime, heap: &mut Heap<Front>, times: u64) -> io::Result<()> {
+    let began = Instant::now(rt)?;
+    show(rt, "load", loads(heap, times), &began)?;
+    let began = Instant::now(rt)?;
+    show(rt, "lend and read a word", loans(heap, times), &began)?;
+    let began = Instant::now(rt)?;
+    show(rt, "lend_mut and fill 17 words", writes(heap, times), &began)
+}
+
+fn time_blocks(rt: &HostRuntime, heap: &mut Heap<Front>, moves: &mut Moves) -> io::Result<()> {
+    let began = Instant::now(rt)?;
+    let made = fill_blocks(heap, moves, u64::from(PLACES));
+    show(rt, "alloc until the arena is full", made, &began)?;
+    let began = Instant::now(rt)?;
+    show(rt, "free, in ascending order", free_blocks(heap, moves, made), &began)
+}
+
+fn time_all(rt: &HostRuntime, heap: &mut Heap<Front>) -> io::Result<()> {
+    let mut moves = Moves::new(rt.alloc())?;
+    if make(heap).is_err() || object(heap, &mut moves, slot(0)).is_err() || object(heap, &mut moves, slot(1)).is_err() {
+        return println!(rt; "refused");
+    }
+    time_accesses(rt, heap, 1_000_000)?;
+    time_blocks(rt, heap, &mut moves)?;
+    if moves.alloc(heap, place(0)).is_err() {
+        return println!(rt; "refused");
+    }
+    time_words(rt, heap, 1_000_000)?;
+    let began = Instant::now(rt)?;
+    show(rt, "alloc and free", come_and_go(heap, &mut moves, 1_000_000), &began)?;
+    let began = Instant::now(rt)?;
+    show(rt, "reserve and commit until the arena is full", fill_objects(heap, &mut moves, 1_000_000), &began)
+}
+
+fn main(rt: HostRuntime) -> io::Result<()> {
+    let mut heap = Heap::<Front>::new(rt.alloc(), 2048, 2048)?;
+    let done = time_all(&rt, &mut heap);
+    heap.finish();
+    done
+}
+P
+(cd $program && rt run)
+cd / && rm -r "$folder"

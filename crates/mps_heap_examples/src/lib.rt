@@ -1,0 +1,11 @@
+//! A heap over a format of a runtime's own, and the inner loop of that runtime.
+#![tactic(auto)]
+
+mod list;
+mod tail;
+
+pub use list::{HEAD, make, push, sum};
+pub use tail::Tail;
+
+#[cfg(test)]
+mod tests;

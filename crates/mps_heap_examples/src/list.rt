@@ -1,0 +1,77 @@
+// A list of numbers in a heap.
+ghost use Rattle.std.specs.Prelude.{◌+◌, ◌<◌, length};
+ghost use Rattle.mps_refinement.specs.RightMoving.{KeepsRoom};
+
+use crate::Tail;
+use mps_base::{Kind, Name, Rank, Refusal, Slot, Trail};
+use mps_heap::Heap;
+
+/// The head of an item: four words, of which cell 1 is its number, cell 2 the next item, and cell 3 null.
+pub const HEAD: u64 = 33;
+
+/// The cell of an item's number.
+const NUMBER: u64 = 1;
+
+/// The cell of the next item.
+const NEXT: u64 = 2;
+
+/// The name that has one letter.
+pub const fn named(letter: u8) -> Name {
+    Name {
+        len: 1,
+        bytes: [letter, 0, 0, 0, 0, 0, 0, 0, 0, 0, 0, 0, 0, 0, 0, 0],
+    }
+}
+
+/// The slot that refers to the first item of the list.
+fn first() -> Slot {
+    Slot {
+        name: named(b't'),
+        index: 0,
+    }
+}
+
+/// The slot that goes along the list.
+fn cursor() -> Slot {
+    Slot {
+        name: named(b't'),
+        index: 1,
+    }
+}
+
+/// Makes what the list needs, which is empty: a pool of its items, two slots, and a point.
+pub fn make(heap: &mut Heap<Tail>) -> Result<(), Refusal> {
+    heap.pool(named(b'p'), Kind::Amc, Tail)?;
+    heap.table(named(b't'), 2)?;
+    heap.point(named(b'x'), named(b'p'), Rank::Exact)
+}
+
+/// Puts a number before the others. A trail is emptied before each call that may move, so that its whole room is spare.
+pub fn push(heap: &mut Heap<Tail>, trail: &mut Trail, number: u64) -> Result<(), Refusal>
+    requires room { 0 < trail.old.spare + length trail.old.moves }
+    ensures room { KeepsRoom trail.old trail.new }
+{
+    let point = named(b'x');
+    trail.clear();
+    heap.reserve(trail, point, HEAD)?;
+    heap.init_num(point, NUMBER, number)?;
+    heap.init_ref(point, NEXT, first())?;
+    trail.clear();
+    let _ = heap.commit(trail, point, first())?;
+    Ok(())
+}
+
+/// The sum of the first numbers of the list, at most `most` of them, modulo 2^64. This is a runtime's inner loop: it takes no memory, and
+/// each call in it is a few look-ups.
+pub fn sum(heap: &mut Heap<Tail>, most: u64) -> Result<u64, Refusal> {
+    let mut total = 0u64;
+    heap.copy(cursor(), first())?;
+    for _ in 0..most {
+        if heap.is_null(cursor())? {
+            break;
+        }
+        total = total.wrapping_add(heap.num(cursor(), NUMBER)?);
+        heap.get(cursor(), cursor(), NEXT)?;
+    }
+    Ok(total)
+}

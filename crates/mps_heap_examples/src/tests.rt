@@ -1,0 +1,111 @@
+// A heap over a format that isn't one of the three, through all of its life; and the words that a heap lends.
+ghost use Rattle.std.specs.Prelude.{◌<◌};
+
+use crate::list::named;
+use crate::{HEAD, Tail, make, push, sum};
+use mps_base::{Kind, Rank, Refusal, Slot, Trail};
+use mps_format::Leaf;
+use mps_heap::Heap;
+use std::alloc::{AllocError, Global};
+use std::process::Abort;
+
+/// A slot of the table `t`.
+fn slot(index: u64) -> Slot {
+    Slot {
+        name: named(b't'),
+        index,
+    }
+}
+
+/// A place of the table of blocks `b`.
+fn place(index: u64) -> Slot {
+    Slot {
+        name: named(b'b'),
+        index,
+    }
+}
+
+/// Allocates a block in a place, with a trail of its own.
+fn allocate(alloc: Global, heap: &mut Heap<Tail>, words: u64, at: Slot) -> Result<(), Refusal> {
+    let mut trail = Trail::new(alloc, 2).map_err(|_| Refusal::OutOfMemory)?;
+    heap.alloc(&mut trail, named(b'v'), words, at)
+}
+
+/// Pushes the numbers 1 to 5, with one trail.
+fn push_five(alloc: Global, heap: &mut Heap<Tail>) -> Result<(), Refusal> {
+    let mut trail = Trail::new(alloc, 1).map_err(|_| Refusal::OutOfMemory)?;
+    push(heap, &mut trail, 1)?;
+    push(heap, &mut trail, 2)?;
+    push(heap, &mut trail, 3)?;
+    push(heap, &mut trail, 4)?;
+    push(heap, &mut trail, 5)
+}
+
+/// A list is made, read and changed.
+fn use_list(rt: &impl Abort, alloc: Global, heap: &mut Heap<Tail>) {
+    assert!(rt; make(heap).is_ok());
+    assert!(rt; sum(heap, 10) == Ok(0));
+    assert!(rt; push_five(alloc, heap).is_ok());
+    assert!(rt; sum(heap, 10) == Ok(15));
+    assert!(rt; sum(heap, 2) == Ok(9));
+    assert!(rt; heap.head(slot(0)) == Ok(HEAD));
+    assert!(rt; heap.set_num(slot(0), 1, 20) == Ok(()));
+    assert!(rt; heap.put(slot(0), 3, slot(0)) == Ok(()));
+    assert!(rt; heap.put(slot(0), 1, slot(0)) == Err(Refusal::NotARef));
+    assert!(rt; heap.num(slot(0), 3) == Err(Refusal::NotANumber));
+    assert!(rt; sum(heap, 10) == Ok(30));
+    assert!(rt; heap.lend_leaf(slot(0)) == Err(Refusal::WrongPool));
+    assert!(rt; heap.live() == (5, 20));
+}
+
+/// The words of a manual block are lent, and written by a loan.
+fn use_block(rt: &impl Abort, alloc: Global, heap: &mut Heap<Tail>) {
+    assert!(rt; heap.pool_mvff(named(b'v')) == Ok(()));
+    assert!(rt; heap.blocks(named(b'b'), 2) == Ok(()));
+    assert!(rt; heap.lend(place(0)) == Err(Refusal::NotABlock));
+    assert!(rt; heap.lend(place(2)) == Err(Refusal::BadIndex));
+    assert!(rt; heap.lend(slot(0)) == Err(Refusal::BadName));
+    assert!(rt; allocate(alloc, heap, 4, place(0)) == Ok(()));
+    assert!(rt; allocate(alloc, heap, 2, place(1)) == Ok(()));
+    assert!(rt; heap.store(place(0), 2, 9) == Ok(()));
+    assert!(rt; heap.lend(place(0)) == Ok(&[0, 0, 9, 0]));
+    let filled = heap.lend_mut(place(0), |words: &mut [u64]| {
+        words.fill(7);
+        words.len()
+    });
+    assert!(rt; filled == Ok(4));
+    assert!(rt; heap.load(place(0), 3) == Ok(7));
+    assert!(rt; heap.lend(place(1)) == Ok(&[0, 0]));
+}
+
+#[test]
+fn a_heap_over_a_format_of_its_own(rt: HostRuntime) -> Result<(), AllocError> {
+    let mut heap = Heap::<Tail>::new(rt.alloc(), 8, 8)?;
+    use_list(&rt, rt.alloc(), &mut heap);
+    use_block(&rt, rt.alloc(), &mut heap);
+    heap.finish();
+    Ok(())
+}
+
+/// Makes an object of three words without references, whose numbers are 7 and 0, with a trail of its own.
+fn make_leaf(alloc: Global, heap: &mut Heap<Leaf>) -> Result<(), Refusal> {
+    let mut trail = Trail::new(alloc, 1).map_err(|_| Refusal::OutOfMemory)?;
+    heap.pool(named(b'p'), Kind::Lo, Leaf)?;
+    heap.table(named(b't'), 2)?;
+    heap.point(named(b'x'), named(b'p'), Rank::Exact)?;
+    heap.reserve(&mut trail, named(b'x'), 0x303)?;
+    heap.init_num(named(b'x'), 1, 7)?;
+    trail.clear();
+    let _ = heap.commit(&mut trail, named(b'x'), slot(0))?;
+    Ok(())
+}
+
+#[test]
+fn the_numbers_of_a_leaf_object(rt: HostRuntime) -> Result<(), AllocError> {
+    let mut heap = Heap::<Leaf>::new(rt.alloc(), 1, 1)?;
+    assert!(rt; make_leaf(rt.alloc(), &mut heap) == Ok(()));
+    assert!(rt; heap.lend_leaf(slot(0)) == Ok(&[7, 0]));
+    assert!(rt; heap.lend_leaf(slot(1)) == Err(Refusal::NullRef));
+    heap.finish();
+    Ok(())
+}
