@@ -53,7 +53,8 @@ use Rattle.mps_heap.specs.Lending as spec
 use Rattle.mps_heap.specs.Lending.{ComesToWords, IsLentTo, IsNotLent, words_of_block, words_of_leaf}
 
 -- what is told of the value of a check matters not to its refusals
-told : {A B C : Type 0} {Fits : A → B → Type 0} {x : Checked A} {y : Checked B} (f : B → C) → Same Fits x y → Alike x (y >>= (λ b. Ok (f b)))
+told : {A B C : Type 0} {Fits : A → B → Type 0} {x : Checked A} {y : Checked B} (f : B → C) → Same Fits x y
+    → Alike x (y >>= (λ b. Ok (f b)))
 told f (fits fit) = fits tt
 told f same.refused = same.refused
 
@@ -107,7 +108,8 @@ module _ {F : Type 0} (layout : F → Layout) (h : HeapState F) (place : Slot) w
           stored = λ w line st.
               subst (λ s. AreRight layout w (stores line place 0 wr.left) s) (sym wr.state)
               (block_loan_is_right layout line place wr.lent.at h n.entry wr.left n.place_is n.block_is
-              (subst (λ k. Contains h.segs.blocks (record { from = word_of wr.lent.at; count = k })) (sym wr.count) wr.lent.are.whole) w st);
+              (subst (λ k. Contains h.segs.blocks (record { from = word_of wr.lent.at; count = k })) (sym wr.count) wr.lent.are.whole)
+              w st);
         };
       }
 
@@ -121,7 +123,8 @@ module _ {F : Type 0} (layout : F → Layout) (place : Slot) (at : Address) wher
       >> (refuse_when (not (is_block_over h.segs (at + bytes_of_word * k) at)) refusal.BadIndex >> Ok (word_of at + k))))
       (length-set h.segs.words n value)
 
-  stored_stands : (formats : ℕ → Layout) (h : HeapState F) (entry : Entry Address) (k : ℕ) (new : List ℕ) → block_place_in h place ≡ Ok entry
+  stored_stands : (formats : ℕ → Layout) (h : HeapState F) (entry : Entry Address) (k : ℕ) (new : List ℕ)
+      → block_place_in h place ≡ Ok entry
       → block_in h entry ≡ Ok at → ((i : ℕ) → i < length new → word_in_block h at (k + i) ≡ Ok (word_of at + (k + i)))
       → StandsWith layout h formats → StandsWith layout (with_words h (stored_words h.segs.words (word_of at + k) new)) formats
   stored_stands formats h entry k [] place_is block_is each s = s
@@ -263,7 +266,8 @@ module _ {F : Type 0} (layout : F → Layout) (h : HeapState F) (slot : Slot) wh
 module _ {F : Type 0} (layout : F → Layout) (h : HeapState F) (place : Slot) where
   pub lent_or_refused : (result : Result (Bor (List ℕ)) Refusal)
       → MatchResult result (λ words. IsBlockLent h place words.now) (λ why. IsNoBlock h place why)
-      → MatchResult result (λ words. ComesToWords layout h (λ w. words_of_block w place) (Ok words.now)) (λ why. ComesToWords layout h (λ w. words_of_block w place) (Err why))
+      → MatchResult result (λ words. ComesToWords layout h (λ w. words_of_block w place) (Ok words.now))
+      (λ why. ComesToWords layout h (λ w. words_of_block w place) (Err why))
   lent_or_refused (Ok words) lent = lent_is_right layout h place words.now lent
   lent_or_refused (Err why) none = no_block_is_right layout h place why none
 

@@ -34,6 +34,7 @@ impl<F: Format> Heap<F> {
     {
         self.state.lend_mut(place, write)
     }
+
     /// Lends the words after the head of the object in a slot: its cells from cell 1 on. Refuses `BadName`, `BadIndex`, `NullRef` where
     /// the slot is null, and `WrongPool` where the object's pool isn't a leaf pool, that is one of the kind `Amcz` or `Lo`.
     pub fn lend_leaf(&self, slot: Slot) -> Result<&[u64], Refusal>

@@ -53,10 +53,12 @@ impl<F: Format> State<F> {
         let at = self.block_named(place)?;
         Ok(write(Manual::lend_mut(&mut self.segs, at)))
     }
+
     /// The address of the object in a slot, where it is of a leaf pool.
     #[tactic(auto, using(crate::proofs::Blocks::begins_block, crate::proofs::Lending::begins_at_word))]
     fn leaf_named(&self, slot: Slot) -> Result<Addr, Refusal>
-        ensures value { MatchResult result (λ at. leaf_named F.layout self.now slot ≡ Ok at.0) (λ why. IsNoLeaf F.layout self.now slot why) }
+        ensures value { MatchResult result (λ at. leaf_named F.layout self.now slot ≡ Ok at.0)
+            (λ why. IsNoLeaf F.layout self.now slot why) }
         ensures block { IfOk result (λ at. (words : ℕ) × Contains self.now.segs.blocks (record { from = word_of at.0; count = words })) }
         ensures aligned { IfOk result (λ at. at.0 % bytes_of_word ≡ 0) }
     {

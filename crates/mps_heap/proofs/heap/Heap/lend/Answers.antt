@@ -1,4 +1,4 @@
-use Rattle.std.proofs.Common.{◌≡◌, ℕ, List, subst, Ok, Err}
+use Rattle.std.proofs.Common.{subst, Ok, Err}
 use Rattle.std.specs.Prelude.{MatchResult}
 use Rattle.mps_heap.specs.Lending.{ComesToWords, words_of_block}
 use Rattle.mps_heap.proofs.Lending.{lent_or_refused}

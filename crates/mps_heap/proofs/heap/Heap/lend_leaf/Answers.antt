@@ -1,4 +1,4 @@
-use Rattle.std.proofs.Common.{◌≡◌, ℕ, List, subst, Ok, Err}
+use Rattle.std.proofs.Common.{subst, Ok, Err}
 use Rattle.std.specs.Prelude.{MatchResult}
 use Rattle.mps_heap.specs.Lending.{ComesToWords, words_of_leaf}
 use Rattle.mps_heap.proofs.Lending.{leaf_or_refused}

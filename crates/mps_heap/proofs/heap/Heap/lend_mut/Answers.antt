@@ -1,4 +1,4 @@
-use Rattle.std.proofs.Common.{◌≡◌, ℕ, List, subst, Ok, Err}
+use Rattle.std.proofs.Common.{subst}
 use Rattle.std.specs.Fn.{FnOnceReturnsAtMut}
 use Rattle.std.specs.Prelude.{MatchResult}
 use Rattle.mps_heap.specs.Lending.{IsLentTo, IsNotLent}
