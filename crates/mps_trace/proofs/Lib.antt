@@ -2,3 +2,4 @@ pub mod Fixed
 pub mod Known
 pub mod Ordered
 pub mod Scanned
+pub mod Units

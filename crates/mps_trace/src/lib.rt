@@ -1,7 +1,10 @@
-//! The tracing collector: where the blocks lie that references lead to, and what blocks refer to.
+//! The tracing collector: where the blocks lie that references lead to, what blocks refer to, and how a collection runs.
 #![tactic(auto)]
 
+mod collection;
 mod finding;
+mod running;
 mod trace;
 
+pub use running::{Band, Running};
 pub use trace::Trace;

@@ -1,7 +1,7 @@
 // The collector's state, and how it fixes references.
 #![tactic(auto)]
 
-ghost use Rattle.std.specs.Prelude.{◌≡◌, ℕ, ◌+◌, ◌%◌, ◌<◌, ◌≤◌, true, false, IsTrue, Some, length, slice_index, slice_get, IfSome, IfNone, MatchResult};
+ghost use Rattle.std.specs.Prelude.{◌≡◌, ℕ, ◌+◌, ◌%◌, ◌<◌, ◌≤◌, true, false, IsTrue, Some, length, slice_index, slice_get, MatchResult};
 ghost use Rattle.mps_base.specs.Address.{word_of, bytes_of_word};
 ghost use Rattle.mps_base.specs.Segment.{Segment, segment_over};
 ghost use Rattle.mps_seg.specs.Collecting.{is_condemned_at};
@@ -9,11 +9,10 @@ ghost use Rattle.mps_gen.specs.State.{max_pools};
 ghost use Rattle.mps_amc.specs.Amc.{flipped};
 ghost use Rattle.mps_trace.specs.Trace.{traced, FixesTo, CanFix, no_pools, with_pool};
 ghost use Rattle.mps_base.specs.declared.address.Addr.{Addr};
-ghost use Rattle.mps_trace.specs.Condemned.{AreInOrder, IsNextCondemned, NoneLeft};
 ghost use Rattle.mps_trace.specs.Reclaim.{CanReclaimAt, Reclaims};
 ghost use Rattle.mps_trace.specs.Scan.{FixesCell, CanFixCell, AreReadyIn, ScansAll, CanScan, Scanned, CanScanGrey, ScansOne, IsDrained};
 
-use crate::finding::{next_condemned, segment_at};
+use crate::finding::segment_at;
 use mps_amc::Amc;
 use mps_base::{Addr, BYTES_OF_WORD, Rank, Trail};
 use mps_format::Format;
@@ -187,19 +186,5 @@ impl<F: Format> Trace<F> {
             unreachable!()
         };
         self.amc.reclaim_seg(segs, trail, &format, base);
-    }
-
-    /// Reclaims the lowest condemned segment that begins at `from` or above, and returns its base; None where there is none.
-    pub fn reclaim_next(&self, segs: &mut Segs, trail: &mut Trail, from: Addr) -> Option<Addr>
-        requires ordered { AreInOrder segs.old }
-        requires can { (base : Addr) → IsNextCondemned segs.old from.0 base.0 → CanReclaimAt F.layout self.now segs.old trail.old base }
-        ensures lowest { IfSome result (λ base. IsNextCondemned segs.old from.0 base.0) }
-        ensures reclaimed { IfSome result (λ base. Reclaims F.layout self.now.formats segs.old trail.old base segs.new trail.new) }
-        ensures none { IfNone result (NoneLeft segs.old from.0) }
-        ensures unchanged { IfNone result ((segs.new ≡ segs.old) × (trail.new ≡ trail.old)) }
-    {
-        let base = next_condemned(segs, from)?;
-        self.reclaim(segs, trail, base);
-        Some(base)
     }
 }

@@ -1,0 +1,33 @@
+-- Units in a row, and the room for their moves.
+use Rattle.std.proofs.Common.{◌<◌, ◌≡◌, sym, ap, subst, arith}
+use Rattle.mps_base.specs.Trail.{Moves}
+use Rattle.mps_base.specs.declared.address.Addr.{Addr}
+use Rattle.mps_format.specs.Layout.{Layout}
+use Rattle.mps_seg.specs.Segs.{SegsState}
+use Rattle.mps_amc.proofs.Lost.{spare_after}
+use Rattle.mps_amc.specs.Reclaiming.{IsReclaimed, is_given, is_padded, lost_of}
+use Rattle.mps_trace.specs.Trace.{TraceState, Traced}
+use Rattle.mps_trace.specs.Unit.{CanUnit, HasRoomToEnd, LastUnitTo, UnitTo}
+use Rattle.mps_trace.specs.declared.running.Running.{Running}
+
+-- after a reclaim there is room for the end of the collection
+pub room_left : (f : Layout) (s s' : SegsState) (m m' : Moves) (base : Addr) → HasRoomToEnd s m base → IsReclaimed f s m base s' m'
+    → 0 < m'.spare
+room_left f s s' m m' base room (is_given t over empty state moves) =
+    omega (arith, ap (λ (x : Moves). x.spare) moves, spare_after (lost_of s t) m, room t over)
+room_left f s s' m m' base room (is_padded t over used state padded moves) =
+    omega (arith, ap (λ (x : Moves). x.spare) moves, spare_after (lost_of s t) m, room t over)
+
+-- units go on at a state of which only what is at hand has changed
+module _ {F : Type 0} (layout : F → Layout) (t t' : TraceState F) (same : t' ≡ record t { amc = t'.amc }) where
+  pub unit_still : (s : SegsState) (m : Moves) (run : Running) → CanUnit layout (record t { amc = t'.amc }) s m run
+      → CanUnit layout t' s m run
+  unit_still s m run can = let P : TraceState F → Type 0 = λ u. CanUnit layout u s m run in subst P (sym same) can
+
+  pub goes_still : (x y : Traced) (run run' : Running) → UnitTo layout t'.formats t'.chains x run y run'
+      → UnitTo layout t.formats t.chains x run y run'
+  goes_still x y run run' unit =
+      let P : TraceState F → Type 0 = λ u. UnitTo layout u.formats u.chains x run y run' in subst P same unit
+
+  pub ends_still : (x y : Traced) (run : Running) → LastUnitTo layout t'.formats x run y → LastUnitTo layout t.formats x run y
+  ends_still x y run last = let P : TraceState F → Type 0 = λ u. LastUnitTo layout u.formats x run y in subst P same last

@@ -1,0 +1,86 @@
+// The units of a running collection.
+#![tactic(auto)]
+
+ghost use Rattle.std.specs.Prelude.{◌≡◌, ℕ, IfSome, IfNone};
+ghost use Rattle.mps_base.specs.declared.address.Addr.{Addr};
+ghost use Rattle.mps_trace.specs.Trace.{traced};
+ghost use Rattle.mps_trace.specs.Scan.{IsDrained};
+ghost use Rattle.mps_trace.specs.Unit.{CanReclaimNext, CanUnit, AreUnitsReady, UnitTo, LastUnitTo, UnitsTo, EndsWithin};
+
+use crate::Trace;
+use crate::finding::next_condemned;
+use crate::running::{Band, Running};
+use mps_base::{Addr, Move, Trail};
+use mps_format::Format;
+use mps_seg::Segs;
+
+impl<F: Format> Trace<F> {
+    /// One unit of a running collection, in constant time but for what it scans or reclaims. A grey block that isn't weak is scanned; once
+    /// there is none, the lowest condemned segment from the cursor on is reclaimed. None where that was the last one: the collection has
+    /// ended.
+    pub fn unit(&mut self, segs: &mut Segs, trail: &mut Trail, running: Running) -> Option<Running>
+        requires { CanUnit F.layout self.old segs.old trail.old running }
+        ensures goes_on { IfSome result (λ next. UnitTo F.layout self.old.formats self.old.chains (traced self.old segs.old trail.old)
+            running (traced self.new segs.new trail.new) next) }
+        ensures ended { IfNone result (LastUnitTo F.layout self.old.formats (traced self.old segs.old trail.old) running
+            (traced self.new segs.new trail.new)) }
+        ensures unchanged { self.new ≡ record self.old { amc = self.new.amc } }
+    {
+        if self.scan_next(segs, trail) {
+            return Some(running);
+        }
+        self.reclaim_next(segs, trail, running)
+    }
+
+    /// Reclaims the lowest condemned segment from the cursor on, once nothing but weak blocks is grey. None where that was the last one:
+    /// the collection has ended.
+    fn reclaim_next(&self, segs: &mut Segs, trail: &mut Trail, running: Running) -> Option<Running>
+        requires drained { IsDrained segs.old }
+        requires can { CanReclaimNext F.layout self.now segs.old trail.old running }
+        ensures goes_on { IfSome result (λ next. UnitTo F.layout self.now.formats self.now.chains (traced self.now segs.old trail.old)
+            running (traced self.now segs.new trail.new) next) }
+        ensures ended { IfNone result (LastUnitTo F.layout self.now.formats (traced self.now segs.old trail.old) running
+            (traced self.now segs.new trail.new)) }
+    {
+        let Some(base) = next_condemned(segs, running.cursor) else {
+            unreachable!()
+        };
+        let cursor = Addr(base.0 + 1);
+        let left = next_condemned(segs, cursor);
+        self.reclaim(segs, trail, base);
+        if let Some(_) = left {
+            return Some(Running {
+                band: Band::Reclaim,
+                cursor,
+            });
+        }
+        segs.end_collection();
+        trail.push(Move::End);
+        None
+    }
+
+    /// At most n units. None where the collection has ended.
+    pub fn finish(
+        &mut self,
+        segs: &mut Segs,
+        trail: &mut Trail,
+        running: Running,
+        most: u64,
+    ) -> Option<Running>
+        requires { AreUnitsReady F.layout self.old segs.old trail.old running most }
+        ensures goes_on { IfSome result (λ next. UnitsTo F.layout self.old.formats self.old.chains (traced self.old segs.old trail.old)
+            running most (traced self.new segs.new trail.new) next) }
+        ensures ended { IfNone result (EndsWithin F.layout self.old.formats self.old.chains (traced self.old segs.old trail.old) running
+            most (traced self.new segs.new trail.new)) }
+        ensures unchanged { self.new ≡ record self.old { amc = self.new.amc } }
+    {
+        let mut running = running;
+        for _ in 0..most {
+            match self.unit(segs, trail, running) {
+                Some(next) => running = next,
+                None => return None,
+            }
+        }
+        Some(running)
+    }
+}
