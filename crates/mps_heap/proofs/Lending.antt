@@ -1,5 +1,5 @@
--- Words that were lent, of a manual block or of a leaf object, are the model's, and a heap in which others were left in those of a block
--- stands for the world after a store of each.
+-- Words that were borrowed, of a manual block or of a leaf object, are the model's, and a heap in which others were left in those of
+-- a block stands for the world after a store of each.
 use Rattle.std.proofs.Common.{◌≡◌, ◌∙◌, ℕ, suc, ◌+◌, ◌*◌, ◌<◌, Bor, Result, refl, sym, ap, subst, Bool, true, false, List, [], ◌∷◌, drop, length, Option, Ok, Err, Contains, arith}
 use Rattle.std.proofs.lemmas.List.{length-set}
 use Rattle.std.specs.Option.{option_map_or}
@@ -48,9 +48,9 @@ use Rattle.mps_refinement.proofs.Lookups.{place_same}
 use Rattle.mps_refinement.proofs.ManualBlocks.{block_same, block_words, setting}
 use Rattle.mps_refinement.proofs.PoolKinds.{kind_of, kinds_alike}
 use Rattle.mps_refinement.proofs.Reached.{reached_sound}
-use Rattle.mps_state.specs.Lending.{AreBlockWords, IsBlockLent, IsBlockWritten, IsLeafLent, IsNoBlock, IsNoLeaf, leaf_named}
+use Rattle.mps_state.specs.Lending.{AreBlockWords, IsBlockBorrowed, IsBlockWritten, IsLeafBorrowed, IsNoBlock, IsNoLeaf, leaf_named}
 use Rattle.mps_heap.specs.Lending as spec
-use Rattle.mps_heap.specs.Lending.{ComesToWords, IsLentTo, IsNotLent, words_of_block, words_of_leaf}
+use Rattle.mps_heap.specs.Lending.{ComesToWords, IsBorrowedAndWritten, IsNotBorrowed, words_of_block, words_of_leaf}
 
 -- what is told of the value of a check matters not to its refusals
 told : {A B C : Type 0} {Fits : A → B → Type 0} {x : Checked A} {y : Checked B} (f : B → C) → Same Fits x y
@@ -65,23 +65,23 @@ module _ {F : Type 0} (layout : F → Layout) (h : HeapState F) (place : Slot) w
     pub place_is : block_place_in h place ≡ Ok entry
     pub block_is : block_in h entry ≡ Ok at
 
-  named : (words : List ℕ) (lent : IsBlockLent h place words) → IsBlockNamed lent.at
-  named words lent =
-      let found = bind_ok (block_place_in h place) (λ (from : Entry Address). block_in h from) lent.at lent.named in
+  named : (words : List ℕ) (borrowed : IsBlockBorrowed h place words) → IsBlockNamed borrowed.at
+  named words borrowed =
+      let found = bind_ok (block_place_in h place) (λ (from : Entry Address). block_in h from) borrowed.at borrowed.named in
       record { entry = found.0; place_is = found.1; block_is = found.2 }
 
-  -- ---- what is lent
+  -- ---- what is borrowed
 
-  pub lent_is_right : (words : List ℕ) → IsBlockLent h place words → ComesToWords layout h (λ w. words_of_block w place) (Ok words)
-  lent_is_right words lent w st =
-      let n = named words lent in
-      let b = block_borrowed layout h w st.past st.parts st.reached place n.entry lent.at n.place_is n.block_is in
-      let count = b.one (length words) lent.are.whole in
+  pub borrowed_is_right : (words : List ℕ) → IsBlockBorrowed h place words → ComesToWords layout h (λ w. words_of_block w place) (Ok words)
+  borrowed_is_right words borrowed w st =
+      let n = named words borrowed in
+      let b = block_borrowed layout h w st.past st.parts st.reached place n.entry borrowed.at n.place_is n.block_is in
+      let count = b.one (length words) borrowed.are.whole in
       let image : words_at w.graph b.id ≡ words =
-      block_words layout st.past h w st.parts (known w st.reached) lent.at b.id b.block
+      block_words layout st.past h w st.parts (known w st.reached) borrowed.at b.id b.block
       ∙ sym b.words
-      ∙ ap (λ k. slice_range h.segs.words (word_of lent.at) (word_of lent.at + k)) (sym count)
-      ∙ sym lent.are.value in
+      ∙ ap (λ k. slice_range h.segs.words (word_of borrowed.at) (word_of borrowed.at + k)) (sym count)
+      ∙ sym borrowed.are.value in
       ap (λ r. r >>= (λ (from : Found (Option ℕ)). model.block_in from >>= (λ id. Ok (words_at w.graph id)))) b.place_is
       ∙ ap (λ o. required o refusal.NotABlock >>= (λ id. Ok (words_at w.graph id))) b.held
       ∙ ap Ok image
@@ -95,20 +95,21 @@ module _ {F : Type 0} (layout : F → Layout) (h : HeapState F) (place : Slot) w
   -- ---- what is left
 
   pub written_is_right : (Leaves : List ℕ → List ℕ → Type 0) (after : HeapState F) → IsBlockWritten h place Leaves after
-      → IsLentTo layout h place Leaves after
+      → IsBorrowedAndWritten layout h place Leaves after
   written_is_right Leaves after wr =
-      let n = named wr.words wr.lent in
+      let n = named wr.words wr.borrowed in
+      let first = word_of wr.borrowed.at in
       record {
         words = wr.words;
         left = wr.left;
         leaves = wr.leaves;
         are_stored = record {
-          lent = lent_is_right wr.words wr.lent;
+          borrowed = borrowed_is_right wr.words wr.borrowed;
           count = wr.count;
           stored = λ w line st.
               subst (λ s. AreRight layout w (stores line place 0 wr.left) s) (sym wr.state)
-              (block_loan_is_right layout line place wr.lent.at h n.entry wr.left n.place_is n.block_is
-              (subst (λ k. Contains h.segs.blocks (record { from = word_of wr.lent.at; count = k })) (sym wr.count) wr.lent.are.whole)
+              (block_loan_is_right layout line place wr.borrowed.at h n.entry wr.left n.place_is n.block_is
+              (subst (λ k. Contains h.segs.blocks (record { from = first; count = k })) (sym wr.count) wr.borrowed.are.whole)
               w st);
         };
       }
@@ -157,11 +158,11 @@ module _ {F : Type 0} (layout : F → Layout) (h : HeapState F) (place : Slot) (
     (wr : IsBlockWritten h place Leaves after) where
   written_stands : (formats : ℕ → Layout) → StandsWith layout h formats → StandsWith layout after formats
   written_stands formats s =
-      let n = named layout h place wr.words wr.lent in
-      let at = wr.lent.at in
+      let n = named layout h place wr.words wr.borrowed in
+      let at = wr.borrowed.at in
       let st = s.stands in
       let b = block_borrowed layout h s.world st.past st.parts st.reached place n.entry at n.place_is n.block_is in
-      let count = wr.count ∙ b.one (length wr.words) wr.lent.are.whole in
+      let count = wr.count ∙ b.one (length wr.words) wr.borrowed.are.whole in
       let words =
       ap (λ n. stored_words h.segs.words n wr.left) (let e : word_of at + 0 ≡ word_of at = omega arith in e)
       ∙ stored_is h.segs.words (word_of at) wr.left (let within = b.within in omega (arith, within, count)) in
@@ -244,36 +245,36 @@ module _ {F : Type 0} (layout : F → Layout) (h : HeapState F) (w : World) (st 
   leaf_same slot = object_then layout st.past h w st.parts (known w st.reached) slot (λ b o is. checks_same b o is)
 
 module _ {F : Type 0} (layout : F → Layout) (h : HeapState F) (slot : Slot) where
-  pub leaf_is_right : (words : List ℕ) → IsLeafLent layout h slot words → ComesToWords layout h (λ w. words_of_leaf w slot) (Ok words)
-  leaf_is_right words lent w st =
-      let found = fits_ours (AreAfterHead layout h w st) (leaf_named layout h slot) (words_of_leaf w slot) lent.at
-      (leaf_same layout h w st slot) lent.named in
-      found.comes ∙ ap Ok (found.fit lent.whole lent.are ∙ sym lent.value)
+  pub leaf_is_right : (words : List ℕ) → IsLeafBorrowed layout h slot words → ComesToWords layout h (λ w. words_of_leaf w slot) (Ok words)
+  leaf_is_right words borrowed w st =
+      let found = fits_ours (AreAfterHead layout h w st) (leaf_named layout h slot) (words_of_leaf w slot) borrowed.at
+      (leaf_same layout h w st slot) borrowed.named in
+      found.comes ∙ ap Ok (found.fit borrowed.whole borrowed.are ∙ sym borrowed.value)
 
   pub no_leaf_is_right : (why : Refusal) → IsNoLeaf layout h slot why → ComesToWords layout h (λ w. words_of_leaf w slot) (Err why)
   no_leaf_is_right why none w st =
       same_err (AreAfterHead layout h w st) (leaf_named layout h slot) (words_of_leaf w slot) why (leaf_same layout h w st slot) none
 
   pub leaf_or_refused : (result : Result (Bor (List ℕ)) Refusal)
-      → MatchResult result (λ words. IsLeafLent layout h slot words.now) (λ why. IsNoLeaf layout h slot why)
+      → MatchResult result (λ words. IsLeafBorrowed layout h slot words.now) (λ why. IsNoLeaf layout h slot why)
       → MatchResult result (λ words. ComesToWords layout h (λ w. words_of_leaf w slot) (Ok words.now))
       (λ why. ComesToWords layout h (λ w. words_of_leaf w slot) (Err why))
-  leaf_or_refused (Ok words) lent = leaf_is_right words.now lent
+  leaf_or_refused (Ok words) borrowed = leaf_is_right words.now borrowed
   leaf_or_refused (Err why) none = no_leaf_is_right why none
 
 -- ---- by the result of a call
 
 module _ {F : Type 0} (layout : F → Layout) (h : HeapState F) (place : Slot) where
-  pub lent_or_refused : (result : Result (Bor (List ℕ)) Refusal)
-      → MatchResult result (λ words. IsBlockLent h place words.now) (λ why. IsNoBlock h place why)
+  pub borrowed_or_refused : (result : Result (Bor (List ℕ)) Refusal)
+      → MatchResult result (λ words. IsBlockBorrowed h place words.now) (λ why. IsNoBlock h place why)
       → MatchResult result (λ words. ComesToWords layout h (λ w. words_of_block w place) (Ok words.now))
       (λ why. ComesToWords layout h (λ w. words_of_block w place) (Err why))
-  lent_or_refused (Ok words) lent = lent_is_right layout h place words.now lent
-  lent_or_refused (Err why) none = no_block_is_right layout h place why none
+  borrowed_or_refused (Ok words) borrowed = borrowed_is_right layout h place words.now borrowed
+  borrowed_or_refused (Err why) none = no_block_is_right layout h place why none
 
   pub written_or_refused : {R : Type 0} (Leaves : R → List ℕ → List ℕ → Type 0) (after : HeapState F) (result : Result R Refusal)
       → MatchResult result (λ r. IsBlockWritten h place (Leaves r) after) (λ why. IsNoBlock h place why × (after ≡ h))
-      → MatchResult result (λ r. IsLentTo layout h place (Leaves r) after) (λ why. IsNotLent layout h place why after)
+      → MatchResult result (λ r. IsBorrowedAndWritten layout h place (Leaves r) after) (λ why. IsNotBorrowed layout h place why after)
   written_or_refused Leaves after (Ok r) written = written_is_right layout h place (Leaves r) after written
   written_or_refused Leaves after (Err why) none = record {
     no_block = no_block_is_right layout h place why none.0;

@@ -38,21 +38,21 @@ module _ {F : Type 0} (layout : F → Layout) (h : HeapState F) where
   ComesToWords words found = (w : World) → StandsFor layout h w → words w ≡ found
 
 module _ {F : Type 0} (layout : F → Layout) (h : HeapState F) (place : Slot) where
-  -- these words of a block were lent and as many others left in them: in each world for which the heap stood, a store of each of these,
+  -- these words of a block were borrowed and as many others left in them: in each world for which the heap stood, a store of each of these,
   -- from word 0 of the block on, is legal, and the heap stands for the world after them
   pub record AreStored (words left : List ℕ) (after : HeapState F) : Type 0 where
-    pub lent : ComesToWords layout h (λ w. words_of_block w place) (Ok words)
+    pub borrowed : ComesToWords layout h (λ w. words_of_block w place) (Ok words)
     pub count : length left ≡ length words
     pub stored : (w : World) (line : ℕ) → StandsFor layout h w → AreRight layout w (stores line place 0 left) after
 
-  -- the same, where `Leaves` says which words were left in those that were lent
-  pub record IsLentTo (Leaves : List ℕ → List ℕ → Type 0) (after : HeapState F) : Type 0 where
+  -- the same, where `Leaves` says which words were left in those that were borrowed
+  pub record IsBorrowedAndWritten (Leaves : List ℕ → List ℕ → Type 0) (after : HeapState F) : Type 0 where
     pub words : List ℕ
     pub left : List ℕ
     pub leaves : Leaves words left
     pub are_stored : AreStored words left after
 
-  -- nothing was lent, since there is no such block, and the heap stays as it is
-  pub record IsNotLent (why : Refusal) (after : HeapState F) : Type 0 where
+  -- nothing was borrowed, since there is no such block, and the heap stays as it is
+  pub record IsNotBorrowed (why : Refusal) (after : HeapState F) : Type 0 where
     pub no_block : ComesToWords layout h (λ w. words_of_block w place) (Err why)
     pub unchanged : after ≡ h

@@ -58,7 +58,7 @@ fn use_list(rt: &impl Abort, alloc: Global, heap: &mut Heap<Tail>) {
     assert!(rt; heap.live() == (5, 20));
 }
 
-/// The words of a manual block are lent, and written by a loan.
+/// The words of a manual block are borrowed, and written by a loan.
 fn use_block(rt: &impl Abort, alloc: Global, heap: &mut Heap<Tail>) {
     assert!(rt; heap.pool_mvff(named(b'v')) == Ok(()));
     assert!(rt; heap.blocks(named(b'b'), 2) == Ok(()));

@@ -1,4 +1,4 @@
--- Blocks whose words are lent: where they begin, and what is left in them.
+-- Blocks whose words are borrowed: where they begin, and what is left in them.
 use Rattle.std.proofs.Common.{ℕ, ◌≡◌, ◌==◌, ◌+◌, ◌%◌, true, false, Option, Some, None, option_map, refl, sym, subst, List, length, Ok, Contains, arith}
 use Rattle.std.proofs.lemmas.Bool.{eqb-true}
 use Rattle.std.specs.Option.{option_map_or}
@@ -33,7 +33,7 @@ written h seen place Leaves at words left is named whole value count leaves =
     (record {
       words = words;
       left = left;
-      lent = record {
+      borrowed = record {
         at = at;
         named = subst (λ k. block_named k place ≡ Ok at) (sym is) named;
         are = record { whole = whole; value = value };

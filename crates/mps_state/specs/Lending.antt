@@ -1,4 +1,4 @@
--- The words of a manual block and of a leaf object that are lent.
+-- The words of a manual block and of a leaf object that are borrowed.
 use Rattle.std.specs.Prelude.{◌≡◌, ℕ, ◌+◌, false, not, Ok, Err, List, drop, length, slice_range, Contains}
 use Rattle.std.specs.Option.{option_map_or}
 use Rattle.mps_base.specs.Address.{Address, word_of}
@@ -25,19 +25,19 @@ module _ {F : Type 0} (h : HeapState F) (place : Slot) where
     block_in h from
 
   -- these are the words of the block in a place, all of them
-  pub record IsBlockLent (words : List ℕ) : Type 0 where
+  pub record IsBlockBorrowed (words : List ℕ) : Type 0 where
     pub at : Address
     pub named : block_named ≡ Ok at
     pub are : AreBlockWords h at words
 
-  -- the words of the block in a place were lent, and others were left in them: `Leaves` says which
+  -- the words of the block in a place were borrowed, and others were left in them: `Leaves` says which
   pub record IsBlockWritten (Leaves : List ℕ → List ℕ → Type 0) (after : HeapState F) : Type 0 where
     pub words : List ℕ
     pub left : List ℕ
-    pub lent : IsBlockLent words
+    pub borrowed : IsBlockBorrowed words
     pub count : length left ≡ length words
     pub leaves : Leaves words left
-    pub state : after ≡ with_words h (arena.with_words h.segs.words (word_of lent.at) left)
+    pub state : after ≡ with_words h (arena.with_words h.segs.words (word_of borrowed.at) left)
 
   -- there is no such block
   abbrev pub IsNoBlock : Refusal → Type 0
@@ -53,7 +53,7 @@ module _ {F : Type 0} (layout : F → Layout) (h : HeapState F) (slot : Slot) wh
     Ok object.at
 
   -- these are the words after the head of the object in a slot, all of them
-  pub record IsLeafLent (words : List ℕ) : Type 0 where
+  pub record IsLeafBorrowed (words : List ℕ) : Type 0 where
     pub at : Address
     pub named : leaf_named ≡ Ok at
     pub whole : List ℕ

@@ -1,9 +1,9 @@
-// The words of manual blocks and of leaf objects are lent.
+// The words of manual blocks and of leaf objects are borrowed.
 #![tactic(auto)]
 
 ghost use Rattle.std.specs.Prelude.{MatchResult, Ok, Err};
 ghost use Rattle.std.specs.Fn.{FnOnceReturnsAtMut};
-ghost use Rattle.mps_heap.specs.Lending.{ComesToWords, IsLentTo, IsNotLent, words_of_block, words_of_leaf};
+ghost use Rattle.mps_heap.specs.Lending.{ComesToWords, IsBorrowedAndWritten, IsNotBorrowed, words_of_block, words_of_leaf};
 
 use super::Heap;
 use mps_base::{Refusal, Slot};
@@ -29,8 +29,8 @@ impl<F: Format> Heap<F> {
     ) -> Result<R, Refusal>
         requires callable { W.IsAlwaysCallable write }
         ensures right { MatchResult result
-            (λ r. IsLentTo F.layout self.old place (λ words left. FnOnceReturnsAtMut W.FnOnce write words r left) self.new)
-            (λ why. IsNotLent F.layout self.old place why self.new) }
+            (λ r. IsBorrowedAndWritten F.layout self.old place (λ words left. FnOnceReturnsAtMut W.FnOnce write words r left) self.new)
+            (λ why. IsNotBorrowed F.layout self.old place why self.new) }
     {
         self.state.lend_mut(place, write)
     }

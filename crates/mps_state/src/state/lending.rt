@@ -1,10 +1,10 @@
-// The words of manual blocks and of leaf objects are lent.
+// The words of manual blocks and of leaf objects are borrowed.
 #![tactic(auto)]
 
 ghost use Rattle.std.specs.Prelude.{◌≡◌, ◌%◌, ℕ, IfOk, MatchResult, Contains};
 ghost use Rattle.std.specs.Fn.{FnOnceReturnsAtMut};
 ghost use Rattle.mps_base.specs.Address.{word_of, bytes_of_word};
-ghost use Rattle.mps_state.specs.Lending.{block_named, leaf_named, IsBlockLent, IsBlockWritten, IsLeafLent, IsNoBlock, IsNoLeaf};
+ghost use Rattle.mps_state.specs.Lending.{block_named, leaf_named, IsBlockBorrowed, IsBlockWritten, IsLeafBorrowed, IsNoBlock, IsNoLeaf};
 
 use super::State;
 use super::manual::is_block_over;
@@ -33,7 +33,7 @@ impl<F: Format> State<F> {
 
     /// Lends the words of the block in a place, and no others. Refuses `NotABlock` where the place is empty.
     pub fn lend(&self, place: Slot) -> Result<&[u64], Refusal>
-        ensures { MatchResult result (λ words. IsBlockLent self.now place words.now) (λ why. IsNoBlock self.now place why) }
+        ensures { MatchResult result (λ words. IsBlockBorrowed self.now place words.now) (λ why. IsNoBlock self.now place why) }
     {
         let at = self.block_named(place)?;
         Ok(Manual::lend(&self.segs, at))
@@ -76,7 +76,7 @@ impl<F: Format> State<F> {
     /// Lends the words after the head of the object in a slot. Refuses `NullRef` where the slot is null, and `WrongPool` where the
     /// object's pool isn't a leaf pool.
     pub fn lend_leaf(&self, slot: Slot) -> Result<&[u64], Refusal>
-        ensures { MatchResult result (λ words. IsLeafLent F.layout self.now slot words.now)
+        ensures { MatchResult result (λ words. IsLeafBorrowed F.layout self.now slot words.now)
             (λ why. IsNoLeaf F.layout self.now slot why) }
     {
         let at = self.leaf_named(slot)?;

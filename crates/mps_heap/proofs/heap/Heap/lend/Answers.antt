@@ -1,7 +1,7 @@
 use Rattle.std.proofs.Common.{subst, Ok, Err}
 use Rattle.std.specs.Prelude.{MatchResult}
 use Rattle.mps_heap.specs.Lending.{ComesToWords, words_of_block}
-use Rattle.mps_heap.proofs.Lending.{lent_or_refused}
+use Rattle.mps_heap.proofs.Lending.{borrowed_or_refused}
 use Rattle.mps_heap.proofs.heap.Heap.lend.Goals as goal
 
 pub returns : goal.returns
@@ -11,5 +11,5 @@ returns g c = record {
       (λ h. MatchResult c.lend.result (λ words. ComesToWords g.F.Format.layout h (λ w. words_of_block w c.args.place) (Ok words.now))
       (λ why. ComesToWords g.F.Format.layout h (λ w. words_of_block w c.args.place) (Err why)))
       c.self.view_is
-      (lent_or_refused g.F.Format.layout c.self.inside.state c.args.place c.lend.result c.lend.ensures);
+      (borrowed_or_refused g.F.Format.layout c.self.inside.state c.args.place c.lend.result c.lend.ensures);
 }

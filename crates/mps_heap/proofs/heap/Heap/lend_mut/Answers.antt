@@ -1,7 +1,7 @@
 use Rattle.std.proofs.Common.{subst}
 use Rattle.std.specs.Fn.{FnOnceReturnsAtMut}
 use Rattle.std.specs.Prelude.{MatchResult}
-use Rattle.mps_heap.specs.Lending.{IsLentTo, IsNotLent}
+use Rattle.mps_heap.specs.Lending.{IsBorrowedAndWritten, IsNotBorrowed}
 use Rattle.mps_heap.proofs.Lending.{written_or_refused, written_or_refused_stays}
 use Rattle.mps_heap.proofs.heap.Heap.lend_mut.Goals as goal
 
@@ -16,9 +16,9 @@ returns g c = record {
   right =
       subst
       (λ h. MatchResult c.lend_mut.result
-      (λ r. IsLentTo g.F.Format.layout h c.args.place (λ words left. FnOnceReturnsAtMut g.W.FnOnce c.args.write words r left)
+      (λ r. IsBorrowedAndWritten g.F.Format.layout h c.args.place (λ words left. FnOnceReturnsAtMut g.W.FnOnce c.args.write words r left)
       c.lend_mut.new.self)
-      (λ why. IsNotLent g.F.Format.layout h c.args.place why c.lend_mut.new.self))
+      (λ why. IsNotBorrowed g.F.Format.layout h c.args.place why c.lend_mut.new.self))
       c.self.view_is
       (written_or_refused g.F.Format.layout c.self.inside.state c.args.place
       (λ r words left. FnOnceReturnsAtMut g.W.FnOnce c.args.write words r left) c.lend_mut.new.self c.lend_mut.result
