@@ -1,5 +1,6 @@
 pub mod Condemned
 pub mod Reclaim
+pub mod Roots
 pub mod Scan
 pub mod Trace
 pub mod Unit

@@ -3,6 +3,7 @@
 
 mod collection;
 mod finding;
+mod roots;
 mod running;
 mod trace;
 
