@@ -1,6 +1,10 @@
+pub mod Condemning
+pub mod Ending
 pub mod Fixed
 pub mod Known
+pub mod Nailing
 pub mod Ordered
 pub mod Rooted
 pub mod Scanned
 pub mod Units
+pub mod Zones

@@ -1,4 +1,5 @@
 pub mod Condemned
+pub mod Flip
 pub mod Reclaim
 pub mod Roots
 pub mod Scan

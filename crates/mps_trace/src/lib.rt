@@ -3,6 +3,7 @@
 
 mod collection;
 mod finding;
+mod flip;
 mod roots;
 mod running;
 mod trace;

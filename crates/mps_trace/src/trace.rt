@@ -1,12 +1,14 @@
 // The collector's state, and how it fixes references.
 #![tactic(auto)]
 
-ghost use Rattle.std.specs.Prelude.{◌≡◌, ℕ, ◌+◌, ◌%◌, ◌<◌, ◌≤◌, true, false, IsTrue, Some, length, slice_index, slice_get, MatchResult};
-ghost use Rattle.mps_base.specs.Address.{word_of, bytes_of_word};
+ghost use Rattle.std.specs.Prelude.{◌≡◌, ℕ, ◌+◌, ◌*◌, ◌%◌, ◌<◌, ◌≤◌, true, false, IsTrue, Some, length, slice_index, slice_get, MatchResult};
+ghost use Rattle.mps_base.specs.Address.{word_of, bytes_of_word, words_of_grain};
 ghost use Rattle.mps_base.specs.Segment.{Segment, segment_over};
 ghost use Rattle.mps_seg.specs.Collecting.{is_condemned_at};
 ghost use Rattle.mps_gen.specs.State.{max_pools};
 ghost use Rattle.mps_amc.specs.Amc.{flipped};
+ghost use Rattle.mps_amc.specs.Moving.{nailed};
+ghost use Rattle.mps_trace.specs.Flip.{is_automatic};
 ghost use Rattle.mps_trace.specs.Trace.{traced, FixesTo, CanFix, no_pools, with_pool};
 ghost use Rattle.mps_base.specs.declared.address.Addr.{Addr};
 ghost use Rattle.mps_trace.specs.Reclaim.{CanReclaimAt, Reclaims};
@@ -68,10 +70,25 @@ impl<F: Format> Trace<F> {
     }
 
     /// Nothing is at hand for any pool, as a flip leaves it.
-    pub fn flip(&mut self)
+    pub(crate) fn drop_tails(&mut self)
         ensures { self.new ≡ record self.old { amc = flipped self.old.amc } }
     {
         self.amc.flip();
+    }
+
+    /// Whether a pool is automatic.
+    pub(crate) fn is_automatic(&self, pool: u32) -> bool
+        ensures { result ≡ is_automatic self.now.formats pool }
+    {
+        (pool as usize) < self.formats.len() && self.formats[pool as usize].is_some()
+    }
+
+    /// Keeps the block at `at` where it lies, as an ambiguous reference to it asks at a flip.
+    pub(crate) fn nail(&self, segs: &mut Segs, at: Addr)
+        requires { word_of at.0 < words_of_grain * (segs.old.grains + 1) }
+        ensures { segs.new ≡ nailed segs.old at.0 }
+    {
+        self.amc.nail(segs, at);
     }
 
     /// Where the block lies from now on to which an address leads. A block in a segment that isn't condemned lies where it is; any other

@@ -1,0 +1,118 @@
+-- Segments of automatic pools are condemned in ascending order, and their zones and number are found.
+use Rattle.std.proofs.Common.{ℕ, ◌+◌, ◌^◌, ◌<◌, ◌≤◌, ◌≡◌, true, false, Option, Some, None, List, [], ◌∷◌, bit_or, length, map, refl, sym, ap, ◌∙◌, arith}
+use Rattle.std.specs.Prelude.{option_map}
+use Rattle.std.proofs.lemmas.Bool.{cond-true, cond-false}
+use Rattle.std.specs.Int.Bits.{or_zero_r}
+use Rattle.mps_base.specs.Address.{Address, grain_of}
+use Rattle.mps_base.specs.Segment.{Segment, grains_of_segment}
+use Rattle.mps_base.specs.Zones.{zones_from}
+use Rattle.mps_base.specs.declared.address.Addr.{Addr}
+use Rattle.mps_seg.specs.Segs.{SegsState, segment_from, base_address}
+use Rattle.mps_seg.specs.Collecting.{condemning}
+use Rattle.mps_trace.specs.Condemned.{AreAscending}
+use Rattle.mps_trace.specs.Flip.{is_automatic, automatic_of, condemning_all, all_condemned, zones_of}
+use Rattle.mps_trace.proofs.Ordered.{Lowest, lowest_found, rest_from, rest_low, rest_none}
+use Rattle.mps_trace.proofs.Zones.{or_assoc_below, runs_small, zones_small}
+
+module _ {F : Type 0} (formats : List (Option F)) (t : Segment) (ts : List Segment) where
+  pub automatic_here : is_automatic formats t.pool ≡ true → automatic_of formats (t ∷ ts) ≡ t ∷ automatic_of formats ts
+  automatic_here is = cond-true (is_automatic formats t.pool) (t ∷ automatic_of formats ts) (automatic_of formats ts) is
+
+  pub automatic_later : is_automatic formats t.pool ≡ false → automatic_of formats (t ∷ ts) ≡ automatic_of formats ts
+  automatic_later is = cond-false (is_automatic formats t.pool) (t ∷ automatic_of formats ts) (automatic_of formats ts) is
+
+-- the next segment is found where other fields of the segments have changed
+module _ (before s : SegsState) (same : s.segments ≡ before.segments) (at : Address) where
+  pub next_found : (base : Addr) → AreAscending 0 before.segments → Some base ≡ option_map base_address (segment_from s.segments at)
+      → Lowest before.segments at base
+  next_found base ascending is =
+      lowest_found 0 before.segments at base ascending
+      (is ∙ ap (λ (ts : List Segment). option_map base_address (segment_from ts at)) same)
+
+  pub none_found : None ≡ option_map base_address (segment_from s.segments at) → rest_from at before.segments ≡ []
+  none_found is =
+      rest_none before.segments at (is ∙ ap (λ (ts : List Segment). option_map base_address (segment_from ts at)) same)
+
+-- the segments of automatic pools that begin below an address are condemned, and the others are still to go
+pub record AreCondemnedBelow {F : Type 0} (formats : List (Option F)) (before : SegsState) (at : Address) (s : SegsState)
+    (zones count : ℕ)
+    : Type 0 where
+  pub same : s.segments ≡ before.segments
+  pub to_go : condemning_all (automatic_of formats (rest_from at before.segments)) s ≡ all_condemned formats before
+  pub zones_to_go : bit_or zones (zones_of (automatic_of formats (rest_from at before.segments)))
+      ≡ zones_of (automatic_of formats before.segments)
+  pub count_to_go : count + length (automatic_of formats (rest_from at before.segments)) ≡ length (automatic_of formats before.segments)
+  pub few : count ≤ at
+
+module _ {F : Type 0} (formats : List (Option F)) (before : SegsState) where
+  pub none_yet : AreAscending 0 before.segments → AreCondemnedBelow formats before 0 before 0 0
+  none_yet ascending =
+      let all = rest_low 0 0 before.segments ascending (omega arith) in
+      record {
+        same = refl;
+        to_go = ap (λ (ts : List Segment). condemning_all (automatic_of formats ts) before) all;
+        zones_to_go = ap (λ (ts : List Segment). zones_of (automatic_of formats ts)) all;
+        count_to_go = omega (arith, ap (λ (ts : List Segment). length (automatic_of formats ts)) all);
+        few = omega arith;
+      }
+
+  module _ (at base : Address) (s : SegsState) (zones count : ℕ) (so_far : AreCondemnedBelow formats before at s zones count)
+      (t : Segment) (begins : t.base ≡ base) (above : at ≤ base)
+      (next : rest_from at before.segments ≡ t ∷ rest_from (base + 1) before.segments)
+    where
+      pub one_passed : (s' : SegsState) (zones' count' : ℕ) → is_automatic formats t.pool ≡ false → s' ≡ s → zones' ≡ zones
+          → count' ≡ count → AreCondemnedBelow formats before (base + 1) s' zones' count'
+      one_passed s' zones' count' is segs_is zones_is count_is =
+          let rest = rest_from (base + 1) before.segments in
+          let to : automatic_of formats rest ≡ automatic_of formats (rest_from at before.segments) =
+          sym (ap (λ (ts : List Segment). automatic_of formats ts) next ∙ automatic_later formats t rest is)
+          in
+          record {
+            same = ap (λ (x : SegsState). x.segments) segs_is ∙ so_far.same;
+            to_go =
+                ap (λ (x : SegsState). condemning_all (automatic_of formats rest) x) segs_is
+                ∙ ap (λ (ts : List Segment). condemning_all ts s) to ∙ so_far.to_go;
+            zones_to_go =
+                ap (λ (z : ℕ). bit_or z (zones_of (automatic_of formats rest))) zones_is
+                ∙ ap (λ (ts : List Segment). bit_or zones (zones_of ts)) to ∙ so_far.zones_to_go;
+            count_to_go = omega (arith, count_is, ap (λ (ts : List Segment). length ts) to, so_far.count_to_go);
+            few = omega (arith, count_is, so_far.few, above);
+          }
+
+      pub one_condemned : (s' : SegsState) (zones' count' : ℕ) → is_automatic formats t.pool ≡ true → s' ≡ condemning s base
+          → zones' ≡ bit_or zones (zones_from t.grains (grain_of t.base)) → count' ≡ count + 1 → zones < 2 ^ 64
+          → AreCondemnedBelow formats before (base + 1) s' zones' count'
+      one_condemned s' zones' count' is segs_is zones_is count_is small =
+          let rest = rest_from (base + 1) before.segments in
+          let here = zones_from t.grains (grain_of t.base) in
+          let to : t ∷ automatic_of formats rest ≡ automatic_of formats (rest_from at before.segments) =
+          sym (ap (λ (ts : List Segment). automatic_of formats ts) next ∙ automatic_here formats t rest is)
+          in
+          record {
+            same = ap (λ (x : SegsState). x.segments) segs_is ∙ so_far.same;
+            to_go =
+                ap (λ (x : SegsState). condemning_all (automatic_of formats rest) x)
+                (segs_is ∙ ap (λ (a : Address). condemning s a) (sym begins))
+                ∙ ap (λ (ts : List Segment). condemning_all ts s) to ∙ so_far.to_go;
+            zones_to_go =
+                ap (λ (z : ℕ). bit_or z (zones_of (automatic_of formats rest))) zones_is
+                ∙ or_assoc_below 64 zones here (zones_of (automatic_of formats rest)) small
+                (zones_small t.grains (grain_of t.base)) (runs_small (map grains_of_segment (automatic_of formats rest)))
+                ∙ ap (λ (ts : List Segment). bit_or zones (zones_of ts)) to ∙ so_far.zones_to_go;
+            count_to_go = omega (arith, count_is, ap (λ (ts : List Segment). length ts) to, so_far.count_to_go);
+            few = omega (arith, count_is, so_far.few, above);
+          }
+
+  module _ (at : Address) (s : SegsState) (zones count : ℕ) (so_far : AreCondemnedBelow formats before at s zones count)
+      (none : rest_from at before.segments ≡ [])
+    where
+      pub all_done : s ≡ all_condemned formats before
+      all_done = sym (ap (λ (ts : List Segment). condemning_all (automatic_of formats ts) s) none) ∙ so_far.to_go
+
+      pub zones_done : zones ≡ zones_of (automatic_of formats before.segments)
+      zones_done =
+          sym (or_zero_r zones) ∙ sym (ap (λ (ts : List Segment). bit_or zones (zones_of (automatic_of formats ts))) none)
+          ∙ so_far.zones_to_go
+
+      pub count_done : count ≡ length (automatic_of formats before.segments)
+      count_done = omega (arith, ap (λ (ts : List Segment). length (automatic_of formats ts)) none, so_far.count_to_go)

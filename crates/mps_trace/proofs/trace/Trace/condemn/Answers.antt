@@ -1,0 +1,118 @@
+use Rattle.std.proofs.Common.{ℕ, List, Contains, bit_or, sym, ap, ◌∙◌, subst, arith}
+use Rattle.std.proofs.Math.Facts.{Fits-lt-pow}
+use Rattle.mps_base.specs.Segment.{Segment}
+use Rattle.mps_seg.specs.declared.segment_info.SegmentInfo.{SegmentInfo}
+use Rattle.mps_trace.specs.Flip.{is_automatic}
+use Rattle.mps_base.specs.Zones.{zones_from}
+use Rattle.mps_base.specs.Address.{grain_of}
+use Rattle.mps_trace.proofs.Condemning.{next_found, none_found, none_yet, one_passed, one_condemned, all_done, zones_done, count_done}
+use Rattle.mps_trace.proofs.trace.Trace.condemn.Goals.{then-is_automatic, else-is_automatic}
+use Rattle.mps_trace.proofs.trace.Trace.condemn.Goals as goal
+
+pub loop-base-init : goal.loop-base-init
+loop-base-init g c = none_yet c.args.self.now.formats c.args.segs.now c.requires.ascending
+
+pub segment-segment-requires : goal.segment-segment-requires
+segment-segment-requires g c =
+    let before = c.args.segs.now in
+    let so_far = c.loop-base.invariant in
+    let l =
+    next_found before c.loop-base.segs so_far.same c.loop-base.at.0 c.in-Some.base c.requires.ascending
+    (sym c.in-Some.is ∙ c.next_segment.ensures)
+    in
+    let P : List Segment → Type 0 = λ ss. Contains ss l.segment in
+    (l.segment, subst P (sym so_far.same) l.listed, l.begins)
+
+pub condemn-requires : goal.condemn-requires
+condemn-requires g c =
+    let before = c.args.segs.now in
+    let so_far = c.loop-base.invariant in
+    let l =
+    next_found before c.loop-base.segs so_far.same c.loop-base.at.0 c.in-Some.base c.requires.ascending
+    (sym c.in-Some.is ∙ c.next_segment.ensures)
+    in
+    let P : List Segment → Type 0 = λ ss. Contains ss l.segment in
+    (l.segment, subst P (sym so_far.same) l.listed, l.begins)
+
+pub overflow_add-segments : goal.overflow_add-segments
+overflow_add-segments g c =
+    let before = c.args.segs.now in
+    let so_far = c.loop-base.invariant in
+    let l =
+    next_found before c.loop-base.segs so_far.same c.loop-base.at.0 c.in-Some.base c.requires.ascending
+    (sym c.in-Some.is ∙ c.next_segment.ensures)
+    in
+    omega (arith, so_far.few, l.above, l.begins, c.requires.small l.segment l.listed)
+
+pub overflow_add-at : goal.overflow_add-at
+overflow_add-at g c =
+    let before = c.args.segs.now in
+    let so_far = c.loop-base.invariant in
+    let l =
+    next_found before c.loop-base.segs so_far.same c.loop-base.at.0 c.in-Some.base c.requires.ascending
+    (sym c.in-Some.is ∙ c.next_segment.ensures)
+    in
+    omega (arith, l.begins, c.requires.small l.segment l.listed)
+
+pub loop-base-smaller : goal.loop-base-smaller
+loop-base-smaller g c =
+    let before = c.args.segs.now in
+    let so_far = c.loop-base.invariant in
+    let l =
+    next_found before c.loop-base.segs so_far.same c.loop-base.at.0 c.in-Some.base c.requires.ascending
+    (sym c.in-Some.is ∙ c.next_segment.ensures)
+    in
+    omega (arith, l.above, l.begins, c.requires.small l.segment l.listed)
+
+pub loop-base-preserved : goal.loop-base-preserved
+loop-base-preserved g c =
+    let before = c.args.segs.now in
+    let formats = c.args.self.now.formats in
+    let so_far = c.loop-base.invariant in
+    let l =
+    next_found before c.loop-base.segs so_far.same c.loop-base.at.0 c.in-Some.base c.requires.ascending
+    (sym c.in-Some.is ∙ c.next_segment.ensures)
+    in
+    let P : List Segment → Type 0 = λ ss. Contains ss l.segment in
+    let info = c.segment-segment.ensures l.segment (subst P (sym so_far.same) l.listed) l.begins in
+    let pool_is = ap (λ (i : SegmentInfo). i.pool) info in
+    let automatic = c.is_automatic.ensures ∙ ap (λ (p : ℕ). is_automatic formats p) pool_is in
+    let here = c.if-is_automatic in
+    elim c.if-is_automatic.branch [
+      | then-is_automatic w ↦
+          one_condemned formats before c.loop-base.at.0 c.in-Some.base.0 c.loop-base.segs c.loop-base.zones c.loop-base.segments so_far
+          l.segment l.begins l.above l.rest here.segs here.zones here.segments (sym automatic ∙ w.if-is_automatic.true)
+          (w.segs-is ∙ w.condemn.ensures)
+          (w.zones-is
+          ∙ ap (λ (z : ℕ). bit_or c.loop-base.zones z)
+          (w.zones_of_grains-zones.ensures
+          ∙ ap (λ (n : ℕ). zones_from n w.grain.result) (ap (λ (i : SegmentInfo). i.grains) info)
+          ∙ ap (λ (n : ℕ). zones_from l.segment.grains n)
+          (w.grain.ensures ∙ ap (λ (n : ℕ). grain_of n) (sym l.begins))))
+          w.segments-is (Fits-lt-pow c.loop-base.auto.zones-fits)
+      | else-is_automatic w ↦
+          one_passed formats before c.loop-base.at.0 c.in-Some.base.0 c.loop-base.segs c.loop-base.zones c.loop-base.segments so_far
+          l.segment l.begins l.above l.rest here.segs here.zones here.segments (sym automatic ∙ w.if-is_automatic.false)
+          w.segs-is w.zones-is w.segments-is
+    ]
+
+pub returns-clause-count : goal.returns-clause-count
+returns-clause-count g c =
+    let so_far = c.loop-base.invariant in
+    let none = none_found c.args.segs.now c.loop-base.segs so_far.same c.loop-base.at.0 (sym c.in_default.is ∙ c.next_segment.ensures) in
+    count_done c.args.self.now.formats c.args.segs.now c.loop-base.at.0 c.loop-base.segs c.loop-base.zones c.loop-base.segments so_far
+    none
+
+pub returns-clause-zones : goal.returns-clause-zones
+returns-clause-zones g c =
+    let so_far = c.loop-base.invariant in
+    let none = none_found c.args.segs.now c.loop-base.segs so_far.same c.loop-base.at.0 (sym c.in_default.is ∙ c.next_segment.ensures) in
+    zones_done c.args.self.now.formats c.args.segs.now c.loop-base.at.0 c.loop-base.segs c.loop-base.zones c.loop-base.segments so_far
+    none
+
+pub returns-clause-state : goal.returns-clause-state
+returns-clause-state g c =
+    let so_far = c.loop-base.invariant in
+    let none = none_found c.args.segs.now c.loop-base.segs so_far.same c.loop-base.at.0 (sym c.in_default.is ∙ c.next_segment.ensures) in
+    all_done c.args.self.now.formats c.args.segs.now c.loop-base.at.0 c.loop-base.segs c.loop-base.zones c.loop-base.segments so_far
+    none

@@ -1,0 +1,9 @@
+use Rattle.std.proofs.Common.{◌-◌, ◌^◌}
+use Rattle.mps_trace.proofs.Condemning.{AreCondemnedBelow}
+use Rattle.mps_trace.proofs.trace.Trace.condemn.Given as goal
+
+abbrev pub invariant-loop-base : goal.invariant-loop-base
+invariant-loop-base g l = AreCondemnedBelow l.self.formats l.initial.segs l.at.0 l.segs l.zones l.segments
+
+abbrev pub decreases-loop-base : goal.decreases-loop-base
+decreases-loop-base g l = 2 ^ 32 - l.at.0

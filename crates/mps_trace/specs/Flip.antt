@@ -1,0 +1,84 @@
+-- What a flip condemns and drops, and the blocks that area words nail.
+use Rattle.std.specs.Prelude.{◌≡◌, ℕ, ◌+◌, Bool, false, is_some, if◌then◌else◌, Option, Some, None, List, [], ◌∷◌, filter, get_or, map, refl}
+use Rattle.mps_base.specs.Address.{Word, word_of, address_of_word}
+use Rattle.mps_base.specs.Segment.{Segment, grains_of_segment}
+use Rattle.mps_base.specs.Trail.{with_move}
+use Rattle.mps_base.specs.Zones.{zones_of_runs}
+use Rattle.mps_base.specs.declared.moves.Move.TheVariants.{Flip}
+use Rattle.mps_base.specs.declared.names.Rank.TheVariants.{Exact}
+use Rattle.mps_amc.specs.Amc as amc
+use Rattle.mps_amc.specs.Moving.{nailed}
+use Rattle.mps_buffer.specs.Points.{PointsState, all_ended}
+use Rattle.mps_extents.specs.Extents.{run_over}
+use Rattle.mps_gen.specs.State.{max_chains}
+use Rattle.mps_root.specs.declared.roots.Stored.{Stored}
+use Rattle.mps_seg.specs.Segs.{SegsState}
+use Rattle.mps_seg.specs.Collecting.{condemning, is_condemned_at}
+use Rattle.mps_trace.specs.Trace.{Traced}
+
+-- ---- what is condemned
+
+-- whether a pool is automatic: it has a format
+abbrev pub is_automatic : {F : Type 0} → (formats : List (Option F)) → (pool : ℕ) → Bool
+is_automatic formats pool = is_some (get_or formats pool None)
+
+-- the segments of automatic pools
+abbrev pub automatic_of : {F : Type 0} → (formats : List (Option F)) → List Segment → List Segment
+automatic_of formats ts = filter (λ t. is_automatic formats t.pool) ts
+
+-- these segments are condemned too
+abbrev pub condemning_all : List Segment → SegsState → SegsState
+condemning_all [] s = s
+condemning_all (t ∷ ts) s = condemning_all ts (condemning s t.base)
+
+-- the zones of all grains of these segments
+abbrev pub zones_of : List Segment → ℕ
+zones_of ts = zones_of_runs (map grains_of_segment ts)
+
+-- each segment of an automatic pool is condemned
+abbrev pub all_condemned : {F : Type 0} → (formats : List (Option F)) → SegsState → SegsState
+all_condemned formats s = condemning_all (automatic_of formats s.segments) s
+
+-- ---- a flip
+
+-- what a flip of everything leaves: reservations are ended, nothing is at hand for pools, what is condemned is so, and the flip is told
+abbrev pub at_flip : {F : Type 0} → (formats : List (Option F)) → PointsState → Traced → Traced
+at_flip formats points x = record {
+  amc = amc.flipped x.amc;
+  segs = all_condemned formats (all_ended points.flips points.points x.segs);
+  moves = with_move x.moves (Flip (record { 0 = zones_of (automatic_of formats x.segs.segments) }) max_chains 0);
+}
+
+-- ---- area words
+
+-- the block that begins at a word is nailed, where it is condemned
+abbrev pub nailed_in : SegsState → Option Word → SegsState
+nailed_in s None = s
+nailed_in s (Some word) = if is_condemned_at s (address_of_word word) then nailed s (address_of_word word) else s
+
+-- the condemned block in which a word of an area lies is nailed
+abbrev pub nailed_by : SegsState → (word : ℕ) → SegsState
+nailed_by s word = nailed_in s (run_over s.blocks (word_of word))
+
+-- the blocks in which these words lie are nailed, one after the other
+abbrev pub nailed_by_all : List Stored → SegsState → SegsState
+nailed_by_all [] s = s
+nailed_by_all (w ∷ ws) s = nailed_by_all ws (nailed_by s w.word)
+
+-- ---- vectors: a segment of an automatic pool, and one of a pool that isn't collected
+
+abbrev formats : List (Option ℕ)
+formats = None ∷ Some 0 ∷ []
+
+abbrev segment_of_pool : (base pool : ℕ) → Segment
+segment_of_pool base pool = record { base = base; grains = 2; pool = pool; generation = 0; rank = Exact }
+
+pub only_automatic_pools_are_collected : automatic_of formats (segment_of_pool 0x1000 0 ∷ segment_of_pool 0x3000 1 ∷ [])
+    ≡ segment_of_pool 0x3000 1 ∷ []
+only_automatic_pools_are_collected = refl
+
+pub a_zone_for_each_grain : zones_of (segment_of_pool 0x3000 1 ∷ []) ≡ 8 + 16
+a_zone_for_each_grain = refl
+
+pub a_pool_that_is_not_known : is_automatic formats 2 ≡ false
+a_pool_that_is_not_known = refl

@@ -1,0 +1,129 @@
+// A flip: what it condemns, what it drops, and which blocks it nails.
+#![tactic(auto)]
+
+ghost use Rattle.std.specs.Prelude.{◌≡◌, ℕ, ◌+◌, ◌*◌, ◌^◌, ◌<◌, ◌≤◌, length};
+ghost use Rattle.mps_base.specs.Address.{grain_of, words_of_grain};
+ghost use Rattle.mps_base.specs.Run.{IsAscending};
+ghost use Rattle.mps_base.specs.Zones.{zones_from};
+ghost use Rattle.mps_buffer.specs.Points.{AreReserved};
+ghost use Rattle.mps_buffer.specs.Points as buffer;
+ghost use Rattle.mps_ld.specs.State as ld;
+ghost use Rattle.mps_trace.specs.Trace.{traced};
+ghost use Rattle.mps_trace.specs.Condemned.{AreInOrder};
+ghost use Rattle.mps_trace.specs.Flip.{automatic_of, all_condemned, zones_of, at_flip, nailed_by, nailed_by_all};
+
+use crate::Trace;
+use crate::finding::segment_at;
+use mps_base::{Addr, Move, Trail, ZoneSet};
+use mps_buffer::OpenPoints;
+use mps_format::Format;
+use mps_gen::MAX_CHAINS;
+use mps_ld::Epochs;
+use mps_root::Stored;
+use mps_seg::Segs;
+
+/// How many segments a flip condemns, and the zones of their grains.
+#[derive(Clone, Copy)]
+struct Condemned {
+    segments: u64,
+    zones: ZoneSet,
+}
+
+impl<F: Format> Trace<F> {
+    /// A flip of everything: each segment of an automatic pool is condemned, all reservations end, nothing is at hand at points and for
+    /// pools, and the flip counts for dependencies. Returns how many segments are condemned.
+    pub fn flip(
+        &mut self,
+        segs: &mut Segs,
+        trail: &mut Trail,
+        points: &mut OpenPoints,
+        epochs: &mut Epochs,
+    ) -> u64
+        requires ordered { AreInOrder segs.old }
+        requires few_flips { points.old.flips < 2 ^ 63 }
+        requires few_epochs { epochs.old.count < 2 ^ 63 }
+        requires reserved { AreReserved points.old.flips points.old.points segs.old }
+        requires fits { 0 < trail.old.spare }
+        ensures count { result ≡ length (automatic_of self.old.formats segs.old.segments) }
+        ensures flipped { traced self.new segs.new trail.new ≡ at_flip self.old.formats points.old (traced self.old segs.old trail.old) }
+        ensures unchanged { self.new ≡ record self.old { amc = self.new.amc } }
+        ensures points { points.new ≡ buffer.flipped points.old }
+        ensures epochs { epochs.new ≡ ld.flipped epochs.old (zones_of (automatic_of self.old.formats segs.old.segments)) }
+    {
+        points.flip(segs);
+        let condemned = self.condemn(segs);
+        self.drop_tails();
+        epochs.flip(condemned.zones);
+        trail.push(Move::Flip {
+            zones: condemned.zones,
+            chain: MAX_CHAINS as u32,
+            generation: 0,
+        });
+        condemned.segments
+    }
+
+    /// Condemns each segment of an automatic pool.
+    fn condemn(&self, segs: &mut Segs) -> Condemned
+        requires { AreInOrder segs.old }
+        ensures count { result.segments ≡ length (automatic_of self.now.formats segs.old.segments) }
+        ensures zones { result.zones.0 ≡ zones_of (automatic_of self.now.formats segs.old.segments) }
+        ensures state { segs.new ≡ all_condemned self.now.formats segs.old }
+    {
+        let mut zones = 0;
+        let mut segments = 0;
+        let mut at = Addr(0);
+        while let Some(base) = segs.next_segment(at) {
+            let segment = segs.segment(base);
+            if self.is_automatic(segment.pool) {
+                segs.condemn(base);
+                zones |= zones_of_grains(base.grain(), segment.grains);
+                segments += 1;
+            }
+            at = Addr(base.0 + 1);
+        }
+        Condemned {
+            segments,
+            zones: ZoneSet(zones),
+        }
+    }
+
+    /// Nails each condemned block in which a word of an area lies, given the words of the area.
+    pub fn nail_words(&self, segs: &mut Segs, words: &[Stored])
+        requires { IsAscending 0 (words_of_grain * (segs.old.grains + 1)) segs.old.blocks }
+        ensures { segs.new ≡ nailed_by_all words.now segs.old }
+    {
+        for index in 0..words.len() {
+            self.nail_over(segs, words[index].word);
+        }
+    }
+
+    /// Nails the condemned block in which a word lies, where there is one.
+    fn nail_over(&self, segs: &mut Segs, word: u64)
+        requires { IsAscending 0 (words_of_grain * (segs.old.grains + 1)) segs.old.blocks }
+        ensures { segs.new ≡ nailed_by segs.old word }
+    {
+        let Some(at) = segs.block_at(word) else {
+            return;
+        };
+        let Some(segment) = segment_at(segs, at) else {
+            return;
+        };
+        if segment.is_condemned {
+            self.nail(segs, at);
+        }
+    }
+}
+
+/// The zones of `grains` grains from one on.
+fn zones_of_grains(first: usize, grains: u32) -> u64
+    requires { first < 2 ^ 52 }
+    ensures { result ≡ zones_from grains first }
+{
+    let mut zones = 0;
+    let mut left = grains as usize;
+    while left > 0 {
+        left -= 1;
+        zones = 1 << ((first + left) % 64) | zones;
+    }
+    zones
+}
