@@ -1,4 +1,4 @@
--- The end of reservations changes no segment, so segments stay in order.
+-- The end of reservations changes no segment and no block, so segments stay in order.
 use Rattle.std.proofs.Common.{ℕ, ◌==◌, ◌≡◌, Bool, Option, Some, None, List, [], ◌∷◌, Contains, refl, sym, ap, ◌∙◌, subst, inl, inr}
 use Rattle.std.proofs.lemmas.Bool.{cases_Bool, cond-true, cond-false}
 use Rattle.mps_base.specs.Segment.{Segment}
@@ -7,6 +7,7 @@ use Rattle.mps_buffer.specs.declared.point.Point.{Point}
 use Rattle.mps_buffer.specs.Points.{ended, ended_at, all_ended, without_reservation}
 use Rattle.mps_seg.specs.Segs.{SegsState}
 use Rattle.mps_trace.specs.Condemned.{AreAscending, AreInOrder}
+use Rattle.mps_trace.proofs.Nailing.{AreBlocksSame}
 
 module _ (flips : ℕ) where
   one_ended : (o : Option Held) (s : SegsState) → (ended flips o s).segments ≡ s.segments
@@ -25,6 +26,30 @@ module _ (flips : ℕ) where
   pub segments_stay : (ps : List (Option Point)) (s : SegsState) → (all_ended flips ps s).segments ≡ s.segments
   segments_stay [] s = refl
   segments_stay (p ∷ ps) s = segments_stay ps (ended_at flips p s) ∙ ended_there p s
+
+  blocks_one : (o : Option Held) (s : SegsState) → AreBlocksSame s (ended flips o s)
+  blocks_one None s = record { blocks = refl; grains = refl }
+  blocks_one (Some h) s =
+      let same : Bool = h.flips == flips in
+      elim (cases_Bool same) [
+        | inl is ↦
+            let now = cond-true same (without_reservation s h) s is in
+            record { blocks = ap (λ (x : SegsState). x.blocks) now; grains = ap (λ (x : SegsState). x.grains) now }
+        | inr is ↦
+            let now = cond-false same (without_reservation s h) s is in
+            record { blocks = ap (λ (x : SegsState). x.blocks) now; grains = ap (λ (x : SegsState). x.grains) now }
+      ]
+
+  blocks_there : (o : Option Point) (s : SegsState) → AreBlocksSame s (ended_at flips o s)
+  blocks_there None s = record { blocks = refl; grains = refl }
+  blocks_there (Some p) s = blocks_one p.reservation s
+
+  pub blocks_stay : (ps : List (Option Point)) (s : SegsState) → AreBlocksSame s (all_ended flips ps s)
+  blocks_stay [] s = record { blocks = refl; grains = refl }
+  blocks_stay (p ∷ ps) s =
+      let first = blocks_there p s in
+      let rest = blocks_stay ps (ended_at flips p s) in
+      record { blocks = rest.blocks ∙ first.blocks; grains = rest.grains ∙ first.grains }
 
 pub in_order_still : (s s' : SegsState) → s'.segments ≡ s.segments → AreInOrder s → AreInOrder s'
 in_order_still s s' same ordered =

@@ -1,3 +1,5 @@
+pub mod AreaWords
+pub mod Beginning
 pub mod Condemning
 pub mod Ending
 pub mod Fixed

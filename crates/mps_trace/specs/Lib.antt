@@ -1,3 +1,4 @@
+pub mod Begin
 pub mod Condemned
 pub mod Flip
 pub mod Reclaim

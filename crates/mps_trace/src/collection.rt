@@ -8,9 +8,10 @@ ghost use Rattle.mps_trace.specs.Scan.{IsDrained};
 ghost use Rattle.mps_trace.specs.Unit.{CanReclaimNext, CanUnit, AreUnitsReady, UnitTo, LastUnitTo, UnitsTo, EndsWithin};
 
 use crate::Trace;
+use crate::begin::end;
 use crate::finding::next_condemned;
 use crate::running::{Band, Running};
-use mps_base::{Addr, Move, Trail};
+use mps_base::{Addr, Trail};
 use mps_format::Format;
 use mps_seg::Segs;
 
@@ -54,8 +55,7 @@ impl<F: Format> Trace<F> {
                 cursor,
             });
         }
-        segs.end_collection();
-        trail.push(Move::End);
+        end(segs, trail);
         None
     }
 

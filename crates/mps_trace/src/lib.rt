@@ -1,6 +1,7 @@
 //! The tracing collector: where the blocks lie that references lead to, what blocks refer to, and how a collection runs.
 #![tactic(auto)]
 
+mod begin;
 mod collection;
 mod finding;
 mod flip;

@@ -1,6 +1,5 @@
-use Rattle.std.proofs.Common.{refl, ap}
-use Rattle.mps_seg.specs.Segs.{SegsState}
-use Rattle.mps_trace.specs.Trace.{Traced, traced}
+use Rattle.std.proofs.Common.{refl}
+use Rattle.mps_trace.specs.Trace.{traced}
 use Rattle.mps_trace.specs.Unit.{ReclaimsNext, reclaims}
 use Rattle.mps_trace.proofs.Units.{room_left}
 use Rattle.mps_trace.proofs.trace.Trace.reclaim_next.Goals as goal
@@ -14,8 +13,8 @@ returns-in-Some-left-clause-goes_on g c =
     in
     reclaims c.in-Some.base c.in-Some-left.field-0 next c.in-Some-left.ensures.sound refl
 
-pub push-requires : goal.push-requires
-push-requires g c =
+pub end-requires : goal.end-requires
+end-requires g c =
     let r = c.reclaim.ensures in
     room_left (g.F.Format.layout r.format) c.args.segs.now c.reclaim.new.segs c.args.trail.now c.reclaim.new.trail c.in-Some.base
     (c.requires.can.room c.in-Some.base c.in-Some.ensures.sound) r.reclaimed
@@ -24,7 +23,6 @@ pub returns-clause-ended : goal.returns-clause-ended
 returns-clause-ended g c =
     let x = traced c.args.self.now c.args.segs.now c.args.trail.now in
     let y = traced c.args.self.now c.reclaim.new.segs c.reclaim.new.trail in
-    let over_segs = ap (λ (s : SegsState). let z : Traced = record y { segs = s; moves = c.push.new.self } in z) c.end_collection.ensures in
     record {
       base = c.in-Some.base;
       before = y;

@@ -1,0 +1,61 @@
+-- How a collection begins.
+use Rattle.std.specs.Prelude.{◌≡◌, ◌<◌, Option, Some, None, List, [], ◌∷◌, length, refl}
+use Rattle.mps_buffer.specs.Points.{PointsState}
+use Rattle.mps_final.specs.State.{FinalsState}
+use Rattle.mps_format.specs.Layout.{Layout}
+use Rattle.mps_gen.specs.State.{ChainsState}
+use Rattle.mps_root.specs.State.{RootsState}
+use Rattle.mps_root.specs.declared.roots.Stored.{Stored}
+use Rattle.mps_seg.specs.Segs.{SegsState, new_segments}
+use Rattle.mps_trace.specs.Flip.{automatic_of, at_flip, nailed_by_all}
+use Rattle.mps_trace.specs.Roots.{FixesTables, FixesMessages, AreTablesReady, AreMessagesReady}
+use Rattle.mps_trace.specs.Trace.{TraceState, Traced}
+use Rattle.mps_trace.specs.Unit.{ended}
+use Rattle.mps_trace.specs.declared.running.Running.{Running}
+use Rattle.mps_trace.specs.declared.running.Band.TheVariants.{Exact}
+
+-- the blocks in which words of an area lie are nailed
+abbrev pub nailed_by_area : Option (List Stored) → SegsState → SegsState
+nailed_by_area None s = s
+nailed_by_area (Some words) s = nailed_by_all words s
+
+-- the blocks in which words of these areas lie are nailed, area by area
+abbrev pub nailed_by_areas : List (Option (List Stored)) → SegsState → SegsState
+nailed_by_areas [] s = s
+nailed_by_areas (a ∷ areas) s = nailed_by_areas areas (nailed_by_area a s)
+
+-- what a flip leaves, with the blocks nailed in which area words lie
+abbrev pub nailed_at_flip : {F : Type 0} → (formats : List (Option F)) → PointsState → RootsState → Traced → Traced
+nailed_at_flip formats points roots x = record (at_flip formats points x) {
+  segs = nailed_by_areas roots.areas (at_flip formats points x).segs;
+}
+
+-- a collection begins: after the flip, slots and then messages are fixed, and no unit is done
+pub record Begins {F : Type 0} (layout : F → Layout) (formats : List (Option F)) (chains : ChainsState) (points : PointsState)
+    (roots : RootsState) (finals : FinalsState) (x : Traced) (roots' : RootsState) (finals' : FinalsState) (z : Traced) (run : Running)
+    : Type 0 where
+  pub some : 0 < length (automatic_of formats x.segs.segments)
+  pub before : Traced
+  pub slots : FixesTables layout formats chains roots (nailed_at_flip formats points roots x) (length roots.order) roots' before
+  pub messages : FixesMessages layout formats chains finals before (length finals.messages) finals' z
+  pub run_is : run ≡ record { band = Exact; cursor = record { 0 = 0 } }
+
+-- nothing is condemned: a collection is over at once
+pub record EndsAtOnce {F : Type 0} (formats : List (Option F)) (points : PointsState) (roots : RootsState) (finals : FinalsState)
+    (x : Traced) (roots' : RootsState) (finals' : FinalsState) (z : Traced) : Type 0 where
+  pub none : length (automatic_of formats x.segs.segments) ≡ 0
+  pub roots_are : roots' ≡ roots
+  pub finals_are : finals' ≡ finals
+  pub over : z ≡ ended (at_flip formats points x)
+
+-- slots can be fixed after a flip, and messages after them
+pub record CanFixRoots {F : Type 0} (layout : F → Layout) (t : TraceState F) (roots : RootsState) (finals : FinalsState) (x : Traced)
+    : Type 0 where
+  pub slots : AreTablesReady layout (record t { amc = x.amc }) x.segs x.moves roots
+  pub messages : (roots' : RootsState) (y : Traced) → FixesTables layout t.formats t.chains roots x (length roots.order) roots' y
+      → AreMessagesReady layout (record t { amc = y.amc }) y.segs y.moves finals
+
+-- ---- vectors
+
+pub no_area_nails_nothing : nailed_by_areas (None ∷ Some [] ∷ []) (new_segments 1 1) ≡ new_segments 1 1
+no_area_nails_nothing = refl
