@@ -1,0 +1,5 @@
+pub mod Growing
+pub mod InWords
+pub mod Hands
+pub mod Copying
+pub mod Fixing
