@@ -4,7 +4,7 @@ use Rattle.std.proofs.lemmas.Option.{same_Some}
 use Rattle.mps_base.specs.Address.{Address, word_of, address_of_word}
 use Rattle.mps_base.specs.Segment.{Segment}
 use Rattle.mps_base.specs.declared.address.Addr.{Addr}
-use Rattle.mps_format.specs.Layout.{Layout, IsLawful}
+use Rattle.mps_format.specs.Layout.{Layout}
 use Rattle.mps_seg.specs.Collecting.{is_condemned_at}
 use Rattle.mps_amc.specs.Moving.{IsUnforwarded, BlockStands, size_at}
 use Rattle.mps_amc.specs.Amc.{FixesAt}
@@ -21,7 +21,7 @@ use Rattle.mps_trace_laws.proofs.Growing.{grows_not}
 use Rattle.mps_trace_laws.proofs.Copying.{MayCopy, fixed_in_words}
 
 module _ (F : Type 0) (layout : F → Layout) (formats : List (Option F)) (of : ChainsState) (at_flip : List (Option Address))
-    (done : CellSet) (x : Traced) (y : Collecting) (lawful : AreLawful layout)
+    (done : CellSet) (x : Traced) (y : Collecting) (lawful : AreLawful (pool_layout y.world))
     (stands : TracingStands layout formats of at_flip done x y) where
   pub may_copy : MayCopy y.world.graph.objects y.world.graph.points y.world.point_memories (pool_layout y.world) at_flip
       y.running.condemned (λ id. true) y.world.addresses x.segs (tail_of y.world)
@@ -62,7 +62,7 @@ module _ (F : Type 0) (layout : F → Layout) (formats : List (Option F)) (of : 
         fixed_in_words y.world.graph.objects y.world.graph.points y.world.point_memories (pool_layout y.world) at_flip
         y.running.condemned (λ id. true) y.world.addresses x.segs x.amc (tail_of y.world) may_copy at t
         (record { aligned = can.aligned; over = over; condemned = is_condemned }) (omega (arith, can.in_arena, stands.image.words.long))
-        (subst IsLawful format_is (lawful format)) (target_of of t) (stands.tails.same t.pool (target_of of t)) block its
+        (lawful t.pool) (target_of of t) (stands.tails.same t.pool (target_of of t)) block its
         in
         record { grown = is.grown; held = is.held; tables = is.tables; fix = is.fix }
 

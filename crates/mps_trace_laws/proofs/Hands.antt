@@ -61,7 +61,7 @@ placed_at s b size =
 
 -- ---- words at hand
 
-contains_among : (ss : List Segment) (t : Segment) → Contains ss t → IsAmong t ss
+pub contains_among : (ss : List Segment) (t : Segment) → Contains ss t → IsAmong t ss
 contains_among [] t (k, within, is) = omega (arith, within)
 contains_among (s ∷ ss) t (zero, within, is) = inl is
 contains_among (s ∷ ss) t (suc k, within, is) = inr (contains_among ss t (k, omega (arith, within), is))
@@ -88,7 +88,7 @@ module _ (s : SegsState) (held : AreHeld s) (objects : List Object) (points : Li
     abbrev hand : Hand
     hand = record { pool = pool; number = generation }
 
-    in_hand : (n : Word) → Covers (tail pool generation) n → hand_of pool generation (tail pool generation) n ≡ Some hand
+    pub in_hand : (n : Word) → Covers (tail pool generation) n → hand_of pool generation (tail pool generation) n ≡ Some hand
     in_hand n covers =
         let words = tail pool generation in
         cond-true (nat_le words.from n && nat_lt n (end_of words)) (Some hand) None

@@ -1,14 +1,15 @@
 -- What a fix of the tracing collector is in words: a fix in the sense of the image of objects, in the segments then.
-use Rattle.std.specs.Prelude.{◌≡◌, Option, List}
-use Rattle.mps_base.specs.Address.{Address, Word}
+use Rattle.std.specs.Prelude.{◌≡◌, ℕ, Option, List}
+use Rattle.mps_base.specs.Address.{Address, Id, Word}
 use Rattle.mps_base.specs.declared.address.Addr.{Addr}
 use Rattle.mps_format.specs.Layout.{Layout, IsLawful}
 use Rattle.mps_seg.specs.Segs.{SegsState}
 use Rattle.mps_gen.specs.State.{ChainsState}
 use Rattle.mps_colours.specs.Collecting.{Collecting}
-use Rattle.mps_image.specs.Memory.{memory_in, pool_over_word, is_condemned_word}
-use Rattle.mps_image.specs.Image.{CellSet}
-use Rattle.mps_image.specs.Fixing.{FixAt}
+use Rattle.mps_image.specs.Memory.{memory_in, pool_over_word, is_condemned_word, pool_layout}
+use Rattle.mps_model.specs.Graph.{Object}
+use Rattle.mps_image.specs.Image.{CellSet, AreShaped}
+use Rattle.mps_image.specs.Fixing.{FixAt, Target, IsFixedAt}
 use Rattle.mps_image.specs.Scanning.{HoldsMore}
 use Rattle.mps_trace.specs.Trace.{Traced, CanFixAt, FixesTo}
 use Rattle.mps_trace_laws.specs.Tracing.{AreHeld, HasTables, setting_of, TracingStands}
@@ -26,14 +27,32 @@ pub record FixedInWords (at_flip : List (Option Address)) (y : Collecting) (s s'
   pub tables : HasTables s'
   pub fix : FixAt (setting_of s' at_flip y) y.world.addresses (memory_in s) at answer (memory_in s')
 
--- the formats of a collector's pools are lawful
-abbrev pub AreLawful : {F : Type 0} → (F → Layout) → Type 0
-AreLawful {F} layout = (format : F) → IsLawful (layout format)
+-- the formats of pools are lawful
+abbrev pub AreLawful : (layout_of : ℕ → Layout) → Type 0
+AreLawful layout_of = (pool : ℕ) → IsLawful (layout_of pool)
 
 -- whatever the collector does with an address that can be fixed, it is a fix in words
 abbrev pub AFixIsInWords : (F : Type 0) → Type 0
 AFixIsInWords F =
     (layout : F → Layout) (formats : List (Option F)) (of : ChainsState) (at_flip : List (Option Address)) (done : CellSet)
-    (x z : Traced) (y : Collecting) (at answer : Addr) → AreLawful layout → TracingStands layout formats of at_flip done x y
+    (x z : Traced) (y : Collecting) (at answer : Addr) → AreLawful (pool_layout y.world) → TracingStands layout formats of at_flip done x y
     → CanFixAt layout formats of x at.0 → FixesTo layout formats of x at z answer
     → FixedInWords at_flip y x.segs z.segs at.0 answer.0
+
+-- where the address means a live automatic object, it is one fix of that object, and the image stands in the segments then
+abbrev pub AFixIsOneFix : (F : Type 0) → Type 0
+AFixIsOneFix F =
+    (layout : F → Layout) (formats : List (Option F)) (of : ChainsState) (at_flip : List (Option Address)) (done : CellSet)
+    (x z : Traced) (y : Collecting) (at answer : Addr) (t : Id) (now : Address) (o : Object)
+    → AreShaped y.world.graph.objects (pool_layout y.world) → TracingStands layout formats of at_flip done x y
+    → Target (setting_of x.segs at_flip y) y.world.addresses t at.0 now o
+    → FixesTo layout formats of x at z answer
+    → IsFixedAt (setting_of z.segs at_flip y) (memory_in z.segs) y.world.addresses y.colours done t answer.0
+
+-- an address that means a live automatic object can be fixed
+abbrev pub ATargetCanBeFixed : (F : Type 0) → Type 0
+ATargetCanBeFixed F =
+    (layout : F → Layout) (formats : List (Option F)) (of : ChainsState) (at_flip : List (Option Address)) (done : CellSet)
+    (x : Traced) (y : Collecting) (at : Addr) (t : Id) (now : Address) (o : Object)
+    → AreShaped y.world.graph.objects (pool_layout y.world) → TracingStands layout formats of at_flip done x y
+    → Target (setting_of x.segs at_flip y) y.world.addresses t at.0 now o → CanFixAt layout formats of x at.0

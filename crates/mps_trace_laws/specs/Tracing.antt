@@ -49,6 +49,10 @@ abbrev pub AreCondemnedAt : SegsState → (bases : List Address) → Type 0
 AreCondemnedAt s bases =
     (t : Segment) → Contains s.segments t → bit s.condemned (grain_of t.base) ≡ contains bases t.base
 
+-- blocks and reservations ascend without overlap
+abbrev pub AreCoveredInOrder : SegsState → Type 0
+AreCoveredInOrder s = IsAscending 0 (words_of_arena s.grains) s.covered
+
 -- live reservations lie in held segments
 abbrev pub AreReservationsHeld : SegsState → List (Option Point) → List PointMemory → Type 0
 AreReservationsHeld s points memories =
@@ -126,6 +130,7 @@ pub record TracingStands {F : Type 0} (layout : F → Layout) (formats : List (O
   pub segments : AreSegmentsOf x.segs y.world.grains y.world.limit y.world.segments
   pub held : AreHeld x.segs
   pub tables : HasTables x.segs
+  pub covered : AreCoveredInOrder x.segs
   pub reserved : AreReservationsHeld x.segs y.world.graph.points y.world.point_memories
   pub condemned : AreCondemnedAt x.segs y.running.condemned_segments
   pub image : ImageStands (setting_of x.segs at_flip y) (memory_in x.segs) y.world.addresses y.colours done
@@ -133,4 +138,5 @@ pub record TracingStands {F : Type 0} (layout : F → Layout) (formats : List (O
   pub all_move : AllMove y.world.graph.objects (is_copying_pool y.world)
   pub tails : AreTails of x.amc (is_copying_pool y.world) (tail_of y.world)
   pub hands : TailsStand (setting_of x.segs at_flip y) x.segs.segments y.world.addresses (tail_of y.world)
-  pub room : moves_left y ≤ x.moves.spare
+  -- a fix asks for room for two moves, also where it takes none
+  pub room : moves_left y + 2 ≤ x.moves.spare
