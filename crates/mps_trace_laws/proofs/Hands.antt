@@ -114,7 +114,7 @@ module _ (s : SegsState) (held : AreHeld s) (objects : List Object) (points : Li
   module _ (tables : HasTables s) (apart : LieApart (setting_now s) addresses) (reserved : AreReservationsHeld s points memories)
       (u : Segment) (free : IsFree s u) where
     -- what is held lies elsewhere
-    nothing_there : (n : Word) (pool : ℕ) → Covers (words_of_segment u) n → pool_over_word s n ≡ Some pool → ⊥
+    pub nothing_there : (n : Word) (pool : ℕ) → Covers (words_of_segment u) n → pool_over_word s n ≡ Some pool → ⊥
     nothing_there n pool covers is = go (segment_over s.segments (address_of_word n)) refl is
       where
         go : (o : Option Segment) → segment_over s.segments (address_of_word n) ≡ o → option_map (λ (t : Segment). t.pool) o ≡ Some pool → ⊥

@@ -5,3 +5,5 @@ pub mod Copying
 pub mod Fixing
 pub mod Found
 pub mod OneFix
+pub mod Taking
+pub mod NewTail
