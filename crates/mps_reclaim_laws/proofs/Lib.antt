@@ -1,0 +1,3 @@
+pub mod LostRuns
+pub mod BlockRuns
+pub mod Freed

@@ -1,0 +1,10 @@
+//! What the reclaim of a condemned segment is to the objects whose image an arena is, and to the abstract collector: laws.
+//! Each function does nothing; what it shows is its contract.
+#![tactic(auto)]
+
+ghost use Rattle.mps_reclaim_laws.specs.Laws.{LostBlocksAreWhite};
+
+/// The blocks that the reclaim of a segment frees are those of the white objects in it.
+pub fn lost_blocks_are_white()
+    ensures { LostBlocksAreWhite }
+{}
