@@ -1,5 +1,5 @@
 -- The blocks that the reclaim of a condemned segment frees, against the objects of an image in the last band of a collection.
-use Rattle.std.specs.Prelude.{◌≡◌, true, false, IsTrue, Option, Some, List, [], ◌∷◌, map, Contains, refl}
+use Rattle.std.specs.Prelude.{◌≡◌, true, false, IsTrue, Option, Some, None, if◌then◌else◌, List, [], ◌∷◌, map, Contains, refl}
 use Rattle.mps_base.specs.Address.{Address, Id, Word, word_of, address_of_word, grain_of}
 use Rattle.mps_base.specs.Run.{Run}
 use Rattle.mps_base.specs.Segment.{Segment, segment_over, is_in_segment}
@@ -41,7 +41,25 @@ pub record AreWhiteFreed (s : Setting) (g : SegsState) (addresses : List (Option
   pub apart : (other : Segment) (at : Address) → Contains g.segments other → (other.base ≡ t.base → ⊥) → IsTrue (contains freed at)
       → is_in_segment other (address_of_word (word_of at)) ≡ false
 
+-- ---- what is left
+
+-- an address once objects at these addresses have gone
+abbrev pub unless_gone : (freed : List Address) → Option Address → Option Address
+unless_gone freed None = None
+unless_gone freed (Some at) = if contains freed at then None else Some at
+
+-- the addresses of objects, without those that are freed
+abbrev pub addresses_without : (freed : List Address) → List (Option Address) → List (Option Address)
+addresses_without freed addresses = map (unless_gone freed) addresses
+
+-- white objects aren't read any more
+abbrev pub AreWhiteUnread : Setting → Colours → Type 0
+AreWhiteUnread s k = (id : Id) → IsTrue (s.is_read id) → is_white s.condemned k id ≡ false
+
 -- ---- vectors
 
 pub addresses_in_order : addresses_of (record { from = 512; count = 2 } ∷ record { from = 600; count = 3 } ∷ []) ≡ 4096 ∷ 4800 ∷ []
 addresses_in_order = refl
+
+pub one_is_gone : addresses_without (4096 ∷ []) (Some 4096 ∷ None ∷ Some 4800 ∷ []) ≡ None ∷ None ∷ Some 4800 ∷ []
+one_is_gone = refl

@@ -3,11 +3,14 @@ use Rattle.std.specs.Prelude.{Option, List}
 use Rattle.mps_base.specs.Address.{Address}
 use Rattle.mps_base.specs.Segment.{Segment}
 use Rattle.mps_seg.specs.Segs.{SegsState}
-use Rattle.mps_amc.specs.Reclaiming.{lost_of}
-use Rattle.mps_colours.specs.Colours.{Colours}
+use Rattle.mps_amc.specs.Reclaiming.{lost_of, freed_in}
+use Rattle.mps_colours.specs.Colours.{Colours, AreAllScanned}
 use Rattle.mps_image.specs.Memory.{Setting, memory_in}
-use Rattle.mps_image.specs.Image.{CellSet, ImageStands}
-use Rattle.mps_reclaim_laws.specs.Freed.{addresses_of, IsCondemnedSegment, AreWhiteFreed}
+use Rattle.mps_image.specs.Image.{CellSet, ImageStands, Stands}
+use Rattle.mps_reclaim_laws.specs.Freed.{addresses_of, addresses_without, IsCondemnedSegment, AreWhiteFreed, AreWhiteUnread}
+use Rattle.mps_reclaim_laws.specs.Moves.{AreFreesOf}
+use Rattle.mps_base.specs.Trail.{Moves}
+use Rattle.mps_model.specs.World.{World}
 
 -- the blocks that the reclaim of a segment frees are those of the white objects in it
 abbrev pub LostBlocksAreWhite : Type 0
@@ -15,3 +18,16 @@ LostBlocksAreWhite =
     (s : Setting) (g : SegsState) (addresses : List (Option Address)) (k : Colours) (done : CellSet) (t : Segment)
     → ImageStands s (memory_in g) addresses k done → IsCondemnedSegment s g t
     → AreWhiteFreed s g addresses k t (addresses_of (lost_of g t))
+
+-- once they are freed, the image stands for the objects that are left
+abbrev pub LostBlocksAreFreed : Type 0
+LostBlocksAreFreed =
+    (s : Setting) (g : SegsState) (addresses : List (Option Address)) (k : Colours) (t : Segment) → Stands s (memory_in g) addresses k
+    → IsCondemnedSegment s g t → AreAllScanned k → AreWhiteUnread s k
+    → Stands s (memory_in (freed_in g t)) (addresses_without (addresses_of (lost_of g t)) addresses) k
+
+-- the Frees of a reclaim are those of the model, and after them its objects have these addresses
+abbrev pub FreesAreTheModels : Type 0
+FreesAreTheModels =
+    (s : Setting) (w : World) (g : SegsState) (k : Colours) (done : CellSet) (t : Segment) (moves : Moves)
+    → ImageStands s (memory_in g) w.addresses k done → IsCondemnedSegment s g t → AreFreesOf w g t moves

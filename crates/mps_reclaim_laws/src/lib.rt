@@ -2,9 +2,19 @@
 //! Each function does nothing; what it shows is its contract.
 #![tactic(auto)]
 
-ghost use Rattle.mps_reclaim_laws.specs.Laws.{LostBlocksAreWhite};
+ghost use Rattle.mps_reclaim_laws.specs.Laws.{LostBlocksAreWhite, LostBlocksAreFreed, FreesAreTheModels};
 
 /// The blocks that the reclaim of a segment frees are those of the white objects in it.
 pub fn lost_blocks_are_white()
     ensures { LostBlocksAreWhite }
+{}
+
+/// Once they are freed, the image stands for the objects that are left.
+pub fn lost_blocks_are_freed()
+    ensures { LostBlocksAreFreed }
+{}
+
+/// The Frees of a reclaim are those of the model.
+pub fn frees_are_the_models()
+    ensures { FreesAreTheModels }
 {}
