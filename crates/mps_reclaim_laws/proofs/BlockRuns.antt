@@ -47,7 +47,7 @@ run_of_object objects addresses r there =
 
 -- ---- each object has a run
 
-contained_in_order : (rs : List Run) (r : Run) → Contains rs r → Contains (in_order rs) r
+pub contained_in_order : (rs : List Run) (r : Run) → Contains rs r → Contains (in_order rs) r
 contained_in_order [] r there = there
 contained_in_order (s ∷ rs) r there =
     elim (contains_cases rs r s there) [
@@ -55,7 +55,7 @@ contained_in_order (s ∷ rs) r there =
       | inr later ↦ contains_put_other s r (in_order rs) (contained_in_order rs r later)
     ]
 
-extent_there : (objects : List Object) (addresses : List (Option Address)) (id : Id) (at : Address) (o : Object)
+pub extent_there : (objects : List Object) (addresses : List (Option Address)) (id : Id) (at : Address) (o : Object)
     → entry_at addresses id ≡ Some at → slice_get objects id ≡ Some o → Contains (extents_of objects addresses) (extent at (size_of o))
 extent_there [] addresses id at o e x = absurd (none-some o x)
 extent_there (q ∷ os) [] id at o e x = absurd (none-some at e)
@@ -127,10 +127,10 @@ segment_bounds t at h =
     let parts = and_parts (nat_le t.base at) (nat_lt at (end_of_segment t)) h in
     (leb-true t.base at parts.0, ltb-true at (end_of_segment t) parts.1)
 
-contains_no_segment : (t : Segment) → Contains [] t → ⊥
+pub contains_no_segment : (t : Segment) → Contains [] t → ⊥
 contains_no_segment t (k, within, is) = omega arith
 
-segment_cases : (ss : List Segment) (t s : Segment) → Contains (s ∷ ss) t → (s ≡ t) ⊎ Contains ss t
+pub segment_cases : (ss : List Segment) (t s : Segment) → Contains (s ∷ ss) t → (s ≡ t) ⊎ Contains ss t
 segment_cases ss t s (zero, within, is) = inl is
 segment_cases ss t s (suc k, within, is) = inr (k, omega arith, is)
 

@@ -1,3 +1,4 @@
 pub mod Freed
+pub mod Left
 pub mod Moves
 pub mod Laws
