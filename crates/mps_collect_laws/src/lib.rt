@@ -3,9 +3,17 @@
 #![tactic(auto)]
 
 ghost use Rattle.mps_collect_laws.specs.Staying.{AKeptObjectStays};
+ghost use Rattle.mps_collect_laws.specs.Leaving.{ACollectionMovesObjects};
 
 /// What isn't white stays so, and where it is, over units and to the end of a collection. For each kind of pool, also where objects
 /// are posted and weak references splatted.
 pub fn a_kept_object_stays()
     ensures { AKeptObjectStays }
+{}
+
+/// A whole collection of everything, where nothing is registered and no object is weak: of the world only what reservations and
+/// tails were, addresses and segments change, and there is one flip more. Manual objects, and those in which an area word lies,
+/// stay where they were, and what slots and messages hold where the act of the flip left it.
+pub fn a_collection_moves_objects()
+    ensures { ACollectionMovesObjects }
 {}
