@@ -16,11 +16,6 @@ item_still (Some items ∷ rows) zero index value other has = lt-length-set item
 item_still (row ∷ rows) (suc key) index value other has = item_still rows key index value other has
 
 module _ {F : Type 0} (layout : F → Layout) (t t' : TraceState F) (same : t' ≡ record t { amc = t'.amc }) where
-  pub can_root_still : (x : Traced) (at : Address) → CanFixRootAt layout t.formats t.chains x at
-      → CanFixRootAt layout t'.formats t'.chains x at
-  can_root_still x at can =
-      let P : TraceState F → Type 0 = λ u. CanFixRootAt layout u.formats u.chains x at in subst P (sym same) can
-
   pub root_still : (x y : Traced) (at answer : Address) → FixesRoot layout t'.formats t'.chains x at y answer
       → FixesRoot layout t.formats t.chains x at y answer
   root_still x y at answer fixes =

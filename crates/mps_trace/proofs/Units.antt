@@ -20,14 +20,7 @@ room_left f s s' m m' base room (is_padded t over used state padded moves) =
 
 -- units go on at a state of which only what is at hand has changed
 module _ {F : Type 0} (layout : F → Layout) (t t' : TraceState F) (same : t' ≡ record t { amc = t'.amc }) where
-  pub unit_still : (s : SegsState) (m : Moves) (run : Running) → CanUnit layout (record t { amc = t'.amc }) s m run
-      → CanUnit layout t' s m run
-  unit_still s m run can = let P : TraceState F → Type 0 = λ u. CanUnit layout u s m run in subst P (sym same) can
-
   pub goes_still : (x y : Traced) (run run' : Running) → UnitTo layout t'.formats t'.chains x run y run'
       → UnitTo layout t.formats t.chains x run y run'
   goes_still x y run run' unit =
       let P : TraceState F → Type 0 = λ u. UnitTo layout u.formats u.chains x run y run' in subst P same unit
-
-  pub ends_still : (x y : Traced) (run : Running) → LastUnitTo layout t'.formats x run y → LastUnitTo layout t.formats x run y
-  ends_still x y run last = let P : TraceState F → Type 0 = λ u. LastUnitTo layout u.formats x run y in subst P same last

@@ -32,7 +32,7 @@ struct Condemned {
 impl<F: Format> Trace<F> {
     /// A flip of everything: each segment of an automatic pool is condemned, all reservations end, nothing is at hand at points and for
     /// pools, and the flip counts for dependencies. Returns how many segments are condemned.
-    pub fn flip(
+    pub(crate) fn flip(
         &mut self,
         segs: &mut Segs,
         trail: &mut Trail,
@@ -88,7 +88,7 @@ impl<F: Format> Trace<F> {
     }
 
     /// Nails each condemned block in which a word of an area lies, given the words of the area.
-    pub fn nail_words(&self, segs: &mut Segs, words: &[Stored])
+    pub(crate) fn nail_words(&self, segs: &mut Segs, words: &[Stored])
         requires { IsAscending 0 (words_of_grain * (segs.old.grains + 1)) segs.old.blocks }
         ensures { segs.new ≡ nailed_by_all words.now segs.old }
     {

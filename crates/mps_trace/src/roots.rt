@@ -43,7 +43,7 @@ impl<F: Format> Trace<F> {
     }
 
     /// Fixes the slots of all tables, table by table in the order in which they were made.
-    pub fn fix_slots(&mut self, segs: &mut Segs, trail: &mut Trail, roots: &mut Roots)
+    pub(crate) fn fix_slots(&mut self, segs: &mut Segs, trail: &mut Trail, roots: &mut Roots)
         requires { AreTablesReady F.layout self.old segs.old trail.old roots.old }
         ensures fixed { FixesTables F.layout self.old.formats self.old.chains roots.old (traced self.old segs.old trail.old)
             (length roots.old.order) roots.new (traced self.new segs.new trail.new) }
@@ -57,7 +57,7 @@ impl<F: Format> Trace<F> {
     }
 
     /// Fixes the messages that wait, in order.
-    pub fn fix_messages(&mut self, segs: &mut Segs, trail: &mut Trail, finals: &mut Finals)
+    pub(crate) fn fix_messages(&mut self, segs: &mut Segs, trail: &mut Trail, finals: &mut Finals)
         requires { AreMessagesReady F.layout self.old segs.old trail.old finals.old }
         ensures fixed { FixesMessages F.layout self.old.formats self.old.chains finals.old (traced self.old segs.old trail.old)
             (length finals.old.messages) finals.new (traced self.new segs.new trail.new) }
