@@ -26,19 +26,19 @@ module _ (F : Type 0) (layout : F → Layout) (formats : List (Option F)) (of : 
   pub may_copy : MayCopy y.world.graph.objects y.world.graph.points y.world.point_memories (pool_layout y.world) at_flip
       y.running.condemned (λ id. true) y.world.addresses x.segs (tail_of y.world)
   may_copy = record {
-    held = stands.held;
-    tables = stands.tables;
-    apart = stands.image.placed;
-    reserved = stands.reserved;
-    tails = stands.hands;
+    held = stands.state.held;
+    tables = stands.state.tables;
+    apart = stands.state.image.placed;
+    reserved = stands.state.reserved;
+    tails = stands.state.hands;
   }
 
   module _ (at : Addr) (can : CanFixAt layout formats of x at.0) where
     passed : is_condemned_at x.segs at.0 ≡ false → FixedInWords at_flip y x.segs x.segs at.0 at.0
     passed calm = record {
       grown = grows_not x.segs;
-      held = stands.held;
-      tables = stands.tables;
+      held = stands.state.held;
+      tables = stands.state.tables;
       fix = fixing.passes (ap (is_condemned_at x.segs) (let e : address_of_word (word_of at.0) ≡ at.0 = omega (arith, can.aligned) in e) ∙ calm);
     }
 
@@ -48,9 +48,9 @@ module _ (F : Type 0) (layout : F → Layout) (formats : List (Option F)) (of : 
     in_words {z} (fixes t format answer is_condemned over listed fixed) =
         let keep = can.condemned is_condemned in
         let same_segment : keep.segment ≡ t = same_Some keep.segment t (sym keep.over ∙ over) in
-        let format_is : layout format ≡ pool_layout y.world t.pool = stands.pools.format_is t.pool format listed in
+        let format_is : layout format ≡ pool_layout y.world t.pool = stands.state.pools.format_is t.pool format listed in
         let listed_keep : layout keep.format ≡ pool_layout y.world t.pool =
-        stands.pools.format_is keep.segment.pool keep.format keep.listed ∙ ap (λ (s : Segment). pool_layout y.world s.pool) same_segment
+        stands.state.pools.format_is keep.segment.pool keep.format keep.listed ∙ ap (λ (s : Segment). pool_layout y.world s.pool) same_segment
         in
         let block : IsUnforwarded (pool_layout y.world t.pool) x.segs.words at.0
         → BlockStands (pool_layout y.world t.pool) x.segs.words at.0 (size_at (pool_layout y.world t.pool) x.segs.words at.0) =
@@ -61,8 +61,8 @@ module _ (F : Type 0) (layout : F → Layout) (formats : List (Option F)) (of : 
         let is =
         fixed_in_words y.world.graph.objects y.world.graph.points y.world.point_memories (pool_layout y.world) at_flip
         y.running.condemned (λ id. true) y.world.addresses x.segs x.amc (tail_of y.world) may_copy at t
-        (record { aligned = can.aligned; over = over; condemned = is_condemned }) (omega (arith, can.in_arena, stands.image.words.long))
-        (lawful t.pool) (target_of of t) (stands.tails.same t.pool (target_of of t)) block its
+        (record { aligned = can.aligned; over = over; condemned = is_condemned }) (omega (arith, can.in_arena, stands.state.image.words.long))
+        (lawful t.pool) (target_of of t) (stands.state.tails.same t.pool (target_of of t)) block its
         in
         record { grown = is.grown; held = is.held; tables = is.tables; fix = is.fix }
 

@@ -86,12 +86,12 @@ module _ (F : Type 0) (layout : F → Layout) (formats : List (Option F)) (of : 
 
     apart_from_all : AllByRecursion (AreApart words) x.segs.covered
     apart_from_all =
-        let hands = stands.hands.hands pool generation in
+        let hands = stands.state.hands.hands pool generation in
         let held : (n : Word) → Covers words n → _ ≡ _ =
-        λ n covers. in_hand x.segs stands.held y.world.graph.objects y.world.graph.points y.world.point_memories (pool_layout y.world) at_flip
-        y.running.condemned (λ id. true) y.world.addresses (tail_of y.world) stands.hands pool generation n covers
+        λ n covers. in_hand x.segs stands.state.held y.world.graph.objects y.world.graph.points y.world.point_memories (pool_layout y.world) at_flip
+        y.running.condemned (λ id. true) y.world.addresses (tail_of y.world) stands.state.hands pool generation n covers
         in
-        subst (AllByRecursion (AreApart words)) (sym stands.image.runs.covered)
+        subst (AllByRecursion (AreApart words)) (sym stands.state.image.runs.covered)
         (all_in_order (AreApart words)
         (extents_of y.world.graph.objects y.world.addresses ++ reserved_extents y.world.graph.points y.world.point_memories)
         (all_append (AreApart words) (extents_of y.world.graph.objects y.world.addresses)
@@ -105,8 +105,8 @@ module _ (F : Type 0) (layout : F → Layout) (formats : List (Option F)) (of : 
 
     lies_in : LiesIn (held_runs x.segs) words
     lies_in =
-        let home = stands.hands.home pool generation some in
-        let aligned = among_aligned home.segment x.segs.segments stands.held.aligned (contains_among x.segs.segments home.segment home.held) in
+        let home = stands.state.hands.home pool generation some in
+        let aligned = among_aligned home.segment x.segs.segments stands.state.held.aligned (contains_among x.segs.segments home.segment home.held) in
         record {
           grains = grains_of_segment home.segment;
           there = grains_there x.segs.segments home.segment home.held;
@@ -116,16 +116,16 @@ module _ (F : Type 0) (layout : F → Layout) (formats : List (Option F)) (of : 
 
     is_open : IsOpenRun x.segs.grains (held_runs x.segs) x.segs.covered words
     is_open =
-        let hands = stands.hands.hands pool generation in
-        let last = in_hand x.segs stands.held y.world.graph.objects y.world.graph.points y.world.point_memories (pool_layout y.world) at_flip
-        y.running.condemned (λ id. true) y.world.addresses (tail_of y.world) stands.hands pool generation (words.from + (words.count - 1))
+        let hands = stands.state.hands.hands pool generation in
+        let last = in_hand x.segs stands.state.held y.world.graph.objects y.world.graph.points y.world.point_memories (pool_layout y.world) at_flip
+        y.running.condemned (λ id. true) y.world.addresses (tail_of y.world) stands.state.hands pool generation (words.from + (words.count - 1))
         (omega arith, omega (arith, some))
         in
         let within = hands.within (words.from + (words.count - 1)) (record { pool = pool; number = generation }) last in
         record {
           free =
               ascending_with_run 0 (words_of_arena x.segs.grains) words x.segs.covered
-              (record { above = omega arith; below = omega (arith, within, some); some = some }) apart_from_all stands.covered;
+              (record { above = omega arith; below = omega (arith, within, some); some = some }) apart_from_all stands.state.covered;
           inside = lies_in;
         }
 
@@ -139,11 +139,11 @@ module _ (F : Type 0) (layout : F → Layout) (formats : List (Option F)) (of : 
     lies k lt = record { at = now; address = target.there; object = target.object; within = lt; is = refl }
 
     copying : IsTrue (is_copying_pool y.world o.pool)
-    copying = stands.all_move t o target.object target.automatic
+    copying = stands.state.all_move t o target.object target.automatic
 
     head_there : slice_index x.segs.words (word_of now) ≡ head_of_body o.body
     head_there =
-        stands.image.words.cells t 0 o (word_of now) HeadCell refl
+        stands.state.image.words.cells t 0 o (word_of now) HeadCell refl
         (record { at = now; address = target.there; object = target.object; within = positive; is = omega arith })
         (shaped.first t o target.object target.automatic)
 
@@ -155,23 +155,23 @@ module _ (F : Type 0) (layout : F → Layout) (formats : List (Option F)) (of : 
           | inr n ↦
               elim target.means [
                 | inl e ↦ absurd (n (same_Some at now (sym e ∙ target.there)))
-                | inr e ↦ inr (stands.image.words.forwarded t at now o e target.there n target.object)
+                | inr e ↦ inr (stands.state.image.words.forwarded t at now o e target.there n target.object)
               ]
         ]
 
     is_aligned : at % 8 ≡ 0
     is_aligned =
         elim target.means [
-          | inl e ↦ (stands.image.placed.address t at e).aligned
-          | inr e ↦ (stands.image.placed.address_at_flip t at e).aligned
+          | inl e ↦ (stands.state.image.placed.address t at e).aligned
+          | inr e ↦ (stands.state.image.placed.address_at_flip t at e).aligned
         ]
 
     in_arena : word_of at < length x.segs.words
     in_arena =
         elim there_or_moved [
           | inl e ↦
-              let within = stands.image.placed.within t 0 o (word_of now + 0) (lies 0 positive) in
-              omega (arith, within, stands.image.words.long, e)
+              let within = stands.state.image.placed.within t 0 o (word_of now + 0) (lies 0 positive) in
+              omega (arith, within, stands.state.image.words.long, e)
           | inr f ↦
               let whole = f.begins.whole in
               omega (arith, whole, f.begins.in_range.0, length-drop (word_of at) x.segs.words)
@@ -183,7 +183,7 @@ module _ (F : Type 0) (layout : F → Layout) (formats : List (Option F)) (of : 
         let begins : address_of_word (word_of at) ≡ at = omega (arith, is_aligned) in
         over_of_pool (segment_over x.segs.segments at) o.pool
         (ap (λ a. option_map (λ (s : Segment). s.pool) (segment_over x.segs.segments a)) (sym begins)
-        ∙ pool_at_target setting (memory_in x.segs) y.world.addresses y.colours done shaped stands.image t at now o target)
+        ∙ pool_at_target setting (memory_in x.segs) y.world.addresses y.colours done shaped stands.state.image t at now o target)
 
     module _ (format : F) (listed : slice_get formats o.pool ≡ Some (Some format)) where
       abbrev f : Layout
@@ -203,13 +203,13 @@ module _ (F : Type 0) (layout : F → Layout) (formats : List (Option F)) (of : 
 
       block_stands : at ≡ now → BlockStands f x.segs.words at (size_at f x.segs.words at)
       block_stands e =
-          let within = stands.image.placed.within t (size_of o - 1) o (word_of now + (size_of o - 1)) (lies (size_of o - 1) (omega (arith, positive))) in
+          let within = stands.state.image.placed.within t (size_of o - 1) o (word_of now + (size_of o - 1)) (lies (size_of o - 1) (omega (arith, positive))) in
           record {
             valid =
                 subst (λ h. IsTrue (f.is_valid h)) (sym (ap (λ a. slice_index x.segs.words (word_of a)) e ∙ head_there))
                 (shaped.valid t o target.object target.automatic);
             whole = refl;
-            within = omega (arith, within, positive, stands.image.words.long, e, size_is e);
+            within = omega (arith, within, positive, stands.state.image.words.long, e, size_is e);
           }
 
       block_of : at ≡ now → IsBlockOf x.segs at (size_at f x.segs.words at)
@@ -224,11 +224,11 @@ module _ (F : Type 0) (layout : F → Layout) (formats : List (Option F)) (of : 
           record {
             there =
                 subst (Contains x.segs.blocks) (sym run)
-                (subst (λ rs. Contains rs (extent now (size_of o))) (sym stands.image.runs.blocks)
+                (subst (λ rs. Contains rs (extent now (size_of o))) (sym stands.state.image.runs.blocks)
                 (there_in_order (extents_of y.world.graph.objects y.world.addresses) (extent now (size_of o)) among));
             covered =
                 subst (Contains x.segs.covered) (sym run)
-                (subst (λ rs. Contains rs (extent now (size_of o))) (sym stands.image.runs.covered)
+                (subst (λ rs. Contains rs (extent now (size_of o))) (sym stands.state.image.runs.covered)
                 (there_in_order
                 (extents_of y.world.graph.objects y.world.addresses ++ reserved_extents y.world.graph.points y.world.point_memories)
                 (extent now (size_of o))
@@ -248,29 +248,29 @@ module _ (F : Type 0) (layout : F → Layout) (formats : List (Option F)) (of : 
                 (ap (slice_index x.segs.words) (let z : word_of at ≡ word_of at + 0 = omega arith in z)
                 ∙ sym (get_or-drop (word_of at) x.segs.words 0 0) ∙ is.begins.head))
             | inr moved ↦
-                let aligned = (stands.image.placed.address t now target.there).aligned in omega (arith, aligned, is.leads, moved.leads)
+                let aligned = (stands.state.image.placed.address t now target.there).aligned in omega (arith, aligned, is.leads, moved.leads)
           ]
 
       pub can_keep : CanKeep layout formats of x at
       can_keep =
           let s = its_segment in
-          let format_is : layout format ≡ f = stands.pools.format_is o.pool format listed in
+          let format_is : layout format ≡ f = stands.state.pools.format_is o.pool format listed in
           let copies : IsTrue (is_copying_pool y.world s.0.pool) = ap (is_copying_pool y.world) s.2 ∙ copying in
           record {
             segment = s.0;
             over = s.1;
             format = format;
             listed = ap (slice_get formats) s.2 ∙ listed;
-            known = stands.pools.known s.0.pool copies;
+            known = stands.state.pools.known s.0.pool copies;
             block =
                 subst (λ (g : Layout). IsUnforwarded g x.segs.words at
                 → BlockStands g x.segs.words at (size_at g x.segs.words at) × IsBlockOf x.segs at (size_at g x.segs.words at)) (sym format_is)
                 (λ isnt. let e = unforwarded_there isnt in (block_stands e, block_of e));
             leads =
                 subst (λ (g : Layout). (to : Address) → IsForwarded g x.segs.words at to → to % 8 ≡ 0) (sym format_is) leads_to;
-            tail = stands.tails.has s.0.pool s.0.generation copies;
+            tail = stands.state.tails.has s.0.pool s.0.generation copies;
             at_hand = λ some.
-                let same = stands.tails.same s.0.pool (target_of of s.0) in
+                let same = stands.state.tails.same s.0.pool (target_of of s.0) in
                 subst (IsOpenRun x.segs.grains (held_runs x.segs) x.segs.covered) (sym same)
                 (is_open s.0.pool (target_of of s.0) (omega (arith, some, ap (λ (r : Run). r.count) same)));
             room = let room = stands.room in omega (arith, room);
@@ -280,7 +280,7 @@ module _ (F : Type 0) (layout : F → Layout) (formats : List (Option F)) (of : 
     can_fix = record {
       aligned = is_aligned;
       in_arena = in_arena;
-      condemned = λ is. let format = stands.pools.listed o.pool copying in can_keep format.0 format.1;
+      condemned = λ is. let format = stands.state.pools.listed o.pool copying in can_keep format.0 format.1;
     }
 
 pub target_can_be_fixed : {F : Type 0} → ATargetCanBeFixed F

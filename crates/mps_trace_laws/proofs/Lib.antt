@@ -7,3 +7,4 @@ pub mod Found
 pub mod OneFix
 pub mod Taking
 pub mod NewTail
+pub mod Objects

@@ -42,6 +42,6 @@ fix_is_one_fix {F} layout formats of at_flip done x z y at answer t now o shaped
     let can = can_fix F layout formats of at_flip done x y shaped stands at.0 t now o target in
     let words = in_words F layout formats of at_flip done x y shaped.lawful stands at can fixed in
     address_is_fixed (setting_of z.segs at_flip y) (memory_in x.segs) y.world.addresses y.colours done t at.0 now o shaped
-    (image_grown x.segs z.segs words.grown at_flip y (memory_in x.segs) y.world.addresses y.colours done stands.image)
+    (image_grown x.segs z.segs words.grown at_flip y (memory_in x.segs) y.world.addresses y.colours done stands.state.image)
     (record { means = target.means; there = target.there; object = target.object; automatic = target.automatic; read = target.read })
     answer.0 (memory_in z.segs) words.fix

@@ -123,20 +123,26 @@ setting_of s at_flip y =
     setting_in s y.world.graph.objects y.world.graph.points y.world.point_memories (pool_layout y.world) at_flip y.running.condemned
     (λ id. true)
 
--- a collector's state in words stands for the abstract collector, where these cells are fixed
+-- words at hand and segments stand for the abstract collector, where these cells are fixed
+pub record StateStands {F : Type 0} (layout : F → Layout) (formats : List (Option F)) (of : ChainsState)
+    (at_flip : List (Option Address)) (done : CellSet) (state : AmcState) (s : SegsState) (y : Collecting)
+    : Type 0 where
+  pub segments : AreSegmentsOf s y.world.grains y.world.limit y.world.segments
+  pub held : AreHeld s
+  pub tables : HasTables s
+  pub covered : AreCoveredInOrder s
+  pub reserved : AreReservationsHeld s y.world.graph.points y.world.point_memories
+  pub condemned : AreCondemnedAt s y.running.condemned_segments
+  pub image : ImageStands (setting_of s at_flip y) (memory_in s) y.world.addresses y.colours done
+  pub pools : AreKnownPools layout formats of (is_copying_pool y.world) (pool_layout y.world) (generations_of y.world)
+  pub all_move : AllMove y.world.graph.objects (is_copying_pool y.world)
+  pub tails : AreTails of state (is_copying_pool y.world) (tail_of y.world)
+  pub hands : TailsStand (setting_of s at_flip y) s.segments y.world.addresses (tail_of y.world)
+
+-- a tracing collector's state in words stands for the abstract collector, and there is room for the moves that are left
 pub record TracingStands {F : Type 0} (layout : F → Layout) (formats : List (Option F)) (of : ChainsState)
     (at_flip : List (Option Address)) (done : CellSet) (x : Traced) (y : Collecting)
     : Type 0 where
-  pub segments : AreSegmentsOf x.segs y.world.grains y.world.limit y.world.segments
-  pub held : AreHeld x.segs
-  pub tables : HasTables x.segs
-  pub covered : AreCoveredInOrder x.segs
-  pub reserved : AreReservationsHeld x.segs y.world.graph.points y.world.point_memories
-  pub condemned : AreCondemnedAt x.segs y.running.condemned_segments
-  pub image : ImageStands (setting_of x.segs at_flip y) (memory_in x.segs) y.world.addresses y.colours done
-  pub pools : AreKnownPools layout formats of (is_copying_pool y.world) (pool_layout y.world) (generations_of y.world)
-  pub all_move : AllMove y.world.graph.objects (is_copying_pool y.world)
-  pub tails : AreTails of x.amc (is_copying_pool y.world) (tail_of y.world)
-  pub hands : TailsStand (setting_of x.segs at_flip y) x.segs.segments y.world.addresses (tail_of y.world)
+  pub state : StateStands layout formats of at_flip done x.amc x.segs y
   -- a fix asks for room for two moves, also where it takes none
   pub room : moves_left y + 2 ≤ x.moves.spare
