@@ -8,3 +8,4 @@ pub mod OneFix
 pub mod Taking
 pub mod NewTail
 pub mod Objects
+pub mod Copied
