@@ -241,7 +241,7 @@ module _ (F : Type 0) (layout : F → Layout) (formats : List (Option F)) (of : 
     tables = tables_moved s now to (size_of o) words' stands.tables;
     covered = covered_after;
     reserved = stands.reserved;
-    condemned = stands.condemned;
+    condemned = record { is_bit = stands.condemned.is_bit; is_held = stands.condemned.is_held };
     image = image_after;
     pools = stands.pools;
     all_move = stands.all_move;

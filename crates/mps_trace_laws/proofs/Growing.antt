@@ -83,17 +83,17 @@ module _ (s : SegsState) (held : AreHeld s) (tables : HasTables s) (u : Segment)
       let bounds = segment_bounds 1 (s.grains + 1) (with_one s u).segments u held_more.ascending (among_new u s.segments) in
       omega (arith, bounds.2, bounds.1, tables.condemned)
 
-  its_bit : bit (slice_set s.condemned (grain_of u.base) false) (grain_of u.base) ≡ false
+  pub its_bit : bit (slice_set s.condemned (grain_of u.base) false) (grain_of u.base) ≡ false
   unfolding bit
   its_bit = get_or-set_same s.condemned (grain_of u.base) false false within
 
   -- no other segment begins at its grain
-  other_grain : (t : Segment) → IsAmong t s.segments → grain_of t.base ≢ grain_of u.base
+  pub other_grain : (t : Segment) → IsAmong t s.segments → grain_of t.base ≢ grain_of u.base
   other_grain t there e =
       let bounds = segment_bounds 1 (s.grains + 1) s.segments t held.ascending there in
       apart t there (grain_of u.base) (omega arith, omega (arith, free.some)) (omega (arith, e), omega (arith, e, bounds.1))
 
-  other_bit : (t : Segment) → IsAmong t s.segments
+  pub other_bit : (t : Segment) → IsAmong t s.segments
       → bit (slice_set s.condemned (grain_of u.base) false) (grain_of t.base) ≡ bit s.condemned (grain_of t.base)
   unfolding bit
   other_bit t there = get_or-set_other s.condemned (grain_of u.base) (grain_of t.base) false false (other_grain t there)

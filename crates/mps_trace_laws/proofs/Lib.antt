@@ -9,3 +9,5 @@ pub mod Taking
 pub mod NewTail
 pub mod Objects
 pub mod Copied
+pub mod Staying
+pub mod Grown

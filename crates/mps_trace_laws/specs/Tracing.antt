@@ -45,9 +45,9 @@ pub record HasTables (s : SegsState) : Type 0 where
   pub condemned : length s.condemned ≡ s.grains + 1
 
 -- the condemned ones of the held segments are those that begin at these addresses
-abbrev pub AreCondemnedAt : SegsState → (bases : List Address) → Type 0
-AreCondemnedAt s bases =
-    (t : Segment) → Contains s.segments t → bit s.condemned (grain_of t.base) ≡ contains bases t.base
+pub record AreCondemnedAt (s : SegsState) (bases : List Address) : Type 0 where
+  pub is_bit : (t : Segment) → Contains s.segments t → bit s.condemned (grain_of t.base) ≡ contains bases t.base
+  pub is_held : (base : Address) → IsTrue (contains bases base) → (t : Segment) × Contains s.segments t × (t.base ≡ base)
 
 -- blocks and reservations ascend without overlap
 abbrev pub AreCoveredInOrder : SegsState → Type 0
