@@ -1,9 +1,9 @@
 -- The image stays where no word of an object or a reservation changes; and which words runs have.
-use Rattle.std.proofs.Common.{◌≡◌, ◌∙◌, ◌⊎◌, ℕ, ◌+◌, ◌<◌, ◌≤◌, Bool, true, false, refl, sym, ap, subst, List, [], ◌∷◌, ◌++◌, length, Option, Some, Contains, inl, inr, arith}
+use Rattle.std.proofs.Common.{◌≡◌, ◌∙◌, ℕ, ◌<◌, ◌≤◌, true, sym, ap, subst, List, [], ◌∷◌, ◌++◌, length, Option, Contains, inl, inr, arith}
 use Rattle.std.proofs.lemmas.Bool.{cases_Bool, cond-true, cond-false}
 use Rattle.std.proofs.lemmas.Option.{none-some}
 use Rattle.std.specs.Prelude.{slice_index}
-use Rattle.mps_base.specs.Address.{Address, Id, Word}
+use Rattle.mps_base.specs.Address.{Address, Word}
 use Rattle.mps_base.specs.Run.{Run, end_of, runs_within}
 use Rattle.mps_base.proofs.Runs.{contains_cases, contains_first, contains_later}
 use Rattle.mps_extents.specs.Extents.{is_covered, has_word}

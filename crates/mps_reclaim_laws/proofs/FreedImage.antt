@@ -1,20 +1,20 @@
 -- The image of an arena once blocks of white objects are freed.
-use Rattle.std.proofs.Common.{◌≡◌, ◌∙◌, ℕ, ◌<◌, ◌%◌, Bool, true, false, refl, sym, ap, subst, List, [], ◌∷◌, Option, Some, None, Contains, inl, inr, arith}
-use Rattle.std.proofs.lemmas.Bool.{cases_eq, ltb-true, and_parts}
+use Rattle.std.proofs.Common.{◌≡◌, ◌∙◌, ℕ, ◌<◌, true, refl, sym, ap, subst, List, [], ◌∷◌, Option, Some, None, Contains, inl, inr, arith}
+use Rattle.std.proofs.lemmas.Bool.{cases_eq, and_parts}
 use Rattle.std.proofs.lemmas.Option.{same_Some}
-use Rattle.std.specs.Prelude.{slice_get, slice_set, nat_lt, ◌≢◌}
+use Rattle.std.specs.Prelude.{slice_get, slice_set, nat_lt}
 use Rattle.mps_base.specs.Address.{Address, Id, word_of, address_of_word}
 use Rattle.mps_base.specs.Run.{Run}
 use Rattle.mps_base.specs.Segment.{Segment}
 use Rattle.mps_base.proofs.Runs.{contains_first, contains_later}
 use Rattle.mps_seg.specs.Segs.{SegsState}
 use Rattle.mps_amc.specs.Reclaiming.{lost_of, without_block, without_blocks}
-use Rattle.mps_model.specs.Graph.{Object, contains, entry_at, size_of}
-use Rattle.mps_model.specs.World.{World, extent}
+use Rattle.mps_model.specs.Graph.{Object, entry_at, size_of}
+use Rattle.mps_model.specs.World.{extent}
 use Rattle.mps_model.specs.Units.{is_ascending}
 use Rattle.mps_colours.specs.Colours.{Colours, is_white, AreAllScanned, AreDifferent}
 use Rattle.mps_colours.proofs.Sweeping.{contains-above}
-use Rattle.mps_image.specs.Memory.{Setting, Memory, memory_in}
+use Rattle.mps_image.specs.Memory.{Setting, memory_in}
 use Rattle.mps_image.specs.Image.{CellSet, LieApart, ImageStands, Stands}
 use Rattle.mps_image.proofs.ClientLaws.{white_block_is_freed}
 use Rattle.mps_image.proofs.Entries.{entry_at-set_other}
@@ -23,8 +23,8 @@ use Rattle.mps_image.proofs.SegmentMarks.{removing_clears}
 use Rattle.mps_reclaim_laws.specs.Freed.{addresses_of, addresses_without, AreWhiteUnread, IsCondemnedSegment}
 use Rattle.mps_reclaim_laws.specs.Laws.{LostBlocksAreFreed, FreesAreTheModels}
 use Rattle.mps_reclaim_laws.proofs.LostRuns.{address_there, lost_is}
-use Rattle.mps_reclaim_laws.proofs.BlockRuns.{IsExtent, run_of_object}
-use Rattle.mps_reclaim_laws.proofs.Without.{LiesAt, without_none, without_more, without_one, lies_still, frees_lead, frees_appended}
+use Rattle.mps_reclaim_laws.proofs.BlockRuns.{run_of_object}
+use Rattle.mps_reclaim_laws.proofs.Without.{without_none, without_more, without_one, frees_lead, frees_appended}
 use Rattle.mps_reclaim_laws.proofs.Freed.{white_freed, lost_is_white}
 
 pub lie_different : (s : Setting) (addresses : List (Option Address)) → LieApart s addresses → AreDifferent addresses

@@ -1,17 +1,17 @@
 -- Held segments: no two have one base or share a word, and what is left once one is given back.
-use Rattle.std.proofs.Common.{◌≡◌, ◌∙◌, ◌⊎◌, ℕ, zero, suc, ◌+◌, ◌*◌, ◌<◌, ◌≤◌, Bool, true, false, not, refl, sym, ap, subst, List, [], ◌∷◌, map, Option, Some, Contains, inl, inr, arith}
-use Rattle.std.proofs.lemmas.Bool.{cases_lt, cases_Bool, ne_eqb, cond-true, cond-false}
-use Rattle.std.proofs.lemmas.Option.{same_Some}
-use Rattle.std.specs.Prelude.{filter, if◌then◌else◌, ◌==◌}
+use Rattle.std.proofs.Common.{◌≡◌, ◌∙◌, ◌⊎◌, ℕ, suc, ◌+◌, ◌<◌, ◌≤◌, Bool, true, false, not, refl, sym, ap, subst, List, [], ◌∷◌, map, Some, Contains, inl, inr, arith}
+use Rattle.std.proofs.lemmas.Bool.{cases_lt, cases_eq, cases_Bool, eq-eqb, ne_eqb, cond-true, cond-false}
+use Rattle.std.proofs.lemmas.Option.{none-some, same_Some}
+use Rattle.std.specs.Prelude.{filter, find, ◌==◌}
 use Rattle.std.specs.List.{AllByRecursion}
 use Rattle.mps_base.specs.Address.{Address, Word, word_of, address_of_word, address_of_grain, grain_of, max_grains}
-use Rattle.mps_base.specs.Run.{Run, Covers, IsAscending, end_of}
-use Rattle.mps_base.specs.Segment.{Segment, segment_over, is_in_segment, end_of_segment, grains_of_segment, words_of_segment, without_segment}
-use Rattle.mps_base.proofs.Runs.{contains_first, contains_later, contained_bounds, IsAscending-lower}
+use Rattle.mps_base.specs.Run.{IsAscending, end_of}
+use Rattle.mps_base.specs.Segment.{Segment, segment_over, is_in_segment, end_of_segment, grains_of_segment, without_segment}
+use Rattle.mps_base.proofs.Runs.{IsAscending-lower}
 use Rattle.mps_colours.proofs.GivingBack.{find-filter_found}
 use Rattle.mps_image.specs.SegmentWords.{AreSegmentsInOrder}
 use Rattle.mps_image.proofs.SegmentWords.{over_word}
-use Rattle.mps_reclaim_laws.proofs.BlockRuns.{segment_cases, contains_no_segment, aligned_in, positive_in}
+use Rattle.mps_reclaim_laws.proofs.BlockRuns.{segment_cases, contains_no_segment, aligned_in}
 
 -- a held segment has a grain
 pub some_grains : (low high : ℕ) (ss : List Segment) (t : Segment) → IsAscending low high (map grains_of_segment ss) → Contains ss t
@@ -57,6 +57,36 @@ module _ (ss : List Segment) (order : AreSegmentsInOrder ss) where
                   (same_Some a b (sym (over a n held above below) ∙ over b n held' from inside))))
             ]
       ]
+
+-- what is found is held
+pub found_held : (p : Segment → Bool) (ss : List Segment) (t : Segment) → find p ss ≡ Some t → Contains ss t
+found_held p [] t e = absurd (none-some t e)
+found_held p (s ∷ ss) t e =
+    elim (cases_Bool (p s)) [
+      | inl is ↦
+          let same = same_Some s t (sym (cond-true (p s) (Some s) (find p ss) is) ∙ e) in
+          subst (λ (x : Segment). Contains (s ∷ ss) x) same (0, omega arith, refl)
+      | inr isnt ↦
+          let rest = found_held p ss t (sym (cond-false (p s) (Some s) (find p ss) isnt) ∙ e) in
+          (suc rest.0, omega (arith, rest.1), rest.2)
+    ]
+
+-- the segment at a base is the one that begins there, where no other does
+pub found_at : (ss : List Segment) (t : Segment) (base : Address) → Contains ss t → t.base ≡ base
+    → ((s : Segment) → Contains ss s → s.base ≡ base → s ≡ t) → find (λ s. s.base == base) ss ≡ Some t
+found_at [] t base held is only = absurd (contains_no_segment t held)
+found_at (s ∷ ss) t base held is only =
+    elim (cases_eq s.base base) [
+      | inl here ↦
+          cond-true (s.base == base) (Some s) (find (λ s. s.base == base) ss) (eq-eqb s.base base here)
+          ∙ ap Some (only s (0, omega arith, refl) here)
+      | inr other ↦
+          cond-false (s.base == base) (Some s) (find (λ s. s.base == base) ss) (ne_eqb s.base base other)
+          ∙ elim (segment_cases ss t s held) [
+            | inl same ↦ absurd (other (ap (λ (x : Segment). x.base) same ∙ is))
+            | inr later ↦ found_at ss t base later is (λ u h. only u (suc h.0, omega (arith, h.1), h.2))
+          ]
+    ]
 
 -- ---- without one
 

@@ -5,4 +5,7 @@ pub mod Without
 pub mod FreedImage
 pub mod HeldSegments
 pub mod Around
-pub mod Swept
+pub mod Reclaimed
+pub mod Next
+pub mod Emptied
+pub mod Unit

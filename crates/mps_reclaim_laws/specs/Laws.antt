@@ -1,5 +1,5 @@
 -- What is shown of a reclaim, each law a statement.
-use Rattle.std.specs.Prelude.{◌≡◌, ℕ, true, Option, List, Contains}
+use Rattle.std.specs.Prelude.{◌≡◌, ◌++◌, ℕ, true, Option, List, Contains}
 use Rattle.mps_base.specs.Address.{Address, Id, grain_of}
 use Rattle.mps_base.specs.Segment.{Segment}
 use Rattle.mps_base.specs.Trail.{Moves}
@@ -10,12 +10,18 @@ use Rattle.mps_seg.specs.Segs.{SegsState}
 use Rattle.mps_amc.specs.Reclaiming.{lost_of, freed_in, IsReclaimed}
 use Rattle.mps_model.specs.Graph.{Object, Point}
 use Rattle.mps_model.specs.World.{World, PointMemory}
+use Rattle.mps_model.specs.Flip.{end_where}
+use Rattle.mps_model.specs.Units.{is_last_condemned}
+use Rattle.mps_colours.specs.Collecting.{Collecting, Running, AreAllExamined}
+use Rattle.mps_colours.specs.Units.{IsReclaimedNext, reclaim_by}
+use Rattle.mps_trace.specs.Condemned.{IsNextCondemned}
 use Rattle.mps_colours.specs.Colours.{Colours, AreAllScanned}
 use Rattle.mps_image.specs.Memory.{Setting, memory_in}
 use Rattle.mps_image.specs.Image.{CellSet, ImageStands, Stands}
 use Rattle.mps_reclaim_laws.specs.Freed.{addresses_of, addresses_without, IsCondemnedSegment, AreWhiteFreed, AreWhiteUnread}
-use Rattle.mps_reclaim_laws.specs.Left.{IsUnreserved, AreSwept, IsSweptBy}
+use Rattle.mps_reclaim_laws.specs.Left.{IsUnreserved, StandsFreeing, IsReclaimShown}
 use Rattle.mps_reclaim_laws.specs.Moves.{AreFreesOf}
+use Rattle.mps_reclaim_laws.specs.Units.{FreesFor, IsUnitReclaimed}
 
 -- the blocks that the reclaim of a segment frees are those of the white objects in it
 abbrev pub LostBlocksAreWhite : Type 0
@@ -42,7 +48,34 @@ abbrev pub AReclaimKeepsTheImage : Type 0
 AReclaimKeepsTheImage =
     (f : Layout) (g : SegsState) (objects : List Object) (points : List (Option Point)) (memories : List PointMemory) (layout : ℕ → Layout)
     (condemned : List Id) (k : Colours) (addresses : List (Option Address)) (t : Segment) (moves : Moves) (base : Addr) (g' : SegsState)
-    (moves' : Moves) → AreSwept g objects points memories layout condemned k addresses → AreAllScanned k → Contains g.segments t
+    (moves' : Moves) → StandsFreeing g objects points memories layout condemned k addresses → AreAllScanned k → Contains g.segments t
     → t.base ≡ base.0 → bit g.condemned (grain_of t.base) ≡ true → IsUnreserved points memories t
     → IsReclaimed f g moves base g' moves'
-    → IsSweptBy g objects points memories layout condemned k addresses t g'
+    → IsReclaimShown g objects points memories layout condemned k addresses t g'
+
+-- ---- units of the abstract collector
+
+-- the lowest condemned segment from the cursor on is the one that is reclaimed next, and what it frees are the white objects in it
+abbrev pub TheNextIsReclaimed : Type 0
+TheNextIsReclaimed =
+    (x : Collecting) (g : SegsState) (layout : ℕ → Layout) (base : Address) → Running x → AreAllScanned x.colours → AreAllExamined x
+    → FreesFor g x.world x.running x.colours layout → (next : IsNextCondemned g x.cursor base)
+    → IsReclaimedNext x next.segment (addresses_of (lost_of g next.segment))
+
+-- the moves of a reclaim are the model's, but for the end of the collection, which comes after them where the segment is the last one
+abbrev pub TheMovesAreTheModels : Type 0
+TheMovesAreTheModels =
+    (f : Layout) (x : Collecting) (g : SegsState) (layout : ℕ → Layout) (base : Addr) (moves : Moves) (g' : SegsState) (moves' : Moves)
+    → Running x → AreAllScanned x.colours → AreAllExamined x → FreesFor g x.world x.running x.colours layout
+    → (next : IsNextCondemned g x.cursor base.0) → IsReclaimed f g moves base g' moves'
+    → moves'.moves ++ end_where (is_last_condemned x.running next.segment.base)
+    ≡ moves.moves ++ reclaim_by x next.segment.base (addresses_of (lost_of g next.segment))
+
+-- the reclaim is a unit, and the segments stand for the world after it
+abbrev pub AReclaimIsAUnit : Type 0
+AReclaimIsAUnit =
+    (f : Layout) (x : Collecting) (g : SegsState) (layout : ℕ → Layout) (base : Addr) (moves : Moves) (g' : SegsState) (moves' : Moves)
+    → Running x → AreAllScanned x.colours → AreAllExamined x → FreesFor g x.world x.running x.colours layout
+    → (next : IsNextCondemned g x.cursor base.0) → IsUnreserved x.world.graph.points x.world.point_memories next.segment
+    → IsReclaimed f g moves base g' moves'
+    → IsUnitReclaimed x next.segment (addresses_of (lost_of g next.segment)) layout g'

@@ -1,5 +1,5 @@
 -- What is left of an arena once a condemned segment is reclaimed.
-use Rattle.std.specs.Prelude.{◌≡◌, ◌⊎◌, ℕ, ◌+◌, ◌<◌, ◌≤◌, Bool, true, Option, Some, List, [], slice_get, Contains}
+use Rattle.std.specs.Prelude.{◌≡◌, ◌⊎◌, ℕ, ◌+◌, ◌<◌, ◌≤◌, true, Option, Some, List, [], slice_get, Contains}
 use Rattle.mps_base.specs.Address.{Address, Id, Word, word_of}
 use Rattle.mps_base.specs.Segment.{Segment, end_of_segment, without_segment}
 use Rattle.mps_format.specs.Layout.{Layout}
@@ -34,15 +34,15 @@ IsUnreserved points memories t =
     → (n < word_of t.base) ⊎ (word_of (end_of_segment t) ≤ n)
 
 -- the setting of objects and points in an arena in the last band of a collection that condemned these objects
-abbrev pub setting_swept : SegsState → List Object → List (Option Point) → List PointMemory → (layout : ℕ → Layout)
+abbrev pub setting_freeing_in : SegsState → List Object → List (Option Point) → List PointMemory → (layout : ℕ → Layout)
     → (condemned : List Id) → Colours → Setting
-setting_swept g objects points memories layout condemned k =
+setting_freeing_in g objects points memories layout condemned k =
     setting_freeing (setting_in g objects points memories layout [] condemned (λ id. true)) k
 
 -- the segments of an arena stand for objects in the last band
-pub record AreSwept (g : SegsState) (objects : List Object) (points : List (Option Point)) (memories : List PointMemory)
+pub record StandsFreeing (g : SegsState) (objects : List Object) (points : List (Option Point)) (memories : List PointMemory)
     (layout : ℕ → Layout) (condemned : List Id) (k : Colours) (addresses : List (Option Address)) : Type 0 where
-  pub image : Stands (setting_swept g objects points memories layout condemned k) (memory_in g) addresses k
+  pub image : Stands (setting_freeing_in g objects points memories layout condemned k) (memory_in g) addresses k
   pub order : AreSegmentsInOrder g.segments
   pub housed : AreHoused objects g.segments addresses
 
@@ -51,10 +51,10 @@ abbrev pub AreSegmentsLeft : SegsState → Segment → SegsState → Type 0
 AreSegmentsLeft g t g' = (g'.segments ≡ g.segments) ⊎ (g'.segments ≡ without_segment g.segments t.base)
 
 -- what is shown of a reclaim of a segment
-pub record IsSweptBy (g : SegsState) (objects : List Object) (points : List (Option Point)) (memories : List PointMemory)
+pub record IsReclaimShown (g : SegsState) (objects : List Object) (points : List (Option Point)) (memories : List PointMemory)
     (layout : ℕ → Layout) (condemned : List Id) (k : Colours) (addresses : List (Option Address)) (t : Segment) (g' : SegsState)
     : Type 0 where
-  pub swept : AreSwept g' objects points memories layout condemned k (addresses_without (addresses_of (lost_of g t)) addresses)
+  pub swept : StandsFreeing g' objects points memories layout condemned k (addresses_without (addresses_of (lost_of g t)) addresses)
   pub segments : AreSegmentsLeft g t g'
   pub condemned_same : g'.condemned ≡ g.condemned
   pub grains_same : g'.grains ≡ g.grains

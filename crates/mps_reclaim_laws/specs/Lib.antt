@@ -1,4 +1,5 @@
 pub mod Freed
 pub mod Left
 pub mod Moves
+pub mod Units
 pub mod Laws

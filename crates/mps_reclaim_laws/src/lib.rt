@@ -2,7 +2,7 @@
 //! Each function does nothing; what it shows is its contract.
 #![tactic(auto)]
 
-ghost use Rattle.mps_reclaim_laws.specs.Laws.{LostBlocksAreWhite, LostBlocksAreFreed, FreesAreTheModels, AReclaimKeepsTheImage};
+ghost use Rattle.mps_reclaim_laws.specs.Laws.{LostBlocksAreWhite, LostBlocksAreFreed, FreesAreTheModels, AReclaimKeepsTheImage, TheNextIsReclaimed, TheMovesAreTheModels, AReclaimIsAUnit};
 
 /// The blocks that the reclaim of a segment frees are those of the white objects in it.
 pub fn lost_blocks_are_white()
@@ -22,4 +22,19 @@ pub fn frees_are_the_models()
 /// A condemned segment is given back or padded: the image stands for the objects that are left.
 pub fn a_reclaim_keeps_the_image()
     ensures { AReclaimKeepsTheImage }
+{}
+
+/// The lowest condemned segment from the cursor on is the one that is reclaimed next.
+pub fn the_next_is_reclaimed()
+    ensures { TheNextIsReclaimed }
+{}
+
+/// The moves of a reclaim are the model's, but for the end of the collection.
+pub fn the_moves_are_the_models()
+    ensures { TheMovesAreTheModels }
+{}
+
+/// The reclaim of the next condemned segment is a unit of the abstract collector, and the segments stand for the world after it.
+pub fn a_reclaim_is_a_unit()
+    ensures { AReclaimIsAUnit }
 {}

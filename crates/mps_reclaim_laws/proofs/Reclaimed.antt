@@ -1,29 +1,27 @@
 -- A condemned segment is reclaimed: given back or padded. The image stands for the objects that are left.
-use Rattle.std.proofs.Common.{◌≡◌, ◌∙◌, ◌⊎◌, ℕ, ◌+◌, ◌*◌, ◌<◌, ◌≤◌, Bool, true, false, not, refl, sym, ap, subst, List, [], ◌∷◌, ◌++◌, Option, Some, None, Contains, inl, inr, arith}
-use Rattle.std.proofs.lemmas.Bool.{cases_eq, ne_eqb, false≢true, cases_Bool, not_from_false}
+use Rattle.std.proofs.Common.{◌≡◌, ◌∙◌, ℕ, ◌+◌, ◌<◌, ◌≤◌, Bool, true, false, not, refl, sym, ap, subst, List, [], ◌∷◌, ◌++◌, Option, Some, Contains, inl, inr, arith}
+use Rattle.std.proofs.lemmas.Bool.{cases_eq, ne_eqb, false≢true}
 use Rattle.std.proofs.lemmas.Option.{none-some, same_Some}
 use Rattle.std.specs.Prelude.{slice_get, slice_index, option_map, ◌==◌, IsTrue}
 use Rattle.mps_base.specs.Address.{Address, Id, Word, word_of, address_of_word, grain_of}
-use Rattle.mps_base.specs.Run.{Run, in_order, runs_within}
+use Rattle.mps_base.specs.Run.{Run, runs_within}
 use Rattle.mps_base.specs.Segment.{Segment, segment_over, end_of_segment, without_segment}
-use Rattle.mps_base.specs.Trail.{Moves, with_move}
+use Rattle.mps_base.specs.Trail.{Moves}
 use Rattle.mps_base.specs.declared.address.Addr.{Addr}
-use Rattle.mps_base.specs.declared.moves.Move.TheVariants.{Unseg}
 use Rattle.mps_bits.specs.Table.{bit}
-use Rattle.mps_extents.specs.Extents.{is_covered}
 use Rattle.mps_format.specs.Layout.{Layout}
-use Rattle.mps_seg.specs.Segs.{SegsState, IsEmptyAt, IsUsed}
+use Rattle.mps_seg.specs.Segs.{SegsState}
 use Rattle.mps_seg.specs.Collecting.{bit_of}
-use Rattle.mps_amc.specs.Reclaiming.{lost_of, freed_in, without_block, without_blocks, ArePadded, IsReclaimed, is_given, is_padded, moves_freed_in}
+use Rattle.mps_amc.specs.Reclaiming.{lost_of, freed_in, without_block, without_blocks, ArePadded, IsReclaimed, is_given, is_padded}
 use Rattle.mps_amc.proofs.Lost.{segments_after, words_after}
-use Rattle.mps_model.specs.Graph.{Object, Point, Reservation, entry_at, size_of}
+use Rattle.mps_model.specs.Graph.{Object, Point, entry_at, size_of}
 use Rattle.mps_model.specs.World.{PointMemory, extent, extents_of, reserved_extents}
 use Rattle.mps_colours.specs.Colours.{Colours, is_white, AreAllScanned}
-use Rattle.mps_image.specs.Memory.{Setting, Lies, LiesReserved, memory_in, pool_over_word, is_condemned_word}
+use Rattle.mps_image.specs.Memory.{Setting, Lies, memory_in, pool_over_word, is_condemned_word}
 use Rattle.mps_image.specs.Image.{Stands, ImageStands, black_cells}
 use Rattle.mps_image.proofs.ArenaLaws.{segments_change}
-use Rattle.mps_reclaim_laws.specs.Freed.{addresses_of, addresses_without, IsCondemnedSegment}
-use Rattle.mps_reclaim_laws.specs.Left.{LieInOne, AreHoused, IsUnreserved, setting_swept, AreSwept, AreSegmentsLeft, IsSweptBy}
+use Rattle.mps_reclaim_laws.specs.Freed.{addresses_of, addresses_without}
+use Rattle.mps_reclaim_laws.specs.Left.{AreHoused, IsUnreserved, setting_freeing_in, StandsFreeing, IsReclaimShown}
 use Rattle.mps_reclaim_laws.specs.Laws.{AReclaimKeepsTheImage}
 use Rattle.mps_reclaim_laws.proofs.Around.{image_around, among_within, covered_by, contains_left}
 use Rattle.mps_reclaim_laws.proofs.BlockRuns.{extent_there, run_there, contained_in_order}
@@ -46,10 +44,10 @@ white_unread false h = refl
 
 module _ (g : SegsState) (objects : List Object) (points : List (Option Point)) (memories : List PointMemory) (layout : ℕ → Layout)
     (condemned : List Id) (k : Colours) (addresses : List (Option Address)) (t : Segment)
-    (swept : AreSwept g objects points memories layout condemned k addresses) (scanned : AreAllScanned k) (held : Contains g.segments t)
+    (swept : StandsFreeing g objects points memories layout condemned k addresses) (scanned : AreAllScanned k) (held : Contains g.segments t)
     (is_condemned : bit g.condemned (grain_of t.base) ≡ true) (unreserved : IsUnreserved points memories t) where
   abbrev s : Setting
-  s = setting_swept g objects points memories layout condemned k
+  s = setting_freeing_in g objects points memories layout condemned k
 
   abbrev low : Word
   low = word_of t.base
@@ -63,7 +61,7 @@ module _ (g : SegsState) (objects : List Object) (points : List (Option Point)) 
   abbrev left : List (Option Address)
   left = addresses_without (addresses_of (lost_of g t)) addresses
 
-  freed_stands : Stands s (memory_in freed) left k
+  pub freed_stands : Stands s (memory_in freed) left k
   freed_stands =
       lost_blocks_are_freed s g addresses k t swept.image
       (record { order = swept.order; held = held; condemned = is_condemned; same = λ n. refl }) scanned
@@ -94,10 +92,10 @@ module _ (g : SegsState) (objects : List Object) (points : List (Option Point)) 
   -- the setting by the segments, their bits and the number of grains
   abbrev settled : SegsState → ℕ → List Segment → List Bool → Setting
   settled h grains segments bits =
-      setting_swept (record h { grains = grains; segments = segments; condemned = bits }) objects points memories layout condemned k
+      setting_freeing_in (record h { grains = grains; segments = segments; condemned = bits }) objects points memories layout condemned k
 
   stands_for : (h : SegsState) → h.grains ≡ g.grains → h.segments ≡ g.segments → h.condemned ≡ g.condemned → Stands s (memory_in h) left k
-      → Stands (setting_swept h objects points memories layout condemned k) (memory_in h) left k
+      → Stands (setting_freeing_in h objects points memories layout condemned k) (memory_in h) left k
   stands_for h grains segments bits st =
       subst (λ n. Stands (settled h n h.segments h.condemned) (memory_in h) left k) (sym grains)
       (subst (λ ss. Stands (settled h g.grains ss h.condemned) (memory_in h) left k) (sym segments)
@@ -144,7 +142,7 @@ module _ (g : SegsState) (objects : List Object) (points : List (Option Point)) 
         (λ point i r n l. padded.outside n (unreserved point i r n l) ∙ ap (λ ws. slice_index ws n) (sym old_words))
         freed_stands
 
-    pub swept_padded : IsSweptBy g objects points memories layout condemned k addresses t padded_state
+    pub swept_padded : IsReclaimShown g objects points memories layout condemned k addresses t padded_state
     swept_padded =
         let segments = segments_after (lost_of g t) g in
         record {
@@ -215,7 +213,7 @@ module _ (g : SegsState) (objects : List Object) (points : List (Option Point)) 
           was_condemned = λ id from to o i was now apart object lt. absurd (none-some from was);
         })
 
-    pub swept_given : IsSweptBy g objects points memories layout condemned k addresses t given_state
+    pub swept_given : IsReclaimShown g objects points memories layout condemned k addresses t given_state
     swept_given = record {
       swept = record {
         image =
@@ -240,11 +238,11 @@ module _ (g : SegsState) (objects : List Object) (points : List (Option Point)) 
 
   -- ---- either
 
-  same_segment : (base : Addr) (u : Segment) → t.base ≡ base.0 → segment_over g.segments base.0 ≡ Some u → t ≡ u
+  pub same_segment : (base : Addr) (u : Segment) → t.base ≡ base.0 → segment_over g.segments base.0 ≡ Some u → t ≡ u
   same_segment base u is found = same_Some t u (sym (over_base g.segments swept.order t held) ∙ ap (segment_over g.segments) is ∙ found)
 
   pub reclaimed_sweeps : (f : Layout) (moves : Moves) (base : Addr) (g' : SegsState) (moves' : Moves) → t.base ≡ base.0
-      → IsReclaimed f g moves base g' moves' → IsSweptBy g objects points memories layout condemned k addresses t g'
+      → IsReclaimed f g moves base g' moves' → IsReclaimShown g objects points memories layout condemned k addresses t g'
   reclaimed_sweeps f moves base g' moves' is (is_given u found empty state trail) =
       let one = same_segment base u is found in
       let emptied : runs_within low high freed.covered ≡ [] =
@@ -255,7 +253,7 @@ module _ (g : SegsState) (objects : List Object) (points : List (Option Point)) 
       ∙ ap (λ (x : Segment). record (freed_in g x) { segments = without_segment g.segments base.0 }) (sym one)
       ∙ ap (λ b. record freed { segments = without_segment g.segments b }) (sym is)
       in
-      subst (IsSweptBy g objects points memories layout condemned k addresses t) (sym given) (swept_given emptied)
+      subst (IsReclaimShown g objects points memories layout condemned k addresses t) (sym given) (swept_given emptied)
   reclaimed_sweeps f moves base g' moves' is (is_padded u found used state padded trail) =
       let one = same_segment base u is found in
       let pads : ArePadded f low high (runs_within low high freed.blocks) g.words g'.words =
@@ -266,7 +264,7 @@ module _ (g : SegsState) (objects : List Object) (points : List (Option Point)) 
       let left_state : g' ≡ padded_state f g'.words pads =
       state ∙ ap (λ (x : Segment). record (freed_in g x) { words = g'.words }) (sym one)
       in
-      subst (IsSweptBy g objects points memories layout condemned k addresses t) (sym left_state) (swept_padded f g'.words pads)
+      subst (IsReclaimShown g objects points memories layout condemned k addresses t) (sym left_state) (swept_padded f g'.words pads)
 
 pub a_reclaim_keeps_the_image : AReclaimKeepsTheImage
 a_reclaim_keeps_the_image f g objects points memories layout condemned k addresses t moves base g' moves' swept scanned held is bits
