@@ -8,4 +8,6 @@ pub mod Around
 pub mod Reclaimed
 pub mod Next
 pub mod Emptied
+pub mod Ending
 pub mod Unit
+pub mod Room

@@ -1,5 +1,5 @@
 -- The reclaim of the next condemned segment is a unit of the abstract collector.
-use Rattle.std.proofs.Common.{◌≡◌, ◌∙◌, ℕ, Bool, true, false, not, refl, sym, ap, subst, List, [], ◌∷◌, ◌++◌, Option, Some, Contains, inl, inr}
+use Rattle.std.proofs.Common.{◌≡◌, ◌∙◌, ℕ, Bool, true, false, not, refl, sym, ap, subst, List, [], ◌∷◌, ◌++◌, Option, Some, None, Contains, inl, inr}
 use Rattle.std.proofs.lemmas.Bool.{cases_Bool, true≢false, eq-eqb, not_from_true}
 use Rattle.std.proofs.lemmas.List.{append_assoc, append-nil}
 use Rattle.std.specs.Prelude.{if◌then◌else◌, ◌==◌, ◌≢◌}
@@ -26,16 +26,30 @@ use Rattle.mps_model.specs.Units.{frees_at, give_back_where, nothing_left, is_la
 use Rattle.mps_model.proofs.Cutting.{world_after_moves-append}
 use Rattle.mps_colours.specs.Colours.{AreAllScanned}
 use Rattle.mps_colours.specs.Collecting.{Collecting, Running, AreAllExamined}
+use Rattle.mps_model.specs.Graph.{entry_at}
+use Rattle.mps_model.specs.Effect.{segment_base_of}
+use Rattle.mps_base.specs.Address.{Id}
+use Rattle.std.proofs.lemmas.Bool.{leb-true, and_parts}
+use Rattle.std.specs.Prelude.{nat_le}
+use Rattle.std.specs.List.{list_all}
+use Rattle.std.proofs.Common.{None, arith}
+use Rattle.mps_seg.specs.Collecting.{collected}
+use Rattle.mps_image.specs.Memory.{memory_in, pool_layout, setting_at_rest}
+use Rattle.mps_image.specs.Image.{Stands, no_colours}
+use Rattle.mps_image.specs.AtRest.{StandsAtRest}
+use Rattle.mps_colours.specs.Colours.{is_white}
+use Rattle.mps_colours.proofs.Lists.{contains_cases}
+use Rattle.mps_reclaim_laws.proofs.Ending.{image_at_rest}
 use Rattle.mps_colours.specs.Units.{IsReclaimedNext, reclaims, reclaims_last, reclaim_by}
 use Rattle.mps_colours.proofs.GivingBack.{contains-without, contains-without_other}
-use Rattle.mps_colours.proofs.Reclaimed.{frees}
+use Rattle.mps_colours.proofs.Reclaimed.{frees, white_elsewhere}
 use Rattle.mps_colours.proofs.Sweeping.{AreFreed, sweeping_on}
 use Rattle.mps_image.specs.Image.{black_cells}
 use Rattle.mps_trace.specs.Condemned.{IsNextCondemned}
 use Rattle.mps_reclaim_laws.specs.Freed.{addresses_of, addresses_without}
 use Rattle.mps_reclaim_laws.specs.Left.{IsUnreserved, StandsFreeing, IsReclaimShown, setting_freeing_in}
-use Rattle.mps_reclaim_laws.specs.Units.{FreesFor, GoesOnSo, IsUnitReclaimed}
-use Rattle.mps_reclaim_laws.specs.Laws.{TheMovesAreTheModels, AReclaimIsAUnit}
+use Rattle.mps_reclaim_laws.specs.Units.{FreesFor, GoesOnSo, IsUnitReclaimed, EndsSo}
+use Rattle.mps_reclaim_laws.specs.Laws.{TheMovesAreTheModels, AReclaimIsAUnit, TheLastReclaimEnds}
 use Rattle.mps_reclaim_laws.proofs.BlockRuns.{aligned_in}
 use Rattle.mps_reclaim_laws.proofs.Emptied.{none_begins, one_begins}
 use Rattle.mps_reclaim_laws.proofs.FreedImage.{frees_are_the_models, lost_blocks_are_freed}
@@ -267,6 +281,93 @@ module _ (x : Collecting) (g : SegsState) (layout : ℕ → Layout) (base : Addr
         ends = λ last. reclaims_last is_next last;
       }
 
+  -- ---- the last one
+
+  last_later : is_last_condemned x.running t.base ≡ true → (b : Bool) → is_left ≡ b
+      → later ≡ record (world_after_moves swept (give_back_where t.base b)) { collection = None }
+  last_later last b is =
+      ap (λ c. world_after_moves w ((frees_at freed ++ give_back_where t.base is_left) ++ end_where c)) last
+      ∙ world_after_moves-append w (frees_at freed ++ give_back_where t.base is_left) (end_where true)
+      ∙ ap (λ v. world_after_moves v (end_where true))
+      (world_after_moves-append w (frees_at freed) (give_back_where t.base is_left)
+      ∙ ap (λ v. world_after_moves v (give_back_where t.base is_left)) gone.leads
+      ∙ ap (λ c. world_after_moves swept (give_back_where t.base c)) is)
+
+  none_white : is_last_condemned x.running t.base ≡ true → (id : Id) (at : Address) → entry_at gone.addresses id ≡ Some at
+      → is_white x.running.condemned x.colours id ≡ false
+  unfolding gone
+  none_white last id at e =
+      elim (cases_Bool (is_white x.running.condemned x.colours id)) [
+        | inr black ↦ black
+        | inl white ↦
+            let go = run.swept.to_go id at (gone.fewer id at e) white in
+            let up = is_next.first (segment_base_of w at) go.condemned go.above in
+            let down =
+            leb-true (segment_base_of w at) t.base
+            (all_passes (λ other. nat_le other t.base) x.running.condemned_segments (segment_base_of w at) last go.condemned)
+            in
+            absurd (white_elsewhere x run t freed is_next id at e white (omega (arith, up, down)))
+      ]
+    where
+      all_passes : (p : ℕ → Bool) (ns : List ℕ) (n : ℕ) → list_all p ns ≡ true → contains ns n ≡ true → p n ≡ true
+      all_passes p [] n all h = absurd (true≢false (sym h))
+      all_passes p (m ∷ ms) n all h =
+          let parts = and_parts (p m) (list_all p ms) all in
+          elim (contains_cases m ms n h) [
+            | inl same ↦ ap p (sym same) ∙ parts.0
+            | inr rest ↦ all_passes p ms n parts.1 rest
+          ]
+
+  ends_so : (g' : SegsState) → is_last_condemned x.running t.base ≡ true
+      → IsReclaimShown g w.graph.objects w.graph.points w.point_memories layout x.running.condemned x.colours w.addresses t g'
+      → layout ≡ pool_layout w → (b : Bool) → is_left ≡ b
+      → (world_after_moves swept (give_back_where t.base b)).segments ≡ g'.segments
+      → EndsSo x t freed g'
+  ends_so g' last shown same b is segments = ends_in b is segments
+    where
+      at_rest : Stands (setting_at_rest (collected g') w.graph.objects w.graph.points w.point_memories (pool_layout w))
+          (memory_in (collected g')) gone.addresses no_colours
+      at_rest =
+          subst (λ l. Stands (setting_at_rest (collected g') w.graph.objects w.graph.points w.point_memories l)
+          (memory_in (collected g')) gone.addresses no_colours) same
+          (image_at_rest g' w.graph.objects w.graph.points w.point_memories layout x.running.condemned x.colours gone.addresses scanned
+          (none_white last) (stands_later g' shown).image)
+
+      ends_in : (b : Bool) → is_left ≡ b → (world_after_moves swept (give_back_where t.base b)).segments ≡ g'.segments → EndsSo x t freed g'
+      ends_in true is segments =
+          let after = last_later last true is in
+          record {
+            ended = ap (λ (v : World). v.collection) after;
+            segments = ap (λ (v : World). v.segments) after ∙ segments;
+            stands = subst (StandsAtRest (collected g')) (sym after) at_rest;
+          }
+      ends_in false is segments =
+          let after = last_later last false is in
+          record {
+            ended = ap (λ (v : World). v.collection) after;
+            segments = ap (λ (v : World). v.segments) after ∙ segments;
+            stands = subst (StandsAtRest (collected g')) (sym after) at_rest;
+          }
+
+  pub ends : (fm : Layout) (moves : Moves) (g' : SegsState) (moves' : Moves) → layout ≡ pool_layout w
+      → IsUnreserved w.graph.points w.point_memories t → is_last_condemned x.running t.base ≡ true
+      → IsReclaimed fm g moves base g' moves' → EndsSo x t freed g'
+  ends fm moves g' moves' same unreserved last reclaimed = by_case reclaimed
+    where
+      shown : IsReclaimShown g w.graph.objects w.graph.points w.point_memories layout x.running.condemned x.colours w.addresses t g'
+      shown =
+          reclaimed_sweeps g w.graph.objects w.graph.points w.point_memories layout x.running.condemned x.colours w.addresses t f.stands
+          scanned next.listed next.condemned unreserved fm moves base g' moves' next.begins reclaimed
+
+      by_case : IsReclaimed fm g moves base g' moves' → EndsSo x t freed g'
+      by_case (is_given u found empty state trail) =
+          ends_so g' last shown same true (emptied u found empty)
+          (ap (λ ss. without_segment ss t.base) f.segments ∙ ap (without_segment g.segments) next.begins
+          ∙ sym (ap (λ (y : SegsState). y.segments) state))
+      by_case (is_padded u found used state padded trail) =
+          ends_so g' last shown same false (still_used u found used)
+          (f.segments ∙ sym (ap (λ (y : SegsState). y.segments) state ∙ segments_after (lost_of g u) g))
+
 pub the_moves_are_the_models : TheMovesAreTheModels
 the_moves_are_the_models fm x g layout base moves g' moves' run scanned examined f next reclaimed =
     moves_are x g layout base run scanned examined f next fm moves g' moves' reclaimed
@@ -274,3 +375,7 @@ the_moves_are_the_models fm x g layout base moves g' moves' run scanned examined
 pub a_reclaim_is_a_unit : AReclaimIsAUnit
 a_reclaim_is_a_unit fm x g layout base moves g' moves' run scanned examined f next unreserved reclaimed =
     is_unit x g layout base run scanned examined f next fm moves g' moves' unreserved reclaimed
+
+pub the_last_reclaim_ends : TheLastReclaimEnds
+the_last_reclaim_ends fm x g base moves g' moves' run scanned examined f next unreserved reclaimed last =
+    ends x g (pool_layout x.world) base run scanned examined f next fm moves g' moves' refl unreserved last reclaimed

@@ -1,5 +1,5 @@
 -- What is shown of a reclaim, each law a statement.
-use Rattle.std.specs.Prelude.{◌≡◌, ◌++◌, ℕ, true, Option, List, Contains}
+use Rattle.std.specs.Prelude.{◌≡◌, ◌++◌, ℕ, IsTrue, true, Option, List, Contains}
 use Rattle.mps_base.specs.Address.{Address, Id, grain_of}
 use Rattle.mps_base.specs.Segment.{Segment}
 use Rattle.mps_base.specs.Trail.{Moves}
@@ -14,14 +14,15 @@ use Rattle.mps_model.specs.Flip.{end_where}
 use Rattle.mps_model.specs.Units.{is_last_condemned}
 use Rattle.mps_colours.specs.Collecting.{Collecting, Running, AreAllExamined}
 use Rattle.mps_colours.specs.Units.{IsReclaimedNext, reclaim_by}
+use Rattle.mps_reclaim_laws.specs.Room.{HasRoomFor, CanBeReclaimed}
 use Rattle.mps_trace.specs.Condemned.{IsNextCondemned}
 use Rattle.mps_colours.specs.Colours.{Colours, AreAllScanned}
-use Rattle.mps_image.specs.Memory.{Setting, memory_in}
+use Rattle.mps_image.specs.Memory.{Setting, memory_in, pool_layout}
 use Rattle.mps_image.specs.Image.{CellSet, ImageStands, Stands}
 use Rattle.mps_reclaim_laws.specs.Freed.{addresses_of, addresses_without, IsCondemnedSegment, AreWhiteFreed, AreWhiteUnread}
 use Rattle.mps_reclaim_laws.specs.Left.{IsUnreserved, StandsFreeing, IsReclaimShown}
 use Rattle.mps_reclaim_laws.specs.Moves.{AreFreesOf}
-use Rattle.mps_reclaim_laws.specs.Units.{FreesFor, IsUnitReclaimed}
+use Rattle.mps_reclaim_laws.specs.Units.{FreesFor, IsUnitReclaimed, EndsSo}
 
 -- the blocks that the reclaim of a segment frees are those of the white objects in it
 abbrev pub LostBlocksAreWhite : Type 0
@@ -79,3 +80,21 @@ AReclaimIsAUnit =
     → (next : IsNextCondemned g x.cursor base.0) → IsUnreserved x.world.graph.points x.world.point_memories next.segment
     → IsReclaimed f g moves base g' moves'
     → IsUnitReclaimed x next.segment (addresses_of (lost_of g next.segment)) layout g'
+
+-- ---- the end, and what has to be known
+
+-- after the last reclaim, once marks and condemned bits are ended, the segments stand for a world at rest
+abbrev pub TheLastReclaimEnds : Type 0
+TheLastReclaimEnds =
+    (f : Layout) (x : Collecting) (g : SegsState) (base : Addr) (moves : Moves) (g' : SegsState) (moves' : Moves) → Running x
+    → AreAllScanned x.colours → AreAllExamined x → FreesFor g x.world x.running x.colours (pool_layout x.world)
+    → (next : IsNextCondemned g x.cursor base.0) → IsUnreserved x.world.graph.points x.world.point_memories next.segment
+    → IsReclaimed f g moves base g' moves' → IsTrue (is_last_condemned x.running next.segment.base)
+    → EndsSo x next.segment (addresses_of (lost_of g next.segment)) g'
+
+-- the next condemned segment can be reclaimed
+abbrev pub TheNextCanBeReclaimed : Type 0
+TheNextCanBeReclaimed =
+    (x : Collecting) (g : SegsState) (layout : ℕ → Layout) (moves : Moves) (base : Addr)
+    → FreesFor g x.world x.running x.colours layout → (next : IsNextCondemned g x.cursor base.0) → HasRoomFor g moves next.segment
+    → CanBeReclaimed g moves base next.segment

@@ -1,5 +1,5 @@
 -- The reclaim of a condemned segment as a unit of the abstract collector.
-use Rattle.std.specs.Prelude.{◌≡◌, ℕ, false, IsTrue, Some, List, Contains}
+use Rattle.std.specs.Prelude.{◌≡◌, ℕ, false, IsTrue, Some, None, List, Contains}
 use Rattle.mps_base.specs.Address.{Address, grain_of}
 use Rattle.mps_base.specs.Segment.{Segment}
 use Rattle.mps_bits.specs.Table.{bit}
@@ -13,6 +13,8 @@ use Rattle.mps_model.specs.World.{World}
 use Rattle.mps_colours.specs.Colours.{Colours}
 use Rattle.mps_colours.specs.Collecting.{Collecting}
 use Rattle.mps_colours.specs.Units.{IsUnit, IsLastUnit, reclaim_by, reclaimed}
+use Rattle.mps_image.specs.AtRest.{StandsAtRest}
+use Rattle.mps_seg.specs.Collecting.{collected}
 use Rattle.mps_reclaim_laws.specs.Left.{StandsFreeing}
 
 -- the segments of an arena stand for a world whose collection is in the last band
@@ -33,3 +35,9 @@ pub record GoesOnSo (x : Collecting) (t : Segment) (freed : List Address) (layou
 pub record IsUnitReclaimed (x : Collecting) (t : Segment) (freed : List Address) (layout : ℕ → Layout) (g' : SegsState) : Type 0 where
   pub goes_on : is_last_condemned x.running t.base ≡ false → GoesOnSo x t freed layout g'
   pub ends : IsTrue (is_last_condemned x.running t.base) → IsLastUnit x (reclaim_by x t.base freed)
+
+-- after the last reclaim no collection runs, and once marks and condemned bits are ended the segments stand for the world at rest
+pub record EndsSo (x : Collecting) (t : Segment) (freed : List Address) (g' : SegsState) : Type 0 where
+  pub ended : (world_after_moves x.world (reclaim_by x t.base freed)).collection ≡ None
+  pub segments : (world_after_moves x.world (reclaim_by x t.base freed)).segments ≡ g'.segments
+  pub stands : StandsAtRest (collected g') (world_after_moves x.world (reclaim_by x t.base freed))

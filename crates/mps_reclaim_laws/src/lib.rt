@@ -2,7 +2,7 @@
 //! Each function does nothing; what it shows is its contract.
 #![tactic(auto)]
 
-ghost use Rattle.mps_reclaim_laws.specs.Laws.{LostBlocksAreWhite, LostBlocksAreFreed, FreesAreTheModels, AReclaimKeepsTheImage, TheNextIsReclaimed, TheMovesAreTheModels, AReclaimIsAUnit};
+ghost use Rattle.mps_reclaim_laws.specs.Laws.{LostBlocksAreWhite, LostBlocksAreFreed, FreesAreTheModels, AReclaimKeepsTheImage, TheNextIsReclaimed, TheMovesAreTheModels, AReclaimIsAUnit, TheLastReclaimEnds, TheNextCanBeReclaimed};
 
 /// The blocks that the reclaim of a segment frees are those of the white objects in it.
 pub fn lost_blocks_are_white()
@@ -37,4 +37,14 @@ pub fn the_moves_are_the_models()
 /// The reclaim of the next condemned segment is a unit of the abstract collector, and the segments stand for the world after it.
 pub fn a_reclaim_is_a_unit()
     ensures { AReclaimIsAUnit }
+{}
+
+/// The last reclaim ends the collection: once marks and condemned bits are ended, the segments stand for the world at rest.
+pub fn the_last_reclaim_ends()
+    ensures { TheLastReclaimEnds }
+{}
+
+/// The next condemned segment can be reclaimed.
+pub fn the_next_can_be_reclaimed()
+    ensures { TheNextCanBeReclaimed }
 {}
