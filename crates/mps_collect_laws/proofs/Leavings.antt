@@ -4,7 +4,7 @@ use Rattle.std.proofs.lemmas.Bool.{false≢true, cases_Bool}
 use Rattle.std.specs.Prelude.{is_some}
 use Rattle.mps_base.specs.Address.{Id}
 use Rattle.mps_base.specs.declared.moves.Move.{Move}
-use Rattle.mps_model.specs.Graph.{contains, ids_in_slots, is_automatic, ids_of_client}
+use Rattle.mps_model.specs.Graph.{contains, ids_in_holds, ids_in_slots, is_automatic, ids_of_client}
 use Rattle.mps_model.specs.Collection.{is_condemned}
 use Rattle.mps_model.specs.World.{World, address_of, is_live, object_is, has_area_word, live_automatic_ids, ids_of_area_words}
 use Rattle.mps_model.specs.Effect.{Everything, condemned_by, condemned_zones, world_flipped, world_after_moves}
@@ -20,6 +20,7 @@ use Rattle.mps_colours.proofs.UnitScans.{targets_may_be_fixed, strong_is_tracing
 use Rattle.mps_colours.proofs.Reclaimed.{frees, cleared, final_collection}
 use Rattle.mps_colours.proofs.Reclaiming.{goes_on_leads, last_leads}
 use Rattle.mps_colours.proofs.Rows.{units_shown}
+use Rattle.mps_colours.proofs.FlipLists.{holds_show}
 use Rattle.mps_colours.proofs.Flipped.{flipped_running}
 use Rattle.mps_colours.proofs.FlipBegins.{client_of_fixed, flip_done, flip_ended}
 use Rattle.mps_colours.proofs.WholeBegins.{everything, nothing_remembered, begun_running, whole_begun}
@@ -213,10 +214,19 @@ module _ (w : World) (first : List Move) (y : Collecting) (rest : IsAtRest w) (s
         let word = contains-filter (has_area_word w) (live_automatic_ids w) n h in
         contains_filtered (has_area_word begins.world) begins.running.condemned n word.1 (everything w rest n word.0)
 
+    -- what an area word holds is pinned, or wasn't condemned
+    hold_black : (n : Id) → contains (ids_in_holds w.graph) n ≡ true → is_white_in begins n ≡ false
+    hold_black n h = elim (cases_Bool (is_condemned begins.running n)) [
+      | inl is ↦ not_white_if_kept begins.running.condemned begins.colours n (contains_filtered (has_area_word w) begins.running.condemned n
+          (holds_show w w.graph.areas n rest.well_formed.words h) is)
+      | inr isnt ↦ not_white_outside begins.running.condemned begins.colours n isnt
+    ]
+
     pub in_place : AreInPlace w y (world_after_moves w (flip_act w Everything ++ later))
     in_place = record {
       manual = λ n h. since_flip n (not_white_outside begins.running.condemned begins.colours n (not_condemned n h));
       pinned = λ n h. since_flip n (not_white_if_kept begins.running.condemned begins.colours n (is_pinned n h));
+      holds = λ n h. since_flip n (hold_black n h);
       held = λ n h. since_act n (held_black n h);
       held_live = λ n h. ap is_some (since_act n (held_black n h)) ∙ held_lives n h;
     }

@@ -3,7 +3,7 @@ use Rattle.std.specs.Prelude.{◌≡◌, ℕ, false, IsTrue, Option, None, List,
 use Rattle.mps_base.specs.Address.{Id, Address}
 use Rattle.mps_base.specs.Segment.{Segment}
 use Rattle.mps_base.specs.declared.moves.Move.{Move}
-use Rattle.mps_model.specs.Graph.{contains, ids_in_slots, is_automatic, is_weak_object}
+use Rattle.mps_model.specs.Graph.{contains, ids_in_holds, ids_in_slots, is_automatic, is_weak_object}
 use Rattle.mps_model.specs.Collection.{Collection}
 use Rattle.mps_model.specs.World.{World, Tail, address_of, is_live, object_is, ids_of_area_words}
 use Rattle.mps_model.specs.Effect.{Everything, condemned_by, condemned_zones, world_flipped, world_after_moves}
@@ -35,6 +35,8 @@ pub record IsCollected (w after : World) : Type 0 where
 pub record AreInPlace (w : World) (acted : Collecting) (after : World) : Type 0 where
   pub manual : (id : Id) → object_is is_automatic w id ≡ false → address_of after id ≡ address_of w id
   pub pinned : (id : Id) → IsTrue (contains (ids_of_area_words w) id) → address_of after id ≡ address_of w id
+  -- what an area word holds
+  pub holds : (id : Id) → IsTrue (contains (ids_in_holds w.graph) id) → address_of after id ≡ address_of w id
   -- what slots and messages hold lies where the act left it, and is live
   pub held : (id : Id) → IsTrue (contains (ids_in_slots w.graph ++ w.graph.messages) id) → address_of after id ≡ address_of acted.world id
   pub held_live : (id : Id) → IsTrue (contains (ids_in_slots w.graph ++ w.graph.messages) id) → IsTrue (is_live after id)
