@@ -98,7 +98,7 @@ module _ (s : SegsState) (held : AreHeld s) (tables : HasTables s) (u : Segment)
   unfolding bit
   other_bit t there = get_or-set_other s.condemned (grain_of u.base) (grain_of t.base) false false (other_grain t there)
 
-  over_still : (n : Word) (t : Segment) → segment_over s.segments (address_of_word n) ≡ Some t
+  pub over_still : (n : Word) (t : Segment) → segment_over s.segments (address_of_word n) ≡ Some t
       → segment_over (with_one s u).segments (address_of_word n) ≡ Some t
   over_still n t e =
       let over = over_is s held n t e in

@@ -11,3 +11,6 @@ pub mod Objects
 pub mod Copied
 pub mod Staying
 pub mod Grown
+pub mod Room
+pub mod Steps
+pub mod FixSteps

@@ -1,2 +1,3 @@
 pub mod Tracing
 pub mod Fixing
+pub mod Steps
