@@ -1,20 +1,19 @@
 -- A block was copied to the first words of a tail: the state stands for the world in which its object moved.
-use Rattle.std.proofs.Common.{◌≡◌, ◌∙◌, ◌⊎◌, ℕ, ◌+◌, ◌-◌, ◌*◌, ◌/◌, ◌<◌, ◌≤◌, Bool, true, false, refl, sym, ap, List, [], ◌∷◌, ◌++◌, length, get_or, Option, Some, None, subst, inl, inr, arith}
-use Rattle.std.proofs.lemmas.Bool.{cases_eq, cond-true}
+use Rattle.std.proofs.Common.{◌≡◌, ◌∙◌, ℕ, ◌+◌, ◌-◌, ◌*◌, ◌<◌, ◌≤◌, true, false, sym, ap, List, [], ◌∷◌, ◌++◌, length, get_or, Option, Some, subst, inl, inr, arith}
+use Rattle.std.proofs.lemmas.Bool.{cases_eq}
 use Rattle.std.proofs.lemmas.List.{get_or-set_same, get_or-set_other, length-set}
-use Rattle.std.specs.Prelude.{◌≢◌, ◌==◌, IsTrue, slice_get, slice_set, if◌then◌else◌}
+use Rattle.std.specs.Prelude.{◌≢◌, ◌==◌, slice_set, if◌then◌else◌}
 use Rattle.std.specs.List.{AllByRecursion}
 use Rattle.std.specs.Option.{option_map_or}
 use Rattle.mps_base.specs.Address.{Address, Id, Word, word_of, address_of_word}
-use Rattle.mps_base.specs.Run.{Run, Covers, IsAscending, end_of, with_run, without_run}
-use Rattle.mps_base.specs.Segment.{Segment, segment_over, words_of_segment, end_of_segment}
+use Rattle.mps_base.specs.Run.{Run, Covers, IsAscending, with_run, without_run}
+use Rattle.mps_base.specs.Segment.{segment_over, end_of_segment}
 use Rattle.mps_base.proofs.Runs.{IsAscending-without_run}
 use Rattle.mps_format.specs.Layout.{Layout}
 use Rattle.mps_seg.specs.Segs.{SegsState}
 use Rattle.mps_buffer.specs.declared.point.Buffer.{Buffer}
 use Rattle.mps_buffer.specs.Points.{empty_buffer, run_of}
 use Rattle.mps_amc.specs.Moving.{moved_to, run_at}
-use Rattle.mps_amc.specs.Moving as moving
 use Rattle.mps_amc.specs.Amc.{AmcState, HasTail, tails_of}
 use Rattle.mps_amc.specs.Amc as amc
 use Rattle.mps_amc.proofs.Tails.{tail_written}
@@ -22,14 +21,14 @@ use Rattle.mps_gen.specs.State.{ChainsState}
 use Rattle.mps_laws.proofs.ApartRuns.{AreApart, all_in_order, ascending_with_run}
 use Rattle.mps_laws.proofs.Segments.{among_aligned}
 use Rattle.mps_laws.proofs.Tails.{own_tail, other_tail}
-use Rattle.mps_model.specs.Graph.{Object, entry_at, size_of}
-use Rattle.mps_model.specs.World.{World, is_copying_pool, pool_of, words_of, target_generation_for, tail_of, empty_run, extents_of, reserved_extents}
+use Rattle.mps_model.specs.Graph.{Object, size_of}
+use Rattle.mps_model.specs.World.{pool_of, words_of, target_generation_for, tail_of, empty_run, extents_of, reserved_extents}
 use Rattle.mps_model.specs.Effect.{after_moved, placing, words_after, rest_of_segment}
 use Rattle.mps_colours.specs.Colours.{keeping}
 use Rattle.mps_colours.specs.Collecting.{Collecting}
-use Rattle.mps_image.specs.Memory.{Setting, memory_in, pool_layout, words_of_arena}
+use Rattle.mps_image.specs.Memory.{memory_in, pool_layout, words_of_arena}
 use Rattle.mps_image.specs.Image.{CellSet, ImageStands}
-use Rattle.mps_image.specs.Fixing.{AreCopied, AreAtHand, AreMarksMoved, address_moved}
+use Rattle.mps_image.specs.Fixing.{AreCopied, AreMarksMoved, address_moved}
 use Rattle.mps_image.proofs.Copied as copying
 use Rattle.mps_image.proofs.Extents.{all_extents, all_reserved}
 use Rattle.mps_image.proofs.InOrder.{all_append}

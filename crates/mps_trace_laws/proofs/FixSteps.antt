@@ -1,22 +1,19 @@
 -- A fix of the tracing collector is a step of the abstract collector, in each case of what the code finds.
-use Rattle.std.proofs.Common.{◌≡◌, ◌∙◌, ◌⊎◌, ℕ, ◌+◌, ◌-◌, ◌*◌, ◌/◌, ◌%◌, ◌<◌, ◌≤◌, Bool, true, false, refl, sym, ap, List, [], ◌∷◌, length, slice_index, Option, Some, None, subst, inl, inr, arith}
-use Rattle.std.proofs.lemmas.Bool.{cases_Bool, cases_lt, eqb-true, and_right, and_from}
-use Rattle.std.proofs.lemmas.List.{get_or-drop, set-set, get_or-set_same}
-use Rattle.std.proofs.lemmas.Option.{none-some, same_Some}
-use Rattle.std.specs.Prelude.{IsTrue, ◌==◌, not, ◌≢◌, find, slice_get, slice_set}
+use Rattle.std.proofs.Common.{◌≡◌, ◌∙◌, ℕ, ◌+◌, ◌-◌, ◌*◌, ◌%◌, ◌<◌, ◌≤◌, true, false, refl, sym, ap, List, [], Option, Some, None, subst, inl, inr, arith}
+use Rattle.std.proofs.lemmas.Bool.{cases_Bool, eqb-true}
+use Rattle.std.proofs.lemmas.List.{set-set, get_or-set_same}
+use Rattle.std.specs.Prelude.{IsTrue, ◌==◌, find, slice_get, slice_set}
 use Rattle.mps_base.specs.Address.{Address, Id, Word, word_of, grain_of, address_of_word, address_of_grain, grains_needed}
-use Rattle.mps_base.specs.Placement.{Placement, Place, NewSegment, OverLimit, NoFreeRun}
+use Rattle.mps_base.specs.Placement.{Place, NewSegment}
 use Rattle.mps_base.specs.Run.{Covers}
 use Rattle.mps_base.specs.Segment.{Segment, segment_over, words_of_segment, is_in_segment}
 use Rattle.mps_base.specs.Trail.{Moves}
 use Rattle.mps_base.specs.declared.address.Addr.{Addr}
 use Rattle.mps_base.specs.declared.names.Rank.TheVariants.{Exact}
 use Rattle.mps_format.specs.Layout.{Layout}
-use Rattle.mps_arena.specs.Arena.{answer_of_placement}
 use Rattle.mps_seg.specs.Segs.{SegsState, moves_after}
-use Rattle.mps_seg.specs.Collecting.{is_condemned_at, is_kept_at}
+use Rattle.mps_seg.specs.Collecting.{is_condemned_at}
 use Rattle.mps_buffer.specs.declared.point.Buffer.{Buffer}
-use Rattle.mps_buffer.specs.Points.{run_of}
 use Rattle.mps_amc.specs.Moving.{moved_to, kept_in_place, size_at}
 use Rattle.mps_amc.specs.Moving as moving
 use Rattle.mps_amc.specs.Amc.{AmcState, HasTail, tails_of, FixesAt, IsFixed, placement_of_copy, answer_of_fix, segs_fixed, moves_fixed, tails_after, with_place, AreWordsFixed}
@@ -28,27 +25,23 @@ use Rattle.mps_model.specs.Graph.{Object, entry_at, size_of}
 use Rattle.mps_model.specs.World.{World, is_copying_pool, is_copying_object, target_generation_for, segment_at, address_of}
 use Rattle.mps_model.specs.Placement.{ForMove, placement_of}
 use Rattle.mps_model.specs.LegalMove.{has_no_room}
-use Rattle.mps_colours.specs.Colours.{is_white, IsUnoccupied}
+use Rattle.mps_colours.specs.Colours.{IsUnoccupied}
 use Rattle.mps_colours.specs.Collecting.{Collecting, is_white_in}
 use Rattle.mps_colours.specs.Fixing.{new_segment, IsUnused}
-use Rattle.mps_image.specs.Memory.{Setting, Lies, memory_in, pool_layout, words_of_arena, is_condemned_word}
+use Rattle.mps_image.specs.Memory.{Setting, pool_layout, words_of_arena, is_condemned_word}
 use Rattle.mps_image.specs.Image.{CellSet, AreShaped}
-use Rattle.mps_image.specs.Fixing.{Target, AreAtHand}
-use Rattle.mps_image.specs.Fixing as fixing
+use Rattle.mps_image.specs.Fixing.{AreAtHand}
 use Rattle.mps_image.proofs.Copied.{IsMove}
-use Rattle.mps_image.proofs.Targets as targets
-use Rattle.mps_trace.specs.Trace.{Traced, FixesTo, target_of}
-use Rattle.mps_trace.specs.Trace as trace
+use Rattle.mps_trace.specs.Trace.{Traced, target_of}
 use Rattle.mps_trace_laws.specs.Tracing.{StateStands, TracingStands, setting_of}
-use Rattle.mps_trace_laws.specs.Steps.{IsFixStep, AFixIsAStep}
+use Rattle.mps_trace_laws.specs.Steps.{IsFixStep}
 use Rattle.mps_trace_laws.proofs.Growing.{IsFree, with_one, grows, over_still, other_grain}
-use Rattle.mps_trace_laws.proofs.Hands.{IsPlacedAt, in_tail, in_new, is_over, has_no_run, placed_at, tail_at_hand, new_at_hand, nothing_there}
-use Rattle.mps_trace_laws.proofs.Found as found
+use Rattle.mps_trace_laws.proofs.Hands.{tail_at_hand, new_at_hand, nothing_there}
 use Rattle.mps_trace_laws.proofs.Objects as objects
 use Rattle.mps_trace_laws.proofs.Copied.{has_still, copied_stands}
 use Rattle.mps_trace_laws.proofs.Staying.{stayed_stands}
 use Rattle.mps_trace_laws.proofs.Grown.{buffer_of, grown_in, grown_stands}
-use Rattle.mps_trace_laws.proofs.Steps.{kept_in, nothing_done, stay_step, move_step, new_step}
+use Rattle.mps_trace_laws.proofs.Steps.{kept_in, stay_step, move_step, new_step}
 
 -- a tail that is written twice is what was written last
 written_twice : (state : AmcState) (pool generation : ℕ) (a c : Buffer) → HasTail state pool generation
@@ -119,7 +112,7 @@ module _ (F : Type 0) (layout : F → Layout) (formats : List (Option F)) (of : 
   condemned_word =
       ap (is_condemned_at x.segs) (let e : address_of_word (word_of at.0) ≡ at.0 = omega (arith, aligned) in e) ∙ condemned
 
-  place_is : placement_of y.world (ForMove t) ≡ placement_of_copy x.amc x.segs o.pool generation size
+  pub place_is : placement_of y.world (ForMove t) ≡ placement_of_copy x.amc x.segs o.pool generation size
   place_is =
       objects.placed_as y.world t at.0 o object there s over_in_world of pool (stands.state.pools.generations_are o.pool copying) x.amc x.segs
       stands.state.segments stands.state.tails.same
@@ -127,7 +120,7 @@ module _ (F : Type 0) (layout : F → Layout) (formats : List (Option F)) (of : 
 
   -- ---- it stays
 
-  stays_there : (moves' : Moves) → has_no_room (placement_of y.world (ForMove t)) ≡ true
+  pub stays_there : (moves' : Moves) → has_no_room (placement_of y.world (ForMove t)) ≡ true
       → moves' ≡ Rattle.mps_base.specs.Trail.with_move x.moves (Rattle.mps_base.specs.declared.moves.Move.TheVariants.Stay at)
       → IsFixStep layout formats of at_flip done x (record { amc = x.amc; segs = kept_in_place x.segs at.0; moves = moves' }) y t at.0
   stays_there moves' full trail =
@@ -167,7 +160,7 @@ module _ (F : Type 0) (layout : F → Layout) (formats : List (Option F)) (of : 
         hand.free 0 id 0 other.0 positive
         (record { at = to; address = e; object = other.1; within = some; is = refl })
 
-    moves_there : (moves' : Moves) → placement_of y.world (ForMove t) ≡ Place b.from
+    pub moves_there : (moves' : Moves) → placement_of y.world (ForMove t) ≡ Place b.from
         → moves' ≡ Rattle.mps_base.specs.Trail.with_move x.moves
         (Rattle.mps_base.specs.declared.moves.Move.TheVariants.Moved at (record { 0 = to }))
         → IsFixStep layout formats of at_flip done x
@@ -321,7 +314,7 @@ module _ (F : Type 0) (layout : F → Layout) (formats : List (Option F)) (of : 
       no_object = none_inside;
     }
 
-    new_there : (moves' : Moves) → placement_of y.world (ForMove t) ≡ NewSegment grain (grains_needed size)
+    pub new_there : (moves' : Moves) → placement_of y.world (ForMove t) ≡ NewSegment grain (grains_needed size)
         → moves' ≡ Rattle.mps_base.specs.Trail.with_move (Rattle.mps_base.specs.Trail.with_move x.moves
         (Rattle.mps_base.specs.declared.moves.Move.TheVariants.Seg (record { 0 = base }) (grains_needed size) o.pool generation))
         (Rattle.mps_base.specs.declared.moves.Move.TheVariants.Moved at (record { 0 = base }))

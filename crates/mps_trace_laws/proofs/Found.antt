@@ -138,7 +138,7 @@ module _ (F : Type 0) (layout : F → Layout) (formats : List (Option F)) (of : 
     lies : (k : ℕ) → k < size_of o → Lies y.world.graph.objects y.world.addresses t k o (word_of now + k)
     lies k lt = record { at = now; address = target.there; object = target.object; within = lt; is = refl }
 
-    copying : IsTrue (is_copying_pool y.world o.pool)
+    pub copying : IsTrue (is_copying_pool y.world o.pool)
     copying = stands.state.all_move t o target.object target.automatic
 
     head_there : slice_index x.segs.words (word_of now) ≡ head_of_body o.body
@@ -159,7 +159,7 @@ module _ (F : Type 0) (layout : F → Layout) (formats : List (Option F)) (of : 
               ]
         ]
 
-    is_aligned : at % 8 ≡ 0
+    pub is_aligned : at % 8 ≡ 0
     is_aligned =
         elim target.means [
           | inl e ↦ (stands.state.image.placed.address t at e).aligned
@@ -178,7 +178,7 @@ module _ (F : Type 0) (layout : F → Layout) (formats : List (Option F)) (of : 
         ]
 
     -- the segment over it
-    its_segment : (s : Segment) × (segment_over x.segs.segments at ≡ Some s) × (s.pool ≡ o.pool)
+    pub its_segment : (s : Segment) × (segment_over x.segs.segments at ≡ Some s) × (s.pool ≡ o.pool)
     its_segment =
         let begins : address_of_word (word_of at) ≡ at = omega (arith, is_aligned) in
         over_of_pool (segment_over x.segs.segments at) o.pool
@@ -190,18 +190,18 @@ module _ (F : Type 0) (layout : F → Layout) (formats : List (Option F)) (of : 
       f = pool_layout y.world o.pool
 
       -- where no forwarded block is the object is
-      unforwarded_there : IsUnforwarded f x.segs.words at → at ≡ now
+      pub unforwarded_there : IsUnforwarded f x.segs.words at → at ≡ now
       unforwarded_there isnt =
           elim there_or_moved [
             | inl e ↦ e
             | inr moved ↦ absurd (isnt (size_of o) moved.begins)
           ]
 
-      size_is : at ≡ now → size_at f x.segs.words at ≡ size_of o
+      pub size_is : at ≡ now → size_at f x.segs.words at ≡ size_of o
       size_is e =
           ap (λ a. size_at f x.segs.words a) e ∙ ap f.size head_there ∙ shaped.whole t o target.object target.automatic
 
-      block_stands : at ≡ now → BlockStands f x.segs.words at (size_at f x.segs.words at)
+      pub block_stands : at ≡ now → BlockStands f x.segs.words at (size_at f x.segs.words at)
       block_stands e =
           let within = stands.state.image.placed.within t (size_of o - 1) o (word_of now + (size_of o - 1)) (lies (size_of o - 1) (omega (arith, positive))) in
           record {

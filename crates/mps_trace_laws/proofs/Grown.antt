@@ -1,9 +1,7 @@
 -- A segment was taken for a copy: the state stands for the world with that segment, whose words are at hand.
-use Rattle.std.proofs.Common.{◌≡◌, ◌∙◌, ◌⊎◌, ℕ, ◌+◌, ◌*◌, ◌/◌, ◌<◌, ◌≤◌, Bool, true, false, refl, sym, ap, List, Option, Some, Contains, subst, inl, inr, arith}
+use Rattle.std.proofs.Common.{◌≡◌, ◌∙◌, ℕ, ◌*◌, true, false, sym, ap, List, Option, Contains, subst, inl, inr}
 use Rattle.std.proofs.lemmas.Bool.{cases_Bool}
-use Rattle.std.specs.Prelude.{IsTrue, slice_set}
 use Rattle.mps_base.specs.Address.{Address, word_of, grain_of, words_of_grain}
-use Rattle.mps_base.specs.Run.{Run}
 use Rattle.mps_base.specs.Segment.{Segment, words_of_segment, with_segment}
 use Rattle.mps_bits.specs.Table.{bit}
 use Rattle.mps_format.specs.Layout.{Layout}
@@ -14,7 +12,7 @@ use Rattle.mps_amc.specs.Amc.{AmcState, HasTail}
 use Rattle.mps_amc.specs.Amc as amc
 use Rattle.mps_amc.proofs.Tails.{tail_written}
 use Rattle.mps_gen.specs.State.{ChainsState}
-use Rattle.mps_laws.proofs.Segments.{IsAmong, among_new, among_with, among_cases}
+use Rattle.mps_laws.proofs.Segments.{among_with, among_cases}
 use Rattle.mps_laws.proofs.Tails.{own_tail, other_tail}
 use Rattle.mps_model.specs.Graph.{contains}
 use Rattle.mps_model.specs.World.{with_tail, tail_of}
@@ -22,7 +20,7 @@ use Rattle.mps_model.specs.Effect.{holding}
 use Rattle.mps_colours.specs.Collecting.{Collecting}
 use Rattle.mps_image.specs.Memory.{memory_in, pool_layout}
 use Rattle.mps_image.specs.Image.{CellSet}
-use Rattle.mps_trace_laws.specs.Tracing.{AreCondemnedAt, StateStands, setting_of}
+use Rattle.mps_trace_laws.specs.Tracing.{StateStands}
 use Rattle.mps_trace_laws.proofs.Growing.{IsFree, with_one, held_more, tables_more, grows, its_bit, other_bit, other_grain}
 use Rattle.mps_trace_laws.proofs.Hands.{contains_among}
 use Rattle.mps_trace_laws.proofs.Taking.{which}

@@ -14,3 +14,4 @@ pub mod Grown
 pub mod Room
 pub mod Steps
 pub mod FixSteps
+pub mod EachFix

@@ -1,8 +1,8 @@
 -- A segment is taken for a copy: its words are at hand, and the other tails are as before.
-use Rattle.std.proofs.Common.{◌≡◌, ◌∙◌, ◌⊎◌, ℕ, zero, suc, ◌+◌, ◌-◌, ◌*◌, ◌/◌, ◌<◌, ◌≤◌, Bool, true, false, refl, sym, ap, List, [], ◌∷◌, Option, Some, Contains, subst, inl, inr, arith}
-use Rattle.mps_base.specs.Address.{Address, Id, Word, word_of, address_of_word}
-use Rattle.mps_base.specs.Run.{Run, Covers, end_of}
-use Rattle.mps_base.specs.Segment.{Segment, words_of_segment, with_segment}
+use Rattle.std.proofs.Common.{◌≡◌, ◌∙◌, ℕ, zero, suc, ◌+◌, ◌<◌, Bool, refl, sym, ap, List, [], ◌∷◌, Option, Some, Contains, subst, inl, inr, arith}
+use Rattle.mps_base.specs.Address.{Address, Id, Word}
+use Rattle.mps_base.specs.Run.{Run, Covers}
+use Rattle.mps_base.specs.Segment.{Segment, words_of_segment}
 use Rattle.mps_format.specs.Layout.{Layout}
 use Rattle.mps_seg.specs.Segs.{SegsState}
 use Rattle.mps_laws.proofs.Segments.{IsAmong, among_new, among_with, segment_bounds}

@@ -1,20 +1,17 @@
 -- What the world says of a live automatic object, where the segments stand for it.
-use Rattle.std.proofs.Common.{◌≡◌, ◌∙◌, ℕ, ◌+◌, ◌*◌, ◌/◌, ◌<◌, ◌≤◌, Bool, true, false, refl, sym, ap, List, map, Option, Some, None, subst, arith}
-use Rattle.std.proofs.lemmas.Option.{same_Some}
+use Rattle.std.proofs.Common.{◌≡◌, ◌∙◌, ℕ, true, false, sym, ap, List, Option, Some}
 use Rattle.std.specs.Prelude.{IsTrue, is_some, option_and_then, slice_get}
 use Rattle.std.specs.Option.{option_map_or}
-use Rattle.mps_base.specs.Address.{Address, Id, Word, word_of, address_of_word}
+use Rattle.mps_base.specs.Address.{Address, Id, word_of}
 use Rattle.mps_base.specs.Generation.{target_generation}
-use Rattle.mps_base.specs.Placement.{Placement, run_placement}
-use Rattle.mps_base.specs.Run.{Run}
-use Rattle.mps_base.specs.Segment.{Segment, segment_over, grains_of_segment}
+use Rattle.mps_base.specs.Segment.{Segment, segment_over}
 use Rattle.mps_seg.specs.Segs.{SegsState}
-use Rattle.mps_buffer.specs.Points.{run_of, placement_at_front}
+use Rattle.mps_buffer.specs.Points.{run_of}
 use Rattle.mps_amc.specs.Amc.{AmcState, placement_of_copy}
 use Rattle.mps_amc.specs.Amc as amc
 use Rattle.mps_gen.specs.State.{ChainsState}
 use Rattle.mps_gen.specs.State as chains
-use Rattle.mps_model.specs.Graph.{Object, entry_at, size_of, for_object}
+use Rattle.mps_model.specs.Graph.{Object, entry_at, size_of}
 use Rattle.mps_model.specs.World.{World, pool_of, words_of, is_live, is_copying_object, is_copying_pool, generation_of, target_generation_for, generations_of, tail_of}
 use Rattle.mps_model.specs.World as world
 use Rattle.mps_model.specs.Accessing.{address_or_null}

@@ -1,10 +1,10 @@
 -- An object that is kept is white no longer: there are fewer moves to take.
-use Rattle.std.proofs.Common.{◌≡◌, ◌∙◌, ℕ, ◌+◌, ◌*◌, ◌<◌, ◌≤◌, Bool, true, false, refl, sym, ap, List, Option, Some, subst, inl, inr, arith}
+use Rattle.std.proofs.Common.{◌≡◌, ◌∙◌, ◌<◌, true, false, sym, ap, List, Option, Some, subst, inl, inr}
 use Rattle.std.proofs.lemmas.Bool.{cases_eq, true≢false}
 use Rattle.std.specs.Prelude.{is_some, count_by}
 use Rattle.mps_base.specs.Address.{Address, Id}
 use Rattle.mps_model.specs.Graph.{contains, entry_at}
-use Rattle.mps_model.specs.World.{World, is_live, live_ids}
+use Rattle.mps_model.specs.World.{World, live_ids}
 use Rattle.mps_colours.specs.Colours.{Colours, is_white, keeping}
 use Rattle.mps_colours.proofs.Addresses.{same_live_ids}
 use Rattle.mps_colours.proofs.Lists.{count_by-lt}

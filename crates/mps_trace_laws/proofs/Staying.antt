@@ -1,9 +1,9 @@
 -- A block was kept where it lies: the state stands for the world in which its object stays.
-use Rattle.std.proofs.Common.{◌≡◌, ◌∙◌, ◌<◌, ◌≤◌, true, List, length, Option, Some, arith}
+use Rattle.std.proofs.Common.{◌≡◌, ◌∙◌, ◌<◌, true, List, length, Option, Some, arith}
 use Rattle.std.proofs.lemmas.List.{length-set}
 use Rattle.mps_base.specs.Address.{Address, Id, word_of}
 use Rattle.mps_seg.specs.Segs.{SegsState}
-use Rattle.mps_seg.specs.Collecting.{keeping, greying}
+use Rattle.mps_seg.specs.Collecting.{keeping}
 use Rattle.mps_amc.specs.Moving.{kept_in_place}
 use Rattle.mps_amc.specs.Amc.{AmcState}
 use Rattle.mps_gen.specs.State.{ChainsState}

@@ -1,33 +1,28 @@
 -- A fix of the tracing collector is a step of the abstract collector: each way in which an object is kept.
-use Rattle.std.proofs.Common.{◌≡◌, ◌∙◌, ◌⊎◌, ℕ, ◌+◌, ◌-◌, ◌*◌, ◌/◌, ◌%◌, ◌<◌, ◌≤◌, Bool, true, false, refl, sym, ap, List, [], ◌∷◌, ◌++◌, length, Option, Some, None, subst, inl, inr, arith}
-use Rattle.std.proofs.lemmas.Bool.{cases_Bool, eqb-true, cond-true}
+use Rattle.std.proofs.Common.{◌≡◌, ◌∙◌, ℕ, ◌+◌, ◌-◌, ◌≤◌, true, false, refl, sym, ap, List, [], ◌∷◌, ◌++◌, Option, Some, subst, arith}
+use Rattle.std.proofs.lemmas.Bool.{cond-true}
 use Rattle.std.proofs.lemmas.List.{append-nil, append_assoc}
-use Rattle.std.proofs.lemmas.Option.{none-some, same_Some}
-use Rattle.std.specs.Prelude.{IsTrue, ◌==◌, find, slice_get, option_map, if◌then◌else◌}
-use Rattle.mps_base.specs.Address.{Address, Id, Word, word_of, grain_of, address_of_word, address_of_grain}
-use Rattle.mps_base.specs.Placement.{Placement, Place, NewSegment}
-use Rattle.mps_base.specs.Segment.{Segment, segment_over, words_of_segment, is_in_segment}
+use Rattle.std.specs.Prelude.{IsTrue, slice_get}
+use Rattle.mps_base.specs.Address.{Address, Id, Word, address_of_word, address_of_grain}
+use Rattle.mps_base.specs.Placement.{Place, NewSegment}
+use Rattle.mps_base.specs.Segment.{Segment, words_of_segment}
 use Rattle.mps_base.specs.Trail.{Moves, with_move}
 use Rattle.mps_base.specs.declared.address.Addr.{Addr}
 use Rattle.mps_base.specs.declared.moves.Move.{Move}
 use Rattle.mps_base.specs.declared.moves.Move.TheVariants as move
 use Rattle.mps_format.specs.Layout.{Layout}
-use Rattle.mps_seg.specs.Segs.{SegsState}
-use Rattle.mps_amc.specs.Amc.{AmcState}
 use Rattle.mps_gen.specs.State.{ChainsState}
-use Rattle.mps_model.specs.Collection.{Collection}
-use Rattle.mps_model.specs.Graph.{Object, entry_at, size_of}
-use Rattle.mps_model.specs.World.{World, is_copying_pool, is_copying_object, id_at, pool_of, target_generation_for, live_ids, segment_at, with_tail}
+use Rattle.mps_model.specs.Graph.{Object, entry_at}
+use Rattle.mps_model.specs.World.{World, is_copying_pool, is_copying_object, id_at, pool_of, target_generation_for, live_ids, with_tail}
 use Rattle.mps_model.specs.Accessing.{address_or_null}
 use Rattle.mps_model.specs.Placement.{ForMove, placement_of}
 use Rattle.mps_model.specs.LegalMove.{has_no_room}
 use Rattle.mps_model.specs.Effect.{world_after_moves, where_one, with_collection, placing, after_moved, after_segment, holding, segment_of_move}
 use Rattle.mps_model.specs.Flip.{at_address, segment_for_move}
-use Rattle.mps_colours.specs.Colours.{Colours, is_white, keeping, IsUnoccupied}
+use Rattle.mps_colours.specs.Colours.{keeping, IsUnoccupied}
 use Rattle.mps_colours.specs.Collecting.{Collecting, is_white_in}
-use Rattle.mps_colours.specs.Fixing.{Fixes, Keeps, passes, keeps, moves_to_place, moves_to_segment, stays, moved_to, stays_at, new_segment, IsUnused}
+use Rattle.mps_colours.specs.Fixing.{Keeps, passes, keeps, moves_to_place, moves_to_segment, stays, moved_to, stays_at, new_segment, IsUnused}
 use Rattle.mps_colours.proofs.Addresses.{id_at-live, live_is_listed}
-use Rattle.mps_image.specs.Memory.{pool_layout}
 use Rattle.mps_image.specs.Image.{CellSet}
 use Rattle.mps_image.specs.Fixing.{FixesOne, address_moved}
 use Rattle.mps_image.specs.Fixing as fixing

@@ -1,5 +1,5 @@
 -- What a fix of the tracing collector is to the abstract collector: a step of it, after which the state stands for it as before.
-use Rattle.std.specs.Prelude.{◌≡◌, ℕ, false, Option, Some, List, ◌∷◌, ◌++◌}
+use Rattle.std.specs.Prelude.{◌≡◌, false, Option, Some, List, ◌∷◌, ◌++◌}
 use Rattle.mps_base.specs.Address.{Address, Id}
 use Rattle.mps_base.specs.declared.address.Addr.{Addr}
 use Rattle.mps_base.specs.declared.moves.Move.{Move}

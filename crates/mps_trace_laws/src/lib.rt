@@ -3,6 +3,7 @@
 #![tactic(auto)]
 
 ghost use Rattle.mps_trace_laws.specs.Fixing.{AFixIsInWords, AFixIsOneFix, ATargetCanBeFixed};
+ghost use Rattle.mps_trace_laws.specs.Steps.{AFixIsAStep};
 
 /// Whatever the collector does with an address is a fix in words, of the image of objects in the segments then.
 pub fn a_fix_is_in_words<F>()
@@ -18,4 +19,10 @@ pub fn a_fix_is_one_fix<F>()
 /// An address that means a live automatic object can be fixed.
 pub fn a_target_can_be_fixed<F>()
     ensures { ATargetCanBeFixed F }
+{}
+
+/// What the collector does with an address that means an object is a step of the abstract collector, which fixes that object by the
+/// same moves, and the state stands for it as before.
+pub fn a_fix_is_a_step<F>()
+    ensures { AFixIsAStep F }
 {}
