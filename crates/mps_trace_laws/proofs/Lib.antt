@@ -15,3 +15,4 @@ pub mod Room
 pub mod Steps
 pub mod FixSteps
 pub mod EachFix
+pub mod EachCell

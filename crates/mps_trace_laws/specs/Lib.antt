@@ -1,3 +1,4 @@
 pub mod Tracing
 pub mod Fixing
 pub mod Steps
+pub mod Cells

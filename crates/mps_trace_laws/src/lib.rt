@@ -2,6 +2,7 @@
 //! Each function does nothing; what it shows is its contract.
 #![tactic(auto)]
 
+ghost use Rattle.mps_trace_laws.specs.Cells.{ACellCanBeFixed, ACellIsAStep};
 ghost use Rattle.mps_trace_laws.specs.Fixing.{AFixIsInWords, AFixIsOneFix, ATargetCanBeFixed};
 ghost use Rattle.mps_trace_laws.specs.Steps.{AFixIsAStep};
 
@@ -25,4 +26,14 @@ pub fn a_target_can_be_fixed<F>()
 /// same moves, and the state stands for it as before.
 pub fn a_fix_is_a_step<F>()
     ensures { AFixIsAStep F }
+{}
+
+/// A reference of an object that isn't white can be fixed, where what it refers to is live.
+pub fn a_cell_can_be_fixed<F>()
+    ensures { ACellCanBeFixed F }
+{}
+
+/// What the collector does with such a reference is a step of the abstract collector, and the cell holds where its target is then.
+pub fn a_cell_is_a_step<F>()
+    ensures { ACellIsAStep F }
 {}
