@@ -26,7 +26,8 @@ image_around s m words addresses k done none long same reserved st = record {
   words = record {
     long = long ∙ st.words.long;
     cells = λ id i o n c read l cell.
-        subst (λ w. IsCellWord addresses s.at_flip (head_of_body o.body) c w) (sym (same id i o n l)) (st.words.cells id i o n c read l cell);
+        subst (λ w. IsCellWord addresses s.at_flip (head_of_body o.body) c w) (sym (same id i o n l))
+        (st.words.cells id i o n c read l cell);
     forwarded = λ id from to o was now apart object. absurd (none-some from (ap (λ ps. entry_at ps id) (sym none) ∙ was));
   };
   fixed = record {

@@ -10,9 +10,9 @@ use Rattle.mps_base.specs.Segment.{Segment, segment_over, is_in_segment, end_of_
 use Rattle.mps_base.proofs.Runs.{contains_cases, contains_first, contains_later}
 use Rattle.mps_extents.proofs.ApartRuns.{contains_put}
 use Rattle.mps_extents.proofs.ContainedRuns.{contains_put_other}
-use Rattle.mps_laws.proofs.ApartRuns.{AreApart, AreAllApart, IsRunWithin, all_in_order, ascending_in_order}
 use Rattle.mps_model.specs.Graph.{Object, entry_at, size_of}
 use Rattle.mps_model.specs.World.{extent, extents_of}
+use Rattle.mps_laws.proofs.ApartRuns.{AreApart, AreAllApart, IsRunWithin, all_in_order, ascending_in_order}
 use Rattle.mps_image.specs.Image.{LieApart}
 use Rattle.mps_image.specs.Memory.{Setting}
 use Rattle.mps_image.proofs.Extents.{all_extents}

@@ -6,8 +6,8 @@ use Rattle.std.specs.List.{list_any}
 use Rattle.mps_base.specs.Address.{Word, word_of, address_of_word, address_of_grain, grain_of}
 use Rattle.mps_base.specs.Run.{Run, runs_within}
 use Rattle.mps_base.specs.Segment.{Segment, end_of_segment}
-use Rattle.mps_model.specs.World.{begins_in}
 use Rattle.mps_amc.proofs.Within.{within_here, within_later, sides}
+use Rattle.mps_model.specs.World.{begins_in}
 
 module _ (t : Segment) (aligned : t.base ≡ address_of_grain (grain_of t.base)) where
   abbrev low : Word

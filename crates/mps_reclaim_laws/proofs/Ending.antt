@@ -41,7 +41,9 @@ module _ (g : SegsState) (objects : List Object) (points : List (Option Point)) 
   no_kept n = none_set (length g.marks.kept) n
 
   no_grey : (n : Word) → (memory_in (collected g)).grey n ≡ false
-  no_grey n = ap (λ b. b || bit (replicate (length g.marks.kept) false) n) (none_set (length g.marks.kept) n) ∙ none_set (length g.marks.kept) n
+  no_grey n =
+      ap (λ b. b || bit (replicate (length g.marks.kept) false) n) (none_set (length g.marks.kept) n)
+      ∙ none_set (length g.marks.kept) n
 
   marks_ended : MarksStand (setting_at_rest (collected g) objects points memories layout) (memory_in (collected g)).kept
       (memory_in (collected g)).grey addresses no_colours

@@ -155,7 +155,8 @@ ascending_filtered p low high (s ∷ ss) asc =
       | inl is ↦ subst P (sym (filtered_first p s ss is)) (asc.0, asc.1, rest)
       | inr isnt ↦
           subst P (sym (filtered_later p s ss isnt))
-          (IsAscending-lower (end_of (grains_of_segment s)) low high (map grains_of_segment (filter p ss)) (omega (arith, asc.0, asc.1)) rest)
+          (IsAscending-lower (end_of (grains_of_segment s)) low high (map grains_of_segment (filter p ss))
+          (omega (arith, asc.0, asc.1)) rest)
     ]
 
 pub order_left : (ss : List Segment) (base : Address) → AreSegmentsInOrder ss → AreSegmentsInOrder (without_segment ss base)

@@ -11,3 +11,4 @@ pub mod Emptied
 pub mod Ending
 pub mod Unit
 pub mod Room
+pub mod LastBand

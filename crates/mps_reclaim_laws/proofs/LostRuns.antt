@@ -6,10 +6,10 @@ use Rattle.mps_base.specs.Address.{Address, address_of_word}
 use Rattle.mps_base.specs.Run.{Run, end_of, IsAscending, runs_within}
 use Rattle.mps_base.proofs.Runs.{contains_cases, contains_first, contains_later}
 use Rattle.mps_seg.specs.Segs.{SegsState}
-use Rattle.mps_model.specs.Graph.{contains}
-use Rattle.mps_model.specs.Units.{is_ascending}
 use Rattle.mps_amc.specs.Reclaiming.{is_lost}
 use Rattle.mps_amc.proofs.Within.{within_here, within_later, sides}
+use Rattle.mps_model.specs.Graph.{contains}
+use Rattle.mps_model.specs.Units.{is_ascending}
 use Rattle.mps_colours.proofs.Lists as lists
 use Rattle.mps_reclaim_laws.specs.Freed.{addresses_of}
 
@@ -93,7 +93,8 @@ module _ (g : SegsState) (low high : ℕ) where
       elim (first_or_not r rs) [
         | inl (is, first) ↦
             subst (λ xs. is_ascending above (addresses_of xs) ≡ true) (sym first)
-            (and_from (nat_lt above (address_of_word r.from)) (is_ascending (address_of_word r.from) (addresses_of (lost_among g low high rs)))
+            (and_from (nat_lt above (address_of_word r.from))
+            (is_ascending (address_of_word r.from) (addresses_of (lost_among g low high rs)))
             (lt-ltb above (address_of_word r.from) (higher r.from asc.0 is.from))
             (lost_ascend (address_of_word r.from) (end_of r) b rs asc.2 (λ n past from. omega (arith, past, asc.1))))
         | inr later ↦

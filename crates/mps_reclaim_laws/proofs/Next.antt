@@ -1,8 +1,7 @@
 -- The lowest condemned segment from the cursor on is the one that the abstract collector reclaims next.
 use Rattle.std.proofs.Common.{◌≡◌, ◌∙◌, ℕ, ◌+◌, ◌≤◌, true, refl, sym, ap, List, Option, Some, None, Contains, inl, inr, arith}
-use Rattle.std.proofs.lemmas.Bool.{cases_lt, true≢false}
+use Rattle.std.proofs.lemmas.Bool.{cases_lt, true≢false, eqb-true}
 use Rattle.std.specs.Prelude.{find, IsTrue, ◌==◌}
-use Rattle.std.proofs.lemmas.Bool.{eqb-true}
 use Rattle.std.specs.Option.{option_map_or}
 use Rattle.mps_base.specs.Address.{Address, grain_of, max_grains}
 use Rattle.mps_base.specs.Segment.{Segment, segment_over, is_in_segment}

@@ -1,11 +1,11 @@
 -- The reclaim of the next condemned segment is a unit of the abstract collector.
-use Rattle.std.proofs.Common.{◌≡◌, ◌∙◌, ℕ, Bool, true, false, not, refl, sym, ap, subst, List, [], ◌∷◌, ◌++◌, Option, Some, None, Contains, inl, inr}
-use Rattle.std.proofs.lemmas.Bool.{cases_Bool, true≢false, eq-eqb, not_from_true}
+use Rattle.std.proofs.Common.{◌≡◌, ◌∙◌, ℕ, Bool, true, false, not, refl, sym, ap, subst, List, [], ◌∷◌, ◌++◌, Option, Some, None, Contains, inl, inr, arith}
+use Rattle.std.proofs.lemmas.Bool.{cases_Bool, true≢false, eq-eqb, not_from_true, leb-true}
 use Rattle.std.proofs.lemmas.List.{append_assoc, append-nil}
-use Rattle.std.specs.Prelude.{if◌then◌else◌, ◌==◌, ◌≢◌}
+use Rattle.std.specs.Prelude.{if◌then◌else◌, ◌==◌, ◌≢◌, nat_le}
 use Rattle.std.specs.List.{list_any}
 use Rattle.std.specs.Option.{option_map_or}
-use Rattle.mps_base.specs.Address.{Address, grain_of, word_of}
+use Rattle.mps_base.specs.Address.{Address, grain_of, word_of, Id}
 use Rattle.mps_base.specs.Run.{in_order, runs_within}
 use Rattle.mps_base.specs.Segment.{Segment, segment_over, without_segment, end_of_segment}
 use Rattle.mps_base.specs.Trail.{Moves}
@@ -15,37 +15,28 @@ use Rattle.mps_base.specs.declared.moves.Move.TheVariants.{Unseg}
 use Rattle.mps_bits.specs.Table.{bit}
 use Rattle.mps_format.specs.Layout.{Layout}
 use Rattle.mps_seg.specs.Segs.{SegsState, IsEmptyAt, IsUsed}
+use Rattle.mps_seg.specs.Collecting.{collected}
 use Rattle.mps_amc.specs.Reclaiming.{lost_of, freed_in, moves_freed_in, IsReclaimed, is_given, is_padded}
 use Rattle.mps_amc.proofs.Lost.{segments_after}
 use Rattle.mps_model.specs.Collection.{Collection}
-use Rattle.mps_model.specs.Graph.{contains, without_first}
+use Rattle.mps_model.specs.Graph.{contains, without_first, entry_at}
 use Rattle.mps_model.specs.World.{World, begins_in, covered, extents_of, reserved_extents, is_empty_segment}
-use Rattle.mps_model.specs.Effect.{world_after_moves, reclaiming}
+use Rattle.mps_model.specs.Effect.{world_after_moves, reclaiming, segment_base_of}
 use Rattle.mps_model.specs.Flip.{at_address, end_where}
 use Rattle.mps_model.specs.Units.{frees_at, give_back_where, nothing_left, is_last_condemned}
+use Rattle.mps_model.proofs.Reaching.{list_all-contains}
 use Rattle.mps_model.proofs.Cutting.{world_after_moves-append}
-use Rattle.mps_colours.specs.Colours.{AreAllScanned}
+use Rattle.mps_colours.specs.Colours.{AreAllScanned, is_white}
 use Rattle.mps_colours.specs.Collecting.{Collecting, Running, AreAllExamined}
-use Rattle.mps_model.specs.Graph.{entry_at}
-use Rattle.mps_model.specs.Effect.{segment_base_of}
-use Rattle.mps_base.specs.Address.{Id}
-use Rattle.std.proofs.lemmas.Bool.{leb-true, and_parts}
-use Rattle.std.specs.Prelude.{nat_le}
-use Rattle.std.specs.List.{list_all}
-use Rattle.std.proofs.Common.{None, arith}
-use Rattle.mps_seg.specs.Collecting.{collected}
-use Rattle.mps_image.specs.Memory.{memory_in, pool_layout, setting_at_rest}
-use Rattle.mps_image.specs.Image.{Stands, no_colours}
-use Rattle.mps_image.specs.AtRest.{StandsAtRest}
-use Rattle.mps_colours.specs.Colours.{is_white}
-use Rattle.mps_colours.proofs.Lists.{contains_cases}
-use Rattle.mps_reclaim_laws.proofs.Ending.{image_at_rest}
 use Rattle.mps_colours.specs.Units.{IsReclaimedNext, reclaims, reclaims_last, reclaim_by}
 use Rattle.mps_colours.proofs.GivingBack.{contains-without, contains-without_other}
 use Rattle.mps_colours.proofs.Reclaimed.{frees, white_elsewhere}
 use Rattle.mps_colours.proofs.Sweeping.{AreFreed, sweeping_on}
-use Rattle.mps_image.specs.Image.{black_cells}
+use Rattle.mps_image.specs.Memory.{memory_in, pool_layout, setting_at_rest}
+use Rattle.mps_image.specs.Image.{Stands, no_colours, black_cells}
+use Rattle.mps_image.specs.AtRest.{StandsAtRest}
 use Rattle.mps_trace.specs.Condemned.{IsNextCondemned}
+use Rattle.mps_reclaim_laws.proofs.Ending.{image_at_rest}
 use Rattle.mps_reclaim_laws.specs.Freed.{addresses_of, addresses_without}
 use Rattle.mps_reclaim_laws.specs.Left.{IsUnreserved, StandsFreeing, IsReclaimShown, setting_freeing_in}
 use Rattle.mps_reclaim_laws.specs.Units.{FreesFor, GoesOnSo, IsUnitReclaimed, EndsSo}
@@ -175,7 +166,8 @@ module _ (x : Collecting) (g : SegsState) (layout : ℕ → Layout) (base : Addr
   abbrev later : World
   later = world_after_moves w (reclaim_by x t.base freed)
 
-  later_is : is_last_condemned x.running t.base ≡ false → (b : Bool) → is_left ≡ b → later ≡ world_after_moves swept (give_back_where t.base b)
+  later_is : is_last_condemned x.running t.base ≡ false → (b : Bool) → is_left ≡ b
+      → later ≡ world_after_moves swept (give_back_where t.base b)
   later_is not_last b is =
       ap (λ c. world_after_moves w ((frees_at freed ++ give_back_where t.base is_left) ++ end_where c)) not_last
       ∙ ap (world_after_moves w) (append-nil (frees_at freed ++ give_back_where t.base is_left))
@@ -304,19 +296,10 @@ module _ (x : Collecting) (g : SegsState) (layout : ℕ → Layout) (base : Addr
             let up = is_next.first (segment_base_of w at) go.condemned go.above in
             let down =
             leb-true (segment_base_of w at) t.base
-            (all_passes (λ other. nat_le other t.base) x.running.condemned_segments (segment_base_of w at) last go.condemned)
+            (list_all-contains (λ other. nat_le other t.base) x.running.condemned_segments (segment_base_of w at) last go.condemned)
             in
             absurd (white_elsewhere x run t freed is_next id at e white (omega (arith, up, down)))
       ]
-    where
-      all_passes : (p : ℕ → Bool) (ns : List ℕ) (n : ℕ) → list_all p ns ≡ true → contains ns n ≡ true → p n ≡ true
-      all_passes p [] n all h = absurd (true≢false (sym h))
-      all_passes p (m ∷ ms) n all h =
-          let parts = and_parts (p m) (list_all p ms) all in
-          elim (contains_cases m ms n h) [
-            | inl same ↦ ap p (sym same) ∙ parts.0
-            | inr rest ↦ all_passes p ms n parts.1 rest
-          ]
 
   ends_so : (g' : SegsState) → is_last_condemned x.running t.base ≡ true
       → IsReclaimShown g w.graph.objects w.graph.points w.point_memories layout x.running.condemned x.colours w.addresses t g'

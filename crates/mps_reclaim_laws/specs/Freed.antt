@@ -32,8 +32,8 @@ pub record IsWhiteIn (s : Setting) (g : SegsState) (addresses : List (Option Add
     pub inside : is_in_segment t at ≡ true
 
 -- exactly the white objects of a segment are freed, in ascending order, and they lie in no other segment
-pub record AreWhiteFreed (s : Setting) (g : SegsState) (addresses : List (Option Address)) (k : Colours) (t : Segment) (freed : List Address)
-    : Type 0 where
+pub record AreWhiteFreed (s : Setting) (g : SegsState) (addresses : List (Option Address)) (k : Colours) (t : Segment)
+    (freed : List Address) : Type 0 where
   pub ascending : IsTrue (is_ascending 0 freed)
   pub white : (at : Address) → IsTrue (contains freed at) → IsWhiteIn s g addresses k t at
   pub all : (id : Id) (at : Address) → entry_at addresses id ≡ Some at → is_white s.condemned k id ≡ true

@@ -1,5 +1,5 @@
 -- What is shown of a reclaim, each law a statement.
-use Rattle.std.specs.Prelude.{◌≡◌, ◌++◌, ℕ, IsTrue, true, Option, List, Contains}
+use Rattle.std.specs.Prelude.{◌≡◌, ◌↔◌, ◌++◌, ℕ, suc, IsTrue, true, Option, List, Contains}
 use Rattle.mps_base.specs.Address.{Address, Id, grain_of}
 use Rattle.mps_base.specs.Segment.{Segment}
 use Rattle.mps_base.specs.Trail.{Moves}
@@ -8,19 +8,21 @@ use Rattle.mps_bits.specs.Table.{bit}
 use Rattle.mps_format.specs.Layout.{Layout}
 use Rattle.mps_seg.specs.Segs.{SegsState}
 use Rattle.mps_amc.specs.Reclaiming.{lost_of, freed_in, IsReclaimed}
-use Rattle.mps_model.specs.Graph.{Object, Point}
+use Rattle.mps_model.specs.Graph.{Object, Point, contains}
+use Rattle.mps_model.specs.Collection.{Collection}
 use Rattle.mps_model.specs.World.{World, PointMemory}
 use Rattle.mps_model.specs.Flip.{end_where}
 use Rattle.mps_model.specs.Units.{is_last_condemned}
 use Rattle.mps_colours.specs.Collecting.{Collecting, Running, AreAllExamined}
 use Rattle.mps_colours.specs.Units.{IsReclaimedNext, reclaim_by}
-use Rattle.mps_reclaim_laws.specs.Room.{HasRoomFor, CanBeReclaimed}
-use Rattle.mps_trace.specs.Condemned.{IsNextCondemned}
 use Rattle.mps_colours.specs.Colours.{Colours, AreAllScanned}
-use Rattle.mps_image.specs.Memory.{Setting, memory_in, pool_layout}
+use Rattle.mps_image.specs.Memory.{Setting, memory_in, pool_layout, setting_in}
+use Rattle.mps_image.specs.SegmentWords.{AreSegmentsInOrder}
 use Rattle.mps_image.specs.Image.{CellSet, ImageStands, Stands}
+use Rattle.mps_trace.specs.Condemned.{IsNextCondemned, NoneLeft}
+use Rattle.mps_reclaim_laws.specs.Room.{HasRoomFor, CanBeReclaimed}
 use Rattle.mps_reclaim_laws.specs.Freed.{addresses_of, addresses_without, IsCondemnedSegment, AreWhiteFreed, AreWhiteUnread}
-use Rattle.mps_reclaim_laws.specs.Left.{IsUnreserved, StandsFreeing, IsReclaimShown}
+use Rattle.mps_reclaim_laws.specs.Left.{AreHoused, IsUnreserved, StandsFreeing, IsReclaimShown}
 use Rattle.mps_reclaim_laws.specs.Moves.{AreFreesOf}
 use Rattle.mps_reclaim_laws.specs.Units.{FreesFor, IsUnitReclaimed, EndsSo}
 
@@ -98,3 +100,27 @@ TheNextCanBeReclaimed =
     (x : Collecting) (g : SegsState) (layout : ℕ → Layout) (moves : Moves) (base : Addr)
     → FreesFor g x.world x.running x.colours layout → (next : IsNextCondemned g x.cursor base.0) → HasRoomFor g moves next.segment
     → CanBeReclaimed g moves base next.segment
+
+-- ---- the last band begins, and goes on to the last segment
+
+-- once nothing is grey, an arena whose image stands for a world in which a collection runs stands for it in the last band
+abbrev pub TheLastBandBegins : Type 0
+TheLastBandBegins =
+    (g : SegsState) (w : World) (c : Collection) (k : Colours) (layout : ℕ → Layout) (at_flip : List (Option Address)) → AreAllScanned k
+    → Stands (setting_in g w.graph.objects w.graph.points w.point_memories layout at_flip c.condemned (λ id. true)) (memory_in g) w.addresses k
+    → AreSegmentsInOrder g.segments → AreHoused w.graph.objects g.segments w.addresses → w.segments ≡ g.segments
+    → ((t : Segment) → Contains g.segments t → bit g.condemned (grain_of t.base) ≡ contains c.condemned_segments t.base)
+    → FreesFor g w c k layout
+
+-- while a collection runs, a condemned segment is left from the cursor on
+abbrev pub OneIsLeft : Type 0
+OneIsLeft =
+    (x : Collecting) (g : SegsState) (layout : ℕ → Layout) → Running x → FreesFor g x.world x.running x.colours layout
+    → NoneLeft g x.cursor → ⊥
+
+-- after a reclaim none is left after the segment exactly where it was the last one
+abbrev pub TheLastIsKnown : Type 0
+TheLastIsKnown =
+    (f : Layout) (x : Collecting) (g : SegsState) (layout : ℕ → Layout) (base : Addr) (moves : Moves) (g' : SegsState) (moves' : Moves)
+    → Running x → FreesFor g x.world x.running x.colours layout → (next : IsNextCondemned g x.cursor base.0)
+    → IsReclaimed f g moves base g' moves' → is_last_condemned x.running next.segment.base ≡ true ↔ NoneLeft g' (suc next.segment.base)

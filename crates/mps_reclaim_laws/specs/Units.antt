@@ -5,6 +5,7 @@ use Rattle.mps_base.specs.Segment.{Segment}
 use Rattle.mps_bits.specs.Table.{bit}
 use Rattle.mps_format.specs.Layout.{Layout}
 use Rattle.mps_seg.specs.Segs.{SegsState}
+use Rattle.mps_seg.specs.Collecting.{collected}
 use Rattle.mps_model.specs.Collection.{Collection}
 use Rattle.mps_model.specs.Effect.{world_after_moves}
 use Rattle.mps_model.specs.Graph.{contains}
@@ -14,7 +15,6 @@ use Rattle.mps_colours.specs.Colours.{Colours}
 use Rattle.mps_colours.specs.Collecting.{Collecting}
 use Rattle.mps_colours.specs.Units.{IsUnit, IsLastUnit, reclaim_by, reclaimed}
 use Rattle.mps_image.specs.AtRest.{StandsAtRest}
-use Rattle.mps_seg.specs.Collecting.{collected}
 use Rattle.mps_reclaim_laws.specs.Left.{StandsFreeing}
 
 -- the segments of an arena stand for a world whose collection is in the last band

@@ -2,7 +2,7 @@
 //! Each function does nothing; what it shows is its contract.
 #![tactic(auto)]
 
-ghost use Rattle.mps_reclaim_laws.specs.Laws.{LostBlocksAreWhite, LostBlocksAreFreed, FreesAreTheModels, AReclaimKeepsTheImage, TheNextIsReclaimed, TheMovesAreTheModels, AReclaimIsAUnit, TheLastReclaimEnds, TheNextCanBeReclaimed};
+ghost use Rattle.mps_reclaim_laws.specs.Laws.{LostBlocksAreWhite, LostBlocksAreFreed, FreesAreTheModels, AReclaimKeepsTheImage, TheNextIsReclaimed, TheMovesAreTheModels, AReclaimIsAUnit, TheLastReclaimEnds, TheNextCanBeReclaimed, TheLastBandBegins, OneIsLeft, TheLastIsKnown};
 
 /// The blocks that the reclaim of a segment frees are those of the white objects in it.
 pub fn lost_blocks_are_white()
@@ -47,4 +47,19 @@ pub fn the_last_reclaim_ends()
 /// The next condemned segment can be reclaimed.
 pub fn the_next_can_be_reclaimed()
     ensures { TheNextCanBeReclaimed }
+{}
+
+/// Once nothing is grey, the segments stand for the world in the last band.
+pub fn the_last_band_begins()
+    ensures { TheLastBandBegins }
+{}
+
+/// While a collection runs, a condemned segment is left from the cursor on.
+pub fn one_is_left()
+    ensures { OneIsLeft }
+{}
+
+/// After a reclaim no condemned segment is left after it exactly where it was the last one.
+pub fn the_last_is_known()
+    ensures { TheLastIsKnown }
 {}
