@@ -1,13 +1,18 @@
--- The next condemned segment can be reclaimed: it is held, its base is aligned, blocks are in order, and there is room.
-use Rattle.std.proofs.Common.{◌∙◌, ℕ, ◌+◌, ◌*◌, ◌<◌, ◌≤◌, refl, sym, ap, subst, List, [], ◌∷◌, length, inl, inr, arith}
-use Rattle.mps_base.specs.Address.{word_of, words_of_grain}
-use Rattle.mps_base.specs.Run.{Run, IsAscending}
-use Rattle.mps_base.specs.Segment.{segment_over, end_of_segment}
+-- The next condemned segment can be reclaimed: it is held, its base is aligned, blocks are in order, and there is room. And the
+-- order of segments.
+use Rattle.std.proofs.Common.{◌≡◌, ◌∙◌, ℕ, ◌+◌, ◌*◌, ◌<◌, ◌≤◌, refl, sym, ap, subst, List, [], ◌∷◌, length, inl, inr, arith}
+use Rattle.std.specs.Prelude.{◌^◌, Contains, map}
+use Rattle.std.specs.List.{AllByRecursion}
+use Rattle.mps_base.proofs.Runs.{IsAscending-bounds}
+use Rattle.mps_base.specs.Address.{Address, max_grains, word_of, words_of_grain, grain_of, address_of_grain}
+use Rattle.mps_base.specs.Run.{Run, IsAscending, end_of}
+use Rattle.mps_base.specs.Segment.{Segment, segment_over, end_of_segment, grains_of_segment}
 use Rattle.mps_seg.specs.Segs.{SegsState}
 use Rattle.mps_amc.specs.Reclaiming.{lost_between}
+use Rattle.mps_trace.specs.Condemned.{AreAscending}
 use Rattle.mps_reclaim_laws.specs.Left.{setting_freeing_in}
-use Rattle.mps_reclaim_laws.specs.Laws.{TheNextCanBeReclaimed}
-use Rattle.mps_reclaim_laws.proofs.BlockRuns.{extents_ascend, aligned_in}
+use Rattle.mps_reclaim_laws.specs.Laws.{TheNextCanBeReclaimed, SegmentsAreInOrder}
+use Rattle.mps_reclaim_laws.proofs.BlockRuns.{extents_ascend, aligned_in, segment_cases, contains_no_segment}
 use Rattle.mps_reclaim_laws.proofs.HeldSegments.{over_base}
 use Rattle.mps_reclaim_laws.proofs.LostRuns.{lost_among, first_or_not}
 
@@ -46,3 +51,34 @@ the_next_can_be_reclaimed x g layout moves base f next room =
       };
       same = refl;
     }
+
+-- ---- segments
+
+bases_ascend : (low high : ℕ) (base : Address) (ss : List Segment)
+    → AllByRecursion (λ (t : Segment). t.base ≡ address_of_grain (grain_of t.base)) ss
+    → IsAscending low high (map grains_of_segment ss) → ((n : ℕ) → low ≤ n → base ≤ address_of_grain n) → AreAscending base ss
+bases_ascend low high base [] aligned asc above = tt
+bases_ascend low high base (t ∷ ss) aligned asc above = (
+  (let here = above (grain_of t.base) asc.0 in omega (arith, here, aligned.0)),
+  bases_ascend (end_of (grains_of_segment t)) high (t.base + 1) ss aligned.1 asc.2
+      (λ n past. omega (arith, past, asc.1, aligned.0)),
+)
+
+small_bases : (low high : ℕ) (ss : List Segment) (t : Segment)
+    → AllByRecursion (λ (u : Segment). u.base ≡ address_of_grain (grain_of u.base)) ss
+    → IsAscending low high (map grains_of_segment ss) → high ≤ max_grains + 1 → Contains ss t → t.base < 2 ^ 32
+small_bases low high [] t aligned asc most there = absurd (contains_no_segment t there)
+small_bases low high (s ∷ ss) t aligned asc most there =
+    let bound = IsAscending-bounds (end_of (grains_of_segment s)) high (map grains_of_segment ss) asc.2 in
+    let base = aligned.0 in
+    elim (segment_cases ss t s there) [
+      | inl same ↦
+          subst (λ (x : Segment). x.base < 2 ^ 32) same (omega (arith, bound, base, most))
+      | inr later ↦ small_bases (end_of (grains_of_segment s)) high ss t aligned.1 asc.2 most later
+    ]
+
+pub segments_are_in_order : SegmentsAreInOrder
+segments_are_in_order g order = record {
+  ascending = bases_ascend 1 (max_grains + 1) 0 g.segments order.aligned order.ascending (λ n above. omega arith);
+  small = λ t held. small_bases 1 (max_grains + 1) g.segments t order.aligned order.ascending (omega arith) held;
+}

@@ -19,7 +19,7 @@ use Rattle.mps_colours.specs.Colours.{Colours, AreAllScanned}
 use Rattle.mps_image.specs.Memory.{Setting, memory_in, pool_layout, setting_in}
 use Rattle.mps_image.specs.SegmentWords.{AreSegmentsInOrder}
 use Rattle.mps_image.specs.Image.{CellSet, ImageStands, Stands}
-use Rattle.mps_trace.specs.Condemned.{IsNextCondemned, NoneLeft}
+use Rattle.mps_trace.specs.Condemned.{AreInOrder, IsNextCondemned, NoneLeft}
 use Rattle.mps_reclaim_laws.specs.Room.{HasRoomFor, CanBeReclaimed}
 use Rattle.mps_reclaim_laws.specs.Freed.{addresses_of, addresses_without, IsCondemnedSegment, AreWhiteFreed, AreWhiteUnread}
 use Rattle.mps_reclaim_laws.specs.Left.{AreHoused, IsUnreserved, StandsFreeing, IsReclaimShown}
@@ -124,3 +124,7 @@ TheLastIsKnown =
     (f : Layout) (x : Collecting) (g : SegsState) (layout : ℕ → Layout) (base : Addr) (moves : Moves) (g' : SegsState) (moves' : Moves)
     → Running x → FreesFor g x.world x.running x.colours layout → (next : IsNextCondemned g x.cursor base.0)
     → IsReclaimed f g moves base g' moves' → is_last_condemned x.running next.segment.base ≡ true ↔ NoneLeft g' (suc next.segment.base)
+
+-- segments in order are in the order that a search for the next condemned one needs
+abbrev pub SegmentsAreInOrder : Type 0
+SegmentsAreInOrder = (g : SegsState) → AreSegmentsInOrder g.segments → AreInOrder g

@@ -2,7 +2,7 @@
 //! Each function does nothing; what it shows is its contract.
 #![tactic(auto)]
 
-ghost use Rattle.mps_reclaim_laws.specs.Laws.{LostBlocksAreWhite, LostBlocksAreFreed, FreesAreTheModels, AReclaimKeepsTheImage, TheNextIsReclaimed, TheMovesAreTheModels, AReclaimIsAUnit, TheLastReclaimEnds, TheNextCanBeReclaimed, TheLastBandBegins, OneIsLeft, TheLastIsKnown};
+ghost use Rattle.mps_reclaim_laws.specs.Laws.{LostBlocksAreWhite, LostBlocksAreFreed, FreesAreTheModels, AReclaimKeepsTheImage, TheNextIsReclaimed, TheMovesAreTheModels, AReclaimIsAUnit, TheLastReclaimEnds, TheNextCanBeReclaimed, TheLastBandBegins, OneIsLeft, TheLastIsKnown, SegmentsAreInOrder};
 
 /// The blocks that the reclaim of a segment frees are those of the white objects in it.
 pub fn lost_blocks_are_white()
@@ -62,4 +62,9 @@ pub fn one_is_left()
 /// After a reclaim no condemned segment is left after it exactly where it was the last one.
 pub fn the_last_is_known()
     ensures { TheLastIsKnown }
+{}
+
+/// Segments in order are in the order that a search for the next condemned one needs.
+pub fn segments_are_in_order()
+    ensures { SegmentsAreInOrder }
 {}
