@@ -65,7 +65,7 @@ module _ {F : Type 0} (layout : F → Layout) (past : Past) (h after : HeapState
     }
 
     -- places of tables of blocks hold manual blocks
-    places_same : (id : Id) → contains (ids_in_blocks w.graph) id ≡ true → object_is is_automatic w id ≡ false
+    pub places_same : (id : Id) → contains (ids_in_blocks w.graph) id ≡ true → object_is is_automatic w id ≡ false
     places_same id there = manual_is (object_at w.graph id)
         (list_all-contains (object_is (λ o. not (is_automatic o)) w) (ids_in_blocks w.graph) id formed.blocks there)
       where
