@@ -33,7 +33,7 @@ use Rattle.mps_colours.specs.FlipLaws.{IsAtRest, flipped, FixesHeld}
 use Rattle.mps_colours.specs.WholeLaws.{IsCollectDone}
 use Rattle.mps_colours.proofs.Addresses.{listed_is_live, live_is_listed}
 use Rattle.mps_colours.proofs.Lists.{contains_cases, contains_here, contains_later, contains_left, contains_right, list_all-members}
-use Rattle.mps_colours.proofs.FlipBegins.{flip_done}
+use Rattle.mps_colours.proofs.FlipBegins.{client_of_fixed, flip_done, flip_ended}
 use Rattle.mps_colours.proofs.Rows.{last_units_done}
 use Rattle.mps_colours.proofs.WholeBegins.{nothing_remembered, begun_running}
 use Rattle.mps_colours.proofs.WholeEnds.{a_whole_collection}
@@ -43,7 +43,7 @@ use Rattle.mps_refinement.proofs.Reached.{reached_well_formed, reached_live}
 use Rattle.mps_refinement.proofs.RestingActs.{resting_sound}
 use Rattle.mps_refinement.proofs.Steps.{HasParts, moving_is_right}
 use Rattle.mps_collect_laws.specs.Leaving.{IsPlain, IsCollected, AreInPlace}
-use Rattle.mps_collect_laws.specs.Standing.{collected, IsCollectedHeap}
+use Rattle.mps_collect_laws.specs.Standing.{IsCollectedHeap, world_collected}
 use Rattle.mps_collect_laws.proofs.FlippedPoints.{WereMadeBefore}
 use Rattle.mps_collect_laws.proofs.Leavings.{a_collection_moves_objects}
 use Rattle.mps_collect_laws.proofs.CollectedParts as parts_of
@@ -117,7 +117,8 @@ module _ {F : Type 0} (layout : F → Layout) where
     pub moves_done : IsCollectDone w ms
     pub leaves : IsCollected w (world_after_moves w ms)
     pub places : AreInPlace w acted (world_after_moves w ms)
-    pub held_live : (id : Id) → contains (ids_of_client (world_after_moves w ms).graph) id ≡ true → is_live (world_after_moves w ms) id ≡ true
+    pub held_live : (id : Id) → contains (ids_of_client (world_after_moves w ms).graph) id ≡ true
+        → is_live (world_after_moves w ms) id ≡ true
     pub referred_live : AllReferredLive (world_after_moves w ms).graph (is_live (world_after_moves w ms))
 
   module _ (past : Past) (h after : HeapState F) (w : World) (parts : AreParts layout past h w) (reached : IsReached w) (plain : IsPlain w)
@@ -129,7 +130,7 @@ module _ {F : Type 0} (layout : F → Layout) where
     none_runs : c.leaves.but_moved.collection ≡ None
     none_runs = sym (ap (λ (u : World). u.collection) c.leaves.but_moved.world) ∙ c.leaves.ended
 
-    world_is : collected w ms ≡ v
+    world_is : world_collected w ms ≡ v
     world_is =
         ap (λ (u : World). record u { state = world.Parked }) c.leaves.but_moved.world
         ∙ ap (λ (o : Option Collection). record v { collection = o }) none_runs
@@ -149,7 +150,7 @@ module _ {F : Type 0} (layout : F → Layout) where
     referred_then : AllReferredLive v.graph (is_live v)
     referred_then = subst (λ (u : World). AllReferredLive u.graph (is_live u)) world_is c.referred_live
 
-    module _ (heap : IsCollectedHeap past w h after acted.world.addresses (collected w ms)) where
+    module _ (heap : IsCollectedHeap past w h after acted.world.addresses (world_collected w ms)) where
       heap_then : IsCollectedHeap past w h after acted.world.addresses v
       heap_then = subst (λ u. IsCollectedHeap past w h after acted.world.addresses u) world_is heap
 
@@ -168,7 +169,7 @@ module _ {F : Type 0} (layout : F → Layout) where
 
       pub collection_is_right : (line : ℕ) → IsRightIn layout w (step_of line call.Collect ms (Replied reply.Ok)) after
       collection_is_right line =
-          moving_is_right layout w line call.Collect ms (Replied reply.Ok) after (done (collected w ms)) refl reached (record {
+          moving_is_right layout w line call.Collect ms (Replied reply.Ok) after (done (world_collected w ms)) refl reached (record {
             moving = record {
               legal = c.moves_done.legal;
               due = c.moves_done.due;
@@ -209,9 +210,38 @@ module _ {F : Type 0} (layout : F → Layout) where
   pub collect_is_right : (h after : HeapState F) (w : World) (line : ℕ) (first later : List Move) (y : Collecting) (count : ℕ)
       → (st : StandsFor layout h w) → IsPlain w → WereMadeBefore (length w.flips) h.points
       → is_nothing (condemned_by w Everything) ≡ false → FixesHeld w (flipped w Everything []) first y → Ends y count later
-      → IsCollectedHeap st.past w h after y.world.addresses (collected w (flip_act w Everything ++ later))
+      → IsCollectedHeap st.past w h after y.world.addresses (world_collected w (flip_act w Everything ++ later))
       → IsRightIn layout w (step_of line call.Collect (flip_act w Everything ++ later) (Replied reply.Ok)) after
   collect_is_right h after w line first later y count st plain made some fixed ends heap =
       let rest = may_begin st.past h w st.parts st.reached in
       collection_is_right st.past h after w st.parts st.reached plain made y (flip_act w Everything ++ later)
       (ends_collection w first later y count rest some fixed ends plain) heap line
+
+  -- ---- where nothing is condemned
+
+  nothing_collection : (w : World) → IsAtRest w → is_nothing (condemned_by w Everything) ≡ true
+      → IsCollection w (flipped w Everything []) (flip_act w Everything)
+  nothing_collection w rest nothing =
+      let ended = flip_ended w Everything rest refl nothing in
+      record {
+        moves_done = a_whole_collection.2 w (flip_act w Everything) rest.none_runs (a_whole_collection.1 w rest nothing);
+        leaves = a_collection_moves_objects.2 w rest nothing;
+        places = subst (λ ms. AreInPlace w (flipped w Everything []) (world_after_moves w ms)) (sym ended.act) (record {
+          manual = λ id there. refl;
+          pinned = λ id there. refl;
+          holds = λ id there. refl;
+          held = λ id there. refl;
+          held_live = λ id there. rest.held_live id (client_of_fixed w.graph id there);
+        });
+        held_live = ended.held_live;
+        referred_live = ended.referred_live;
+      }
+
+  -- a `collect` where nothing is condemned: slots and messages hold what they held
+  pub collect_of_nothing_is_right : (h after : HeapState F) (w : World) (line : ℕ) → (st : StandsFor layout h w) → IsPlain w
+      → WereMadeBefore (length w.flips) h.points → is_nothing (condemned_by w Everything) ≡ true
+      → IsCollectedHeap st.past w h after w.addresses (world_collected w (flip_act w Everything))
+      → IsRightIn layout w (step_of line call.Collect (flip_act w Everything) (Replied reply.Ok)) after
+  collect_of_nothing_is_right h after w line st plain made nothing heap =
+      collection_is_right st.past h after w st.parts st.reached plain made (flipped w Everything []) (flip_act w Everything)
+      (nothing_collection w (may_begin st.past h w st.parts st.reached) nothing) heap line

@@ -66,6 +66,15 @@ points_counted (p ∷ ps) =
 pub record WereMadeBefore (flips : ℕ) (s : PointsState) : Type 0 where
   pub before : (key : ℕ) (p : Point) (held : Held) → point_at s key ≡ Some p → p.reservation ≡ Some held → held.flips ≤ flips
 
+-- so it is after one more flip
+pub made_before_then : (flips : ℕ) (s : PointsState) → WereMadeBefore flips s → WereMadeBefore (flips + 1) (flipped s)
+made_before_then flips s made = record {
+  before = λ key p held e reserved.
+      let was = was_point s key p e in
+      let most = made.before key was.0 held was.1 (ap (λ (q : Point). q.reservation) was.2 ∙ reserved) in
+      omega (arith, most);
+}
+
 -- the reservations of a point are doomed
 abbrev doomed_one : Reservation → Reservation
 doomed_one r = record r { is_doomed = true }

@@ -169,9 +169,9 @@ module _ (w : World) (first : List Move) (y : Collecting) (rest : IsAtRest w) (s
   plain_then : IsPlain w → IsPlain y.world
   plain_then plain = still_plain flip_moves (record { none_registered = plain.none_registered; none_weak = plain.none_weak })
 
-  pub collected : (count : ℕ) (later : List Move) → Ends y count later → IsPlain w
+  pub whole_collected : (count : ℕ) (later : List Move) → Ends y count later → IsPlain w
       → IsCollected w (world_after_moves w (flip_act w Everything ++ later))
-  collected count later ends plain =
+  whole_collected count later ends plain =
       let at_end = ends_move running (plain_then plain) ends in
       subst (λ v. IsCollected w v) (sym (all_lead later)) (record {
         but_moved = moved_on (moved_on from_flip flip_moves) at_end.but_moved;
@@ -244,7 +244,7 @@ nothing_collected w rest nothing =
 
 pub a_collection_moves_objects : ACollectionMovesObjects
 a_collection_moves_objects = (
-  (λ w first later y count rest some fixed ends plain. collected w first y rest some fixed count later ends plain),
+  (λ w first later y count rest some fixed ends plain. whole_collected w first y rest some fixed count later ends plain),
   (λ w first later y count rest some fixed ends. in_place w first y rest some fixed count later ends),
   (λ w rest nothing. nothing_collected w rest nothing),
 )

@@ -50,4 +50,5 @@ ACollectionMovesObjects =
     × ((w : World) (first later : List Move) (y : Collecting) (count : ℕ) → IsAtRest w → is_nothing (condemned_by w Everything) ≡ false
     → FixesHeld w (flipped w Everything []) first y → Ends y count later
     → AreInPlace w y (world_after_moves w (flip_act w Everything ++ later)))
-    × ((w : World) → IsAtRest w → IsTrue (is_nothing (condemned_by w Everything)) → IsCollected w (world_after_moves w (flip_act w Everything)))
+    × ((w : World) → IsAtRest w → IsTrue (is_nothing (condemned_by w Everything))
+    → IsCollected w (world_after_moves w (flip_act w Everything)))

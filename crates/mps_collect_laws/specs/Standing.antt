@@ -15,8 +15,8 @@ use Rattle.mps_refinement.specs.Numbering.{AreNumbered}
 use Rattle.mps_refinement.specs.StandsFor.{AreSlots, Past, address_of_id}
 
 -- the world after a `collect` that made these moves
-abbrev pub collected : World → List Move → World
-collected w ms = record (world_after_moves w ms) { state = Parked }
+abbrev pub world_collected : World → List Move → World
+world_collected w ms = record (world_after_moves w ms) { state = Parked }
 
 -- what the call has to leave of a heap that stood for a world, where the act of the flip left objects at these addresses, and this is
 -- the world after the call
