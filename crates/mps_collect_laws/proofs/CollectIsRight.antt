@@ -66,7 +66,8 @@ all_flat p next (x ∷ xs) each =
     all-append p (next x) (flat_map next xs) (each x (contains_here x xs))
     (all_flat p next xs (λ y h. each y (contains_later x xs y h)))
 
-something : {A : Type 0} (xs : List A) (n : ℕ) → n < length xs → (x : A) × (slice_get xs n ≡ Some x)
+-- what stands at a place that is within a list
+pub something : {A : Type 0} (xs : List A) (n : ℕ) → n < length xs → (x : A) × (slice_get xs n ≡ Some x)
 something [] n less = absurd (omega (arith, less))
 something (x ∷ xs) zero less = (x, refl)
 something (x ∷ xs) (suc n) less = something xs n (omega (arith, less))
