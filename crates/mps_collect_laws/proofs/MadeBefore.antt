@@ -31,7 +31,8 @@ new_points_made_before flips = record {
 
 -- a point was made, written or dropped
 pub made_before_written : (flips : ℕ) (s : PointsState) (key : ℕ) (new : Option Point) → WereMadeBefore flips s
-    → ((p : Point) (held : Held) → new ≡ Some p → p.reservation ≡ Some held → held.flips ≤ flips) → WereMadeBefore flips (with_point s key new)
+    → ((p : Point) (held : Held) → new ≡ Some p → p.reservation ≡ Some held → held.flips ≤ flips)
+    → WereMadeBefore flips (with_point s key new)
 made_before_written flips s key new made written = record {
   before = λ k p held e reserved. elim (written_cases s.points key k new p e) [
     | inl now ↦ written p held now reserved
