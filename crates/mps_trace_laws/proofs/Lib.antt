@@ -16,3 +16,5 @@ pub mod Steps
 pub mod FixSteps
 pub mod EachFix
 pub mod EachCell
+pub mod CellLists
+pub mod ScanRun

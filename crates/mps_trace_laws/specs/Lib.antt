@@ -2,3 +2,4 @@ pub mod Tracing
 pub mod Fixing
 pub mod Steps
 pub mod Cells
+pub mod Scanning

@@ -4,6 +4,7 @@
 
 ghost use Rattle.mps_trace_laws.specs.Cells.{ACellCanBeFixed, ACellIsAStep};
 ghost use Rattle.mps_trace_laws.specs.Fixing.{AFixIsInWords, AFixIsOneFix, ATargetCanBeFixed};
+ghost use Rattle.mps_trace_laws.specs.Scanning.{AScanIsReady, AScanIsOfSteps};
 ghost use Rattle.mps_trace_laws.specs.Steps.{AFixIsAStep};
 
 /// Whatever the collector does with an address is a fix in words, of the image of objects in the segments then.
@@ -36,4 +37,14 @@ pub fn a_cell_can_be_fixed<F>()
 /// What the collector does with such a reference is a step of the abstract collector, and the cell holds where its target is then.
 pub fn a_cell_is_a_step<F>()
     ensures { ACellIsAStep F }
+{}
+
+/// While an object is scanned, each of its references can be fixed when its turn comes.
+pub fn a_scan_is_ready<F>()
+    ensures { AScanIsReady F }
+{}
+
+/// The run over the references of an object is one of steps of the abstract collector.
+pub fn a_scan_is_of_steps<F>()
+    ensures { AScanIsOfSteps F }
 {}

@@ -1,0 +1,63 @@
+-- What the collector's run over the references of one object is to the abstract collector.
+use Rattle.std.specs.Prelude.{◌≡◌, ℕ, false, ◌==◌, ◌&&◌, ◌||◌, nat_lt, IsTrue, Option, Some, List, ◌++◌, take, slice_get}
+use Rattle.mps_base.specs.Address.{Address, Id}
+use Rattle.mps_base.specs.declared.address.Addr.{Addr}
+use Rattle.mps_base.specs.declared.moves.Move.{Move}
+use Rattle.mps_format.specs.Layout.{Layout}
+use Rattle.mps_gen.specs.State.{ChainsState}
+use Rattle.mps_model.specs.Checked.{head_of_body}
+use Rattle.mps_model.specs.Graph.{ReferenceCell, Object, targets_of_cells, entry_at, is_automatic}
+use Rattle.mps_colours.specs.Collecting.{Collecting, is_white_in}
+use Rattle.mps_colours.specs.Fixing.{Fixes}
+use Rattle.mps_image.specs.Memory.{all_cells, pool_layout}
+use Rattle.mps_image.specs.Image.{CellSet, AreShaped}
+use Rattle.mps_image.specs.Scanning.{LeavesOthers}
+use Rattle.mps_trace.specs.Trace.{Traced}
+use Rattle.mps_trace.specs.Scan.{ScansTo, AreReady}
+use Rattle.mps_trace_laws.specs.Tracing.{TracingStands}
+use Rattle.mps_trace_laws.specs.Steps.{IsSameGraph}
+
+-- the cells of an object before one of them are fixed too
+abbrev pub with_cells : CellSet → (id before : ℕ) → CellSet
+with_cells done id before = λ j l. (j == id && nat_lt l before) || done j l
+
+-- a live automatic object that isn't white, where all that it refers to is live
+pub record IsToBeScanned (y : Collecting) (holder : Id) (at : Address) (o : Object) : Type 0 where
+  pub there : entry_at y.world.addresses holder ≡ Some at
+  pub object : slice_get y.world.graph.objects holder ≡ Some o
+  pub automatic : IsTrue (is_automatic o)
+  pub not_white : is_white_in y holder ≡ false
+  pub live : (i t tag : ℕ) → slice_get (all_cells o.body) i ≡ Some (ReferenceCell (Some t) tag)
+      → (now : Address) × (entry_at y.world.addresses t ≡ Some now)
+
+-- the references before a cell were fixed, by steps of the abstract collector
+pub record IsScannedTo {F : Type 0} (layout : F → Layout) (formats : List (Option F)) (of : ChainsState)
+    (at_flip : List (Option Address)) (done : CellSet) (x z : Traced) (y : Collecting) (holder : Id) (o : Object) (before : ℕ)
+    : Type 0 where
+  pub moves : List Move
+  pub after : Collecting
+  pub fixes : (ids : List Id) (ms : List Move) (last : Collecting) → Fixes after ids ms last
+      → Fixes y (targets_of_cells (take before (all_cells o.body)) ++ ids) (moves ++ ms) last
+  pub stands : TracingStands layout formats of at_flip (with_cells done holder before) z after
+  pub trail : z.moves.moves ≡ x.moves.moves ++ moves
+  pub leaves : LeavesOthers y.running.condemned y.world.addresses after.world.addresses y.colours after.colours
+  pub same : IsSameGraph y.world after.world
+  pub same_condemned : after.running.condemned ≡ y.running.condemned
+
+-- while an object is scanned, each of its references can be fixed when its turn comes
+abbrev pub AScanIsReady : (F : Type 0) → Type 0
+AScanIsReady F =
+    (layout : F → Layout) (formats : List (Option F)) (of : ChainsState) (at_flip : List (Option Address)) (done : CellSet)
+    (x : Traced) (y : Collecting) (holder : Id) (at : Addr) (o : Object) → AreShaped y.world.graph.objects (pool_layout y.world)
+    → TracingStands layout formats of at_flip done x y → IsToBeScanned y holder at.0 o
+    → AreReady layout (pool_layout y.world o.pool) formats of (head_of_body o.body) at x
+
+-- and the run up to a cell is one of steps of the abstract collector
+abbrev pub AScanIsOfSteps : (F : Type 0) → Type 0
+AScanIsOfSteps F =
+    (layout : F → Layout) (formats : List (Option F)) (of : ChainsState) (at_flip : List (Option Address)) (done : CellSet)
+    (x z : Traced) (y : Collecting) (holder : Id) (at : Addr) (o : Object) (before : ℕ)
+    → AreShaped y.world.graph.objects (pool_layout y.world) → TracingStands layout formats of at_flip done x y
+    → IsToBeScanned y holder at.0 o
+    → ScansTo layout (pool_layout y.world o.pool) formats of (head_of_body o.body) at x before z
+    → IsScannedTo layout formats of at_flip done x z y holder o before
