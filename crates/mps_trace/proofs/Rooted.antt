@@ -4,7 +4,7 @@ use Rattle.std.proofs.Math.Seq.{lt-length-set}
 use Rattle.mps_base.specs.Address.{Address}
 use Rattle.mps_format.specs.Layout.{Layout}
 use Rattle.mps_root.specs.State.{RootsState, HasItem, with_item}
-use Rattle.mps_trace.specs.Roots.{AreSlotsReady, CanFixRootAt, FixesRoot, FixesTable}
+use Rattle.mps_trace.specs.Roots.{AreSlotsReady, FixesRoot, FixesTable}
 use Rattle.mps_trace.specs.Trace.{TraceState, Traced}
 
 -- a row has as many items after one of them was written

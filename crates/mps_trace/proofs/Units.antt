@@ -1,5 +1,5 @@
 -- Units in a row, and the room for their moves.
-use Rattle.std.proofs.Common.{◌<◌, ◌≡◌, sym, ap, subst, arith}
+use Rattle.std.proofs.Common.{◌<◌, ◌≡◌, ap, subst, arith}
 use Rattle.mps_base.specs.Trail.{Moves}
 use Rattle.mps_base.specs.declared.address.Addr.{Addr}
 use Rattle.mps_format.specs.Layout.{Layout}
@@ -7,7 +7,7 @@ use Rattle.mps_seg.specs.Segs.{SegsState}
 use Rattle.mps_amc.proofs.Lost.{spare_after}
 use Rattle.mps_amc.specs.Reclaiming.{IsReclaimed, is_given, is_padded, lost_of}
 use Rattle.mps_trace.specs.Trace.{TraceState, Traced}
-use Rattle.mps_trace.specs.Unit.{CanUnit, HasRoomToEnd, LastUnitTo, UnitTo}
+use Rattle.mps_trace.specs.Unit.{HasRoomToEnd, UnitTo}
 use Rattle.mps_trace.specs.declared.running.Running.{Running}
 
 -- after a reclaim there is room for the end of the collection

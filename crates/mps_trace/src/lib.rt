@@ -11,3 +11,6 @@ mod trace;
 
 pub use running::{Band, Running};
 pub use trace::Trace;
+
+#[cfg(test)]
+mod tests;
