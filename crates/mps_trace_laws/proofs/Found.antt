@@ -141,7 +141,7 @@ module _ (F : Type 0) (layout : F → Layout) (formats : List (Option F)) (of : 
     pub copying : IsTrue (is_copying_pool y.world o.pool)
     copying = stands.state.all_move t o target.object target.automatic
 
-    head_there : slice_index x.segs.words (word_of now) ≡ head_of_body o.body
+    pub head_there : slice_index x.segs.words (word_of now) ≡ head_of_body o.body
     head_there =
         stands.state.image.words.cells t 0 o (word_of now) HeadCell refl
         (record { at = now; address = target.there; object = target.object; within = positive; is = omega arith })

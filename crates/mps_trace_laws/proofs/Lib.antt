@@ -18,3 +18,4 @@ pub mod EachFix
 pub mod EachCell
 pub mod CellLists
 pub mod ScanRun
+pub mod Scanned

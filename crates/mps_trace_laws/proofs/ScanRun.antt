@@ -239,7 +239,7 @@ module _ (F : Type 0) (layout : F → Layout) (formats : List (Option F)) (of : 
       go c cell (is_one target tag e) =
           absurd (true≢false (sym (ap is_reference_cell e) ∙ kind_of k c cell ∙ none))
 
-  pass_all : (z : Traced) (n from : ℕ) → To z from → ((k : ℕ) → from ≤ k → k < from + n → f.is_reference head k ≡ false)
+  pub pass_all : (z : Traced) (n from : ℕ) → To z from → ((k : ℕ) → from ≤ k → k < from + n → f.is_reference head k ≡ false)
       → from + n ≤ size_of o → To z (from + n)
   pass_all z zero from run none within = subst (To z) (let e : from ≡ from + 0 = omega arith in e) run
   pass_all z (suc n) from run none within =
@@ -248,14 +248,14 @@ module _ (F : Type 0) (layout : F → Layout) (formats : List (Option F)) (of : 
       (λ k low high. none k (omega (arith, low)) (omega (arith, high))) (omega (arith, within)))
 
   -- a reference lies within the object
-  inside : (k : ℕ) → IsTrue (f.is_reference head k) → k < size_of o
+  pub inside : (k : ℕ) → IsTrue (f.is_reference head k) → k < size_of o
   inside k is =
       let valid = shaped.valid holder o scan.object scan.automatic in
       let at_most = ((shaped.lawful o.pool).references head k valid is).1 in
       let whole = shaped.whole holder o scan.object scan.automatic in
       omega (arith, at_most, whole)
 
-  to_cell : (z : Traced) (from cell : ℕ) → To z from → IsFirstReference f head from cell → To z cell
+  pub to_cell : (z : Traced) (from cell : ℕ) → To z from → IsFirstReference f head from cell → To z cell
   to_cell z from cell run first =
       let low = first.not_before in
       let within = inside cell first.reference in

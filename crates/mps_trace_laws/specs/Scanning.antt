@@ -6,14 +6,16 @@ use Rattle.mps_base.specs.declared.moves.Move.{Move}
 use Rattle.mps_format.specs.Layout.{Layout}
 use Rattle.mps_gen.specs.State.{ChainsState}
 use Rattle.mps_model.specs.Checked.{head_of_body}
-use Rattle.mps_model.specs.Graph.{ReferenceCell, Object, targets_of_cells, entry_at, is_automatic}
+use Rattle.mps_model.specs.Graph.{ReferenceCell, Object, targets, targets_of_cells, entry_at, is_automatic}
 use Rattle.mps_colours.specs.Collecting.{Collecting, is_white_in}
 use Rattle.mps_colours.specs.Fixing.{Fixes}
 use Rattle.mps_image.specs.Memory.{all_cells, pool_layout}
-use Rattle.mps_image.specs.Image.{CellSet, AreShaped}
+use Rattle.mps_image.specs.Image.{CellSet, black_cells, AreShaped}
+use Rattle.mps_colours.specs.Colours.{blackened}
+use Rattle.mps_colours.specs.Units.{scanned}
 use Rattle.mps_image.specs.Scanning.{LeavesOthers}
 use Rattle.mps_trace.specs.Trace.{Traced}
-use Rattle.mps_trace.specs.Scan.{ScansTo, AreReady}
+use Rattle.mps_trace.specs.Scan.{ScansTo, AreReady, Scanned}
 use Rattle.mps_trace_laws.specs.Tracing.{TracingStands}
 use Rattle.mps_trace_laws.specs.Steps.{IsSameGraph}
 
@@ -61,3 +63,22 @@ AScanIsOfSteps F =
     → IsToBeScanned y holder at.0 o
     → ScansTo layout (pool_layout y.world o.pool) formats of (head_of_body o.body) at x before z
     → IsScannedTo layout formats of at_flip done x z y holder o before
+
+-- all references of an object were fixed, and it is grey no longer: what a unit of the abstract collector does that scans it
+pub record IsScan {F : Type 0} (layout : F → Layout) (formats : List (Option F)) (of : ChainsState) (at_flip : List (Option Address))
+    (x z : Traced) (y : Collecting) (holder : Id)
+    : Type 0 where
+  pub moves : List Move
+  pub after : Collecting
+  pub fixes : Fixes y (targets y.world.graph holder) moves after
+  pub stands : TracingStands layout formats of at_flip (black_cells after.running.condemned (blackened after.colours holder)) z
+      (scanned after holder)
+  pub trail : z.moves.moves ≡ x.moves.moves ++ moves
+
+-- a scan of a block is one of its object
+abbrev pub AScanIsAScan : (F : Type 0) → Type 0
+AScanIsAScan F =
+    (layout : F → Layout) (formats : List (Option F)) (of : ChainsState) (at_flip : List (Option Address)) (x z : Traced)
+    (y : Collecting) (holder : Id) (at : Addr) (o : Object) → AreShaped y.world.graph.objects (pool_layout y.world)
+    → TracingStands layout formats of at_flip (black_cells y.running.condemned y.colours) x y → IsToBeScanned y holder at.0 o
+    → Scanned layout formats of x at z → IsScan layout formats of at_flip x z y holder
