@@ -246,6 +246,7 @@ module _ (F : Type 0) (layout : F → Layout) (formats : List (Option F)) (of : 
     all_move = stands.all_move;
     tails = record { has = λ p g is. has_still state o.pool generation _ has p _ (stands.tails.has p g is); same = same_tails };
     hands =
-        tails_after (setting_of s at_flip y) s.segments y.world.addresses y.colours (tail_of y.world) (tail_of y'.world) stands.hands t now to
+        tails_after (setting_of s at_flip y) s.segments y.world.addresses y.colours (tail_of y.world)
+        (tail_of y'.world) stands.hands t now to
         o generation stands.image.placed v (begins ∙ ap address_of_word (ap (λ (r : Run). r.from) same_run)) taken;
   }

@@ -79,7 +79,12 @@ tables_kept s at tables =
 
 pub has_marks : (s : SegsState) (n : Word) → HasTables s → n < words_of_arena s.grains → HasMarks s.marks n
 has_marks s n tables within =
-    record { kept = omega (arith, within, tables.kept); exact = omega (arith, within, tables.exact); weak = omega (arith, within, tables.weak) }
+    record {
+      kept = omega (arith, within, tables.kept);
+      exact = omega (arith, within, tables.exact);
+      weak = omega
+          (arith, within, tables.weak);
+    }
 
 -- ---- a fix
 
@@ -158,7 +163,8 @@ module _ (objects : List Object) (points : List (Option Point)) (memories : List
         into_new =
             let hand : AreAtHand (its_setting (with_one s u)) addresses u.base size t.pool =
             subst (λ pool. AreAtHand (its_setting (with_one s u)) addresses u.base size pool) of
-            (new_at_hand s may.held objects points memories layout at_flip condemned is_read addresses may.tables may.apart may.reserved u free
+            (new_at_hand s may.held objects points memories layout at_flip condemned is_read addresses may.tables may.apart may.reserved
+            u free
             size positive fits)
             in
             let marks = has_marks s (word_of u.base) may.tables (omega (arith, hand.within, positive)) in
@@ -198,7 +204,8 @@ module _ (objects : List Object) (points : List (Option Point)) (memories : List
           → before s' answer.0
       as_placed p (in_tail fits) s' answer is state_is words =
           subst (λ (a : Addr). before s' a.0) (sym is)
-          (subst (λ z. before z (address_of_word (amc.tail_of state t.pool generation).from)) (sym state_is) (into_tail s'.words fits words))
+          (subst (λ z. before z (address_of_word (amc.tail_of state t.pool generation).from)) (sym state_is)
+          (into_tail s'.words fits words))
       as_placed p (in_new grain lowest) s' answer is state_is words =
           let e : grain_of (address_of_grain grain) ≡ grain = omega arith in
           let free : IsFree s (new_one grain) = record {

@@ -150,7 +150,10 @@ module _ (F : Type 0) (layout : F → Layout) (formats : List (Option F)) (of : 
         → IsCellStep layout formats of at_flip done x
         (record z {
           segs = noting_in (record z.segs { words = slice_set z.segs.words n (f.retarget (slice_index x.segs.words n) to.0) })
-              (first_grain_over (record z.segs { words = slice_set z.segs.words n (f.retarget (slice_index x.segs.words n) to.0) }) at.0) to.0;
+              (first_grain_over (record z.segs {
+                words = slice_set z.segs.words n (f.retarget
+                    (slice_index x.segs.words n) to.0);
+              }) at.0) to.0;
         }) y (Some t) holder i
     written z to fix =
         let new = f.retarget (slice_index x.segs.words n) to.0 in
@@ -208,7 +211,8 @@ module _ (F : Type 0) (layout : F → Layout) (formats : List (Option F)) (of : 
   cell_step (Some t) holds (leads {y = z} to positive fixed is) =
       subst (λ w. IsCellStep layout formats of at_flip done x w y (Some t) holder i) (sym is)
       (written t holds z to
-      (each_step F layout formats of at_flip done x y shaped stands t (record { 0 = target_at f x at i }) (found t holds).object (now t holds)
+      (each_step F layout formats of at_flip done x y shaped stands t (record { 0 = target_at f x at i }) (found t holds).object
+      (now t holds)
       (target_there t holds) fixed))
 
 pub cell_can_be_fixed : {F : Type 0} → ACellCanBeFixed F

@@ -92,7 +92,8 @@ module _ (F : Type 0) (layout : F → Layout) (formats : List (Option F)) (of : 
           → moves' ≡ Rattle.mps_base.specs.Trail.with_move x.moves (Rattle.mps_base.specs.declared.moves.Move.TheVariants.Stay at)
           → Step state' s' moves' answer.0
       full p state' s' moves' answer e none is segs tails trail =
-          let place = place_is F layout formats of at_flip done x y shaped stands t at o object automatic there s over pool condemned white in
+          let place = place_is F layout formats of at_flip done x y shaped stands t at o object automatic there s over pool condemned
+          white in
           subst (λ (a : Addr). Step state' s' moves' a.0) (sym is)
           (subst (λ c. Step c s' moves' at.0) (sym (tails ∙ same_tail x.amc o.pool generation))
           (subst (λ g. Step x.amc g moves' at.0) (sym segs)
@@ -103,15 +104,18 @@ module _ (F : Type 0) (layout : F → Layout) (formats : List (Option F)) (of : 
           → (state' : AmcState) (s' : SegsState) (moves' : Moves) (answer : Addr) → After p state' s' moves' answer
           → Step state' s' moves' answer.0
       as_step p (in_tail fits) e state' s' moves' answer is =
-          let place = place_is F layout formats of at_flip done x y shaped stands t at o object automatic there s over pool condemned white in
+          let place = place_is F layout formats of at_flip done x y shaped stands t at o object automatic there s over pool condemned
+          white in
           subst (λ (a : Addr). Step state' s' moves' a.0) (sym is.answer_is)
           (subst (λ c. Step c s' moves' (address_of_word b.from)) (sym is.tails)
           (subst (λ g. Step (amc.with_tail x.amc o.pool generation (record { from = b.from + size; count = b.count - size })) g moves'
           (address_of_word b.from)) (sym is.segs_are)
-          (moves_there F layout formats of at_flip done x y shaped stands t at o object automatic there s over pool condemned white s'.words fits
+          (moves_there F layout formats of at_flip done x y shaped stands t at o object automatic there s over pool condemned white
+          s'.words fits
           is.words moves' (place ∙ e) is.trail)))
       as_step p (in_new grain lowest) e state' s' moves' answer is =
-          let place = place_is F layout formats of at_flip done x y shaped stands t at o object automatic there s over pool condemned white in
+          let place = place_is F layout formats of at_flip done x y shaped stands t at o object automatic there s over pool condemned
+          white in
           let base = address_of_grain grain in
           let after = tails_after x.amc o.pool generation size (NewSegment grain (grains_needed size)) in
           let number : grain_of base ≡ grain = omega arith in
@@ -119,7 +123,8 @@ module _ (F : Type 0) (layout : F → Layout) (formats : List (Option F)) (of : 
           (subst (λ c. Step c s' moves' base) (sym is.tails)
           (subst (λ g. Step after g moves' base) (sym is.segs_are)
           (subst (λ n. Step after (placed grain n s'.words) moves' base) number
-          (new_there F layout formats of at_flip done x y shaped stands t at o object automatic there s over pool condemned white grain lowest
+          (new_there F layout formats of at_flip done x y shaped stands t at o object automatic there s over pool condemned white grain
+          lowest
           s'.words is.words moves' (place ∙ e) is.trail))))
       as_step p (is_over committed need limit) e state' s' moves' answer is =
           full (OverLimit committed need limit) state' s' moves' answer e refl is.answer_is
@@ -178,14 +183,16 @@ module _ (F : Type 0) (layout : F → Layout) (formats : List (Option F)) (of : 
             in
             nothing_done layout formats of at_flip done x y stands t now o target.object target.there to.0 (is.leads ∙ e.0) e.1
         found_step state' s' moves' answer (is_kept unforwarded kept) =
-            let e = found.unforwarded_there F layout formats of at_flip done x y shaped stands at.0 t now o target format listed unforwarded in
+            let e = found.unforwarded_there F layout formats of at_flip done x y shaped stands at.0 t now o target format listed
+            unforwarded in
             let black : is_white_in y t ≡ false =
             stands.state.image.marks.white_there t at.0 (target.there ∙ ap (λ a. Some a) (sym e))
             ∙ and_right (is_condemned_word x.segs (word_of at.0)) (not (is_kept_at x.segs at.0)) (ap not kept)
             in
             nothing_done layout formats of at_flip done x y stands t now o target.object target.there at.0 e black
         found_step state' s' moves' answer (keeps other answer' unforwarded lost its fixed) =
-            let e = found.unforwarded_there F layout formats of at_flip done x y shaped stands at.0 t now o target format listed unforwarded in
+            let e = found.unforwarded_there F layout formats of at_flip done x y shaped stands at.0 t now o target format listed
+            unforwarded in
             let size_is = found.size_is F layout formats of at_flip done x y shaped stands at.0 t now o target format listed e in
             let there : entry_at y.world.addresses t ≡ Some at.0 = target.there ∙ ap (λ a. Some a) (sym e) in
             let white : is_white_in y t ≡ true =
@@ -197,7 +204,8 @@ module _ (F : Type 0) (layout : F → Layout) (formats : List (Option F)) (of : 
             in
             let mine =
             subst (λ n. IsFixed g x.amc state' x.segs s' x.moves moves' at o.pool (target_of of s) n answer) size_is
-            (subst (λ p. IsFixed g x.amc state' x.segs s' x.moves moves' at p (target_of of s) (size_at g x.segs.words at.0) answer) same_pool
+            (subst (λ p. IsFixed g x.amc state' x.segs s' x.moves moves' at p (target_of of s)
+            (size_at g x.segs.words at.0) answer) same_pool
             fixed)
             in
             keeps_step target.object target.automatic there s over pool condemned white state' s' moves' answer mine

@@ -114,7 +114,8 @@ module _ (F : Type 0) (layout : F → Layout) (formats : List (Option F)) (of : 
 
   pub place_is : placement_of y.world (ForMove t) ≡ placement_of_copy x.amc x.segs o.pool generation size
   place_is =
-      objects.placed_as y.world t at.0 o object there s over_in_world of pool (stands.state.pools.generations_are o.pool copying) x.amc x.segs
+      objects.placed_as y.world t at.0 o object there s over_in_world of pool
+      (stands.state.pools.generations_are o.pool copying) x.amc x.segs
       stands.state.segments stands.state.tails.same
       ∙ ap (λ p. placement_of_copy x.amc x.segs p generation size) pool
 
@@ -139,8 +140,10 @@ module _ (F : Type 0) (layout : F → Layout) (formats : List (Option F)) (of : 
     hand =
         subst (λ (r : Rattle.mps_base.specs.Run.Run). size ≤ r.count
         → AreAtHand setting y.world.addresses (address_of_word r.from) size o.pool) (sym (stands.state.tails.same o.pool generation))
-        (tail_at_hand x.segs stands.state.held y.world.graph.objects y.world.graph.points y.world.point_memories (pool_layout y.world) at_flip
-        y.running.condemned (λ id. true) y.world.addresses (Rattle.mps_model.specs.World.tail_of y.world) stands.state.hands o.pool generation
+        (tail_at_hand x.segs stands.state.held y.world.graph.objects y.world.graph.points y.world.point_memories
+        (pool_layout y.world) at_flip
+        y.running.condemned (λ id. true) y.world.addresses (Rattle.mps_model.specs.World.tail_of y.world) stands.state.hands o.pool
+        generation
         size positive) fits
 
     is_move : IsMove setting y.world.addresses y.colours t at.0 to o

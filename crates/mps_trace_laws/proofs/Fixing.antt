@@ -39,7 +39,8 @@ module _ (F : Type 0) (layout : F → Layout) (formats : List (Option F)) (of : 
       grown = grows_not x.segs;
       held = stands.state.held;
       tables = stands.state.tables;
-      fix = fixing.passes (ap (is_condemned_at x.segs) (let e : address_of_word (word_of at.0) ≡ at.0 = omega (arith, can.aligned) in e) ∙ calm);
+      fix = fixing.passes (ap (is_condemned_at x.segs) (let e : address_of_word (word_of at.0) ≡ at.0 = omega
+          (arith, can.aligned) in e) ∙ calm);
     }
 
     pub in_words : {z : Traced} {answer : Addr} → FixesTo layout formats of x at z answer
@@ -50,18 +51,21 @@ module _ (F : Type 0) (layout : F → Layout) (formats : List (Option F)) (of : 
         let same_segment : keep.segment ≡ t = same_Some keep.segment t (sym keep.over ∙ over) in
         let format_is : layout format ≡ pool_layout y.world t.pool = stands.state.pools.format_is t.pool format listed in
         let listed_keep : layout keep.format ≡ pool_layout y.world t.pool =
-        stands.state.pools.format_is keep.segment.pool keep.format keep.listed ∙ ap (λ (s : Segment). pool_layout y.world s.pool) same_segment
+        stands.state.pools.format_is keep.segment.pool keep.format keep.listed
+        ∙ ap (λ (s : Segment). pool_layout y.world s.pool) same_segment
         in
         let block : IsUnforwarded (pool_layout y.world t.pool) x.segs.words at.0
         → BlockStands (pool_layout y.world t.pool) x.segs.words at.0 (size_at (pool_layout y.world t.pool) x.segs.words at.0) =
-        subst (λ (f : Layout). IsUnforwarded f x.segs.words at.0 → BlockStands f x.segs.words at.0 (size_at f x.segs.words at.0)) listed_keep
+        subst (λ (f : Layout). IsUnforwarded f x.segs.words at.0
+        → BlockStands f x.segs.words at.0 (size_at f x.segs.words at.0)) listed_keep
         (λ unforwarded. (keep.block unforwarded).0)
         in
         let its = subst (λ (f : Layout). FixesAt f x.amc x.segs x.moves at (target_of of t) z.amc z.segs z.moves answer) format_is fixed in
         let is =
         fixed_in_words y.world.graph.objects y.world.graph.points y.world.point_memories (pool_layout y.world) at_flip
         y.running.condemned (λ id. true) y.world.addresses x.segs x.amc (tail_of y.world) may_copy at t
-        (record { aligned = can.aligned; over = over; condemned = is_condemned }) (omega (arith, can.in_arena, stands.state.image.words.long))
+        (record { aligned = can.aligned; over = over; condemned = is_condemned }) (omega
+        (arith, can.in_arena, stands.state.image.words.long))
         (lawful t.pool) (target_of of t) (stands.state.tails.same t.pool (target_of of t)) block its
         in
         record { grown = is.grown; held = is.held; tables = is.tables; fix = is.fix }

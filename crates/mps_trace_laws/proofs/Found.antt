@@ -88,7 +88,8 @@ module _ (F : Type 0) (layout : F → Layout) (formats : List (Option F)) (of : 
     apart_from_all =
         let hands = stands.state.hands.hands pool generation in
         let held : (n : Word) → Covers words n → _ ≡ _ =
-        λ n covers. in_hand x.segs stands.state.held y.world.graph.objects y.world.graph.points y.world.point_memories (pool_layout y.world) at_flip
+        λ n covers. in_hand x.segs stands.state.held y.world.graph.objects y.world.graph.points y.world.point_memories
+        (pool_layout y.world) at_flip
         y.running.condemned (λ id. true) y.world.addresses (tail_of y.world) stands.state.hands pool generation n covers
         in
         subst (AllByRecursion (AreApart words)) (sym stands.state.image.runs.covered)
@@ -106,7 +107,8 @@ module _ (F : Type 0) (layout : F → Layout) (formats : List (Option F)) (of : 
     lies_in : LiesIn (held_runs x.segs) words
     lies_in =
         let home = stands.state.hands.home pool generation some in
-        let aligned = among_aligned home.segment x.segs.segments stands.state.held.aligned (contains_among x.segs.segments home.segment home.held) in
+        let aligned = among_aligned home.segment x.segs.segments stands.state.held.aligned
+        (contains_among x.segs.segments home.segment home.held) in
         record {
           grains = grains_of_segment home.segment;
           there = grains_there x.segs.segments home.segment home.held;
@@ -117,8 +119,10 @@ module _ (F : Type 0) (layout : F → Layout) (formats : List (Option F)) (of : 
     is_open : IsOpenRun x.segs.grains (held_runs x.segs) x.segs.covered words
     is_open =
         let hands = stands.state.hands.hands pool generation in
-        let last = in_hand x.segs stands.state.held y.world.graph.objects y.world.graph.points y.world.point_memories (pool_layout y.world) at_flip
-        y.running.condemned (λ id. true) y.world.addresses (tail_of y.world) stands.state.hands pool generation (words.from + (words.count - 1))
+        let last = in_hand x.segs stands.state.held y.world.graph.objects y.world.graph.points y.world.point_memories
+        (pool_layout y.world) at_flip
+        y.running.condemned (λ id. true) y.world.addresses (tail_of y.world) stands.state.hands pool generation (words.from +
+        (words.count - 1))
         (omega arith, omega (arith, some))
         in
         let within = hands.within (words.from + (words.count - 1)) (record { pool = pool; number = generation }) last in
@@ -203,7 +207,8 @@ module _ (F : Type 0) (layout : F → Layout) (formats : List (Option F)) (of : 
 
       pub block_stands : at ≡ now → BlockStands f x.segs.words at (size_at f x.segs.words at)
       block_stands e =
-          let within = stands.state.image.placed.within t (size_of o - 1) o (word_of now + (size_of o - 1)) (lies (size_of o - 1) (omega (arith, positive))) in
+          let within = stands.state.image.placed.within t (size_of o - 1) o (word_of now + (size_of o - 1)) (lies (size_of o - 1) (omega
+          (arith, positive))) in
           record {
             valid =
                 subst (λ h. IsTrue (f.is_valid h)) (sym (ap (λ a. slice_index x.segs.words (word_of a)) e ∙ head_there))
@@ -219,7 +224,8 @@ module _ (F : Type 0) (layout : F → Layout) (formats : List (Option F)) (of : 
           in
           let parts = parted y.world.graph.objects y.world.addresses t now o target.object target.there in
           let among : Contains (extents_of y.world.graph.objects y.world.addresses) (extent now (size_of o)) =
-          subst (λ rs. Contains rs (extent now (size_of o))) (sym parts.is) (there_between parts.before parts.after (extent now (size_of o)))
+          subst (λ rs. Contains rs (extent now (size_of o))) (sym parts.is) (there_between parts.before parts.after (extent now
+          (size_of o)))
           in
           record {
             there =
@@ -248,7 +254,8 @@ module _ (F : Type 0) (layout : F → Layout) (formats : List (Option F)) (of : 
                 (ap (slice_index x.segs.words) (let z : word_of at ≡ word_of at + 0 = omega arith in z)
                 ∙ sym (get_or-drop (word_of at) x.segs.words 0 0) ∙ is.begins.head))
             | inr moved ↦
-                let aligned = (stands.state.image.placed.address t now target.there).aligned in omega (arith, aligned, is.leads, moved.leads)
+                let aligned = (stands.state.image.placed.address t now target.there).aligned in omega
+                (arith, aligned, is.leads, moved.leads)
           ]
 
       pub can_keep : CanKeep layout formats of x at
@@ -264,7 +271,8 @@ module _ (F : Type 0) (layout : F → Layout) (formats : List (Option F)) (of : 
             known = stands.state.pools.known s.0.pool copies;
             block =
                 subst (λ (g : Layout). IsUnforwarded g x.segs.words at
-                → BlockStands g x.segs.words at (size_at g x.segs.words at) × IsBlockOf x.segs at (size_at g x.segs.words at)) (sym format_is)
+                → BlockStands g x.segs.words at (size_at g x.segs.words at) × IsBlockOf x.segs at (size_at g x.segs.words at))
+                (sym format_is)
                 (λ isnt. let e = unforwarded_there isnt in (block_stands e, block_of e));
             leads =
                 subst (λ (g : Layout). (to : Address) → IsForwarded g x.segs.words at to → to % 8 ≡ 0) (sym format_is) leads_to;

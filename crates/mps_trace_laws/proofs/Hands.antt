@@ -49,10 +49,12 @@ pub placed_at : (s : SegsState) (b : Buffer) (size : ℕ) → IsPlacedAt s b siz
 placed_at s b size =
     elim (cases_lt b.count size) [
       | inr fits ↦
-          subst (IsPlacedAt s b size) (sym (cond-true (nat_le size b.count) (Place b.from) (placement_for s size) (le-leb size b.count fits)))
+          subst (IsPlacedAt s b size) (sym (cond-true (nat_le size b.count) (Place b.from) (placement_for s size)
+          (le-leb size b.count fits)))
           (in_tail fits)
       | inl short ↦
-          subst (IsPlacedAt s b size) (sym (cond-false (nat_le size b.count) (Place b.from) (placement_for s size) (lt-leb size b.count short)))
+          subst (IsPlacedAt s b size) (sym (cond-false (nat_le size b.count) (Place b.from) (placement_for s size)
+          (lt-leb size b.count short)))
           (elim (placement_cases s.grains s.limit (held_runs s) (grains_needed size)) [
             | placed grain is lowest ↦ subst (IsPlacedAt s b size) (sym is) (in_new grain lowest)
             | refused why is ↦ refused_there s b size (placement_for s size) why is
@@ -108,7 +110,8 @@ module _ (s : SegsState) (held : AreHeld s) (objects : List Object) (points : Li
         let begins = among_aligned home.segment s.segments held.aligned there in
         let within = stands.within (word_of (address_of_word words.from) + 0) hand (all 0 positive) in
         at_hand (setting_now s) (hand_of pool generation words) addresses (address_of_word words.from) size hand stands
-        (held_address home.segment (address_of_word words.from) there (omega (arith, home.above, begins)) (omega arith) (omega (arith, within)))
+        (held_address home.segment (address_of_word words.from) there (omega (arith, home.above, begins)) (omega arith) (omega
+        (arith, within)))
         positive all
 
   module _ (tables : HasTables s) (apart : LieApart (setting_now s) addresses) (reserved : AreReservationsHeld s points memories)
@@ -128,7 +131,11 @@ module _ (s : SegsState) (held : AreHeld s) (objects : List Object) (points : Li
         let more = held_more s held tables u free in
         let among = among_new u s.segments in
         let bounds = segment_bounds 1 (s.grains + 1) (with_one s u).segments u more.ascending among in
-        let covers : (k : ℕ) → k < size → Covers (words_of_segment u) (word_of u.base + k) = λ k lt. (omega arith, omega (arith, lt, fits)) in
+        let covers : (k : ℕ) → k < size → Covers (words_of_segment u) (word_of u.base + k) = λ k lt. (
+          omega arith,
+          omega
+              (arith, lt, fits),
+        ) in
         record {
           address = record {
             not_null = omega (arith, bounds.0, free.aligned);

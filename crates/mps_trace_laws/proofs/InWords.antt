@@ -32,7 +32,8 @@ module _ (s : SegsState) (at : Address) (t : Segment) (over : IsCondemnedOver s 
 
   pub pool_there : pool_over_word s (word_of at) ≡ Some t.pool
   pool_there =
-      ap (λ a. option_map (λ (x : Segment). x.pool) (segment_over s.segments a)) begins ∙ ap (option_map (λ (x : Segment). x.pool)) over.over
+      ap (λ a. option_map (λ (x : Segment). x.pool) (segment_over s.segments a)) begins
+      ∙ ap (option_map (λ (x : Segment). x.pool)) over.over
 
   pub condemned_there : is_condemned_word s (word_of at) ≡ true
   condemned_there = ap (is_condemned_at s) begins ∙ over.condemned

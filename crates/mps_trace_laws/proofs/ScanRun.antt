@@ -39,9 +39,11 @@ layout_still w w' same pool =
     ap (λ fs. fs (option_map_or (λ (p : Pool). p.format) (slice_get w'.pools pool) 0)) same.formats
     ∙ ap (λ ps. w.formats (option_map_or (λ (p : Pool). p.format) (slice_get ps pool) 0)) same.pools
 
-pub shaped_still : (w w' : World) → IsSameGraph w w' → AreShaped w.graph.objects (pool_layout w) → AreShaped w'.graph.objects (pool_layout w')
+pub shaped_still : (w w' : World) → IsSameGraph w w' → AreShaped w.graph.objects (pool_layout w)
+    → AreShaped w'.graph.objects (pool_layout w')
 shaped_still w w' same shaped =
-    subst (λ (fs : ℕ → Layout). AreShaped w'.graph.objects (λ pool. fs (option_map_or (λ (p : Pool). p.format) (slice_get w'.pools pool) 0)))
+    subst (λ (fs : ℕ → Layout). AreShaped w'.graph.objects (λ pool. fs (option_map_or (λ (p : Pool). p.format)
+    (slice_get w'.pools pool) 0)))
     (sym same.formats)
     (subst (λ (ps : List Pool). AreShaped w'.graph.objects
     (λ pool. w.formats (option_map_or (λ (p : Pool). p.format) (slice_get ps pool) 0))) (sym same.pools)
@@ -139,7 +141,8 @@ module _ (F : Type 0) (layout : F → Layout) (formats : List (Option F)) (of : 
               (sym (targets_more (all_cells o.body) k c ids cell
               ∙ ap (λ v. targets_of_cells (take k (all_cells o.body)) ++ (entries (v ∷ []) ++ ids)) none))
               (run.fixes ids ms last rest);
-          stands = fewer_done layout formats of at_flip (with_cell (with_cells done holder k) holder k) (with_cells done holder (suc k)) z y'
+          stands = fewer_done layout formats of at_flip (with_cell (with_cells done holder k) holder k) (with_cells done holder
+              (suc k)) z y'
               (next_cells done holder k)
               (record {
                 state = record {

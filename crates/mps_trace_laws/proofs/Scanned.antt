@@ -35,7 +35,8 @@ targets_are (Manual words) is = absurd (false≢true is)
 
 module _ (F : Type 0) (layout : F → Layout) (formats : List (Option F)) (of : ChainsState) (at_flip : List (Option Address))
     (x : Traced) (y : Collecting) (shaped : AreShaped y.world.graph.objects (pool_layout y.world))
-    (stands : TracingStands layout formats of at_flip (black_cells y.running.condemned y.colours) x y) (holder : Id) (at : Addr) (o : Object)
+    (stands : TracingStands layout formats of at_flip (black_cells y.running.condemned y.colours) x y) (holder : Id) (at : Addr)
+    (o : Object)
     (scan : IsToBeScanned y holder at.0 o) where
   abbrev done : CellSet
   done = black_cells y.running.condemned y.colours
@@ -54,10 +55,12 @@ module _ (F : Type 0) (layout : F → Layout) (formats : List (Option F)) (of : 
   at_most (goes_on from cell earlier first fixed) =
       let lt = inside F layout formats of at_flip done x y shaped stands holder at o scan cell first.reference in omega (arith, lt)
 
-  whole_run : (z : Traced) → ScansAll layout f formats of head at x z → IsScannedTo layout formats of at_flip done x z y holder o (size_of o)
+  whole_run : (z : Traced) → ScansAll layout f formats of head at x z
+      → IsScannedTo layout formats of at_flip done x z y holder o (size_of o)
   whole_run z all =
       let low = at_most all.run in
-      subst (IsScannedTo layout formats of at_flip done x z y holder o) (let e : all.from + (size_of o - all.from) ≡ size_of o = omega (arith, low) in e)
+      subst (IsScannedTo layout formats of at_flip done x z y holder o) (let e : all.from + (size_of o - all.from) ≡ size_of o = omega
+      (arith, low) in e)
       (pass_all F layout formats of at_flip done x y shaped stands holder at o scan z (size_of o - all.from) all.from
       (run_to F layout formats of at_flip done x y shaped stands holder at o scan all.run) (λ k above below. all.done k above)
       (omega (arith, low)))
@@ -99,7 +102,8 @@ module _ (F : Type 0) (layout : F → Layout) (formats : List (Option F)) (of : 
             reserved = st.reserved;
             condemned = record { is_bit = st.condemned.is_bit; is_held = st.condemned.is_held };
             image =
-                scan_ends setting (memory_in z.segs) y'.world.addresses y.colours y'.colours (with_cells done holder (size_of o)) holder at.0 o
+                scan_ends setting (memory_in z.segs) y'.world.addresses y.colours y'.colours (with_cells done holder
+                (size_of o)) holder at.0 o
                 (memory_in (blackening z.segs at.0)).grey st.image there object
                 (λ j i is.
                 or_right (j == holder && nat_lt i (size_of o)) (done j i)
@@ -128,7 +132,8 @@ module _ (F : Type 0) (layout : F → Layout) (formats : List (Option F)) (of : 
       let pool : is.segment.pool ≡ o.pool =
       ap (λ (s : Segment). s.pool) (same_Some is.segment its.0 (sym is.over ∙ its.1)) ∙ its.2
       in
-      let format_is : layout is.format ≡ f = stands.state.pools.format_is is.segment.pool is.format is.listed ∙ ap (pool_layout y.world) pool in
+      let format_is : layout is.format ≡ f = stands.state.pools.format_is is.segment.pool is.format is.listed
+      ∙ ap (pool_layout y.world) pool in
       let all = subst (λ h. ScansAll layout f formats of h at x is.before) head_is
       (subst (λ (g : Layout). ScansAll layout g formats of (slice_index x.segs.words (word_of at.0)) at x is.before) format_is is.all) in
       subst (λ w. IsScan layout formats of at_flip x w y holder) (sym is.black) (ended is.before (whole_run is.before all))

@@ -101,7 +101,8 @@ module _ {F : Type 0} (layout : F → Layout) (formats : List (Option F)) (of : 
         }
 
     -- it stays
-    pub stay_step : (z : Traced) (copying : is_copying_object y.world t ≡ true) (full : has_no_room (placement_of y.world (ForMove t)) ≡ true)
+    pub stay_step : (z : Traced) (copying : is_copying_object y.world t ≡ true) (full : has_no_room (placement_of y.world
+        (ForMove t)) ≡ true)
         (at : Addr) → at.0 ≡ now → z.moves ≡ with_move x.moves (move.Stay at)
         → StateStands layout formats of at_flip done z.amc z.segs (kept_in y t (with_collection y.world (placing t)))
         → IsFixStep layout formats of at_flip done x z y t at.0

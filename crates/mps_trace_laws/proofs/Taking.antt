@@ -126,7 +126,8 @@ module _ (s : Setting) (segments : List Segment) (addresses : List (Option Addre
   pub tails_after : TailsStand s segments (address_moved addresses t to) tail'
   tails_after = record {
     hands = λ p g.
-        hands_moved s (hand_of p g (tail p g)) (hand_of p g (tail' p g)) addresses k t from to o placed v (hand_taken p g) (tails.hands p g);
+        hands_moved s (hand_of p g (tail p g)) (hand_of p g (tail' p g)) addresses k t from to o placed v (hand_taken p g)
+        (tails.hands p g);
     apart = λ p g q h n c d. let a = stays p g n c in let b = stays q h n d in tails.apart p g q h n a.covers b.covers;
     home = λ p g some. elim (which p g o.pool generation) [
       | inl same ↦
