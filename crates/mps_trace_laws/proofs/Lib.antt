@@ -19,3 +19,4 @@ pub mod EachCell
 pub mod CellLists
 pub mod ScanRun
 pub mod Scanned
+pub mod CanScan

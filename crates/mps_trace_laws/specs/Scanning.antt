@@ -14,8 +14,10 @@ use Rattle.mps_image.specs.Image.{CellSet, black_cells, AreShaped}
 use Rattle.mps_colours.specs.Colours.{blackened}
 use Rattle.mps_colours.specs.Units.{scanned}
 use Rattle.mps_image.specs.Scanning.{LeavesOthers}
-use Rattle.mps_trace.specs.Trace.{Traced}
-use Rattle.mps_trace.specs.Scan.{ScansTo, AreReady, Scanned}
+use Rattle.mps_trace.specs.Trace.{Traced, TraceState, traced}
+use Rattle.mps_trace.specs.Scan.{ScansTo, AreReady, Scanned, CanScan}
+use Rattle.mps_seg.specs.Segs.{SegsState}
+use Rattle.mps_base.specs.Trail.{Moves}
 use Rattle.mps_trace_laws.specs.Tracing.{TracingStands}
 use Rattle.mps_trace_laws.specs.Steps.{IsSameGraph}
 
@@ -82,3 +84,10 @@ AScanIsAScan F =
     (y : Collecting) (holder : Id) (at : Addr) (o : Object) → AreShaped y.world.graph.objects (pool_layout y.world)
     → TracingStands layout formats of at_flip (black_cells y.running.condemned y.colours) x y → IsToBeScanned y holder at.0 o
     → Scanned layout formats of x at z → IsScan layout formats of at_flip x z y holder
+
+-- a block of a live object that isn't white, where all that it refers to is live, can be scanned
+abbrev pub AnObjectCanBeScanned : (F : Type 0) → Type 0
+AnObjectCanBeScanned F =
+    (layout : F → Layout) (t : TraceState F) (s : SegsState) (m : Moves) (at_flip : List (Option Address)) (done : CellSet)
+    (y : Collecting) (holder : Id) (at : Addr) (o : Object) → AreShaped y.world.graph.objects (pool_layout y.world)
+    → TracingStands layout t.formats t.chains at_flip done (traced t s m) y → IsToBeScanned y holder at.0 o → CanScan layout t s m at

@@ -4,7 +4,7 @@
 
 ghost use Rattle.mps_trace_laws.specs.Cells.{ACellCanBeFixed, ACellIsAStep};
 ghost use Rattle.mps_trace_laws.specs.Fixing.{AFixIsInWords, AFixIsOneFix, ATargetCanBeFixed};
-ghost use Rattle.mps_trace_laws.specs.Scanning.{AScanIsReady, AScanIsOfSteps, AScanIsAScan};
+ghost use Rattle.mps_trace_laws.specs.Scanning.{AScanIsReady, AScanIsOfSteps, AScanIsAScan, AnObjectCanBeScanned};
 ghost use Rattle.mps_trace_laws.specs.Steps.{AFixIsAStep};
 
 /// Whatever the collector does with an address is a fix in words, of the image of objects in the segments then.
@@ -52,4 +52,9 @@ pub fn a_scan_is_of_steps<F>()
 /// A scan of a block fixes what its object refers to, in the abstract collector, and the object is black then.
 pub fn a_scan_is_a_scan<F>()
     ensures { AScanIsAScan F }
+{}
+
+/// A block of a live object that isn't white, all of whose targets are live, can be scanned.
+pub fn an_object_can_be_scanned<F>()
+    ensures { AnObjectCanBeScanned F }
 {}
