@@ -1,14 +1,13 @@
 -- A block of an object that is to be scanned can be.
-use Rattle.std.proofs.Common.{◌≡◌, ◌∙◌, ◌+◌, ◌≤◌, refl, sym, ap, List, length, slice_index, Option, Some, subst, inl}
-use Rattle.std.specs.Prelude.{IsTrue, slice_get}
-use Rattle.mps_base.specs.Address.{Address, Id, word_of}
-use Rattle.mps_base.specs.declared.address.Addr.{Addr}
+use Rattle.std.proofs.Common.{◌≡◌, ◌∙◌, refl, sym, ap, slice_index, subst, inl}
+use Rattle.std.specs.Prelude.{slice_get}
+use Rattle.mps_base.specs.Address.{word_of}
 use Rattle.mps_format.specs.Layout.{Layout}
 use Rattle.mps_amc.specs.Moving.{BlockStands, size_at}
 use Rattle.mps_image.specs.Memory.{pool_layout}
 use Rattle.mps_image.specs.Fixing.{Target}
 use Rattle.mps_trace.specs.Trace.{traced}
-use Rattle.mps_trace.specs.Scan.{AreReady, CanScan}
+use Rattle.mps_trace.specs.Scan.{AreReady}
 use Rattle.mps_trace_laws.specs.Tracing.{setting_of}
 use Rattle.mps_trace_laws.specs.Scanning.{AnObjectCanBeScanned}
 use Rattle.mps_trace_laws.proofs.Found as found
