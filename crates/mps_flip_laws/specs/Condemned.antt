@@ -1,0 +1,95 @@
+-- What a flip of everything condemns, in words and in the model.
+use Rattle.std.specs.Prelude.{◌≡◌, ℕ, ◌<◌, ◌==◌, Bool, true, false, ◌||◌, IsTrue, Option, Some, None, List, [], ◌∷◌, map, length, Contains, refl}
+use Rattle.std.proofs.Common.{arith, lit<}
+use Rattle.mps_base.specs.Address.{Address, address_of_grain, grain_of}
+use Rattle.mps_base.specs.Segment.{Segment}
+use Rattle.mps_base.specs.declared.moves.Move.TheVariants.{Flip}
+use Rattle.mps_base.specs.declared.names.Rank.TheVariants.{Exact}
+use Rattle.mps_bits.specs.Table.{bit}
+use Rattle.mps_buffer.specs.Points.{PointsState}
+use Rattle.mps_gen.specs.State.{max_chains}
+use Rattle.mps_model.specs.Graph.{contains}
+use Rattle.mps_model.specs.World.{World, is_automatic_kind, is_copying_pool, pool_is}
+use Rattle.mps_model.specs.Effect.{Everything, condemned_by, condemned_zones, collection_at_flip, world_flipped}
+use Rattle.mps_model.specs.Flip.{flip_of}
+use Rattle.mps_seg.specs.Segs.{SegsState}
+use Rattle.mps_trace.specs.Flip.{is_automatic, automatic_of, zones_of, at_flip}
+use Rattle.mps_trace.specs.Trace.{Traced}
+
+-- a collector has the format of a pool exactly where the pool is automatic
+abbrev pub AreFormatsOf : {F : Type 0} → (formats : List (Option F)) → (is_automatic_pool : ℕ → Bool) → Type 0
+AreFormatsOf formats is_automatic_pool = (pool : ℕ) → is_automatic formats pool ≡ is_automatic_pool pool
+
+-- all automatic pools move blocks
+abbrev pub AllCopying : (is_automatic_pool is_copying : ℕ → Bool) → Type 0
+AllCopying is_automatic_pool is_copying = (pool : ℕ) → IsTrue (is_automatic_pool pool) → IsTrue (is_copying pool)
+
+-- the addresses at which segments begin
+abbrev pub bases_of : List Segment → List Address
+bases_of ts = map (λ (t : Segment). t.base) ts
+
+-- ---- the model's flip
+
+-- a flip that condemns these segments is the model's flip of everything
+pub record IsFlipOfEverything (ts : List Segment) (w : World) : Type 0 where
+  pub segments : ts ≡ condemned_by w Everything
+  -- in the model's order
+  pub bases : bases_of ts ≡ (collection_at_flip (world_flipped w (zones_of ts)) Everything).condemned_segments
+  pub zones : zones_of ts ≡ condemned_zones w Everything
+  pub move : Flip (record { 0 = zones_of ts }) max_chains 0 ≡ flip_of w Everything
+
+-- where segments are those of a world, formats are of its automatic pools alone, and all of these move blocks
+abbrev pub AFlipIsTheModels : (F : Type 0) → Type 0
+AFlipIsTheModels F =
+    (formats : List (Option F)) (ts : List Segment) (w : World) → ts ≡ w.segments → AreFormatsOf formats (pool_is is_automatic_kind w)
+    → AllCopying (pool_is is_automatic_kind w) (is_copying_pool w) → IsFlipOfEverything (automatic_of formats ts) w
+
+-- ---- the segments after a flip
+
+-- segments begin with a grain for which there is a bit in a table of this many
+pub record BeginInTable (ts : List Segment) (entries : ℕ) : Type 0 where
+  pub aligned : (t : Segment) → Contains ts t → address_of_grain (grain_of t.base) ≡ t.base
+  pub within : (t : Segment) → Contains ts t → grain_of t.base < entries
+
+-- the segments that begin at these addresses are condemned too, all of them are held, and no other one is condemned
+pub record AreCondemnedToo (s after : SegsState) (bases : List Address) : Type 0 where
+  pub segments : after.segments ≡ s.segments
+  pub entries : length after.condemned ≡ length s.condemned
+  pub bits : (t : Segment) → Contains after.segments t
+      → bit after.condemned (grain_of t.base) ≡ (contains bases t.base || bit s.condemned (grain_of t.base))
+  pub held : (base : Address) → IsTrue (contains bases base) → (t : Segment) × Contains after.segments t × (t.base ≡ base)
+  -- where none was condemned before, exactly these are
+  pub exactly : ((t : Segment) → Contains s.segments t → bit s.condemned (grain_of t.base) ≡ false) → (t : Segment)
+      → Contains after.segments t → bit after.condemned (grain_of t.base) ≡ contains bases t.base
+
+abbrev pub AFlipCondemns : (F : Type 0) → Type 0
+AFlipCondemns F =
+    (formats : List (Option F)) (points : PointsState) (x : Traced) → BeginInTable x.segs.segments (length x.segs.condemned)
+    → AreCondemnedToo x.segs (at_flip formats points x).segs (bases_of (automatic_of formats x.segs.segments))
+
+-- ---- vectors: pool 1 alone is automatic
+
+abbrev known_formats : List (Option ℕ)
+known_formats = None ∷ Some 0 ∷ []
+
+abbrev segment_at : (base pool : ℕ) → Segment
+segment_at base pool = record { base = base; grains = 2; pool = pool; generation = 0; rank = Exact }
+
+pub a_format_of_a_manual_pool : AreFormatsOf known_formats (λ pool. false) → ⊥
+a_format_of_a_manual_pool known = let e : true ≡ false = known 1 in absurd cc
+
+pub an_automatic_pool_without_a_format : AreFormatsOf known_formats (λ pool. true) → ⊥
+an_automatic_pool_without_a_format known = let e : false ≡ true = known 0 in absurd cc
+
+pub the_base_of_a_condemned_segment : bases_of (automatic_of known_formats (segment_at 0x1000 0 ∷ segment_at 0x3000 1 ∷ [])) ≡ 0x3000 ∷ []
+the_base_of_a_condemned_segment = refl
+
+pub a_segment_within_a_grain : BeginInTable (segment_at 0x1008 1 ∷ []) 4 → ⊥
+a_segment_within_a_grain begin =
+    let there : Contains (segment_at 0x1008 1 ∷ []) (segment_at 0x1008 1) = (0, lit< tt, refl) in
+    let e : 0x1000 ≡ 0x1008 = begin.aligned (segment_at 0x1008 1) there in omega (arith, e)
+
+pub a_segment_past_the_table : BeginInTable (segment_at 0x4000 1 ∷ []) 4 → ⊥
+a_segment_past_the_table begin =
+    let there : Contains (segment_at 0x4000 1 ∷ []) (segment_at 0x4000 1) = (0, lit< tt, refl) in
+    let e : 4 < 4 = begin.within (segment_at 0x4000 1) there in omega (arith, e)
