@@ -84,8 +84,8 @@ module _ (p : Segment → Bool) (base : Address) where
       (λ e. bit_other s.condemned (grain_of t.base) (grain_of base)
       (λ g. eqb-false t.base base e (sym its ∙ ap (λ (n : Grain). address_of_grain n) (sym g) ∙ aligned)))
 
-  bit_after : address_of_grain (grain_of base) ≡ base → (ts : List Segment) (s : SegsState) → AreAligned ts → grain_of base < length s.condemned
-      → bit (condemning_all (filter p ts) s).condemned (grain_of base)
+  bit_after : address_of_grain (grain_of base) ≡ base → (ts : List Segment) (s : SegsState) → AreAligned ts
+      → grain_of base < length s.condemned → bit (condemning_all (filter p ts) s).condemned (grain_of base)
       ≡ (contains (bases_of (filter p ts)) base || bit s.condemned (grain_of base))
   bit_after aligned [] s each within = refl
   bit_after aligned (t ∷ ts) s each within =

@@ -1,2 +1,3 @@
 pub mod Filtered
 pub mod Condemned
+pub mod Reservations

@@ -1,1 +1,2 @@
 pub mod Condemned
+pub mod Reservations

@@ -3,6 +3,7 @@
 #![tactic(auto)]
 
 ghost use Rattle.mps_flip_laws.specs.Condemned.{AFlipIsTheModels, AFlipCondemns};
+ghost use Rattle.mps_flip_laws.specs.Reservations.{NoReservationIsLive, AFlipMovesNothing};
 
 /// A flip of everything condemns the segments that the model's flip condemns, and its move is the model's.
 pub fn a_flip_is_the_models<F>()
@@ -12,4 +13,14 @@ pub fn a_flip_is_the_models<F>()
 /// After a flip, of the held segments exactly those of automatic pools are condemned too.
 pub fn a_flip_condemns<F>()
     ensures { AFlipCondemns F }
+{}
+
+/// After the model's flip no reservation is live, and none covers words.
+pub fn no_reservation_is_live()
+    ensures { NoReservationIsLive }
+{}
+
+/// A flip in words leaves all words, blocks and marks as they are.
+pub fn a_flip_moves_nothing<F>()
+    ensures { AFlipMovesNothing F }
 {}
