@@ -1,18 +1,18 @@
 -- What is shown of the units of a collection, in words, each law a statement.
-use Rattle.std.specs.Prelude.{◌≡◌, ◌+◌, ◌++◌, None, Option, List}
+use Rattle.std.specs.Prelude.{◌≡◌, ℕ, suc, ◌+◌, ◌<◌, ◌++◌, None, Option, List}
 use Rattle.mps_base.specs.Address.{Address}
 use Rattle.mps_base.specs.declared.address.Addr.{Addr}
 use Rattle.mps_base.specs.declared.moves.Move.{Move}
 use Rattle.mps_format.specs.Layout.{Layout}
 use Rattle.mps_gen.specs.State.{ChainsState}
 use Rattle.mps_model.specs.Effect.{world_after_moves}
-use Rattle.mps_colours.specs.Collecting.{Collecting}
-use Rattle.mps_colours.specs.Units.{IsUnit, IsLastUnit}
+use Rattle.mps_colours.specs.Collecting.{Collecting, units_left}
+use Rattle.mps_colours.specs.Units.{IsUnit, IsLastUnit, GoesOn, Ends}
 use Rattle.mps_image.specs.AtRest.{StandsAtRest}
 use Rattle.mps_trace.specs.Condemned.{IsNextCondemned}
-use Rattle.mps_trace.specs.Scan.{IsDrained}
+use Rattle.mps_trace.specs.Scan.{ScansOne, IsDrained}
 use Rattle.mps_trace.specs.Trace.{Traced}
-use Rattle.mps_trace.specs.Unit.{ReclaimsNext, LastUnitTo, reclaimed_at}
+use Rattle.mps_trace.specs.Unit.{ReclaimsNext, LastUnitTo, UnitsTo, EndsWithin, reclaimed_at}
 use Rattle.mps_trace.specs.declared.running.Running.{Running as RunningState}
 use Rattle.mps_unit_laws.specs.Standing.{StandsReclaiming, UnitStands}
 
@@ -53,3 +53,51 @@ TheLastUnitIsDone F =
     (layout : F → Layout) (formats : List (Option F)) (of : ChainsState) (at_flip : List (Option Address)) (x z : Traced)
     (run : RunningState) (y : Collecting) → UnitStands layout formats of at_flip x run y → LastUnitTo layout formats x run z
     → IsLastUnitDone x y z
+
+-- ---- rows of units
+
+-- each scan of a grey block is a unit of the abstract collector
+abbrev pub AreScansDone : {F : Type 0} → (F → Layout) → List (Option F) → ChainsState → List (Option Address) → Type 0
+AreScansDone layout formats of at_flip =
+    (x z : Traced) (run : RunningState) (y : Collecting) → UnitStands layout formats of at_flip x run y
+    → ScansOne layout formats of x z → IsUnitDone layout formats of at_flip x y z run
+
+-- n units of the abstract collector, which tell the same moves and after which the state stands for it
+pub record AreUnitsDone {F : Type 0} (layout : F → Layout) (formats : List (Option F)) (of : ChainsState)
+    (at_flip : List (Option Address)) (x : Traced) (y : Collecting) (count : ℕ) (z : Traced) (run' : RunningState) : Type 0 where
+  pub moves : List Move
+  pub after : Collecting
+  pub units : GoesOn y count moves after
+  pub stands : UnitStands layout formats of at_flip z run' after
+  pub trail : z.moves.moves ≡ x.moves.moves ++ moves
+
+-- n units, in the last of which it ends, after which the segments stand for a world at rest
+pub record AreLastUnitsDone (x : Traced) (y : Collecting) (count : ℕ) (z : Traced) : Type 0 where
+  pub moves : List Move
+  pub units : Ends y count moves
+  pub ended : (world_after_moves y.world moves).collection ≡ None
+  pub stands : StandsAtRest z.segs (world_after_moves y.world moves)
+  pub trail : z.moves.moves ≡ x.moves.moves ++ moves
+
+-- where scans are units of the abstract collector, rows of units are
+abbrev pub UnitsAreDone : (F : Type 0) → Type 0
+UnitsAreDone F =
+    (layout : F → Layout) (formats : List (Option F)) (of : ChainsState) (at_flip : List (Option Address)) (x z : Traced)
+    (run run' : RunningState) (y : Collecting) (count : ℕ) → AreScansDone layout formats of at_flip
+    → UnitStands layout formats of at_flip x run y → UnitsTo layout formats of x run count z run'
+    → AreUnitsDone layout formats of at_flip x y count z run'
+
+-- and where the collection ends the abstract one does
+abbrev pub TheEndIsDone : (F : Type 0) → Type 0
+TheEndIsDone F =
+    (layout : F → Layout) (formats : List (Option F)) (of : ChainsState) (at_flip : List (Option Address)) (x z : Traced)
+    (run : RunningState) (y : Collecting) (most : ℕ) → AreScansDone layout formats of at_flip
+    → UnitStands layout formats of at_flip x run y → (ends : EndsWithin layout formats of x run most z)
+    → AreLastUnitsDone x y (suc ends.count) z
+
+-- a collection doesn't go on after as many units as the abstract collector has left
+abbrev pub UnitsRunOut : (F : Type 0) → Type 0
+UnitsRunOut F =
+    (layout : F → Layout) (formats : List (Option F)) (of : ChainsState) (at_flip : List (Option Address)) (x z : Traced)
+    (run run' : RunningState) (y : Collecting) (count : ℕ) → AreScansDone layout formats of at_flip
+    → UnitStands layout formats of at_flip x run y → UnitsTo layout formats of x run count z run' → count < units_left y

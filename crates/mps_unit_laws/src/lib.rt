@@ -2,7 +2,7 @@
 //! Each function does nothing; what it shows is its contract.
 #![tactic(auto)]
 
-ghost use Rattle.mps_unit_laws.specs.Laws.{TheLastBandIsEntered, AReclaimIsDone, TheLastUnitIsDone};
+ghost use Rattle.mps_unit_laws.specs.Laws.{TheLastBandIsEntered, AReclaimIsDone, TheLastUnitIsDone, UnitsAreDone, TheEndIsDone, UnitsRunOut};
 
 /// Where nothing is grey in words nothing is grey of the abstract collector, and the last band begins.
 pub fn the_last_band_is_entered<F>()
@@ -17,4 +17,19 @@ pub fn a_reclaim_is_done<F>()
 /// The last unit is that of the abstract collector, with the same moves, and the segments stand for the world at rest after it.
 pub fn the_last_unit_is_done<F>()
     ensures { TheLastUnitIsDone F }
+{}
+
+/// Where scans are units of the abstract collector, n units are n of its units, with the same moves, and the state stands for it then.
+pub fn units_are_done<F>()
+    ensures { UnitsAreDone F }
+{}
+
+/// And where the collection ends the abstract one does, and the segments stand for the world at rest.
+pub fn the_end_is_done<F>()
+    ensures { TheEndIsDone F }
+{}
+
+/// A collection goes on only after fewer units than the abstract collector has left.
+pub fn units_run_out<F>()
+    ensures { UnitsRunOut F }
 {}
