@@ -1,0 +1,2 @@
+pub mod Nailed
+pub mod Laws
