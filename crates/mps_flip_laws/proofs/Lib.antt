@@ -1,3 +1,4 @@
 pub mod Filtered
 pub mod Condemned
 pub mod Reservations
+pub mod CondemnedWords

@@ -1,2 +1,3 @@
 pub mod Condemned
 pub mod Reservations
+pub mod CondemnedWords

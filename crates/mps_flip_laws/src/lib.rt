@@ -3,6 +3,7 @@
 #![tactic(auto)]
 
 ghost use Rattle.mps_flip_laws.specs.Condemned.{AFlipIsTheModels, AFlipCondemns};
+ghost use Rattle.mps_flip_laws.specs.CondemnedWords.{AFlipCondemnsWords};
 ghost use Rattle.mps_flip_laws.specs.Reservations.{NoReservationIsLive, AFlipMovesNothing};
 
 /// A flip of everything condemns the segments that the model's flip condemns, and its move is the model's.
@@ -23,4 +24,9 @@ pub fn no_reservation_is_live()
 /// A flip in words leaves all words, blocks and marks as they are.
 pub fn a_flip_moves_nothing<F>()
     ensures { AFlipMovesNothing F }
+{}
+
+/// After a flip exactly the words of automatic pools are condemned, so those of objects by the pools of these.
+pub fn a_flip_condemns_words<F>()
+    ensures { AFlipCondemnsWords F }
 {}
