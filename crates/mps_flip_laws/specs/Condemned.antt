@@ -69,10 +69,10 @@ AFlipCondemns F =
 
 -- ---- vectors: pool 1 alone is automatic
 
-abbrev known_formats : List (Option ℕ)
+abbrev pub known_formats : List (Option ℕ)
 known_formats = None ∷ Some 0 ∷ []
 
-abbrev segment_at : (base pool : ℕ) → Segment
+abbrev pub segment_at : (base pool : ℕ) → Segment
 segment_at base pool = record { base = base; grains = 2; pool = pool; generation = 0; rank = Exact }
 
 pub a_format_of_a_manual_pool : AreFormatsOf known_formats (λ pool. false) → ⊥

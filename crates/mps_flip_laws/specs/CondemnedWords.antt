@@ -1,16 +1,18 @@
 -- Which words a flip condemns: those of the segments of automatic pools.
-use Rattle.std.specs.Prelude.{◌≡◌, ℕ, false, Option, Some, List, length, Contains}
+use Rattle.std.specs.Prelude.{◌≡◌, ℕ, true, false, Option, Some, List, [], ◌∷◌, length, Contains, refl}
+use Rattle.std.proofs.Common.{lit<}
 use Rattle.mps_base.specs.Address.{Address, Word, grain_of}
 use Rattle.mps_base.specs.Segment.{Segment}
 use Rattle.mps_bits.specs.Table.{bit}
 use Rattle.mps_buffer.specs.Points.{PointsState}
 use Rattle.mps_image.specs.Memory.{Lies, is_condemned_word, pool_over_word}
 use Rattle.mps_model.specs.Graph.{Object}
-use Rattle.mps_seg.specs.Segs.{SegsState}
+use Rattle.mps_seg.specs.Segs.{SegsState, new_segments}
+use Rattle.mps_seg.specs.Collecting.{condemning}
 use Rattle.mps_trace.specs.Condemned.{AreAscending}
 use Rattle.mps_trace.specs.Flip.{is_automatic, at_flip}
 use Rattle.mps_trace.specs.Trace.{Traced}
-use Rattle.mps_flip_laws.specs.Condemned.{BeginInTable}
+use Rattle.mps_flip_laws.specs.Condemned.{BeginInTable, known_formats, segment_at}
 
 -- segments in which nothing is condemned yet, in ascending order
 pub record AreReadyToCondemn (s : SegsState) : Type 0 where
@@ -31,3 +33,18 @@ abbrev pub AFlipCondemnsWords : (F : Type 0) → Type 0
 AFlipCondemnsWords F =
     (formats : List (Option F)) (points : PointsState) (x : Traced) → AreReadyToCondemn x.segs
     → AreWordsCondemned formats x.segs (at_flip formats points x).segs
+
+-- ---- vectors: one segment, of pool 1, which alone is automatic
+
+abbrev one_segment : SegsState
+one_segment = record (new_segments 2 2) { segments = segment_at 0x1000 1 ∷ [] }
+
+pub its_words_are_not_condemned_yet : AreWordsCondemned known_formats one_segment one_segment → ⊥
+unfolding bit
+its_words_are_not_condemned_yet c = let e : false ≡ true = c.words 513 1 refl in absurd cc
+
+pub a_condemned_segment_is_not_ready : AreReadyToCondemn (condemning one_segment 0x1000) → ⊥
+unfolding bit
+a_condemned_segment_is_not_ready ready =
+    let there : Contains one_segment.segments (segment_at 0x1000 1) = (0, lit< tt, refl) in
+    let e : true ≡ false = ready.none (segment_at 0x1000 1) there in absurd cc
