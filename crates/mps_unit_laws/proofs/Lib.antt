@@ -1,3 +1,4 @@
 pub mod Entering
 pub mod Reclaiming
 pub mod Rows
+pub mod Scanning

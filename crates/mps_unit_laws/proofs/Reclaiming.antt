@@ -147,7 +147,8 @@ module _ {F : Type 0} (layout : F → Layout) (formats : List (Option F)) (of : 
     reclaiming_on : StandsReclaiming z (reclaimed y t.base freed on.collection)
     reclaiming_on = record {
       frees =
-          subst (λ (w : World). FreesFor z.segs (world_after_moves y.world (reclaim_by y t.base freed)) on.collection y.colours (pool_layout w))
+          subst (λ (w : World). FreesFor z.segs (world_after_moves y.world (reclaim_by y t.base freed)) on.collection y.colours
+          (pool_layout w))
           (sym leads) on.frees;
       scanned = last_band.scanned;
       inside = λ u held.

@@ -1,20 +1,24 @@
 -- What is shown of the units of a collection, in words, each law a statement.
 use Rattle.std.specs.Prelude.{◌≡◌, ℕ, suc, ◌+◌, ◌<◌, ◌++◌, None, Option, List}
-use Rattle.mps_base.specs.Address.{Address}
+use Rattle.mps_base.specs.Address.{Address, Id}
 use Rattle.mps_base.specs.declared.address.Addr.{Addr}
 use Rattle.mps_base.specs.declared.moves.Move.{Move}
 use Rattle.mps_format.specs.Layout.{Layout}
+use Rattle.mps_base.specs.Trail.{Moves}
+use Rattle.mps_seg.specs.Segs.{SegsState}
 use Rattle.mps_gen.specs.State.{ChainsState}
 use Rattle.mps_model.specs.Effect.{world_after_moves}
 use Rattle.mps_colours.specs.Collecting.{Collecting, units_left}
-use Rattle.mps_colours.specs.Units.{IsUnit, IsLastUnit, GoesOn, Ends}
+use Rattle.mps_colours.specs.Units.{IsUnit, IsLastUnit, GoesOn, Ends, scanned}
 use Rattle.mps_image.specs.AtRest.{StandsAtRest}
 use Rattle.mps_trace.specs.Condemned.{IsNextCondemned}
-use Rattle.mps_trace.specs.Scan.{ScansOne, IsDrained}
-use Rattle.mps_trace.specs.Trace.{Traced}
+use Rattle.mps_trace.specs.Scan.{ScansOne, CanScanGrey, IsDrained}
+use Rattle.mps_trace.specs.Trace.{TraceState, Traced, traced}
 use Rattle.mps_trace.specs.Unit.{ReclaimsNext, LastUnitTo, UnitsTo, EndsWithin, reclaimed_at}
 use Rattle.mps_trace.specs.declared.running.Running.{Running as RunningState}
-use Rattle.mps_unit_laws.specs.Standing.{StandsReclaiming, UnitStands}
+use Rattle.mps_trace_laws.specs.Scanning.{IsScan}
+use Rattle.mps_reclaim_laws.specs.Left.{AreHoused}
+use Rattle.mps_unit_laws.specs.Standing.{HasNoWeakMark, AreCondemnedUnreserved, StandsReclaiming, UnitStands}
 
 -- a unit of the abstract collector, which tells the same moves and after which the state stands for it
 pub record IsUnitDone {F : Type 0} (layout : F → Layout) (formats : List (Option F)) (of : ChainsState)
@@ -101,3 +105,31 @@ UnitsRunOut F =
     (layout : F → Layout) (formats : List (Option F)) (of : ChainsState) (at_flip : List (Option Address)) (x z : Traced)
     (run run' : RunningState) (y : Collecting) (count : ℕ) → AreScansDone layout formats of at_flip
     → UnitStands layout formats of at_flip x run y → UnitsTo layout formats of x run count z run' → count < units_left y
+
+-- ---- scans
+
+-- what a scan leaves beside what the state stands for: each object lies in one segment, no mark is weak, and no live reservation lies
+-- in a condemned segment
+pub record IsScanKept (z : Traced) (after : Collecting) : Type 0 where
+  pub housed : AreHoused after.world.graph.objects z.segs.segments after.world.addresses
+  pub strong : HasNoWeakMark z.segs
+  pub unreserved : AreCondemnedUnreserved z.segs after.world.graph.points after.world.point_memories
+
+-- each scan does
+abbrev pub ScansKeep : {F : Type 0} → (F → Layout) → List (Option F) → ChainsState → List (Option Address) → Type 0
+ScansKeep layout formats of at_flip =
+    (x z : Traced) (run : RunningState) (y : Collecting) (holder : Id) → UnitStands layout formats of at_flip x run y
+    → ScansOne layout formats of x z → (scan : IsScan layout formats of at_flip x z y holder)
+    → IsScanKept z (scanned scan.after holder)
+
+-- where they do, each scan of a grey block is a unit of the abstract collector
+abbrev pub AScanIsDone : (F : Type 0) → Type 0
+AScanIsDone F =
+    (layout : F → Layout) (formats : List (Option F)) (of : ChainsState) (at_flip : List (Option Address))
+    → ScansKeep layout formats of at_flip → AreScansDone layout formats of at_flip
+
+-- each grey block can be scanned
+abbrev pub ScansAreReady : (F : Type 0) → Type 0
+ScansAreReady F =
+    (layout : F → Layout) (t : TraceState F) (s : SegsState) (m : Moves) (at_flip : List (Option Address)) (run : RunningState)
+    (y : Collecting) → UnitStands layout t.formats t.chains at_flip (traced t s m) run y → CanScanGrey layout t s m

@@ -2,7 +2,7 @@
 //! Each function does nothing; what it shows is its contract.
 #![tactic(auto)]
 
-ghost use Rattle.mps_unit_laws.specs.Laws.{TheLastBandIsEntered, AReclaimIsDone, TheLastUnitIsDone, UnitsAreDone, TheEndIsDone, UnitsRunOut};
+ghost use Rattle.mps_unit_laws.specs.Laws.{TheLastBandIsEntered, AReclaimIsDone, TheLastUnitIsDone, AScanIsDone, ScansAreReady, UnitsAreDone, TheEndIsDone, UnitsRunOut};
 
 /// Where nothing is grey in words nothing is grey of the abstract collector, and the last band begins.
 pub fn the_last_band_is_entered<F>()
@@ -17,6 +17,16 @@ pub fn a_reclaim_is_done<F>()
 /// The last unit is that of the abstract collector, with the same moves, and the segments stand for the world at rest after it.
 pub fn the_last_unit_is_done<F>()
     ensures { TheLastUnitIsDone F }
+{}
+
+/// Where scans keep what lies where, each scan of a grey block is a unit of the abstract collector, and the state stands for it then.
+pub fn a_scan_is_done<F>()
+    ensures { AScanIsDone F }
+{}
+
+/// While the state stands each grey block can be scanned.
+pub fn scans_are_ready<F>()
+    ensures { ScansAreReady F }
 {}
 
 /// Where scans are units of the abstract collector, n units are n of its units, with the same moves, and the state stands for it then.
