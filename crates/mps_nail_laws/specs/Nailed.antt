@@ -66,11 +66,11 @@ words_of_areas [] = []
 words_of_areas (None ∷ areas) = words_of_areas areas
 words_of_areas (Some words ∷ areas) = words ++ words_of_areas areas
 
--- nothing but marks has changed, and more of them are set, exactly where these blocks begin
-pub record AreMarkedToo (s s' : SegsState) (marked more : Word → Bool) : Type 0 where
+-- nothing but marks has changed, and these are the marks now
+pub record AreMarkedTo (s s' : SegsState) (marked' : Word → Bool) : Type 0 where
   pub same : s' ≡ record s { marks = s'.marks }
   pub whole : AreTablesWhole s'
-  pub marks : AreMarkedAt s' (λ n. more n || marked n)
+  pub marks : AreMarkedAt s' marked'
 
 -- ---- pinned objects
 
