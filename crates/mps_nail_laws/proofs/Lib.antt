@@ -1,2 +1,4 @@
 pub mod OneWord
 pub mod Marks
+pub mod Pinned
+pub mod Modelled

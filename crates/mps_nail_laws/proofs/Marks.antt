@@ -206,7 +206,8 @@ module _ (blocks : List Run) (is_condemned_over : Word → Bool) where
   pub words_marked : (words : List Stored) (s : SegsState) (f : Word → Bool) → Has s → AreTablesWhole s → AreMarkedAt s f
       → AreMarkedTo s (nailed_by_all words s) (λ n. nails blocks is_condemned_over words n || f n)
   words_marked [] s f h whole marked =
-      unchanged s f whole marked (λ n. nails blocks is_condemned_over [] n || f n) (λ n. none_of s f whole marked (is_condemned_over n) false (f n) refl)
+      unchanged s f whole marked (λ n. nails blocks is_condemned_over [] n || f n) (λ n.
+      none_of s f whole marked (is_condemned_over n) false (f n) refl)
   words_marked (w ∷ ws) s f h whole marked =
       let s' = nailed_by s w.word in
       let f' : Word → Bool = λ n. (is_condemned_over n && is_over_block blocks n w) || f n in

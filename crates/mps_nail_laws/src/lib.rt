@@ -2,7 +2,7 @@
 //! Each function does nothing; what it shows is its contract.
 #![tactic(auto)]
 
-ghost use Rattle.mps_nail_laws.specs.Laws.{AWordFindsItsBlock, WordsNailTheirBlocks};
+ghost use Rattle.mps_nail_laws.specs.Laws.{AWordFindsItsBlock, WordsNailTheirBlocks, MarksPinTheirObjects, NailingPinsObjects, TheModelPinsThem};
 
 /// The block over a word is that of the live object in which the word lies, and there is none where it lies in none.
 pub fn a_word_finds_its_block()
@@ -12,4 +12,19 @@ pub fn a_word_finds_its_block()
 /// Words of areas change marks alone: the condemned blocks over them are kept and grey too, and no others.
 pub fn words_nail_their_blocks()
     ensures { WordsNailTheirBlocks }
+{}
+
+/// Once marks are set exactly where nailed blocks begin, they tell that the pinned objects are kept and grey.
+pub fn marks_pin_their_objects()
+    ensures { MarksPinTheirObjects }
+{}
+
+/// The image of objects of which none is kept or grey becomes that of objects of which the pinned ones are.
+pub fn nailing_pins_objects()
+    ensures { NailingPinsObjects }
+{}
+
+/// The objects that the model's flip pins are those, where words of areas are shown as they are stored and what is condemned moves.
+pub fn the_model_pins_them()
+    ensures { TheModelPinsThem }
 {}
