@@ -1,5 +1,5 @@
 -- What is shown of the blocks that area words nail, each law a statement.
-use Rattle.std.specs.Prelude.{◌≡◌, ◌||◌, ℕ, Bool, false, IsTrue, Option, List, map}
+use Rattle.std.specs.Prelude.{◌≡◌, ◌||◌, ℕ, Bool, false, IsTrue, Option, List}
 use Rattle.mps_base.specs.Address.{Address, Id, Word}
 use Rattle.mps_root.specs.declared.roots.Stored.{Stored}
 use Rattle.mps_seg.specs.Segs.{SegsState}
@@ -9,7 +9,7 @@ use Rattle.mps_model.specs.Graph.{contains}
 use Rattle.mps_model.specs.World.{World, area_words, is_copying_object}
 use Rattle.mps_image.specs.Memory.{memory_in, Setting, Memory, is_condemned_word}
 use Rattle.mps_image.specs.Image.{LieApart, MarksStand, RunsStand, Stands, no_colours}
-use Rattle.mps_nail_laws.specs.Nailed.{ArePinned, pinned_colours, IsBlockOver, AreTablesWhole, AreMarkedAt, AreMarkedTo, nails, words_of_areas}
+use Rattle.mps_nail_laws.specs.Nailed.{AreWordsShown, ArePinned, pinned_colours, IsBlockOver, AreTablesWhole, AreMarkedAt, AreMarkedTo, nails, words_of_areas}
 
 -- the block over a word is that of the live object in which the word lies
 abbrev pub AWordFindsItsBlock : Type 0
@@ -42,9 +42,9 @@ NailingPinsObjects =
     → ArePinned s.objects addresses s.condemned pinned (words_of_areas areas)
     → Stands s (memory_in (nailed_by_areas areas g)) addresses (pinned_colours pinned)
 
--- the objects that the model's flip pins are those, where words of areas are shown as they are stored and what is condemned moves
+-- the objects that the model's flip pins are those, where the model shows the words that are stored and what is condemned moves
 abbrev pub TheModelPinsThem : Type 0
 TheModelPinsThem =
-    (w : World) (what : Condemnation) (words : List Stored) → map (λ (x : Stored). x.word) words ≡ area_words w
+    (w : World) (what : Condemnation) (words : List Stored) → AreWordsShown words (area_words w)
     → ((id : Id) → IsTrue (contains (condemned_ids w what) id) → IsTrue (is_copying_object w id))
     → ArePinned w.graph.objects w.addresses (collection_at_flip w what).condemned (collection_at_flip w what).pinned words

@@ -1,5 +1,5 @@
 -- The blocks that words of areas nail at a flip, against the live objects in which those words lie.
-use Rattle.std.specs.Prelude.{◌≡◌, ℕ, Bool, true, false, ◌&&◌, ◌||◌, ◌==◌, Option, Some, None, List, [], ◌∷◌, ◌++◌, slice_get, refl}
+use Rattle.std.specs.Prelude.{◌≡◌, ℕ, Bool, true, false, ◌&&◌, ◌||◌, ◌==◌, Option, Some, None, List, [], ◌∷◌, ◌++◌, map, slice_get, refl}
 use Rattle.std.specs.List.{list_any}
 use Rattle.mps_base.specs.Address.{Address, Id, Word, word_of}
 use Rattle.mps_base.specs.Run.{Run, IsAscending}
@@ -79,6 +79,10 @@ abbrev pub ArePinned : (objects : List Object) → (addresses : List (Option Add
 ArePinned objects addresses condemned pinned words =
     (id : Id) (at : Address) (o : Object) → entry_at addresses id ≡ Some at → slice_get objects id ≡ Some o
     → contains pinned id ≡ (contains condemned id && list_any (λ (w : Stored). is_word_in true at (size_of o) w.word) words)
+
+-- these numbers are exactly those of words of areas
+abbrev pub AreWordsShown : List Stored → (shown : List ℕ) → Type 0
+AreWordsShown words shown = (n : ℕ) → contains (map (λ (w : Stored). w.word) words) n ≡ contains shown n
 
 -- what is pinned is kept, and is to be scanned
 abbrev pub pinned_colours : (pinned : List Id) → Colours

@@ -24,7 +24,7 @@ pub fn nailing_pins_objects()
     ensures { NailingPinsObjects }
 {}
 
-/// The objects that the model's flip pins are those, where words of areas are shown as they are stored and what is condemned moves.
+/// The objects that the model's flip pins are those, where the model shows the words that are stored and what is condemned moves.
 pub fn the_model_pins_them()
     ensures { TheModelPinsThem }
 {}
