@@ -5,10 +5,12 @@ use Rattle.mps_root.specs.declared.roots.Stored.{Stored}
 use Rattle.mps_seg.specs.Segs.{SegsState}
 use Rattle.mps_trace.specs.Begin.{nailed_by_areas}
 use Rattle.mps_model.specs.Effect.{Condemnation, condemned_ids, collection_at_flip}
-use Rattle.mps_model.specs.Graph.{contains}
-use Rattle.mps_model.specs.World.{World, area_words, is_copying_object}
+use Rattle.mps_model.specs.Graph.{Point, contains}
+use Rattle.mps_model.specs.World.{PointMemory, World, area_words, is_copying_object}
+use Rattle.mps_colours.specs.Colours.{Colours}
 use Rattle.mps_image.specs.Memory.{memory_in, Setting, Memory, is_condemned_word}
-use Rattle.mps_image.specs.Image.{LieApart, MarksStand, RunsStand, Stands, no_colours}
+use Rattle.mps_image.specs.Image.{CellSet, ImageStands, LieApart, MarksStand, RunsStand, Stands, no_colours}
+use Rattle.mps_nail_laws.specs.Flipped.{IsFlipped, setting_flipped_in}
 use Rattle.mps_nail_laws.specs.Nailed.{AreWordsShown, ArePinned, pinned_colours, IsBlockOver, AreTablesWhole, AreMarkedAt, AreMarkedTo, nails, words_of_areas}
 
 -- the block over a word is that of the live object in which the word lies
@@ -48,3 +50,13 @@ TheModelPinsThem =
     (w : World) (what : Condemnation) (words : List Stored) → AreWordsShown words (area_words w)
     → ((id : Id) → IsTrue (contains (condemned_ids w what) id) → IsTrue (is_copying_object w id))
     → ArePinned w.graph.objects w.addresses (collection_at_flip w what).condemned (collection_at_flip w what).pinned words
+
+-- right after a flip and the words of all areas the image stands, with the pinned objects kept and grey
+abbrev pub AFlipPins : Type 0
+AFlipPins =
+    (s : Setting) (m : Memory) (g : SegsState) (addresses : List (Option Address)) (k : Colours) (done : CellSet)
+    (points : List (Option Point)) (memories : List PointMemory) (condemned : List Id) → ImageStands s m addresses k done
+    → IsFlipped s m g addresses points memories condemned → (areas : List (Option (List Stored))) (pinned : List Id)
+    → ArePinned s.objects addresses condemned pinned (words_of_areas areas)
+    → Stands (setting_flipped_in s g addresses points memories condemned) (memory_in (nailed_by_areas areas g)) addresses
+    (pinned_colours pinned)

@@ -1,2 +1,3 @@
 pub mod Nailed
+pub mod Flipped
 pub mod Laws

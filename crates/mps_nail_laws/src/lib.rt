@@ -2,7 +2,7 @@
 //! Each function does nothing; what it shows is its contract.
 #![tactic(auto)]
 
-ghost use Rattle.mps_nail_laws.specs.Laws.{AWordFindsItsBlock, WordsNailTheirBlocks, MarksPinTheirObjects, NailingPinsObjects, TheModelPinsThem};
+ghost use Rattle.mps_nail_laws.specs.Laws.{AWordFindsItsBlock, WordsNailTheirBlocks, MarksPinTheirObjects, NailingPinsObjects, TheModelPinsThem, AFlipPins};
 
 /// The block over a word is that of the live object in which the word lies, and there is none where it lies in none.
 pub fn a_word_finds_its_block()
@@ -27,4 +27,9 @@ pub fn nailing_pins_objects()
 /// The objects that the model's flip pins are those, where the model shows the words that are stored and what is condemned moves.
 pub fn the_model_pins_them()
     ensures { TheModelPinsThem }
+{}
+
+/// Right after a flip and the words of all areas the image stands, with the pinned objects kept and grey.
+pub fn a_flip_pins()
+    ensures { AFlipPins }
 {}
