@@ -86,6 +86,7 @@ module _ {F : Type 0} (layout : F → Rattle.mps_format.specs.Layout.Layout) (fo
         st.traces.state.condemned.is_bit;
     scanned = none_grey;
     inside = held_inside x.segs st.traces.state.held;
+    room = st.traces.room;
   }
 
 pub the_last_band_is_entered : {F : Type 0} → TheLastBandIsEntered F

@@ -1,5 +1,5 @@
 -- A reclaim is a unit of the abstract collector, and the state stands for it then.
-use Rattle.std.proofs.Common.{◌≡◌, ◌∙◌, ◌+◌, ◌*◌, ◌≤◌, true, false, not, refl, sym, ap, subst, List, [], ◌∷◌, ◌++◌, Option, Contains, inl, inr, arith}
+use Rattle.std.proofs.Common.{◌≡◌, ◌∙◌, suc, ◌+◌, ◌*◌, ◌≤◌, true, false, not, refl, sym, ap, subst, List, [], ◌∷◌, ◌++◌, Option, Contains, inl, inr, arith}
 use Rattle.std.proofs.lemmas.Bool.{cases_Bool, true≢false}
 use Rattle.std.proofs.lemmas.Option.{same_Some}
 use Rattle.std.specs.Prelude.{◌==◌}
@@ -17,7 +17,7 @@ use Rattle.mps_model.specs.Effect.{world_after_moves}
 use Rattle.mps_model.specs.Flip.{end_where}
 use Rattle.mps_model.specs.Units.{is_last_condemned}
 use Rattle.mps_model.specs.World.{World}
-use Rattle.mps_colours.specs.Collecting.{Collecting}
+use Rattle.mps_colours.specs.Collecting.{Reclaim, Collecting}
 use Rattle.mps_colours.specs.Units.{IsReclaimedNext, reclaim_by, reclaimed}
 use Rattle.mps_colours.proofs.Reclaimed.{final_world, final_collection}
 use Rattle.mps_colours.proofs.Reclaiming.{goes_on_leads, reclaims_shown}
@@ -27,7 +27,7 @@ use Rattle.mps_trace.specs.Trace.{Traced}
 use Rattle.mps_trace.specs.Unit.{ReclaimsNext, reclaimed_at}
 use Rattle.mps_trace.specs.declared.running.Running.{Running as RunningState}
 use Rattle.mps_reclaim_laws.proofs.Next.{next_reclaimed}
-use Rattle.mps_reclaim_laws.proofs.HeldSegments.{was_held}
+use Rattle.mps_reclaim_laws.proofs.HeldSegments.{was_held, over_base}
 use Rattle.mps_reclaim_laws.proofs.LastBand.{known}
 use Rattle.mps_reclaim_laws.proofs.Reclaimed.{condemned_after}
 use Rattle.mps_reclaim_laws.proofs.Unit.{a_reclaim_is_a_unit, the_moves_are_the_models, the_last_reclaim_ends}
@@ -36,7 +36,9 @@ use Rattle.mps_reclaim_laws.specs.Left.{IsUnreserved}
 use Rattle.mps_reclaim_laws.specs.Units.{FreesFor, GoesOnSo}
 use Rattle.mps_unit_laws.specs.Standing.{StandsReclaiming, UnitStands, IsMoving, reclaiming}
 use Rattle.mps_unit_laws.specs.Laws.{IsUnitDone, AReclaimIsDone, TheLastUnitIsDone}
+use Rattle.mps_trace_laws.specs.Tracing.{moves_left}
 use Rattle.mps_unit_laws.proofs.Entering.{the_last_band_is_entered}
+use Rattle.mps_unit_laws.proofs.RoomLeft.{moves_left_after, spare_after}
 
 -- ---- what a reclaim leaves of segments
 
@@ -144,6 +146,25 @@ module _ {F : Type 0} (layout : F → Layout) (formats : List (Option F)) (of : 
       strong = stands.moving.strong;
     }
 
+    room_on : moves_left (reclaimed y t.base freed on.collection) + 2 ≤ z.moves.spare
+    room_on =
+        let left = moves_left_after y stands.running t (lost_of x.segs t) is_next in
+        let same =
+        ap (λ (w : World). moves_left (record y { world = w; running = on.collection; band = Reclaim; cursor = suc t.base })) leads
+        ∙ ap (λ (c : Collection). moves_left (record y {
+          world = final_world y stands.running t freed is_next;
+          running = c;
+          band = Reclaim;
+          cursor = suc t.base;
+        })) collection_is
+        in
+        let taken =
+        spare_after fm x.segs x.moves base z.segs z.moves t
+        (over_base x.segs.segments last_band.frees.stands.order t lowest.listed) lowest.begins next.reclaimed.reclaimed
+        in
+        let before = last_band.room in
+        omega (arith, left, same, taken, before)
+
     reclaiming_on : StandsReclaiming z (reclaimed y t.base freed on.collection)
     reclaiming_on = record {
       frees =
@@ -153,6 +174,7 @@ module _ {F : Type 0} (layout : F → Layout) (formats : List (Option F)) (of : 
       scanned = last_band.scanned;
       inside = λ u held.
           subst (λ n. word_of (end_of_segment u) ≤ words_of_grain * (n + 1)) (sym among.grains) (last_band.inside u (among.was u held));
+      room = room_on;
     }
 
     stands_on : UnitStands layout formats of at_flip z (reclaimed_at base run) (reclaimed y t.base freed on.collection)

@@ -14,7 +14,7 @@ use Rattle.mps_image.specs.AtRest.{StandsAtRest}
 use Rattle.mps_trace.specs.Condemned.{IsNextCondemned}
 use Rattle.mps_trace.specs.Scan.{ScansOne, CanScanGrey, IsDrained}
 use Rattle.mps_trace.specs.Trace.{TraceState, Traced, traced}
-use Rattle.mps_trace.specs.Unit.{ReclaimsNext, LastUnitTo, UnitsTo, EndsWithin, reclaimed_at}
+use Rattle.mps_trace.specs.Unit.{ReclaimsNext, LastUnitTo, UnitsTo, EndsWithin, CanUnit, AreUnitsReady, reclaimed_at}
 use Rattle.mps_trace.specs.declared.running.Running.{Running as RunningState}
 use Rattle.mps_trace_laws.specs.Scanning.{IsScan}
 use Rattle.mps_reclaim_laws.specs.Left.{AreHoused}
@@ -133,3 +133,18 @@ abbrev pub ScansAreReady : (F : Type 0) → Type 0
 ScansAreReady F =
     (layout : F → Layout) (t : TraceState F) (s : SegsState) (m : Moves) (at_flip : List (Option Address)) (run : RunningState)
     (y : Collecting) → UnitStands layout t.formats t.chains at_flip (traced t s m) run y → CanScanGrey layout t s m
+
+-- ---- what has to be known before a unit
+
+-- while the state stands a unit can be done
+abbrev pub AUnitIsReady : (F : Type 0) → Type 0
+AUnitIsReady F =
+    (layout : F → Layout) (t : TraceState F) (s : SegsState) (m : Moves) (at_flip : List (Option Address)) (run : RunningState)
+    (y : Collecting) → UnitStands layout t.formats t.chains at_flip (traced t s m) run y → CanUnit layout t s m run
+
+-- and where scans are units each of n units can be done when its turn comes
+abbrev pub UnitsAreReady : (F : Type 0) → Type 0
+UnitsAreReady F =
+    (layout : F → Layout) (t : TraceState F) (s : SegsState) (m : Moves) (at_flip : List (Option Address)) (run : RunningState)
+    (y : Collecting) (most : ℕ) → AreScansDone layout t.formats t.chains at_flip
+    → UnitStands layout t.formats t.chains at_flip (traced t s m) run y → AreUnitsReady layout t s m run most

@@ -15,7 +15,7 @@ use Rattle.mps_image.specs.Memory.{pool_layout}
 use Rattle.mps_image.specs.Image.{AreShaped, black_cells}
 use Rattle.mps_trace.specs.Trace.{Traced}
 use Rattle.mps_trace.specs.declared.running.Running.{Running as RunningState}
-use Rattle.mps_trace_laws.specs.Tracing.{AreKnownPools, TracingStands}
+use Rattle.mps_trace_laws.specs.Tracing.{AreKnownPools, TracingStands, moves_left}
 use Rattle.mps_reclaim_laws.specs.Left.{AreHoused, IsUnreserved}
 use Rattle.mps_reclaim_laws.specs.Units.{FreesFor}
 
@@ -47,11 +47,12 @@ pub record StandsTracing {F : Type 0} (layout : F → Layout) (formats : List (O
   pub housed : AreHoused y.world.graph.objects x.segs.segments y.world.addresses
   pub strong : HasNoWeakMark x.segs
 
--- the last band: nothing is grey
+-- the last band: nothing is grey, and there is room for the moves that are left
 pub record StandsReclaiming (x : Traced) (y : Collecting) : Type 0 where
   pub frees : FreesFor x.segs y.world y.running y.colours (pool_layout y.world)
   pub scanned : AreAllScanned y.colours
   pub inside : AreInArena x.segs
+  pub room : moves_left y + 2 ≤ x.moves.spare
 
 -- the one or the other
 pub data StandsInBand {F : Type 0} (layout : F → Layout) (formats : List (Option F)) (of : ChainsState)

@@ -2,7 +2,7 @@
 //! Each function does nothing; what it shows is its contract.
 #![tactic(auto)]
 
-ghost use Rattle.mps_unit_laws.specs.Laws.{TheLastBandIsEntered, AReclaimIsDone, TheLastUnitIsDone, AScanIsDone, ScansAreReady, UnitsAreDone, TheEndIsDone, UnitsRunOut};
+ghost use Rattle.mps_unit_laws.specs.Laws.{TheLastBandIsEntered, AReclaimIsDone, TheLastUnitIsDone, AScanIsDone, ScansAreReady, UnitsAreDone, TheEndIsDone, UnitsRunOut, AUnitIsReady, UnitsAreReady};
 
 /// Where nothing is grey in words nothing is grey of the abstract collector, and the last band begins.
 pub fn the_last_band_is_entered<F>()
@@ -42,4 +42,14 @@ pub fn the_end_is_done<F>()
 /// A collection goes on only after fewer units than the abstract collector has left.
 pub fn units_run_out<F>()
     ensures { UnitsRunOut F }
+{}
+
+/// While the state stands a unit can be done.
+pub fn a_unit_is_ready<F>()
+    ensures { AUnitIsReady F }
+{}
+
+/// Where scans are units of the abstract collector, each of n units can be done when its turn comes.
+pub fn units_are_ready<F>()
+    ensures { UnitsAreReady F }
 {}
