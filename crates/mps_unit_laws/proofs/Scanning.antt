@@ -1,7 +1,7 @@
 -- A scan of a grey block is a unit of the abstract collector, and each grey block can be scanned.
 use Rattle.std.proofs.Common.{◌≡◌, ◌∙◌, ℕ, true, false, refl, sym, ap, subst, List, [], Option, Some, arith}
 use Rattle.std.proofs.lemmas.Bool.{false≢true, or_right}
-use Rattle.std.specs.Prelude.{◌||◌, map, slice_get}
+use Rattle.std.specs.Prelude.{◌==◌, Contains, ◌||◌, map, slice_get}
 use Rattle.std.specs.Option.{option_map_or}
 use Rattle.mps_base.specs.Address.{Address, Id, Word, address_of_word}
 use Rattle.mps_base.specs.declared.moves.Move.{Move}
@@ -16,7 +16,7 @@ use Rattle.mps_colours.specs.Collecting.{Collecting, Running, is_tracing_band}
 use Rattle.mps_colours.specs.Fixing.{Fixes, fixes_no_more, passes, keeps}
 use Rattle.mps_colours.specs.Units.{scans, scanned}
 use Rattle.mps_colours.proofs.Addresses.{address_of-live}
-use Rattle.mps_colours.proofs.Kept.{keeps_leaves}
+use Rattle.mps_colours.proofs.Kept.{held_in, keeps_leaves}
 use Rattle.mps_colours.proofs.Lists.{contains_here, contains_later}
 use Rattle.mps_colours.proofs.Scanning.{MayBeFixed, kept_rightly}
 use Rattle.mps_colours.proofs.UnitScans.{scans_shown, targets_may_be_fixed}
@@ -30,7 +30,13 @@ use Rattle.mps_trace.specs.declared.running.Running.{Running as RunningState}
 use Rattle.mps_trace_laws.specs.Scanning.{IsToBeScanned, IsScan}
 use Rattle.mps_trace_laws.proofs.CanScan.{object_can_be_scanned}
 use Rattle.mps_trace_laws.proofs.Scanned.{scan_is_a_scan}
-use Rattle.mps_unit_laws.specs.Standing.{StandsTracing, UnitStands, IsMoving, tracing, reclaiming}
+use Rattle.mps_base.specs.Segment.{Segment}
+use Rattle.mps_model.specs.Collection.{Collection}
+use Rattle.mps_model.specs.World.{World}
+use Rattle.mps_reclaim_laws.specs.Left.{IsUnreserved}
+use Rattle.mps_reclaim_laws.proofs.HeldSegments.{found_at, found_held, same_base}
+use Rattle.mps_unit_laws.proofs.Entering.{held_in_order}
+use Rattle.mps_unit_laws.specs.Standing.{AreCondemnedUnreserved, StandsTracing, UnitStands, IsMoving, tracing, reclaiming}
 use Rattle.mps_unit_laws.specs.Laws.{AScanIsDone, ScansAreReady, ScansKeep, IsScanKept, IsUnitDone}
 
 -- ---- what fixes leave of a world
@@ -40,11 +46,24 @@ pub record IsStill {F : Type 0} (layout : F → Layout) (formats : List (Option 
   pub cursor : y.cursor ≡ x.cursor
   pub next : y.next ≡ x.next
   pub band : y.band ≡ x.band
+  pub graph : y.world.graph ≡ x.world.graph
+  pub memories : y.world.point_memories ≡ x.world.point_memories
+  pub bases : y.running.condemned_segments ≡ x.running.condemned_segments
+  pub held : (base : Address) (s : Segment) → held_in x.world.segments base ≡ Some s → held_in y.world.segments base ≡ Some s
 
 module _ {F : Type 0} (layout : F → Layout) (formats : List (Option F)) (of : ChainsState) where
   pub still : {x y : Collecting} {ids : List Id} {ms : List Move} → Fixes x ids ms y → Running x → is_tracing_band x.band ≡ true
       → MayBeFixed x ids → IsStill layout formats of x y
-  still (fixes_no_more {x}) run trace may = record { moving = λ m. m; cursor = refl; next = refl; band = refl }
+  still (fixes_no_more {x}) run trace may = record {
+    moving = λ m. m;
+    cursor = refl;
+    next = refl;
+    band = refl;
+    graph = refl;
+    memories = refl;
+    bases = refl;
+    held = λ base s e. e;
+  }
   still {x} (passes {id = id} {ids = ids} black rest) run trace may =
       still rest run trace (λ n h. may n (contains_later id ids n h))
   still {x} (keeps {y = z} {id} {ids} {these} {those} {c} white keep rest) run trace may =
@@ -63,6 +82,10 @@ module _ {F : Type 0} (layout : F → Layout) (formats : List (Option F)) (of : 
         cursor = after.cursor;
         next = after.next;
         band = after.band;
+        graph = after.graph ∙ ap (λ (w : World). w.graph) r.world;
+        memories = after.memories ∙ ap (λ (w : World). w.point_memories) r.world;
+        bases = after.bases ∙ ap (λ (d : Collection). d.condemned_segments) r.running;
+        held = λ base s e. after.held base s (ap (λ (w : World). held_in w.segments base) r.world ∙ r.held base s e);
       }
 
 -- ---- the object of a grey word
@@ -74,7 +97,8 @@ pub record IsGreyAt (y : Collecting) (n : Word) : Type 0 where
 
 cells_refer : (cells : List Cell) (i t tag : ℕ) → slice_get cells i ≡ Some (ReferenceCell (Some t) tag)
     → contains (targets_of_cells cells) t ≡ true
-cells_refer cells i t tag e = among_entries (map target_of_cell cells) i t (map-slice_get target_of_cell cells i (ReferenceCell (Some t) tag) e)
+cells_refer cells i t tag e =
+    among_entries (map target_of_cell cells) i t (map-slice_get target_of_cell cells i (ReferenceCell (Some t) tag) e)
 
 body_refers : (b : Body) (i t tag : ℕ) → slice_get (all_cells b) i ≡ Some (ReferenceCell (Some t) tag) → is_automatic_body b ≡ true
     → contains (targets_of_body b) t ≡ true
@@ -121,8 +145,8 @@ module _ {F : Type 0} (layout : F → Layout) (formats : List (Option F)) (of : 
     pub object : Object
     pub found : IsToBeScanned y id (address_of_word n) object
 
-  pub found_at : (n : Word) → bit x.segs.marks.exact n ≡ true → (g : IsGreyAt y n) → IsFound n g.id
-  found_at n grey g =
+  pub scanned_next : (n : Word) → bit x.segs.marks.exact n ≡ true → (g : IsGreyAt y n) → IsFound n g.id
+  scanned_next n grey g =
       let st = traced_so n grey in
       let o = st.traces.state.image.placed.exists g.id (address_of_word n) g.there in
       let automatic : is_automatic o.0 ≡ true =
@@ -158,7 +182,7 @@ module _ {F : Type 0} (layout : F → Layout) (formats : List (Option F)) (of : 
 
     scan : IsScan layout formats of at_flip x z y g.id
     scan =
-        let found = found_at one.word one.grey g in
+        let found = scanned_next one.word one.grey g in
         scan_is_a_scan layout formats of at_flip x z y g.id (at_word one.word) found.object stands.moving.shaped st.traces found.found
         one.scanned
 
@@ -170,6 +194,31 @@ module _ {F : Type 0} (layout : F → Layout) (formats : List (Option F)) (of : 
     kept : IsScanKept z (scanned scan.after g.id)
     kept = keep x z run y g.id stands one scan
 
+    -- a condemned segment was held and condemned before
+    unreserved_then : AreCondemnedUnreserved z.segs scan.after.world.graph.points scan.after.world.point_memories
+    unreserved_then u held condemned =
+        let now = scan.stands.state in
+        let was = st.traces.state in
+        let before : contains y.running.condemned_segments u.base ≡ true =
+        ap (λ bs. contains bs u.base) (sym stays.bases) ∙ sym (now.condemned.is_bit u held) ∙ condemned
+        in
+        let one = was.condemned.is_held u.base before in
+        let t : Segment = one.0 in
+        let bit_then = was.condemned.is_bit t one.1 ∙ ap (contains y.running.condemned_segments) one.2 ∙ before in
+        let order = held_in_order x.segs was.held in
+        let found =
+        ap (λ ss. held_in ss t.base) (sym was.segments.same_segments)
+        ∙ found_at x.segs.segments t t.base one.1 refl (λ v there is. same_base x.segs.segments order v t there one.1 is)
+        in
+        let there =
+        subst (λ ss. Contains ss t) (sym now.segments.same_segments)
+        (found_held (λ v. v.base == t.base) scan.after.world.segments t (stays.held t.base t found))
+        in
+        let same = same_base z.segs.segments (held_in_order z.segs now.held) t u there held one.2 in
+        subst (λ (v : Segment). IsUnreserved scan.after.world.graph.points scan.after.world.point_memories v) same
+        (subst (λ g. IsUnreserved g.points scan.after.world.point_memories t) (sym stays.graph)
+        (subst (λ ms. IsUnreserved y.world.graph.points ms t) (sym stays.memories) (stands.unreserved t one.1 bit_then)))
+
     pub scan_done : IsUnitDone layout formats of at_flip x y z run
     scan_done = record {
       moves = scan.moves;
@@ -180,7 +229,7 @@ module _ {F : Type 0} (layout : F → Layout) (formats : List (Option F)) (of : 
         examined = stays.next ∙ stands.examined ∙ sym (fixed_same scan.fixes).registered_before;
         cursor = stands.cursor ∙ sym stays.cursor;
         moving = stays.moving stands.moving;
-        unreserved = kept.unreserved;
+        unreserved = unreserved_then;
         band = tracing (record {
           traces = scan.stands;
           band = ap is_tracing_band stays.band ∙ st.band;
@@ -198,7 +247,7 @@ a_scan_is_done layout formats of at_flip keep x z run y stands one =
 pub scans_are_ready : {F : Type 0} → ScansAreReady F
 scans_are_ready layout t s m at_flip run y stands n grey =
     let g = grey_at layout t.formats t.chains at_flip (traced t s m) run y stands n grey in
-    let found = found_at layout t.formats t.chains at_flip (traced t s m) run y stands n grey g in
+    let found = scanned_next layout t.formats t.chains at_flip (traced t s m) run y stands n grey g in
     let st = traced_so layout t.formats t.chains at_flip (traced t s m) run y stands n grey in
     object_can_be_scanned layout t s m at_flip (black_cells y.running.condemned y.colours) y g.id (at_word n) found.object
     stands.moving.shaped st.traces found.found

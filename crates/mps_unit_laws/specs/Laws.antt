@@ -18,7 +18,7 @@ use Rattle.mps_trace.specs.Unit.{ReclaimsNext, LastUnitTo, UnitsTo, EndsWithin, 
 use Rattle.mps_trace.specs.declared.running.Running.{Running as RunningState}
 use Rattle.mps_trace_laws.specs.Scanning.{IsScan}
 use Rattle.mps_reclaim_laws.specs.Left.{AreHoused}
-use Rattle.mps_unit_laws.specs.Standing.{HasNoWeakMark, AreCondemnedUnreserved, StandsReclaiming, UnitStands}
+use Rattle.mps_unit_laws.specs.Standing.{HasNoWeakMark, StandsReclaiming, UnitStands}
 
 -- a unit of the abstract collector, which tells the same moves and after which the state stands for it
 pub record IsUnitDone {F : Type 0} (layout : F → Layout) (formats : List (Option F)) (of : ChainsState)
@@ -108,12 +108,10 @@ UnitsRunOut F =
 
 -- ---- scans
 
--- what a scan leaves beside what the state stands for: each object lies in one segment, no mark is weak, and no live reservation lies
--- in a condemned segment
+-- what a scan leaves beside what the state stands for: each object lies in one segment, and no mark is weak
 pub record IsScanKept (z : Traced) (after : Collecting) : Type 0 where
   pub housed : AreHoused after.world.graph.objects z.segs.segments after.world.addresses
   pub strong : HasNoWeakMark z.segs
-  pub unreserved : AreCondemnedUnreserved z.segs after.world.graph.points after.world.point_memories
 
 -- each scan does
 abbrev pub ScansKeep : {F : Type 0} → (F → Layout) → List (Option F) → ChainsState → List (Option Address) → Type 0

@@ -19,7 +19,7 @@ pub fn the_last_unit_is_done<F>()
     ensures { TheLastUnitIsDone F }
 {}
 
-/// Where scans keep what lies where, each scan of a grey block is a unit of the abstract collector, and the state stands for it then.
+/// Where scans keep each object in one segment and no mark weak, each is a unit of the abstract collector, and the state stands then.
 pub fn a_scan_is_done<F>()
     ensures { AScanIsDone F }
 {}
