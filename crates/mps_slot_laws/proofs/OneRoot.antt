@@ -1,5 +1,5 @@
 -- One slot or message is fixed: a step of the abstract collector.
-use Rattle.std.proofs.Common.{◌≡◌, ◌<◌, refl, sym, List, [], Option, Some, None, arith}
+use Rattle.std.proofs.Common.{refl, sym, List, [], Option, Some, None, arith}
 use Rattle.std.proofs.lemmas.List.{append-nil}
 use Rattle.mps_base.specs.Address.{Address, Id}
 use Rattle.mps_format.specs.Layout.{Layout}

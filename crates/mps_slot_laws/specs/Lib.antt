@@ -1,1 +1,2 @@
 pub mod OneRoot
+pub mod Rows

@@ -1,5 +1,5 @@
 -- What the collector does with one slot or message at a flip is to the abstract collector.
-use Rattle.std.specs.Prelude.{◌≡◌, ℕ, ◌<◌, false, IsTrue, Option, Some, None, List, [], ◌∷◌, ◌++◌, slice_get}
+use Rattle.std.specs.Prelude.{◌≡◌, ◌<◌, false, IsTrue, Option, Some, None, List, [], ◌∷◌, ◌++◌, slice_get}
 use Rattle.mps_base.specs.Address.{Address, Id}
 use Rattle.mps_base.specs.declared.moves.Move.{Move}
 use Rattle.mps_format.specs.Layout.{Layout}

@@ -3,6 +3,7 @@
 #![tactic(auto)]
 
 ghost use Rattle.mps_slot_laws.specs.OneRoot.{ARootCanBeFixed, ARootIsAStep};
+ghost use Rattle.mps_slot_laws.specs.Rows.{SlotsAreSteps, SlotsAreReady, MessagesAreSteps, MessagesAreReady};
 
 /// A slot or a message that leads to a live automatic object can be fixed, and so can one that is null.
 pub fn a_root_can_be_fixed<F>()
@@ -12,4 +13,24 @@ pub fn a_root_can_be_fixed<F>()
 /// What the collector does with one is a step of the abstract collector, and the answer is where the object is then.
 pub fn a_root_is_a_step<F>()
     ensures { ARootIsAStep F }
+{}
+
+/// Fixing the slots of a table, in order, is steps of the abstract collector, and they hold then where their targets are.
+pub fn slots_are_steps<F>()
+    ensures { SlotsAreSteps F }
+{}
+
+/// Each slot of a table can be fixed when its turn comes.
+pub fn slots_are_ready<F>()
+    ensures { SlotsAreReady F }
+{}
+
+/// Fixing messages, in order, is steps of the abstract collector, and they hold then where their objects are.
+pub fn messages_are_steps<F>()
+    ensures { MessagesAreSteps F }
+{}
+
+/// Each message can be fixed when its turn comes.
+pub fn messages_are_ready<F>()
+    ensures { MessagesAreReady F }
 {}
