@@ -1,2 +1,3 @@
 pub mod OneRoot
 pub mod Rows
+pub mod Tables

@@ -73,17 +73,17 @@ still_refers at_flip y y' at (Some t) leaves same w =
       automatic = w.automatic;
     }
 
-still_where : (y y' : Collecting) (at : Address) (target : Option Id)
+pub still_where : (y y' : Collecting) (at : Address) (target : Option Id)
     → LeavesOthers y.running.condemned y.world.addresses y'.world.addresses y.colours y'.colours
     → y'.running.condemned ≡ y.running.condemned → IsWhere y at target → IsWhere y' at target
 still_where y y' at None leaves same null = null
 still_where y y' at (Some t) leaves same w =
     (leaves.there t at w.1 w.0, subst (λ ids. is_white ids y'.colours t ≡ false) (sym same) (leaves.not_white t w.1))
 
-both_same : (a b c : World) → IsSameGraph a b → IsSameGraph b c → IsSameGraph a c
+pub both_same : (a b c : World) → IsSameGraph a b → IsSameGraph b c → IsSameGraph a c
 both_same a b c x y = record { graph = y.graph ∙ x.graph; pools = y.pools ∙ x.pools; formats = y.formats ∙ x.formats }
 
-both_leave : (condemned : List Id) (a b c : List (Option Address)) (k l n : Colours) → LeavesOthers condemned a b k l
+pub both_leave : (condemned : List Id) (a b c : List (Option Address)) (k l n : Colours) → LeavesOthers condemned a b k l
     → LeavesOthers condemned b c l n → LeavesOthers condemned a c k n
 both_leave condemned a b c k l n x y = record {
   there = λ id at w e. y.there id at (x.not_white id w) (x.there id at w e);
@@ -111,7 +111,7 @@ module _ {F : Type 0} (layout : F → Layout) (formats : List (Option F)) (of : 
   }
 
   -- these were fixed, and then those
-  pub joined : (x z z' : Traced) (y : Collecting) (ts us vs : List (Option Id)) (one : Fixed x z y ts) → Fixed z z' one.after us
+  unfoldable pub joined : (x z z' : Traced) (y : Collecting) (ts us vs : List (Option Id)) (one : Fixed x z y ts) → Fixed z z' one.after us
       → ((ids : List Id) → entries vs ++ ids ≡ entries ts ++ (entries us ++ ids)) → Fixed x z' y vs
   joined x z z' y ts us vs one two parts =
       let y' = one.after in

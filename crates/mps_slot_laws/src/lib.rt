@@ -4,6 +4,7 @@
 
 ghost use Rattle.mps_slot_laws.specs.OneRoot.{ARootCanBeFixed, ARootIsAStep};
 ghost use Rattle.mps_slot_laws.specs.Rows.{SlotsAreSteps, SlotsAreReady, MessagesAreSteps, MessagesAreReady};
+ghost use Rattle.mps_slot_laws.specs.Tables.{TablesAreSteps, TablesAreReady};
 
 /// A slot or a message that leads to a live automatic object can be fixed, and so can one that is null.
 pub fn a_root_can_be_fixed<F>()
@@ -33,4 +34,14 @@ pub fn messages_are_steps<F>()
 /// Each message can be fixed when its turn comes.
 pub fn messages_are_ready<F>()
     ensures { MessagesAreReady F }
+{}
+
+/// Fixing tables, in their order, is steps of the abstract collector, and their slots hold then where their targets are.
+pub fn tables_are_steps<F>()
+    ensures { TablesAreSteps F }
+{}
+
+/// Each slot of each table can be fixed when its turn comes.
+pub fn tables_are_ready<F>()
+    ensures { TablesAreReady F }
 {}
