@@ -1,3 +1,4 @@
 pub mod OneRoot
 pub mod Rows
 pub mod Tables
+pub mod Beginning

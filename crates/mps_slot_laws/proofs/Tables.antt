@@ -25,12 +25,12 @@ use Rattle.mps_slot_laws.proofs.Rows.{none_fixed, joined, still_where, run_slots
 
 -- ---- lists
 
-entries_append : (xs ys : List (Option Id)) (ids : List Id) → entries (xs ++ ys) ++ ids ≡ entries xs ++ (entries ys ++ ids)
+pub entries_append : (xs ys : List (Option Id)) (ids : List Id) → entries (xs ++ ys) ++ ids ≡ entries xs ++ (entries ys ++ ids)
 entries_append [] ys ids = refl
 entries_append (None ∷ xs) ys ids = entries_append xs ys ids
 entries_append (Some n ∷ xs) ys ids = ap (λ ns. n ∷ ns) (entries_append xs ys ids)
 
-abbrev all_of : List (List (Option Id)) → List (Option Id)
+abbrev pub all_of : List (List (Option Id)) → List (Option Id)
 all_of rows = flat_map (λ row. row) rows
 
 more_rows : (rows : List (List (Option Id))) (k : ℕ) (row : List (Option Id)) (ids : List Id) → slice_get rows k ≡ Some row
@@ -50,7 +50,7 @@ has_row [] k within = absurd (omega (arith, within))
 has_row (r ∷ rs) zero within = (r, refl)
 has_row (r ∷ rs) (suc k) within = has_row rs k (omega (arith, within))
 
-below_length : (row : List (Option Id)) (i : ℕ) (t : Option Id) → slice_get row i ≡ Some t → i < length row
+pub below_length : (row : List (Option Id)) (i : ℕ) (t : Option Id) → slice_get row i ≡ Some t → i < length row
 below_length [] i t is = absurd (none-some t is)
 below_length (u ∷ us) zero t is = omega arith
 below_length (u ∷ us) (suc i) t is = let h = below_length us i t is in omega (arith, h)
@@ -83,7 +83,7 @@ still_at_flip at_flip y y' at (Some t) leaves same w =
       automatic = w.automatic;
     }
 
-still_held : (at_flip : List (Option Address)) (y y' : Collecting) (slots : List Address) (targets : List (Option Id))
+pub still_held : (at_flip : List (Option Address)) (y y' : Collecting) (slots : List Address) (targets : List (Option Id))
     → LeavesOthers y.running.condemned y.world.addresses y'.world.addresses y.colours y'.colours → IsSameGraph y.world y'.world
     → AreHeldAtFlip at_flip y slots targets → AreHeldAtFlip at_flip y' slots targets
 still_held at_flip y y' slots targets leaves same held = record {

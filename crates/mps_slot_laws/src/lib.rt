@@ -5,6 +5,7 @@
 ghost use Rattle.mps_slot_laws.specs.OneRoot.{ARootCanBeFixed, ARootIsAStep};
 ghost use Rattle.mps_slot_laws.specs.Rows.{SlotsAreSteps, SlotsAreReady, MessagesAreSteps, MessagesAreReady};
 ghost use Rattle.mps_slot_laws.specs.Tables.{TablesAreSteps, TablesAreReady};
+ghost use Rattle.mps_slot_laws.specs.Beginning.{RootsAreSteps, RootsAreReady};
 
 /// A slot or a message that leads to a live automatic object can be fixed, and so can one that is null.
 pub fn a_root_can_be_fixed<F>()
@@ -44,4 +45,14 @@ pub fn tables_are_steps<F>()
 /// Each slot of each table can be fixed when its turn comes.
 pub fn tables_are_ready<F>()
     ensures { TablesAreReady F }
+{}
+
+/// Fixing all slots and then all messages is steps of the abstract collector, and all hold then where their objects are.
+pub fn roots_are_steps<F>()
+    ensures { RootsAreSteps F }
+{}
+
+/// A flip can fix slots and messages.
+pub fn roots_are_ready<F>()
+    ensures { RootsAreReady F }
 {}
