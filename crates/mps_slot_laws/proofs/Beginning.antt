@@ -1,10 +1,13 @@
 -- All slots and then all messages are fixed at a flip: steps of the abstract collector.
 use Rattle.std.proofs.Common.{◌≡◌, ◌∙◌, ℕ, ◌<◌, ◌≤◌, sym, ap, refl, List, [], ◌∷◌, ◌++◌, length, map, Option, Some, None, subst, arith}
+use Rattle.std.proofs.lemmas.List.{append-nil}
 use Rattle.std.proofs.lemmas.Option.{none-some}
 use Rattle.std.specs.Prelude.{slice_get, slice_index_or, take}
+use Rattle.mps_base.specs.Address.{Id}
 use Rattle.mps_model.specs.Graph.{entries}
+use Rattle.mps_colours.specs.Fixing.{Fixes, fixes_no_more}
 use Rattle.mps_trace_laws.proofs.ScanRun.{shaped_still}
-use Rattle.mps_slot_laws.specs.Beginning.{RootsAreSteps, RootsAreReady}
+use Rattle.mps_slot_laws.specs.Beginning.{RootsAreSteps, RootsAreReady, WhatIsHeldIsFixed}
 use Rattle.mps_slot_laws.proofs.Rows.{joined, still_where, run_messages, ready_messages}
 use Rattle.mps_slot_laws.proofs.Tables.{all_of, entries_append, still_held, run_tables, ready_tables}
 
@@ -22,7 +25,8 @@ row_below (r ∷ rs) (Rattle.std.proofs.Common.suc n) row is = let h = row_below
 
 pub roots_are_steps : {F : Type 0} → RootsAreSteps F
 unfolding joined
-roots_are_steps {F} layout formats of at_flip done x between z y rows ids roots roots' finals finals' shaped stands held messages tables run =
+roots_are_steps {F} layout formats of at_flip done x between z y rows ids roots roots' finals finals' shaped stands held messages tables
+    run =
     let one = run_tables layout formats of at_flip done x y rows roots shaped stands held tables (omega arith) in
     let y' = one.fixed.after in
     let targets = map Some ids in
@@ -62,3 +66,16 @@ roots_are_ready {F} layout t at_flip done x y rows ids roots finals shaped stand
       (shaped_still y.world y'.world one.fixed.same shaped) one.fixed.stands
       (still_held at_flip y y' finals.messages (map Some ids) one.fixed.leaves one.fixed.same messages) count finals' z run within;
 }
+
+entries_of_ids : (ids : List Id) → entries (map Some ids) ≡ ids
+entries_of_ids [] = refl
+entries_of_ids (id ∷ ids) = ap (λ ns. id ∷ ns) (entries_of_ids ids)
+
+pub what_is_held_is_fixed : {F : Type 0} → WhatIsHeldIsFixed F
+what_is_held_is_fixed {F} layout formats of at_flip done x z y rows ids roots roots' finals' w all slots messages =
+    let f = all.fixed in
+    let these = entries (all_of rows ++ map Some ids) in
+    subst (λ ns. Fixes y ns f.moves f.after)
+    (entries_append (all_of rows) (map Some ids) [] ∙ ap (λ ns. entries (all_of rows) ++ ns) (append-nil (entries (map Some ids)))
+    ∙ ap (λ ns. entries (all_of rows) ++ ns) (entries_of_ids ids ∙ messages) ∙ ap (λ ns. ns ++ w.graph.messages) slots)
+    (subst (λ ms. Fixes y (these ++ []) ms f.after) (append-nil f.moves) (f.fixes [] [] f.after fixes_no_more))

@@ -6,7 +6,10 @@ use Rattle.mps_final.specs.State.{FinalsState}
 use Rattle.mps_format.specs.Layout.{Layout}
 use Rattle.mps_gen.specs.State.{ChainsState}
 use Rattle.mps_root.specs.State.{RootsState}
+use Rattle.mps_model.specs.Graph.{entries, ids_in_slots}
+use Rattle.mps_model.specs.World.{World}
 use Rattle.mps_colours.specs.Collecting.{Collecting}
+use Rattle.mps_colours.specs.FlipLaws.{FixesHeld}
 use Rattle.mps_image.specs.Memory.{pool_layout}
 use Rattle.mps_image.specs.Image.{CellSet, AreShaped}
 use Rattle.mps_trace.specs.Begin.{CanFixRoots}
@@ -47,3 +50,12 @@ RootsAreReady F =
     (rows : List (List (Option Id))) (ids : List Id) (roots : RootsState) (finals : FinalsState)
     → AreShaped y.world.graph.objects (pool_layout y.world) → TracingStands layout t.formats t.chains at_flip done x y
     → AreTablesHeld at_flip y roots rows → AreHeldAtFlip at_flip y finals.messages (map Some ids) → CanFixRoots layout t roots finals x
+
+-- where the tables in order hold what slots of a world do, and messages are its messages, this is what a flip of that world fixes
+abbrev pub WhatIsHeldIsFixed : (F : Type 0) → Type 0
+WhatIsHeldIsFixed F =
+    (layout : F → Layout) (formats : List (Option F)) (of : ChainsState) (at_flip : List (Option Address)) (done : CellSet)
+    (x z : Traced) (y : Collecting) (rows : List (List (Option Id))) (ids : List Id) (roots roots' : RootsState) (finals' : FinalsState)
+    (w : World) (all : AreRootsFixed layout formats of at_flip done x z y roots roots' finals' rows ids)
+    → entries (flat_map (λ row. row) rows) ≡ ids_in_slots w.graph → ids ≡ w.graph.messages
+    → FixesHeld w y all.fixed.moves all.fixed.after

@@ -5,7 +5,7 @@
 ghost use Rattle.mps_slot_laws.specs.OneRoot.{ARootCanBeFixed, ARootIsAStep};
 ghost use Rattle.mps_slot_laws.specs.Rows.{SlotsAreSteps, SlotsAreReady, MessagesAreSteps, MessagesAreReady};
 ghost use Rattle.mps_slot_laws.specs.Tables.{TablesAreSteps, TablesAreReady};
-ghost use Rattle.mps_slot_laws.specs.Beginning.{RootsAreSteps, RootsAreReady};
+ghost use Rattle.mps_slot_laws.specs.Beginning.{RootsAreSteps, RootsAreReady, WhatIsHeldIsFixed};
 
 /// A slot or a message that leads to a live automatic object can be fixed, and so can one that is null.
 pub fn a_root_can_be_fixed<F>()
@@ -55,4 +55,9 @@ pub fn roots_are_steps<F>()
 /// A flip can fix slots and messages.
 pub fn roots_are_ready<F>()
     ensures { RootsAreReady F }
+{}
+
+/// Where tables and messages stand for those of a world, these steps are the fixes of a flip of that world.
+pub fn what_is_held_is_fixed<F>()
+    ensures { WhatIsHeldIsFixed F }
 {}
