@@ -45,7 +45,8 @@ white_unread false h = refl
 module _ (g : SegsState) (objects : List Object) (points : List (Option Point)) (memories : List PointMemory) (layout : ℕ → Layout)
     (condemned : List Id) (k : Colours) (addresses : List (Option Address)) (t : Segment)
     (swept : StandsFreeing g objects points memories layout condemned k addresses) (scanned : AreAllScanned k)
-    (held : Contains g.segments t) (is_condemned : bit g.condemned (grain_of t.base) ≡ true) (unreserved : IsUnreserved points memories t) where
+    (held : Contains g.segments t) (is_condemned : bit g.condemned (grain_of t.base) ≡ true)
+    (unreserved : IsUnreserved points memories t) where
   abbrev s : Setting
   s = setting_freeing_in g objects points memories layout condemned k
 

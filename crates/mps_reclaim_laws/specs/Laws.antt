@@ -107,7 +107,8 @@ TheNextCanBeReclaimed =
 abbrev pub TheLastBandBegins : Type 0
 TheLastBandBegins =
     (g : SegsState) (w : World) (c : Collection) (k : Colours) (layout : ℕ → Layout) (at_flip : List (Option Address)) → AreAllScanned k
-    → Stands (setting_in g w.graph.objects w.graph.points w.point_memories layout at_flip c.condemned (λ id. true)) (memory_in g) w.addresses k
+    → Stands (setting_in g w.graph.objects w.graph.points w.point_memories layout at_flip c.condemned (λ id. true)) (memory_in g)
+    w.addresses k
     → AreSegmentsInOrder g.segments → AreHoused w.graph.objects g.segments w.addresses → w.segments ≡ g.segments
     → ((t : Segment) → Contains g.segments t → bit g.condemned (grain_of t.base) ≡ contains c.condemned_segments t.base)
     → FreesFor g w c k layout

@@ -39,8 +39,8 @@ found_below (Some from) high at below is =
     let same : at ≡ at_word from = cc in
     omega (arith, ap (λ (a : Addr). a.0) same, below from refl)
 
-pub block_below : (high : ℕ) (rs : List Run) (word : ℕ) (at : Addr) → IsAscending 0 high rs → Some at ≡ option_map at_word (run_over rs word)
-    → word_of at.0 < high
+pub block_below : (high : ℕ) (rs : List Run) (word : ℕ) (at : Addr) → IsAscending 0 high rs
+    → Some at ≡ option_map at_word (run_over rs word) → word_of at.0 < high
 block_below high rs word at ascending is =
     found_below (run_over rs word) high at (λ from found. run_below 0 high rs word from ascending found) is
 

@@ -56,7 +56,8 @@ or_assoc_below (suc k) a b c la lb lc =
 pub zones_small : (count grain : ℕ) → zones_from count grain < 2 ^ 64
 zones_small zero grain = omega arith
 zones_small (suc count) grain =
-    or_lt 64 (2 ^ (grain % 64)) (zones_from count (grain + 1)) (pow-lt {i = grain % 64} {j = 64} (omega arith)) (zones_small count (grain + 1))
+    or_lt 64 (2 ^ (grain % 64)) (zones_from count (grain + 1)) (pow-lt {i = grain % 64} {j = 64} (omega arith))
+    (zones_small count (grain + 1))
 
 pub runs_small : (rs : List Run) → zones_of_runs rs < 2 ^ 64
 runs_small [] = omega arith
