@@ -2,3 +2,4 @@ pub mod Filtered
 pub mod Condemned
 pub mod Reservations
 pub mod CondemnedWords
+pub mod Ended

@@ -1,3 +1,4 @@
 pub mod Condemned
 pub mod Reservations
 pub mod CondemnedWords
+pub mod Ended

@@ -4,6 +4,7 @@
 
 ghost use Rattle.mps_flip_laws.specs.Condemned.{AFlipIsTheModels, AFlipCondemns};
 ghost use Rattle.mps_flip_laws.specs.CondemnedWords.{AFlipCondemnsWords};
+ghost use Rattle.mps_flip_laws.specs.Ended.{AFlipEndsReservations, AFlipLeavesRuns};
 ghost use Rattle.mps_flip_laws.specs.Reservations.{NoReservationIsLive, AFlipMovesNothing};
 
 /// A flip of everything condemns the segments that the model's flip condemns, and its move is the model's.
@@ -29,4 +30,14 @@ pub fn a_flip_moves_nothing<F>()
 /// After a flip exactly the words of automatic pools are condemned, so those of objects by the pools of these.
 pub fn a_flip_condemns_words<F>()
     ensures { AFlipCondemnsWords F }
+{}
+
+/// A flip in words ends all open reservations: none is left, and exactly blocks are covered.
+pub fn a_flip_ends_reservations<F>()
+    ensures { AFlipEndsReservations F }
+{}
+
+/// Where runs stand before a flip, and reservations in words are the model's, they stand after it.
+pub fn a_flip_leaves_runs<F>()
+    ensures { AFlipLeavesRuns F }
 {}
