@@ -10,6 +10,7 @@ ghost use Rattle.mps_arena.specs.Arena.{answer_of_placement};
 ghost use Rattle.mps_extents.specs.Extents.{run_over, first_run};
 ghost use Rattle.mps_marks.specs.Marks.{without_marks};
 ghost use Rattle.mps_seg.specs.Segs.{new_segments, placement_for, segments_after, noted_for, moves_after, held_runs, at_word, base_address, IsEmptyAt, IsUsed, CanCover};
+ghost use Rattle.mps_seg.specs.Table.{IsMarked};
 
 mod collecting;
 mod gaps;
@@ -290,6 +291,13 @@ impl Segs {
         ensures size { length self.now.words ≡ words_of_grain * (self.now.grains + 1) }
     {
         self.arena.grains()
+    }
+
+    /// The tables of marks have a bit for each word, and the others an entry for each grain.
+    pub fn tables_are_whole(&self)
+        ensures { IsMarked self.now.grains self.now.marks self.now.condemned self.now.summaries }
+    {
+        let _ = &self.arena;
     }
 
     /// Sets the commit limit, in grains. Refuses `BelowCommitted` where more grains than that are held.
