@@ -1,7 +1,7 @@
 // The manual pools.
 #![tactic(auto)]
 
-ghost use Rattle.std.specs.Prelude.{◌≡◌, ℕ, ◌+◌, ◌%◌, ◌<◌, ◌≤◌, [], ◌∷◌, ◌++◌, length, option_map, slice_get, slice_index, slice_range, MatchResult, Contains};
+ghost use Rattle.std.specs.Prelude.{◌≡◌, ℕ, ◌+◌, ◌%◌, ◌<◌, ◌≤◌, [], ◌∷◌, ◌++◌, List, length, option_map, slice_get, slice_index, slice_range, MatchResult, Contains};
 ghost use Rattle.std.specs.Borrow.{sem};
 ghost use Rattle.mps_base.specs.Address.{word_of, bytes_of_word};
 ghost use Rattle.mps_base.specs.Segment.{segment_over};
@@ -68,6 +68,15 @@ impl Manual {
     {
         self.sizes.push(size)?;
         Ok(())
+    }
+
+    /// Takes the last pool off again.
+    pub fn remove_last(&mut self)
+        requires nonzero { 0 < length self.old }
+        ensures { (sizes : List ℕ) → (size : ℕ) → self.old ≡ sizes ++ size ∷ [] → self.new ≡ sizes }
+    {
+        let last = self.sizes.len() - 1;
+        self.sizes.truncate(last);
     }
 
     /// Makes a block of `words` words in the lowest gap of the pool that fits, else in a new segment, and returns where it begins. Its

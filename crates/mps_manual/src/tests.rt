@@ -58,11 +58,13 @@ const CASES: [Case; 7] = [
     },
 ];
 
-/// Two pools: one of blocks of any sizes, and one of blocks of `size` words.
+/// Two pools: one of blocks of any sizes, and one of blocks of `size` words. A third is taken off again.
 fn two_pools(alloc: Global, size: u32) -> Result<Manual, AllocError> {
     let mut manual = Manual::new(alloc);
     manual.add(0)?;
     manual.add(size)?;
+    manual.add(500)?;
+    manual.remove_last();
     Ok(manual)
 }
 
