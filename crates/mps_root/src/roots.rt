@@ -151,6 +151,13 @@ impl Roots {
         Some(self.areas.get(key)?.as_slice())
     }
 
+    /// A number above the keys of all areas.
+    pub fn area_keys(&self) -> usize
+        ensures { length self.now.areas ≤ result }
+    {
+        self.areas.capacity()
+    }
+
     /// A word of an area.
     pub fn word(&self, key: usize, index: usize) -> Stored
         requires { HasItem self.now.areas key index }
