@@ -4,3 +4,4 @@ pub mod TokenLists
 pub mod OpenTokens
 pub mod StillOpen
 pub mod NoneOpen
+pub mod MadeBefore

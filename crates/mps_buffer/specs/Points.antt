@@ -1,5 +1,6 @@
 -- Points, their reservations, and where a reservation is placed.
 use Rattle.std.specs.Prelude.{ℕ, ◌+◌, ◌-◌, ◌*◌, ◌<◌, ◌≤◌, ◌≡◌, ◌⊎◌, ◌==◌, nat_le, Bool, true, false, option_map, map, length, if◌then◌else◌, Option, Some, None, is_some, List, [], ◌∷◌, replicate, get_or, slice_set, Contains, refl}
+use Rattle.std.proofs.Common.{arith}
 use Rattle.mps_base.specs.Address.{words_of_grain, word_of}
 use Rattle.mps_base.specs.Run.{Run, end_of, with_run, without_run}
 use Rattle.mps_base.specs.Placement.{Placement, Place, NewSegment, OverLimit, NoFreeRun}
@@ -181,6 +182,10 @@ emptied p = record p { buffer = empty_buffer }
 abbrev pub flipped : PointsState → PointsState
 flipped s = record { points = map (option_map emptied) s.points; flips = s.flips + 1 }
 
+-- no reservation was made after more flips than these
+pub record WereMadeBefore (flips : ℕ) (s : PointsState) : Type 0 where
+  pub before : (key : ℕ) (p : Point) (held : Held) → point_at s key ≡ Some p → p.reservation ≡ Some held → held.flips ≤ flips
+
 -- ---- vectors
 
 -- a point of a pool that moves blocks, with eight words at hand
@@ -228,3 +233,13 @@ no_run_refuses = refl
 
 pub a_new_segment_beside_a_short_gap : placement_at a_weak_point (record two_ranks { limit = 9 }) 13 ≡ NewSegment 3 1
 a_new_segment_beside_a_short_gap = refl
+
+-- a reservation that was made after three flips, where there were two
+abbrev too_early : PointsState
+too_early = record {
+  points = Some (record a_point { reservation = Some (record { at = record { 0 = 0x1040 }; head = 1; words = 2; flips = 3 }) }) ∷ [];
+  flips = 2;
+}
+
+pub no_reservation_is_to_come : WereMadeBefore 2 too_early → ⊥
+no_reservation_is_to_come made = let most = made.before 0 _ _ refl refl in omega (arith, most)

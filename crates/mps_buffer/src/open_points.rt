@@ -11,7 +11,7 @@ ghost use Rattle.mps_base.specs.Run.{Run};
 ghost use Rattle.mps_seg.specs.Segs.{CanCover, moves_after};
 ghost use Rattle.mps_buffer.specs.declared.point.Point.{Point};
 ghost use Rattle.mps_buffer.specs.declared.point.Held.{Held};
-ghost use Rattle.mps_buffer.specs.Points.{no_points, point_at, with_point, IsAtHand, placement_at, buffer_after, AreApart, with_place, with_reservation, with_block, closed, opened, all_ended, AreReserved, flipped, ended_at, IsReserved, IsReservedAt, new_point, IsMade, AllTaken};
+ghost use Rattle.mps_buffer.specs.Points.{no_points, point_at, with_point, IsAtHand, placement_at, buffer_after, AreApart, with_place, with_reservation, with_block, closed, opened, all_ended, AreReserved, flipped, ended_at, IsReserved, IsReservedAt, new_point, IsMade, AllTaken, WereMadeBefore};
 ghost use Rattle.mps_buffer.specs.Tokens.{HasOpen, IsClosedAt};
 
 use crate::point::{Point, Reserved};
@@ -65,6 +65,13 @@ impl OpenPoints {
         ensures { result ≡ self.now.flips }
     {
         self.points.flips()
+    }
+
+    /// No reservation remembers a flip that is still to come.
+    pub fn reservations_are_past(&self)
+        ensures { WereMadeBefore self.now.flips self.now }
+    {
+        self.points.reservations_are_past();
     }
 
     /// Makes a point of a pool under a key that is free. Refuses `TooMany` where there are 256.

@@ -11,7 +11,7 @@ ghost use Rattle.mps_base.specs.Run.{Run};
 ghost use Rattle.mps_seg.specs.Segs.{SegsState, CanCover, moves_after};
 ghost use Rattle.mps_buffer.specs.declared.point.Point.{Point};
 ghost use Rattle.mps_buffer.specs.declared.point.Held.{Held};
-ghost use Rattle.mps_buffer.specs.Points.{no_points, point_at, with_point, IsAtHand, placement_at, buffer_after, AreApart, with_place, with_reservation, with_block, without_reservation, run_of_held, closed, opened, IsOpenAt, all_ended, AreReserved, emptied, flipped, ended_at, IsReservedAt, new_point, IsMade, AllTaken, is_place};
+ghost use Rattle.mps_buffer.specs.Points.{no_points, point_at, with_point, IsAtHand, placement_at, buffer_after, AreApart, with_place, with_reservation, with_block, without_reservation, run_of_held, closed, opened, IsOpenAt, all_ended, AreReserved, emptied, flipped, ended_at, IsReservedAt, new_point, IsMade, AllTaken, is_place, WereMadeBefore};
 
 use crate::place::place;
 use crate::point::{Buffer, Held, Point, Reserved};
@@ -36,7 +36,11 @@ impl Model for Points {
 
     ghost Value = { PointsState };
 
+    ghost use Rattle.mps_buffer.specs.Points.{WereMadeBefore};
+
     ghost view = { λ p. record { points = p.points.items; flips = p.flips } };
+
+    ghost invariant = { λ p. WereMadeBefore p.flips (record { points = p.points.items; flips = p.flips }) };
 }
 
 impl Points {
@@ -66,6 +70,13 @@ impl Points {
         ensures { result ≡ self.now.flips }
     {
         self.flips
+    }
+
+    /// No reservation remembers a flip that is still to come.
+    pub fn reservations_are_past(&self)
+        ensures { WereMadeBefore self.now.flips self.now }
+    {
+        let _ = &self.points;
     }
 
     /// Makes a point of a pool under a key that is free. Refuses `TooMany` where there are 256.
