@@ -364,6 +364,7 @@ module _ {F : Type 0} (layout : F → Layout) (past : Past) (h : HeapState F) (w
           resting = record {
             at_most = parts.resting.at_most;
             not_condemned = λ grain. noted_clear q h.segs.condemned grain (parts.resting.not_condemned grain);
+            not_kept = parts.resting.not_kept;
             within = parts.resting.within;
             aligned = parts.resting.aligned;
           };

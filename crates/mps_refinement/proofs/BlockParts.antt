@@ -43,7 +43,7 @@ pub record AreBlocks {F : Type 0} (past : Past) (h : HeapState F) (w : World) (s
   pub limit : segs.limit ≡ h.segs.limit
   pub segments_are : segs.segments ≡ segments
   pub image : StandsAtRest segs (world_with_blocks w objects addresses places segments)
-  pub resting : IsArenaAtRest segs.grains segs.condemned h.points
+  pub resting : IsArenaAtRest segs.grains segs.condemned segs.marks.kept h.points
   pub tables : AreNumbered (AreSlots addresses) past.table_number (kept h.roots.tables) w.graph.tables
   pub areas : AreNumbered (AreWords addresses) past.area_number (kept h.roots.areas) w.graph.areas
   pub blocks_are : blocks ≡ map (map (address_of_target addresses)) places
@@ -64,6 +64,7 @@ blocks_changed layout past h w segs blocks objects addresses places segments par
   image = are.image;
   resting = are.resting;
   tables = are.tables;
+  ordered = parts.ordered;
   areas = are.areas;
   blocks = are.blocks_are;
   roots_counted =

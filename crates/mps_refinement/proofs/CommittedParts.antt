@@ -192,9 +192,10 @@ module _ {F : Type 0} (layout : F → Layout) (past : Past) (h : HeapState F) (w
 
   -- ---- the parts
 
-  resting_made : IsArenaAtRest h.segs.grains h.segs.condemned (with_point h.points key (Some (closed p)))
+  resting_made : IsArenaAtRest h.segs.grains h.segs.condemned h.segs.marks.kept (with_point h.points key (Some (closed p)))
   resting_made =
-      resting_points h.segs.grains h.segs.condemned h.points (with_point h.points key (Some (closed p))) parts.resting (λ k x other e f.
+      resting_points h.segs.grains h.segs.condemned h.segs.marks.kept h.points (with_point h.points key (Some (closed p)))
+      parts.resting (λ k x other e f.
       elim (cases_eq k key) [
         | inl same ↦
             let own : closed p ≡ x =
@@ -233,6 +234,7 @@ module _ {F : Type 0} (layout : F → Layout) (past : Past) (h : HeapState F) (w
     image = image_made;
     resting = resting_made;
     tables = tables_still w.addresses at w.graph.tables known.held.slots parts.tables;
+    ordered = parts.ordered;
     areas = areas_still w.addresses at w.graph.areas known.held.holds parts.areas;
     blocks = parts.blocks ∙ sym (blocks_still w.addresses at w.graph.blocks known.live.blocks);
     roots_counted = parts.roots_counted;

@@ -112,8 +112,9 @@ module _ {F : Type 0} (layout : F → Layout) (past : Past) (h : HeapState F) (w
         limit = refl;
         segments_are = parts.segments;
         image = image_closed doomed;
-        resting = resting_points h.segs.grains h.segs.condemned h.points (with_point h.points k.key (Some (closed k.value))) parts.resting
-            (λ key x other e f.
+        resting =
+            resting_points h.segs.grains h.segs.condemned h.segs.marks.kept h.points
+            (with_point h.points k.key (Some (closed k.value))) parts.resting (λ key x other e f.
             elim (cases_eq key k.key) [
               | inl here ↦
                   let own : closed k.value ≡ x =

@@ -30,6 +30,7 @@ use Rattle.mps_refinement.proofs.DroppingSteps.{DropsAlike, DropsTo, dropping_is
 use Rattle.mps_refinement.proofs.Found.{some_there}
 use Rattle.mps_refinement.proofs.Named.{named_dropped}
 use Rattle.mps_refinement.proofs.Numbering.{kept_other, kept_without, numbered_dropped}
+use Rattle.mps_refinement.proofs.Ordering.{ordered_dropped}
 use Rattle.mps_refinement.proofs.PartsMade.{roots_changed}
 use Rattle.mps_refinement.proofs.Steps.{HasParts}
 
@@ -53,6 +54,7 @@ module _ {F : Type 0} (layout : F → Layout) (h : HeapState F) (name : Name) (w
           tables_are = numbered_dropped (AreSlots w.addresses) past.table_number (kept h.roots.tables) (kept roots.tables) w.graph.tables
               parts.tables key (λ other apart. kept_other h.roots.tables key other None apart) items items (found.0) there
               (kept_without h.roots.tables key);
+          ordered = ordered_dropped parts.ordered key (λ other apart. kept_other h.roots.tables key other None apart) found.0 found.1 own;
           areas_are = parts.areas;
           blocks_are = parts.blocks;
           roots_counted = ap (λ n. n - 1) parts.roots_counted ∙ sym (table_dropped_roots w.graph (past.table_number key) found.0 found.1);
@@ -70,6 +72,12 @@ module _ {F : Type 0} (layout : F → Layout) (h : HeapState F) (name : Name) (w
       found : (b : Slots) × (graph.entry_at w.graph.tables (past.table_number key) ≡ Some b) × AreSlots w.addresses (past.table_number key)
           items b
       found = parts.tables.there key items there
+
+      -- no other key has its number
+      own : (other : ℕ) → IsSome (kept h.roots.tables other) → past.table_number other ≡ past.table_number key → other ≡ key
+      own other some same =
+          let there_too = some_there (kept h.roots.tables other) some in
+          parts.tables.apart other key there_too.0 items there_too.1 there same
 
       long : length items ≡ length found.0
       long = ap (λ (xs : List Address). length xs) found.2 ∙ length-map found.0 (address_of_target w.addresses)
@@ -94,6 +102,7 @@ module _ {F : Type 0} (layout : F → Layout) (h : HeapState F) (name : Name) (w
         (h.live_slots - length items) names w.graph.tables (slice_set w.graph.areas (past.area_number key) None) w.graph.blocks
         (without_name w.graph.names name) (record {
           tables_are = parts.tables;
+          ordered = parts.ordered;
           areas_are = numbered_dropped (AreWords w.addresses) past.area_number (kept h.roots.areas) (kept roots.areas) w.graph.areas
               parts.areas key (λ other apart. kept_other h.roots.areas key other None apart) items items (found.0) there
               (kept_without h.roots.areas key);

@@ -42,6 +42,7 @@ use Rattle.mps_refinement.proofs.Lookups.{IsPlaceEntry}
 use Rattle.mps_refinement.proofs.ManualBlocks.{IsBlock, setting}
 use Rattle.mps_refinement.proofs.PlacedOnce.{ArePlacedOnce, is_sized}
 use Rattle.mps_refinement.proofs.PlacesByActs.{places_of}
+use Rattle.mps_refinement.proofs.PointWritten.{none_set}
 use Rattle.mps_refinement.proofs.ReservedImage.{block_covers}
 use Rattle.mps_refinement.proofs.StillHeld.{messages_still, registered_still, reservation_targets, slots_still, words_still}
 use Rattle.mps_seg.specs.Collecting.{bit_of}
@@ -201,6 +202,11 @@ module _ {F : Type 0} (layout : F → Layout) (past : Past) (h : HeapState F) (w
   segs_condemned t true = refl
   segs_condemned t false = refl
 
+  segs_kept : (t : Segment) (given : Bool)
+      → (segments_freed h.segs at t given).marks.kept ≡ slice_set h.segs.marks.kept (word_of at) false
+  segs_kept t true = refl
+  segs_kept t false = refl
+
   segs_segments : (t : Segment) (given : Bool)
       → (segments_freed h.segs at t given).segments ≡ (if given then without_segment w.segments t.base else w.segments)
   segs_segments t true = ap (λ ss. without_segment ss t.base) parts.segments
@@ -234,6 +240,8 @@ module _ {F : Type 0} (layout : F → Layout) (past : Past) (h : HeapState F) (w
           at_most = let most = parts.resting.at_most in let e = segs_grains t given in omega (arith, most, e);
           not_condemned = λ grain.
               ap (λ bits. bit bits grain) (segs_condemned t given) ∙ parts.resting.not_condemned grain;
+          not_kept = λ n.
+              ap (λ bits. bit bits n) (segs_kept t given) ∙ none_set h.segs.marks.kept (word_of at) n (parts.resting.not_kept n);
           within = λ key p held e f.
               let low = parts.resting.within key p held e f in let g = segs_grains t given in omega (arith, low, g);
           aligned = parts.resting.aligned;

@@ -4,6 +4,7 @@ pub mod Reached
 pub mod Steps
 pub mod Counts
 pub mod Numbering
+pub mod Ordering
 pub mod Found
 pub mod Known
 pub mod Cells

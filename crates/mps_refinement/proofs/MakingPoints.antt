@@ -137,11 +137,13 @@ module _ {F : Type 0} (layout : F → Layout) (h : HeapState F) (w : World) (pas
             points_are = numbered_made Fits past.point_number (kept h.points.points) (kept points) w.graph.points
                 (fitting_there parts.points (λ n p q there fit. same_memory w.point_memories (with_last w.point_memories no_memory) n p q
                 (λ memory has. slice_get-kept w.point_memories no_memory memory n has) fit)) key
-                (λ other apart. kept_other h.points.points key other (Some new) apart) new (new_of number.number) now new_fits;
+                (λ other apart. kept_other h.points.points key other (Some new) apart) new (new_of number.number) makes.point.was_free now
+                new_fits;
             points_counted = ap (λ n. n + 1) parts.points_counted ∙ sym (point_made_points w.graph (new_of number.number));
             image_stands = image_made (new_of number.number) refl;
             resting_still =
-                resting_points h.segs.grains h.segs.condemned h.points (record h.points { points = points }) parts.resting was_reserved;
+                resting_points h.segs.grains h.segs.condemned h.segs.marks.kept h.points
+                (record h.points { points = points }) parts.resting was_reserved;
             names_are = named_made past (record past { point_number = numbers }) h made w.graph.names parts.names name (thing.Point key)
                 (graph.PointThing count) makes.names free (ap graph.PointThing (renumbered_here past.point_number key count))
                 (points_renumbered past h key count makes.point.was_free) stay (ap is_some now)
@@ -303,7 +305,8 @@ module _ {F : Type 0} (layout : F → Layout) (h : HeapState F) (w : World) (pas
                 points_counted = ap (λ n. n - 1) parts.points_counted ∙ sym (point_dropped_points w.graph number q.value there_now);
                 image_stands = image_dropped number q.value there_now none;
                 resting_still =
-                    resting_points h.segs.grains h.segs.condemned h.points (record h.points { points = points }) parts.resting was_reserved;
+                    resting_points h.segs.grains h.segs.condemned h.segs.marks.kept h.points
+                    (record h.points { points = points }) parts.resting was_reserved;
                 names_are = named_dropped past h (record h {
                   points = record h.points { points = points };
                   live_points = h.live_points - 1;

@@ -21,12 +21,13 @@ use Rattle.mps_root.specs.State.{RootsState, kept, no_word}
 use Rattle.mps_outcome.specs.Making.{IsMaking, MakesArea, MakesBlocks, MakesTable, check_root, refuse_root, refuse_taken, with_root}
 use Rattle.mps_outcome.specs.State.{HeapState}
 use Rattle.mps_refinement.specs.Making.{IsRightMaking}
-use Rattle.mps_refinement.specs.Numbering.{renumbered}
+use Rattle.mps_refinement.specs.Numbering.{AreOrdered, renumbered}
 use Rattle.mps_refinement.specs.StandsFor.{AreParts, AreSlots, AreWords, Past, address_of_target, stored_word}
 use Rattle.mps_refinement.proofs.Counts.{area_made_roots, area_made_slots, blocks_made_roots, blocks_made_slots, table_made_roots, table_made_slots}
 use Rattle.mps_refinement.proofs.MakingSteps.{MakesAlike, checks_then, first_passed, free_name, making_is_right, root_same, taken_same}
 use Rattle.mps_refinement.proofs.Named.{ThingsStay, areas_renumbered, named_made, nothing_there, tables_renumbered}
 use Rattle.mps_refinement.proofs.Numbering.{kept_alike, numbered_made, renumbered_here}
+use Rattle.mps_refinement.proofs.Ordering.{ordered_alike, ordered_made}
 use Rattle.mps_refinement.proofs.PartsMade.{AreOtherRoots, past_of_roots, roots_changed}
 use Rattle.mps_refinement.proofs.Steps.{HasParts}
 
@@ -81,8 +82,11 @@ module _ {F : Type 0} (layout : F → Layout) (h : HeapState F) (name : Name) (s
             tables w.graph.areas w.graph.blocks (with_last w.graph.names (record { name = name; thing = graph.TableThing number }))
         are = record {
           tables_are = numbered_made (AreSlots w.addresses) past.table_number (kept h.roots.tables) (kept after.roots.tables) w.graph.tables
-              parts.tables key makes.table.tables.others (replicate slots 0) (replicate slots None) makes.table.tables.made
-              (sym (map-replicate (address_of_target w.addresses) slots None));
+              parts.tables key makes.table.tables.others (replicate slots 0) (replicate slots None) makes.table.tables.free
+              makes.table.tables.made (sym (map-replicate (address_of_target w.addresses) slots None));
+          ordered = subst (λ order. AreOrdered numbers order (kept after.roots.tables) tables) (sym makes.table.order)
+              (ordered_made parts.ordered key makes.table.tables.others (replicate slots 0) (replicate slots None)
+              makes.table.tables.free makes.table.tables.made);
           areas_are = kept_alike parts.areas (λ k. ap (λ rows. kept rows k) makes.table.areas);
           blocks_are = makes.table.blocks ∙ parts.blocks;
           roots_counted = ap (λ n. n + 1) parts.roots_counted ∙ sym (table_made_roots w.graph name slots);
@@ -144,9 +148,11 @@ module _ {F : Type 0} (layout : F → Layout) (h : HeapState F) (name : Name) (s
             (with_last w.graph.names (record { name = name; thing = graph.AreaThing number }))
         are = record {
           tables_are = kept_alike parts.tables (λ k. ap (λ ts. kept ts k) makes.area.tables);
+          ordered = ordered_alike parts.ordered after.roots.order makes.area.order
+              (λ k some. subst (λ ts. IsSome (kept ts k)) (sym makes.area.tables) some);
           areas_are = numbered_made (AreWords w.addresses) past.area_number (kept h.roots.areas) (kept after.roots.areas) w.graph.areas
-              parts.areas key makes.area.areas.others (replicate slots no_word) (replicate slots (PlainWord 0)) makes.area.areas.made
-              (sym (map-replicate (stored_word w.addresses) slots (PlainWord 0)));
+              parts.areas key makes.area.areas.others (replicate slots no_word) (replicate slots (PlainWord 0)) makes.area.areas.free
+              makes.area.areas.made (sym (map-replicate (stored_word w.addresses) slots (PlainWord 0)));
           blocks_are = makes.area.blocks ∙ parts.blocks;
           roots_counted = ap (λ n. n + 1) parts.roots_counted ∙ sym (area_made_roots w.graph name slots);
           slots_counted = ap (λ n. n + slots) parts.slots_counted ∙ sym (area_made_slots w.graph name slots);
@@ -214,6 +220,7 @@ module _ {F : Type 0} (layout : F → Layout) (h : HeapState F) (name : Name) (s
             (with_last w.graph.names (record { name = name; thing = graph.BlocksThing count }))
         are = record {
           tables_are = parts.tables;
+          ordered = parts.ordered;
           areas_are = parts.areas;
           blocks_are =
               ap (λ bs. bs ++ replicate slots 0 ∷ []) parts.blocks

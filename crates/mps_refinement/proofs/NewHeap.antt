@@ -1,10 +1,10 @@
 -- A new heap stands for the world that `arena` leaves in the empty one, whatever the formats, where all are lawful.
-use Rattle.std.proofs.Common.{◌+◌, ◌≤◌, Bool, false, ◌≡◌, ◌∙◌, ℕ, refl, sym, ap, List, [], ◌∷◌, Option, None, inl, inr, replicate, get_or, arith}
+use Rattle.std.proofs.Common.{◌+◌, ◌*◌, ◌≤◌, Bool, false, ◌≡◌, ◌∙◌, ℕ, refl, sym, ap, List, [], ◌∷◌, Option, None, inl, inr, replicate, get_or, arith}
 use Rattle.std.proofs.lemmas.Bool.{cases_lt}
 use Rattle.std.proofs.lemmas.List.{get_or-replicate, get_or_past, length-replicate}
 use Rattle.std.proofs.lemmas.Option.{none-some}
 use Rattle.std.specs.Prelude.{option_map}
-use Rattle.mps_base.specs.Address.{max_grains}
+use Rattle.mps_base.specs.Address.{max_grains, words_of_grain}
 use Rattle.mps_bits.specs.Table.{bit}
 use Rattle.mps_buffer.specs.Points.{max_points, no_points, point_at}
 use Rattle.mps_buffer.specs.declared.point.Point.{Point}
@@ -20,6 +20,7 @@ use Rattle.mps_model.specs.World.{World, empty_world_of}
 use Rattle.mps_names.specs.State.{NamesState}
 use Rattle.mps_outcome.specs.Arena.{new_heap}
 use Rattle.mps_refinement.specs.NewHeap.{NoNames, arena_step, new_world}
+use Rattle.mps_refinement.specs.Numbering.{AreNumbered}
 use Rattle.mps_refinement.specs.RightStep.{IsRightIn}
 use Rattle.mps_refinement.specs.StandsFor.{AreParts, Past, numbered_thing}
 use Rattle.mps_refinement.proofs.RestingActs.{resting_sound}
@@ -44,6 +45,15 @@ none_kept A count key =
       | inr past ↦ get_or_past (nothing A count) key None (omega (arith, past, length-replicate {A = Option A} count None))
     ]
 
+-- where nothing is kept, and the model has nothing
+none_numbered : {A B : Type 0} {Fits : ℕ → A → B → Type 0} {number : ℕ → ℕ} {kept : ℕ → Option A} → ((key : ℕ) → kept key ≡ None)
+    → AreNumbered Fits number kept []
+none_numbered none = record {
+  there = λ key a is. absurd (none-some a (sym (none key) ∙ is));
+  apart = λ key other a b is. absurd (none-some a (sym (none key) ∙ is));
+  complete = λ n b is. absurd (none-some b is);
+}
+
 module _ {F : Type 0} (layout : F → Layout) (formats : ℕ → Layout) (lawful : (number : ℕ) → IsLawful (formats number))
     (grains limit : ℕ) (at_most : grains ≤ max_grains) (names : NamesState) (none : NoNames names) where
   abbrev world_then : World
@@ -65,18 +75,17 @@ module _ {F : Type 0} (layout : F → Layout) (formats : ℕ → Layout) (lawful
     resting = record {
       at_most = at_most;
       not_condemned = λ grain. none_set (grains + 1) grain;
+      not_kept = λ n. none_set (words_of_grain * (grains + 1)) n;
       within = λ key p held is. absurd (none-some p (sym (no_point key) ∙ is));
       aligned = λ key p held is. absurd (none-some p (sym (no_point key) ∙ is));
     };
-    tables = record { there = λ key a is. absurd (none-some a is); apart = λ key other a b is. absurd (none-some a is) };
-    areas = record { there = λ key a is. absurd (none-some a is); apart = λ key other a b is. absurd (none-some a is) };
+    tables = none_numbered (λ key. refl);
+    ordered = record { numbers = refl; kept_there = tt };
+    areas = none_numbered (λ key. refl);
     blocks = refl;
     roots_counted = refl;
     slots_counted = refl;
-    points = record {
-      there = λ key a is. absurd (none-some a (sym (no_point key) ∙ is));
-      apart = λ key other a b is. absurd (none-some a (sym (no_point key) ∙ is));
-    };
+    points = none_numbered no_point;
     points_counted = refl;
     registered = refl;
     messages = refl;

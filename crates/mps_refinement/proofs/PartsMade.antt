@@ -17,7 +17,7 @@ use Rattle.mps_outcome.specs.Making.{IsUntouched}
 use Rattle.mps_outcome.specs.State.{HeapState, size_of_pool}
 use Rattle.mps_outcome.specs.declared.pool.ArenaState.{ArenaState}
 use Rattle.mps_outcome.specs.declared.pool.Pool.{Pool}
-use Rattle.mps_refinement.specs.Numbering.{AreNumbered}
+use Rattle.mps_refinement.specs.Numbering.{AreNumbered, AreOrdered}
 use Rattle.mps_refinement.specs.StandsFor.{AreNamed, AreParts, ArePools, AreSlots, AreWords, IsPoint, Past, StandsFor, address_of_target, kept_of, state_of, IsArenaAtRest}
 use Rattle.mps_refinement.proofs.Named.{ThingsStay, named_alike}
 
@@ -52,6 +52,7 @@ module _ {F : Type 0} (layout : F → Layout) (past : Past) (h : HeapState F) (w
   pub record AreOtherRoots (table_number area_number : ℕ → ℕ) (roots : RootsState) (roots_live slots_live : ℕ) (names : NamesState)
       (tables : List (Option Slots)) (areas : List (Option (List AreaWord))) (blocks : List Slots) (named : List NamedThing) : Type 0 where
     pub tables_are : AreNumbered (AreSlots w.addresses) table_number (kept roots.tables) tables
+    pub ordered : AreOrdered table_number roots.order (kept roots.tables) tables
     pub areas_are : AreNumbered (AreWords w.addresses) area_number (kept roots.areas) areas
     pub blocks_are : roots.blocks ≡ map (map (address_of_target w.addresses)) blocks
     pub roots_counted : roots_live ≡ live_roots (record w.graph { tables = tables; areas = areas; blocks = blocks })
@@ -70,6 +71,7 @@ module _ {F : Type 0} (layout : F → Layout) (past : Past) (h : HeapState F) (w
     image = parts.image;
     resting = parts.resting;
     tables = are.tables_are;
+    ordered = are.ordered;
     areas = are.areas_are;
     blocks = are.blocks_are;
     roots_counted = are.roots_counted;
@@ -105,7 +107,7 @@ module _ {F : Type 0} (layout : F → Layout) (past : Past) (h : HeapState F) (w
     pub points_are : AreNumbered (IsPoint (length w.flips) (world.is_copying_pool w) memories) point_number (kept points) numbered
     pub points_counted : points_live ≡ live_points (record w.graph { points = numbered })
     pub image_stands : StandsAtRest h.segs (world_of_points numbered memories w.graph.names)
-    pub resting_still : IsArenaAtRest h.segs.grains h.segs.condemned (record h.points { points = points })
+    pub resting_still : IsArenaAtRest h.segs.grains h.segs.condemned h.segs.marks.kept (record h.points { points = points })
     pub names_are : AreNamed (record past { point_number = point_number }) (state_of_points points points_live names) named
 
   pub points_changed : (point_number : ℕ → ℕ) (points : List (Option Point)) (points_live : ℕ) (names : NamesState)
@@ -120,6 +122,7 @@ module _ {F : Type 0} (layout : F → Layout) (past : Past) (h : HeapState F) (w
     image = are.image_stands;
     resting = are.resting_still;
     tables = parts.tables;
+    ordered = parts.ordered;
     areas = parts.areas;
     blocks = parts.blocks;
     roots_counted = parts.roots_counted;
@@ -167,6 +170,7 @@ module _ {F : Type 0} (layout : F → Layout) (past : Past) (h : HeapState F) (w
     image = are.image_stands;
     resting = parts.resting;
     tables = parts.tables;
+    ordered = parts.ordered;
     areas = parts.areas;
     blocks = parts.blocks;
     roots_counted = parts.roots_counted;
@@ -205,6 +209,7 @@ module _ {F : Type 0} (layout : F → Layout) (past : Past) (h : HeapState F) (w
     image = parts.image;
     resting = parts.resting;
     tables = parts.tables;
+    ordered = parts.ordered;
     areas = parts.areas;
     blocks = parts.blocks;
     roots_counted = parts.roots_counted;
@@ -240,6 +245,7 @@ module _ {F : Type 0} (layout : F → Layout) (past : Past) (h : HeapState F) (w
         image = parts.image;
         resting = parts.resting;
         tables = parts.tables;
+        ordered = parts.ordered;
         areas = parts.areas;
         blocks = parts.blocks;
         roots_counted = parts.roots_counted;

@@ -21,10 +21,11 @@ use Rattle.mps_outcome.specs.declared.found.Entry.{Entry}
 use Rattle.mps_outcome.specs.Objects as ours
 use Rattle.mps_outcome.specs.State.{HeapState}
 use Rattle.mps_refinement.specs.StandsFor.{Past, AreParts, AreSlots, AreWords, address_of_id, address_of_target, kept_of, stored_word}
-use Rattle.mps_refinement.specs.Numbering.{AreNumbered}
+use Rattle.mps_refinement.specs.Numbering.{AreNumbered, AreOrdered}
 use Rattle.mps_refinement.proofs.Counts.{slot_written_roots, slot_written_slots, word_written_roots, word_written_slots}
 use Rattle.mps_refinement.proofs.EntryWritten.{entry_written, kept_still}
 use Rattle.mps_refinement.proofs.Named.{ThingsStay, named_alike}
+use Rattle.mps_refinement.proofs.Ordering.{still_ordered}
 use Rattle.mps_refinement.proofs.PartsMade.{all_stay}
 use Rattle.mps_refinement.proofs.Lookups.{IsSlotEntry, IsWordEntry}
 
@@ -35,6 +36,7 @@ module _ {F : Type 0} (layout : F → Layout) (past : Past) (h : HeapState F) (w
   pub record AreRoots (roots : RootsState) (tables : List (Option Slots)) (areas : List (Option (List AreaWord))) (blocks : List Slots) :
       Type 0 where
     pub tables_are : AreNumbered (AreSlots w.addresses) past.table_number (kept roots.tables) tables
+    pub ordered : AreOrdered past.table_number roots.order (kept roots.tables) tables
     pub areas_are : AreNumbered (AreWords w.addresses) past.area_number (kept roots.areas) areas
     pub blocks_are : roots.blocks ≡ map (map (address_of_target w.addresses)) blocks
     pub roots_counted : live_roots (record w.graph { tables = tables; areas = areas; blocks = blocks }) ≡ live_roots w.graph
@@ -52,6 +54,7 @@ module _ {F : Type 0} (layout : F → Layout) (past : Past) (h : HeapState F) (w
     image = parts.image;
     resting = parts.resting;
     tables = are.tables_are;
+    ordered = are.ordered;
     areas = are.areas_are;
     blocks = are.blocks_are;
     roots_counted = parts.roots_counted ∙ sym are.roots_counted;
@@ -83,6 +86,7 @@ module _ {F : Type 0} (layout : F → Layout) (past : Past) (h : HeapState F) (w
     image = image;
     resting = parts.resting;
     tables = parts.tables;
+    ordered = parts.ordered;
     areas = parts.areas;
     blocks = parts.blocks;
     roots_counted = parts.roots_counted;
@@ -116,6 +120,7 @@ module _ {F : Type 0} (layout : F → Layout) (past : Past) (h : HeapState F) (w
     image = parts.image;
     resting = parts.resting;
     tables = parts.tables;
+    ordered = parts.ordered;
     areas = parts.areas;
     blocks = parts.blocks;
     roots_counted = parts.roots_counted;
@@ -148,6 +153,7 @@ module _ {F : Type 0} (layout : F → Layout) (past : Past) (h : HeapState F) (w
     image = parts.image;
     resting = parts.resting;
     tables = parts.tables;
+    ordered = parts.ordered;
     areas = parts.areas;
     blocks = parts.blocks;
     roots_counted = parts.roots_counted;
@@ -187,6 +193,8 @@ module _ {F : Type 0} (layout : F → Layout) (past : Past) (h : HeapState F) (w
         tables_are = entry_written (address_of_target w.addresses) past.table_number h.roots.tables w.graph.tables index entry
             found at target
             parts.tables is same;
+        ordered = still_ordered parts.ordered found.number found.list (slice_set found.list found.index target) is.has
+            (kept_still h.roots.tables entry.key entry.index at);
         areas_are = parts.areas;
         blocks_are = parts.blocks;
         roots_counted = slot_written_roots w.graph found target is.has;
@@ -209,6 +217,7 @@ module _ {F : Type 0} (layout : F → Layout) (past : Past) (h : HeapState F) (w
       roots_written (record h.roots { areas = with_item h.roots.areas entry.key entry.index stored }) w.graph.tables areas w.graph.blocks
       (record {
         tables_are = parts.tables;
+        ordered = parts.ordered;
         areas_are = entry_written (stored_word w.addresses) past.area_number h.roots.areas w.graph.areas index entry found stored word
             parts.areas is same;
         blocks_are = parts.blocks;

@@ -21,7 +21,7 @@ use Rattle.mps_seg.specs.Segs.{SegsState}
 use Rattle.mps_laws.proofs.Entries.{entry_at-written}
 use Rattle.mps_laws.proofs.Lookups.{entry_at-set_other}
 use Rattle.mps_outcome.specs.State.{HeapState}
-use Rattle.mps_refinement.specs.Numbering.{AreNumbered}
+use Rattle.mps_refinement.specs.Numbering.{AreNumbered, IsKept}
 use Rattle.mps_refinement.specs.StandsFor.{AreParts, IsArenaAtRest, IsPoint, IsThere, Past}
 use Rattle.mps_refinement.proofs.Numbering.{kept_other, kept_within, kept_written}
 
@@ -76,8 +76,25 @@ module _ (flips : ℕ) (copying : ℕ → Bool) (memories after : List PointMemo
     there = there;
     apart = λ k l a b is those same.
         let x = was_there k a is in let y = was_there l b those in are.apart k l x.0 y.0 x.1 y.1 same;
+    complete = complete;
   }
     where
+      complete : (n : ℕ) (b : graph.Point) → entry_at (slice_set points (numbers key) (Some entry)) n ≡ Some b
+          → IsKept numbers (point_at (with_point s key (Some new))) n
+      complete n b is =
+          elim (cases_eq (numbers key) n) [
+            | inl same ↦ record { key = key; value = new; there = written_point s key p (Some new) at_key; numbered = same }
+            | inr other ↦
+                let found = are.complete n b (sym (entry_at-set_other points (numbers key) n (Some entry) other) ∙ is) in
+                record {
+                  key = found.key;
+                  value = found.value;
+                  there = other_point s key found.key (Some new) (λ same. other (sym (ap numbers same) ∙ found.numbered))
+                      ∙ found.there;
+                  numbered = found.numbered;
+                }
+          ]
+
       there : (k : ℕ) (a : Point) → point_at (with_point s key (Some new)) k ≡ Some a
           → (b : graph.Point) × (entry_at (slice_set points (numbers key) (Some entry)) (numbers k) ≡ Some b)
           × IsPoint flips copying after (numbers k) a b
@@ -118,12 +135,13 @@ unfolding bit
 none_set bits i j clear = clear_still bits i j clear
 
 -- the arena is at rest still where each point with a reservation was there
-pub resting_points : (grains : ℕ) (condemned : List Bool) (s after : PointsState) → IsArenaAtRest grains condemned s
+pub resting_points : (grains : ℕ) (condemned kept_marks : List Bool) (s after : PointsState) → IsArenaAtRest grains condemned kept_marks s
     → ((key : ℕ) (p : Point) (held : Held) → point_at after key ≡ Some p → p.reservation ≡ Some held → point_at s key ≡ Some p)
-    → IsArenaAtRest grains condemned after
-resting_points grains condemned s after rest was = record {
+    → IsArenaAtRest grains condemned kept_marks after
+resting_points grains condemned kept_marks s after rest was = record {
   at_most = rest.at_most;
   not_condemned = rest.not_condemned;
+  not_kept = rest.not_kept;
   within = λ key p held there reserved. rest.within key p held (was key p held there reserved) reserved;
   aligned = λ key p held there reserved. rest.aligned key p held (was key p held there reserved) reserved;
 }
@@ -155,7 +173,7 @@ module _ {F : Type 0} (layout : F → Layout) (past : Past) (h : HeapState F) (w
     pub limit : segs.limit ≡ h.segs.limit
     pub segments_are : segs.segments ≡ segments
     pub image : StandsAtRest segs (points_world entries segments memories)
-    pub resting : IsArenaAtRest segs.grains segs.condemned points
+    pub resting : IsArenaAtRest segs.grains segs.condemned segs.marks.kept points
     pub are : AreNumbered (IsPoint (length w.flips) (world.is_copying_pool w) memories) past.point_number (point_at points) entries
     pub counted : live_points (record w.graph { points = entries }) ≡ live_points w.graph
     pub flips : points.flips ≡ h.points.flips
@@ -171,6 +189,7 @@ module _ {F : Type 0} (layout : F → Layout) (past : Past) (h : HeapState F) (w
     image = anew.image;
     resting = anew.resting;
     tables = parts.tables;
+    ordered = parts.ordered;
     areas = parts.areas;
     blocks = parts.blocks;
     roots_counted = parts.roots_counted;

@@ -150,10 +150,11 @@ module _ {F : Type 0} (layout : F → Layout) (past : Past) (h : HeapState F) (w
           | inr other ↦ inr (sym (other_point h.points key k (Some point_after) other) ∙ e)
         ]
 
-    resting_after : IsArenaAtRest segs_after.grains segs_after.condemned (with_point h.points key (Some point_after))
+    resting_after : IsArenaAtRest segs_after.grains segs_after.condemned segs_after.marks.kept (with_point h.points key (Some point_after))
     resting_after = record {
       at_most = parts.resting.at_most;
       not_condemned = clear_after;
+      not_kept = parts.resting.not_kept;
       within = λ k x held e reserved.
           elim (own_or_there k x held e reserved) [
             | inl mine ↦ subst (λ (y : Held). word_of y.at.0 + y.words ≤ words_of_arena h.segs.grains) mine fits

@@ -150,3 +150,7 @@ module _ {F : Type 0} (layout : F → Layout) where
 
   pub are_reserved : (h : HeapState F) → StandsForSome layout h → AreReserved h.points.flips h.points.points h.segs
   are_reserved h some = let s = some_world h some in all_are_reserved layout h s.world s.stands
+
+  -- a world for which it stands
+  pub one_world : (h : HeapState F) → StandsForSome layout h → (w : World) × StandsFor layout h w
+  one_world h some = let s = some_world h some in (s.world, s.stands)

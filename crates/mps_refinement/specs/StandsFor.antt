@@ -1,7 +1,7 @@
 -- When the state of a heap stands for a world of the model.
 use Rattle.std.specs.Prelude.{◌≡◌, ℕ, ◌+◌, ◌%◌, ◌<◌, ◌≤◌, ◌==◌, Bool, true, false, not, IsTrue, Option, Some, None, option_map, IsSome, List, [], map, length, slice_get}
 use Rattle.std.specs.Option.{option_map_or}
-use Rattle.mps_base.specs.Address.{Address, Id, max_grains, word_of}
+use Rattle.mps_base.specs.Address.{Address, Id, Word, max_grains, word_of}
 use Rattle.mps_base.specs.declared.names.Name.{Name}
 use Rattle.mps_base.specs.Name.{same_name}
 use Rattle.mps_bits.specs.Table.{bit}
@@ -33,7 +33,7 @@ use Rattle.mps_outcome.specs.declared.pool.ArenaState.{ArenaState}
 use Rattle.mps_outcome.specs.declared.pool.ArenaState.TheVariants as arena
 use Rattle.mps_outcome.specs.declared.pool.Pool.{Pool}
 use Rattle.mps_outcome.specs.declared.pool.Pool.TheVariants as pool
-use Rattle.mps_refinement.specs.Numbering.{AreNumbered}
+use Rattle.mps_refinement.specs.Numbering.{AreNumbered, AreOrdered}
 
 -- What the heap doesn't keep: the model's number of what is kept under a key.
 pub record Past : Type 0 where
@@ -145,11 +145,12 @@ pub record AreNamed {F : Type 0} (past : Past) (h : HeapState F) (names : List g
 
 -- ---- the arena where no collection runs
 
--- it has no more grains than an arena may have, no segment is condemned, and open reservations lie in it, at words, also those that a
--- flip ended
-pub record IsArenaAtRest (grains : ℕ) (condemned : List Bool) (points : PointsState) : Type 0 where
+-- it has no more grains than an arena may have, no segment is condemned, no block is marked as kept, and open reservations lie in it, at
+-- words, also those that a flip ended
+pub record IsArenaAtRest (grains : ℕ) (condemned kept_marks : List Bool) (points : PointsState) : Type 0 where
   pub at_most : grains ≤ max_grains
   pub not_condemned : (grain : ℕ) → bit condemned grain ≡ false
+  pub not_kept : (n : Word) → bit kept_marks n ≡ false
   pub within : (key : ℕ) (p : Point) (held : Held) → point_at points key ≡ Some p → p.reservation ≡ Some held
       → word_of held.at.0 + held.words ≤ words_of_arena grains
   pub aligned : (key : ℕ) (p : Point) (held : Held) → point_at points key ≡ Some p → p.reservation ≡ Some held → held.at.0 % 8 ≡ 0
@@ -163,9 +164,10 @@ pub record AreParts {F : Type 0} (layout : F → Layout) (past : Past) (h : Heap
   pub limit : h.segs.limit ≡ w.limit
   pub segments : h.segs.segments ≡ w.segments
   pub image : StandsAtRest h.segs w
-  pub resting : IsArenaAtRest h.segs.grains h.segs.condemned h.points
-  -- the roots, and how many there are
+  pub resting : IsArenaAtRest h.segs.grains h.segs.condemned h.segs.marks.kept h.points
+  -- the roots, tables in the order in which they were made, and how many there are
   pub tables : AreNumbered (AreSlots w.addresses) past.table_number (kept h.roots.tables) w.graph.tables
+  pub ordered : AreOrdered past.table_number h.roots.order (kept h.roots.tables) w.graph.tables
   pub areas : AreNumbered (AreWords w.addresses) past.area_number (kept h.roots.areas) w.graph.areas
   pub blocks : h.roots.blocks ≡ map (map (address_of_target w.addresses)) w.graph.blocks
   pub roots_counted : h.live_roots ≡ live_roots w.graph
