@@ -1,5 +1,6 @@
 pub mod AreaWords
 pub mod Beginning
+pub mod Collected
 pub mod Condemning
 pub mod Ending
 pub mod Fixed

@@ -6,3 +6,4 @@ pub mod Roots
 pub mod Scan
 pub mod Trace
 pub mod Unit
+pub mod Collect

@@ -27,13 +27,12 @@ use mps_seg::Segs;
 
 impl<F: Format> Trace<F> {
     /// Begins a collection of everything: the flip, then the blocks in which area words lie are nailed, and slots and messages are fixed.
-    /// None where nothing is condemned: the collection has ended. The keys of areas are below `area_keys`.
+    /// None where nothing is condemned: the collection has ended.
     pub fn begin(
         &mut self,
         segs: &mut Segs,
         trail: &mut Trail,
         roots: &mut Roots,
-        area_keys: usize,
         points: &mut OpenPoints,
         finals: &mut Finals,
         epochs: &mut Epochs,
@@ -44,7 +43,6 @@ impl<F: Format> Trace<F> {
         requires few_epochs { epochs.old.count < 2 ^ 63 }
         requires reserved { AreReserved points.old.flips points.old.points segs.old }
         requires fits { 1 < trail.old.spare }
-        requires all_areas { length roots.old.areas ≤ area_keys }
         requires can { CanFixRoots F.layout self.old roots.old finals.old
             (nailed_at_flip self.old.formats points.old roots.old (traced self.old segs.old trail.old)) }
         ensures begun { IfSome result (λ run. Begins F.layout self.old.formats self.old.chains points.old roots.old finals.old
@@ -60,7 +58,7 @@ impl<F: Format> Trace<F> {
             end(segs, trail);
             return None;
         }
-        self.nail_areas(segs, roots, area_keys);
+        self.nail_areas(segs, roots);
         self.fix_slots(segs, trail, roots);
         self.fix_messages(segs, trail, finals);
         Some(Running {
@@ -69,13 +67,12 @@ impl<F: Format> Trace<F> {
         })
     }
 
-    /// Nails each condemned block in which a word of an area lies. The keys of areas are below `area_keys`.
-    fn nail_areas(&self, segs: &mut Segs, roots: &Roots, area_keys: usize)
-        requires blocks { IsAscending 0 (words_of_grain * (segs.old.grains + 1)) segs.old.blocks }
-        requires all_areas { length roots.now.areas ≤ area_keys }
+    /// Nails each condemned block in which a word of an area lies.
+    fn nail_areas(&self, segs: &mut Segs, roots: &Roots)
+        requires { IsAscending 0 (words_of_grain * (segs.old.grains + 1)) segs.old.blocks }
         ensures { segs.new ≡ nailed_by_areas roots.now.areas segs.old }
     {
-        for key in 0..area_keys {
+        for key in 0..roots.area_keys() {
             if let Some(words) = roots.words(key) {
                 self.nail_words(segs, words);
             }

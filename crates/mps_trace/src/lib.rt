@@ -2,6 +2,7 @@
 #![tactic(auto)]
 
 mod begin;
+mod collect;
 mod collection;
 mod finding;
 mod flip;

@@ -30,7 +30,7 @@ fn begin_with(
     let mut finals = Finals::new(alloc)?;
     let mut epochs = Epochs::new();
     let mut trace: Trace<Front> = Trace::new(alloc);
-    Ok(trace.begin(segs, trail, &mut roots, 0, points, &mut finals, &mut epochs))
+    Ok(trace.begin(segs, trail, &mut roots, points, &mut finals, &mut epochs))
 }
 
 #[test]

@@ -4,8 +4,8 @@ use Rattle.mps_trace.specs.Trace.{traced}
 use Rattle.mps_trace.proofs.Beginning.{ascending_still, flip_same, nailed_is, same_on, tables_still, messages_ready}
 use Rattle.mps_trace.proofs.trace.Trace.begin.Goals as goal
 
-pub nail_areas-requires-clause-blocks : goal.nail_areas-requires-clause-blocks
-nail_areas-requires-clause-blocks g c =
+pub nail_areas-requires : goal.nail_areas-requires
+nail_areas-requires g c =
     let x = traced c.args.self.now c.args.segs.now c.args.trail.now in
     let f = c.flip-condemned.new in
     let y = traced f.self f.segs f.trail in

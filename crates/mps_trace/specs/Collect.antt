@@ -1,0 +1,53 @@
+-- A whole collection of everything: how it begins, and all its units.
+use Rattle.std.specs.Prelude.{ℕ, ◌*◌, ◌+◌, ◌<◌, ◌≡◌, Option, List, refl}
+use Rattle.mps_base.specs.Address.{words_of_grain}
+use Rattle.mps_base.specs.Run.{IsAscending}
+use Rattle.mps_base.specs.Trail.{Moves}
+use Rattle.mps_buffer.specs.Points.{PointsState, AreReserved}
+use Rattle.mps_final.specs.State.{FinalsState}
+use Rattle.mps_format.specs.Layout.{Layout}
+use Rattle.mps_gen.specs.State.{ChainsState}
+use Rattle.mps_root.specs.State.{RootsState}
+use Rattle.mps_seg.specs.Segs.{SegsState}
+use Rattle.mps_trace.specs.Begin.{nailed_at_flip, Begins, EndsAtOnce, CanFixRoots}
+use Rattle.mps_trace.specs.Condemned.{AreInOrder}
+use Rattle.mps_trace.specs.Trace.{TraceState, Traced, traced}
+use Rattle.mps_trace.specs.Unit.{UnitsTo, EndsWithin, AreUnitsReady}
+use Rattle.mps_trace.specs.declared.running.Running.{Running}
+
+-- a collection of everything, from its flip to its end: it ends at once where nothing is condemned, and else within n units
+pub data Collects {F : Type 0} (layout : F → Layout) (formats : List (Option F)) (chains : ChainsState) (points : PointsState)
+    (roots : RootsState) (finals : FinalsState) (x : Traced) (most : ℕ) (roots' : RootsState) (finals' : FinalsState) (z : Traced) : Type 0
+  where
+    at_once : EndsAtOnce formats points roots finals x roots' finals' z
+        → Collects layout formats chains points roots finals x most roots' finals' z
+    in_units : {between : Traced} (run : Running)
+        → Begins layout formats chains points roots finals x roots' finals' between run
+        → EndsWithin layout formats chains between run most z
+        → Collects layout formats chains points roots finals x most roots' finals' z
+
+-- once it has begun, each of at most n units can be done when its turn comes, and it doesn't go on after all of them
+pub record CanEnd {F : Type 0} (layout : F → Layout) (formats : List (Option F)) (chains : ChainsState) (z : Traced) (run : Running)
+    (most : ℕ) : Type 0 where
+  pub ready : AreUnitsReady layout (record { formats = formats; amc = z.amc; chains = chains }) z.segs z.moves run most
+  pub ends : (last : Traced) (run' : Running) → UnitsTo layout formats chains z run most last run' → ⊥
+
+-- a collection of everything can be done, in at most n units
+pub record CanCollect {F : Type 0} (layout : F → Layout) (t : TraceState F) (points : PointsState) (roots : RootsState)
+    (finals : FinalsState) (s : SegsState) (m : Moves) (most : ℕ) : Type 0 where
+  pub ordered : AreInOrder s
+  pub blocks : IsAscending 0 (words_of_grain * (s.grains + 1)) s.blocks
+  pub reserved : AreReserved points.flips points.points s
+  pub fits : 1 < m.spare
+  pub roots_ready : CanFixRoots layout t roots finals (nailed_at_flip t.formats points roots (traced t s m))
+  pub units_ready : (roots' : RootsState) (finals' : FinalsState) (z : Traced) (run : Running)
+      → Begins layout t.formats t.chains points roots finals (traced t s m) roots' finals' z run
+      → CanEnd layout t.formats t.chains z run most
+
+-- how many moves a collection of everything in an arena of these grains makes at most, and how many units it has at most: two for each
+-- block, of which there is at most one a word, one for each segment, of which there is at most one a grain, and its begin and end
+abbrev pub most_moves : (grains : ℕ) → ℕ
+most_moves grains = 2 * (words_of_grain * (grains + 1)) + grains + 4
+
+pub a_thousand_a_grain : most_moves 1 ≡ 2053
+a_thousand_a_grain = refl

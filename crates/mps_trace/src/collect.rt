@@ -1,0 +1,48 @@
+// A whole collection.
+#![tactic(auto)]
+
+ghost use Rattle.std.specs.Prelude.{◌≡◌, ◌^◌, ◌<◌};
+ghost use Rattle.mps_buffer.specs.Points as buffer;
+ghost use Rattle.mps_ld.specs.State as ld;
+ghost use Rattle.mps_trace.specs.Collect.{CanCollect, Collects};
+ghost use Rattle.mps_trace.specs.Flip.{automatic_of, zones_of};
+ghost use Rattle.mps_trace.specs.Trace.{traced};
+
+use crate::Trace;
+use mps_base::Trail;
+use mps_buffer::OpenPoints;
+use mps_final::Finals;
+use mps_format::Format;
+use mps_ld::Epochs;
+use mps_root::Roots;
+use mps_seg::Segs;
+
+impl<F: Format> Trace<F> {
+    /// Collects everything: it begins, and does units until it ends, which it does within `most` of them.
+    pub fn collect(
+        &mut self,
+        segs: &mut Segs,
+        trail: &mut Trail,
+        roots: &mut Roots,
+        points: &mut OpenPoints,
+        finals: &mut Finals,
+        epochs: &mut Epochs,
+        most: u64,
+    )
+        requires few_flips { points.old.flips < 2 ^ 63 }
+        requires few_epochs { epochs.old.count < 2 ^ 63 }
+        requires can { CanCollect F.layout self.old points.old roots.old finals.old segs.old trail.old most }
+        ensures collected { Collects F.layout self.old.formats self.old.chains points.old roots.old finals.old
+            (traced self.old segs.old trail.old) most roots.new finals.new (traced self.new segs.new trail.new) }
+        ensures unchanged { self.new ≡ record self.old { amc = self.new.amc } }
+        ensures points { points.new ≡ buffer.flipped points.old }
+        ensures epochs { epochs.new ≡ ld.flipped epochs.old (zones_of (automatic_of self.old.formats segs.old.segments)) }
+    {
+        let Some(running) = self.begin(segs, trail, roots, points, finals, epochs) else {
+            return;
+        };
+        let None = self.finish(segs, trail, running, most) else {
+            unreachable!()
+        };
+    }
+}
