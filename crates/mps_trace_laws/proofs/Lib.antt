@@ -20,3 +20,6 @@ pub mod CellLists
 pub mod ScanRun
 pub mod Scanned
 pub mod CanScan
+pub mod Housed
+pub mod Ranks
+pub mod ExactSegments

@@ -3,3 +3,4 @@ pub mod Fixing
 pub mod Steps
 pub mod Cells
 pub mod Scanning
+pub mod Housed

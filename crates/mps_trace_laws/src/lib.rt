@@ -4,6 +4,7 @@
 
 ghost use Rattle.mps_trace_laws.specs.Cells.{ACellCanBeFixed, ACellIsAStep};
 ghost use Rattle.mps_trace_laws.specs.Fixing.{AFixIsInWords, AFixIsOneFix, ATargetCanBeFixed};
+ghost use Rattle.mps_trace_laws.specs.Housed.{FixesKeepHoused, CopyingSegmentsAreExact, AFixKeepsRanks, AScanKeepsRanks};
 ghost use Rattle.mps_trace_laws.specs.Scanning.{AScanIsReady, AScanIsOfSteps, AScanIsAScan, AnObjectCanBeScanned};
 ghost use Rattle.mps_trace_laws.specs.Steps.{AFixIsAStep};
 
@@ -57,4 +58,24 @@ pub fn a_scan_is_a_scan<F>()
 /// A block of a live object that isn't white, all of whose targets are live, can be scanned.
 pub fn an_object_can_be_scanned<F>()
     ensures { AnObjectCanBeScanned F }
+{}
+
+/// Where live objects are fixed, each object lies in one segment then, if each did before.
+pub fn fixes_keep_housed<F>()
+    ensures { FixesKeepHoused F }
+{}
+
+/// Where neither a segment nor a grey block is weak, none is after a fix.
+pub fn a_fix_keeps_ranks<F>()
+    ensures { AFixKeepsRanks F }
+{}
+
+/// And none is after a scan.
+pub fn a_scan_keeps_ranks<F>()
+    ensures { AScanKeepsRanks F }
+{}
+
+/// Of a well-formed world in which each automatic pool moves blocks no segment is weak.
+pub fn copying_segments_are_exact()
+    ensures { CopyingSegmentsAreExact }
 {}
