@@ -6,6 +6,7 @@ ghost use Rattle.mps_slot_laws.specs.OneRoot.{ARootCanBeFixed, ARootIsAStep};
 ghost use Rattle.mps_slot_laws.specs.Rows.{SlotsAreSteps, SlotsAreReady, MessagesAreSteps, MessagesAreReady};
 ghost use Rattle.mps_slot_laws.specs.Tables.{TablesAreSteps, TablesAreReady};
 ghost use Rattle.mps_slot_laws.specs.Beginning.{RootsAreSteps, RootsAreReady, WhatIsHeldIsFixed};
+ghost use Rattle.mps_slot_laws.specs.Housed.{RootsKeepHoused};
 
 /// A slot or a message that leads to a live automatic object can be fixed, and so can one that is null.
 pub fn a_root_can_be_fixed<F>()
@@ -60,4 +61,9 @@ pub fn roots_are_ready<F>()
 /// Where tables and messages stand for those of a world, these steps are the fixes of a flip of that world.
 pub fn what_is_held_is_fixed<F>()
     ensures { WhatIsHeldIsFixed F }
+{}
+
+/// After slots and messages are fixed each object lies in one segment, and neither a segment nor a grey block is weak, if so before.
+pub fn roots_keep_housed<F>()
+    ensures { RootsKeepHoused F }
 {}
