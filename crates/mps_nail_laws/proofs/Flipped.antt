@@ -1,17 +1,20 @@
 -- The image right after a flip, once words of areas have nailed blocks.
-use Rattle.std.proofs.Common.{◌≡◌, ◌∙◌, Bool, true, false, List, Option, refl, sym, ap}
+use Rattle.std.proofs.Common.{◌≡◌, ◌∙◌, ℕ, Bool, true, false, List, [], Option, Some, length, slice_index, refl, sym, ap, subst}
 use Rattle.std.proofs.lemmas.Bool.{false≢true, and_left}
-use Rattle.std.specs.Prelude.{◌&&◌, ◌||◌, not}
-use Rattle.mps_base.specs.Address.{Address, Id, word_of}
+use Rattle.std.proofs.lemmas.Option.{same_Some}
+use Rattle.std.specs.Prelude.{◌&&◌, ◌||◌, not, slice_get}
+use Rattle.mps_base.specs.Address.{Address, Id, Word, word_of}
 use Rattle.mps_root.specs.declared.roots.Stored.{Stored}
 use Rattle.mps_seg.specs.Segs.{SegsState}
 use Rattle.mps_trace.specs.Begin.{nailed_by_areas}
-use Rattle.mps_model.specs.Graph.{Point, contains}
+use Rattle.mps_model.specs.Checked.{head_of_body}
+use Rattle.mps_model.specs.Graph.{Cell, Object, Point, contains}
 use Rattle.mps_model.specs.World.{PointMemory}
 use Rattle.mps_colours.specs.Colours.{Colours}
-use Rattle.mps_image.specs.Image.{CellSet, ImageStands, MarksStand, Stands, no_colours}
-use Rattle.mps_image.specs.Memory.{Setting, Memory, is_condemned_word, memory_in}
-use Rattle.mps_image.proofs.Laws.{flip_begins}
+use Rattle.mps_image.specs.Image.{CellSet, ImageStands, IsCellWord, MarksStand, Stands, no_colours}
+use Rattle.mps_image.specs.Memory.{Setting, Memory, Lies, all_cells, is_condemned_word, memory_in}
+use Rattle.mps_image.proofs.Bands.{holds_now}
+use Rattle.mps_image.proofs.Written.{holds_still}
 use Rattle.mps_nail_laws.specs.Flipped.{IsFlipped, setting_flipped_in}
 use Rattle.mps_nail_laws.specs.Nailed.{ArePinned, pinned_colours, words_of_areas}
 use Rattle.mps_nail_laws.proofs.Pinned.{pinned_image}
@@ -42,12 +45,49 @@ module _ (s : Setting) (m : Memory) (g : SegsState) (addresses : List (Option Ad
     unmoved = λ id at there read white. there;
   }
 
+  -- the words are as they were, and hold addresses of now
+  cell_word : (id i : ℕ) (o : Object) (n : Word) (c : Cell) → Lies s.objects addresses id i o n → slice_get (all_cells o.body) i ≡ Some c
+      → IsCellWord addresses [] (head_of_body o.body) c (slice_index g.words n)
+  cell_word id i o n c l cell =
+      subst (λ ws. IsCellWord addresses [] (head_of_body o.body) c (slice_index ws n)) (sym f.words)
+      (holds_now s addresses (head_of_body o.body) c (slice_index m.words n) f.at_rest (st.words.cells id i o n c (f.all_read id) l cell))
+
+  -- no more is asked than of live objects: those that are gone may refer to what is condemned
   unmarked_image : Stands after (memory_in g) addresses no_colours
-  unmarked_image =
-      flip_begins s m (memory_in g) addresses k no_colours done points memories condemned (is_condemned_word g) f.at_rest f.all_read f.words
-      st f.over (λ id i o c t black object cell target.
-      and_left (contains condemned t) true (f.outside id i o c t (not_condemned (contains condemned id) black) object cell target))
-      f.doomed no_marks f.runs
+  unmarked_image = record {
+    placed = record {
+      exists = st.placed.exists;
+      positive = st.placed.positive;
+      address = st.placed.address;
+      address_at_flip = st.placed.address;
+      within = st.placed.within;
+      apart = st.placed.apart;
+      home = st.placed.home;
+      whole = f.over;
+      reserved_positive = λ point r live. absurd (f.doomed point r live);
+      reserved_within = λ point i r n l. absurd (f.doomed point r l.reserved);
+      reserved_alone = λ a b i j r q n l l'. absurd (f.doomed a r l.reserved);
+      reserved_apart = λ id point i j o r n l l'. f.doomed point r l'.reserved;
+    };
+    words = record {
+      long = ap length f.words ∙ st.words.long;
+      cells = λ id i o n c read l cell.
+          holds_still addresses addresses (head_of_body o.body) c (slice_index g.words n) (cell_word id i o n c l cell);
+      forwarded = λ id from to o was now x object. absurd (x (same_Some from to (sym was ∙ now)));
+    };
+    fixed = record {
+      cells = λ id i o n c black l cell.
+          record {
+            holds = cell_word id i o n c l cell;
+            not_white = λ target e.
+                and_left (contains condemned target) true
+                (f.outside id i o n c target (not_condemned (contains condemned id) black) l cell e);
+          };
+      reserved = λ point i r n c l cell. absurd (f.doomed point r l.reserved);
+    };
+    marks = no_marks;
+    runs = f.runs;
+  }
 
   pub flip_pins : (areas : List (Option (List Stored))) (pinned : List Id)
       → ArePinned s.objects addresses condemned pinned (words_of_areas areas)

@@ -16,8 +16,8 @@ abbrev pub setting_flipped_in : Setting → SegsState → List (Option Address) 
 setting_flipped_in s g addresses points memories condemned = setting_flipped s addresses points memories condemned (is_condemned_word g)
 
 -- from an arena with this memory in which no collection ran, a flip that condemned these objects has led to these segments: the words
--- are as they were, no reservation is live, an object is condemned exactly where its segment is, what isn't condemned refers to
--- nothing condemned, and nothing is marked yet
+-- are as they were, no reservation is live, an object is condemned exactly where its segment is, what is live and isn't condemned
+-- refers to nothing condemned, and nothing is marked yet
 pub record IsFlipped (s : Setting) (m : Memory) (g : SegsState) (addresses : List (Option Address)) (points : List (Option Point))
     (memories : List PointMemory) (condemned : List Id) : Type 0 where
   pub at_rest : s.at_flip ≡ []
@@ -29,7 +29,7 @@ pub record IsFlipped (s : Setting) (m : Memory) (g : SegsState) (addresses : Lis
       → is_condemned_word g n ≡ is_condemned_word g (word_of at)
   pub condemned_there : (id : Id) (at : Address) → entry_at addresses id ≡ Some at
       → contains condemned id ≡ is_condemned_word g (word_of at)
-  pub outside : (id i : ℕ) (o : Object) (c : Cell) (t : Id) → contains condemned id ≡ false → slice_get s.objects id ≡ Some o
+  pub outside : (id i : ℕ) (o : Object) (n : Word) (c : Cell) (t : Id) → contains condemned id ≡ false → Lies s.objects addresses id i o n
       → slice_get (all_cells o.body) i ≡ Some c → target_of_cell c ≡ Some t → contains condemned t ≡ false
   pub tables : AreTablesWhole g
   pub unmarked : AreMarkedAt g (λ n. false)

@@ -21,7 +21,8 @@ use Rattle.mps_image.specs.Memory.{Setting, Lies, memory_in, pool_over_word, is_
 use Rattle.mps_image.specs.Image.{Stands, ImageStands, black_cells}
 use Rattle.mps_image.proofs.ArenaLaws.{segments_change}
 use Rattle.mps_reclaim_laws.specs.Freed.{addresses_of, addresses_without}
-use Rattle.mps_reclaim_laws.specs.Left.{AreHoused, IsUnreserved, setting_freeing_in, StandsFreeing, IsReclaimShown}
+use Rattle.mps_trace_laws.specs.Housed.{AreHoused}
+use Rattle.mps_reclaim_laws.specs.Left.{IsUnreserved, setting_freeing_in, StandsFreeing, IsReclaimShown}
 use Rattle.mps_reclaim_laws.specs.Laws.{AReclaimKeepsTheImage}
 use Rattle.mps_reclaim_laws.proofs.Around.{image_around, among_within, covered_by, contains_left}
 use Rattle.mps_reclaim_laws.proofs.BlockRuns.{extent_there, run_there, contained_in_order}

@@ -22,7 +22,8 @@ use Rattle.mps_image.specs.Image.{CellSet, ImageStands, Stands}
 use Rattle.mps_trace.specs.Condemned.{AreInOrder, IsNextCondemned, NoneLeft}
 use Rattle.mps_reclaim_laws.specs.Room.{HasRoomFor, CanBeReclaimed}
 use Rattle.mps_reclaim_laws.specs.Freed.{addresses_of, addresses_without, IsCondemnedSegment, AreWhiteFreed, AreWhiteUnread}
-use Rattle.mps_reclaim_laws.specs.Left.{AreHoused, IsUnreserved, StandsFreeing, IsReclaimShown}
+use Rattle.mps_trace_laws.specs.Housed.{AreHoused}
+use Rattle.mps_reclaim_laws.specs.Left.{IsUnreserved, StandsFreeing, IsReclaimShown}
 use Rattle.mps_reclaim_laws.specs.Moves.{AreFreesOf}
 use Rattle.mps_reclaim_laws.specs.Units.{FreesFor, IsUnitReclaimed, EndsSo}
 

@@ -1,31 +1,19 @@
 -- What is left of an arena once a condemned segment is reclaimed.
-use Rattle.std.specs.Prelude.{◌≡◌, ◌⊎◌, ℕ, ◌+◌, ◌<◌, ◌≤◌, true, Option, Some, List, [], slice_get, Contains}
+use Rattle.std.specs.Prelude.{◌≡◌, ◌⊎◌, ℕ, ◌<◌, ◌≤◌, true, Option, List, []}
 use Rattle.mps_base.specs.Address.{Address, Id, Word, word_of}
 use Rattle.mps_base.specs.Segment.{Segment, end_of_segment, without_segment}
 use Rattle.mps_format.specs.Layout.{Layout}
 use Rattle.mps_seg.specs.Segs.{SegsState}
 use Rattle.mps_amc.specs.Reclaiming.{lost_of}
-use Rattle.mps_model.specs.Graph.{Object, Point, Reservation, entry_at, size_of}
+use Rattle.mps_model.specs.Graph.{Object, Point, Reservation}
 use Rattle.mps_model.specs.World.{PointMemory}
 use Rattle.mps_colours.specs.Colours.{Colours}
 use Rattle.mps_image.specs.Memory.{Setting, LiesReserved, memory_in, setting_in}
 use Rattle.mps_image.specs.Image.{Stands}
 use Rattle.mps_image.specs.Bands.{setting_freeing}
 use Rattle.mps_image.specs.SegmentWords.{AreSegmentsInOrder}
+use Rattle.mps_trace_laws.specs.Housed.{AreHoused}
 use Rattle.mps_reclaim_laws.specs.Freed.{addresses_of, addresses_without}
-
--- n words from an address on lie in one held segment
-pub record LieInOne (segments : List Segment) (at : Address) (size : ℕ) : Type 0 where
-  pub segment : Segment
-  pub held : Contains segments segment
-  pub above : word_of segment.base ≤ word_of at
-  pub below : word_of at + size ≤ word_of (end_of_segment segment)
-
--- the words of each live object do
-abbrev pub AreHoused : List Object → List Segment → List (Option Address) → Type 0
-AreHoused objects segments addresses =
-    (id : Id) (at : Address) (o : Object) → entry_at addresses id ≡ Some at → slice_get objects id ≡ Some o
-    → LieInOne segments at (size_of o)
 
 -- no word of a live reservation lies in a segment
 abbrev pub IsUnreserved : List (Option Point) → List PointMemory → Segment → Type 0
