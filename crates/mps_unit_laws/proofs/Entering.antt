@@ -80,6 +80,7 @@ module _ {F : Type 0} (layout : F → Rattle.mps_format.specs.Layout.Layout) (fo
 
   pub entered : StandsReclaiming x y
   entered = record {
+    segments = st.traces.state.segments;
     frees =
         the_last_band_begins x.segs y.world y.running y.colours (pool_layout y.world) at_flip none_grey st.traces.state.image
         (held_in_order x.segs st.traces.state.held) st.housed (sym st.traces.state.segments.same_segments)

@@ -20,7 +20,7 @@ use Rattle.mps_model.specs.World.{World}
 use Rattle.mps_colours.specs.Collecting.{Reclaim, Collecting}
 use Rattle.mps_colours.specs.Units.{IsReclaimedNext, reclaim_by, reclaimed}
 use Rattle.mps_colours.proofs.Reclaimed.{final_world, final_collection}
-use Rattle.mps_colours.proofs.Reclaiming.{goes_on_leads, reclaims_shown}
+use Rattle.mps_colours.proofs.Reclaiming.{goes_on_leads, last_leads, reclaims_shown}
 use Rattle.mps_image.specs.Memory.{pool_layout}
 use Rattle.mps_trace.specs.Condemned.{IsNextCondemned, NoneLeft}
 use Rattle.mps_trace.specs.Trace.{Traced}
@@ -35,7 +35,7 @@ use Rattle.mps_reclaim_laws.specs.Freed.{addresses_of}
 use Rattle.mps_reclaim_laws.specs.Left.{IsUnreserved}
 use Rattle.mps_reclaim_laws.specs.Units.{FreesFor, GoesOnSo}
 use Rattle.mps_unit_laws.specs.Standing.{StandsReclaiming, UnitStands, IsMoving, reclaiming}
-use Rattle.mps_unit_laws.specs.Laws.{IsUnitDone, AReclaimIsDone, TheLastUnitIsDone}
+use Rattle.mps_unit_laws.specs.Laws.{HasSegmentsOf, IsUnitDone, AReclaimIsDone, TheLastUnitIsDone}
 use Rattle.mps_trace_laws.specs.Tracing.{moves_left}
 use Rattle.mps_unit_laws.proofs.Entering.{the_last_band_is_entered}
 use Rattle.mps_unit_laws.proofs.RoomLeft.{moves_left_after, spare_after}
@@ -47,6 +47,12 @@ pub record AreAmong (g g' : SegsState) : Type 0 where
   pub was : (u : Segment) → Contains g'.segments u → Contains g.segments u
   pub condemned : g'.condemned ≡ g.condemned
   pub grains : g'.grains ≡ g.grains
+  pub limit : g'.limit ≡ g.limit
+
+limit_after : (rs : List Rattle.mps_base.specs.Run.Run) (g : SegsState)
+    → (Rattle.mps_amc.specs.Reclaiming.without_blocks rs g).limit ≡ g.limit
+limit_after [] g = refl
+limit_after (r ∷ rs) g = limit_after rs (Rattle.mps_amc.specs.Reclaiming.without_block r g)
 
 grains_after : (rs : List Rattle.mps_base.specs.Run.Run) (g : SegsState)
     → (Rattle.mps_amc.specs.Reclaiming.without_blocks rs g).grains ≡ g.grains
@@ -61,12 +67,14 @@ are_among fm g moves base g' moves' (is_given t found empty state trail) = recor
       (subst (λ ss. Contains ss u) (ap (λ (y : SegsState). y.segments) state) held)).0;
   condemned = ap (λ (y : SegsState). y.condemned) state ∙ condemned_after (lost_of g t) g;
   grains = ap (λ (y : SegsState). y.grains) state ∙ grains_after (lost_of g t) g;
+  limit = ap (λ (y : SegsState). y.limit) state ∙ limit_after (lost_of g t) g;
 }
 are_among fm g moves base g' moves' (is_padded t found used state padded trail) = record {
   was = λ u held.
       subst (λ ss. Contains ss u) (ap (λ (y : SegsState). y.segments) state ∙ segments_after (lost_of g t) g) held;
   condemned = ap (λ (y : SegsState). y.condemned) state ∙ condemned_after (lost_of g t) g;
   grains = ap (λ (y : SegsState). y.grains) state ∙ grains_after (lost_of g t) g;
+  limit = ap (λ (y : SegsState). y.limit) state ∙ limit_after (lost_of g t) g;
 }
 
 -- ---- a reclaim
@@ -119,6 +127,14 @@ module _ {F : Type 0} (layout : F → Layout) (formats : List (Option F)) (of : 
       (known y x.segs (pool_layout y.world) stands.running last_band.frees t x.segs refl (inl refl)).1
       (λ u held above. none u held (let begins = lowest.begins in omega (arith, begins, above)))
 
+  -- the last one leaves the size of the arena and its limit
+  pub last_size : is_last_condemned y.running t.base ≡ true
+      → ((world_after_moves y.world (reclaim_by y t.base freed)).grains ≡ y.world.grains)
+      × ((world_after_moves y.world (reclaim_by y t.base freed)).limit ≡ y.world.limit)
+  last_size last =
+      let leads = last_leads y stands.running t freed is_next last in
+      (ap (λ (w : World). w.grains) leads, ap (λ (w : World). w.limit) leads)
+
   -- ---- it goes on
 
   module _ (more : is_last_condemned y.running t.base ≡ false) where
@@ -167,6 +183,11 @@ module _ {F : Type 0} (layout : F → Layout) (formats : List (Option F)) (of : 
 
     reclaiming_on : StandsReclaiming z (reclaimed y t.base freed on.collection)
     reclaiming_on = record {
+      segments = subst (HasSegmentsOf z.segs) (sym leads) (record {
+        same_grains = among.grains ∙ last_band.segments.same_grains;
+        same_limit = among.limit ∙ last_band.segments.same_limit;
+        same_segments = sym on.frees.segments ∙ ap (λ (w : World). w.segments) leads;
+      });
       frees =
           subst (λ (w : World). FreesFor z.segs (world_after_moves y.world (reclaim_by y t.base freed)) on.collection y.colours
           (pool_layout w))
@@ -219,6 +240,8 @@ the_last_unit_is_done layout formats of at_flip x z run y stands unit =
     a_reclaim_is_a_unit fm y x.segs (pool_layout y.world) unit.base x.moves unit.before.segs unit.before.moves stands.running band.scanned
     stands.examined band.frees low there next.reclaimed.reclaimed
     in
+    let among = are_among fm x.segs x.moves unit.base unit.before.segs unit.before.moves next.reclaimed.reclaimed in
+    let sizes = last_size layout formats of at_flip x unit.before run y unit.base stands next last in
     let end =
     the_last_reclaim_ends fm y x.segs unit.base x.moves unit.before.segs unit.before.moves stands.running band.scanned stands.examined
     band.frees low there next.reclaimed.reclaimed last
@@ -230,6 +253,13 @@ the_last_unit_is_done layout formats of at_flip x z run y stands unit =
       stands =
           subst (λ (v : Traced). Rattle.mps_image.specs.AtRest.StandsAtRest v.segs
           (world_after_moves y.world (reclaim_by y low.segment.base freed))) (sym unit.over) end.stands;
+      segments =
+          subst (λ (v : Traced). HasSegmentsOf v.segs (world_after_moves y.world (reclaim_by y low.segment.base freed))) (sym unit.over)
+          (record {
+            same_grains = among.grains ∙ (band.segments.same_grains ∙ sym sizes.0);
+            same_limit = among.limit ∙ (band.segments.same_limit ∙ sym sizes.1);
+            same_segments = sym end.segments;
+          });
       trail =
           ap (λ (v : Traced). v.moves.moves) unit.over
           ∙ ap (λ b. unit.before.moves.moves ++ end_where b) (sym last)

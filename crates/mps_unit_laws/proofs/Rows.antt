@@ -15,7 +15,7 @@ use Rattle.mps_trace.specs.Trace.{Traced}
 use Rattle.mps_trace.specs.Unit.{UnitTo, scans, reclaims, UnitsTo, begins, goes_on}
 use Rattle.mps_trace.specs.declared.running.Running.{Running as RunningState}
 use Rattle.mps_unit_laws.specs.Standing.{UnitStands}
-use Rattle.mps_unit_laws.specs.Laws.{AreScansDone, IsUnitDone, AreUnitsDone, UnitsAreDone, TheEndIsDone, UnitsRunOut}
+use Rattle.mps_unit_laws.specs.Laws.{HasSegmentsOf, AreScansDone, IsUnitDone, AreUnitsDone, UnitsAreDone, TheEndIsDone, UnitsRunOut}
 use Rattle.mps_unit_laws.proofs.Reclaiming.{a_reclaim_is_done, the_last_unit_is_done}
 
 module _ {F : Type 0} (layout : F → Layout) (formats : List (Option F)) (of : ChainsState) (at_flip : List (Option Address))
@@ -71,6 +71,7 @@ the_end_is_done layout formats of at_flip x z run y most scanning stands ends =
       units = by_last before.units last.last;
       ended = ap (λ (w : World). w.collection) whole ∙ last.ended;
       stands = subst (StandsAtRest z.segs) (sym whole) last.stands;
+      segments = subst (HasSegmentsOf z.segs) (sym whole) last.segments;
       trail = last.trail ∙ ap (λ ms. ms ++ last.moves) before.trail ∙ append_assoc x.moves.moves before.moves last.moves;
     }
 

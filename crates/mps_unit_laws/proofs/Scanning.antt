@@ -27,8 +27,11 @@ use Rattle.mps_image.specs.Memory.{all_cells}
 use Rattle.mps_trace.specs.Scan.{ScansOne}
 use Rattle.mps_trace.specs.Trace.{Traced, traced}
 use Rattle.mps_trace.specs.declared.running.Running.{Running as RunningState}
+use Rattle.mps_trace_laws.specs.Housed.{AreHoused, AreLive, IsStrong}
 use Rattle.mps_trace_laws.specs.Scanning.{IsToBeScanned, IsScan}
 use Rattle.mps_trace_laws.proofs.CanScan.{object_can_be_scanned}
+use Rattle.mps_trace_laws.proofs.Housed.{fixes_keep_housed}
+use Rattle.mps_trace_laws.proofs.Ranks.{scan_keeps_ranks}
 use Rattle.mps_trace_laws.proofs.Scanned.{scan_is_a_scan}
 use Rattle.mps_base.specs.Segment.{Segment}
 use Rattle.mps_model.specs.Collection.{Collection}
@@ -37,7 +40,7 @@ use Rattle.mps_reclaim_laws.specs.Left.{IsUnreserved}
 use Rattle.mps_reclaim_laws.proofs.HeldSegments.{found_at, found_held, same_base}
 use Rattle.mps_unit_laws.proofs.Entering.{held_in_order}
 use Rattle.mps_unit_laws.specs.Standing.{AreCondemnedUnreserved, StandsTracing, UnitStands, IsMoving, tracing, reclaiming}
-use Rattle.mps_unit_laws.specs.Laws.{AScanIsDone, ScansAreReady, ScansKeep, IsScanKept, IsUnitDone}
+use Rattle.mps_unit_laws.specs.Laws.{ScansAreDone, ScansAreReady, IsUnitDone}
 
 -- ---- what fixes leave of a world
 
@@ -173,7 +176,7 @@ module _ {F : Type 0} (layout : F → Layout) (formats : List (Option F)) (of : 
 
   -- ---- a scan
 
-  module _ (keep : ScansKeep layout formats of at_flip) (z : Traced) (one : ScansOne layout formats of x z) where
+  module _ (z : Traced) (one : ScansOne layout formats of x z) where
     abbrev g : IsGreyAt y one.word
     g = grey_at one.word one.grey
 
@@ -191,8 +194,19 @@ module _ {F : Type 0} (layout : F → Layout) (formats : List (Option F)) (of : 
         still layout formats of scan.fixes stands.running st.band
         (targets_may_be_fixed y g.id stands.running st.band g.grey)
 
-    kept : IsScanKept z (scanned scan.after g.id)
-    kept = keep x z run y g.id stands one scan
+    -- what it refers to is live
+    live : AreLive (targets y.world.graph g.id) y.world
+    live id among = (targets_may_be_fixed y g.id stands.running st.band g.grey id among).0
+
+    housed : AreHoused scan.after.world.graph.objects z.segs.segments scan.after.world.addresses
+    housed =
+        subst (λ ss. AreHoused scan.after.world.graph.objects ss scan.after.world.addresses)
+        (sym scan.stands.state.segments.same_segments)
+        (fixes_keep_housed layout formats of at_flip (black_cells y.running.condemned y.colours) x y scan.after
+        (targets y.world.graph g.id) scan.moves st.traces st.housed live scan.fixes)
+
+    strong : IsStrong z.segs
+    strong = scan_keeps_ranks layout formats of x z one (record { exact = st.exact; marks = st.strong })
 
     -- a condemned segment was held and condemned before
     unreserved_then : AreCondemnedUnreserved z.segs scan.after.world.graph.points scan.after.world.point_memories
@@ -233,16 +247,16 @@ module _ {F : Type 0} (layout : F → Layout) (formats : List (Option F)) (of : 
         band = tracing (record {
           traces = scan.stands;
           band = ap is_tracing_band stays.band ∙ st.band;
-          housed = kept.housed;
-          strong = kept.strong;
+          housed = housed;
+          exact = strong.exact;
+          strong = strong.marks;
         });
       };
       trail = scan.trail;
     }
 
-pub a_scan_is_done : {F : Type 0} → AScanIsDone F
-a_scan_is_done layout formats of at_flip keep x z run y stands one =
-    scan_done layout formats of at_flip x run y stands keep z one
+pub scans_are_done : {F : Type 0} → ScansAreDone F
+scans_are_done layout formats of at_flip x z run y stands one = scan_done layout formats of at_flip x run y stands z one
 
 pub scans_are_ready : {F : Type 0} → ScansAreReady F
 scans_are_ready layout t s m at_flip run y stands n grey =

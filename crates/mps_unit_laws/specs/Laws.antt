@@ -1,6 +1,6 @@
 -- What is shown of the units of a collection, in words, each law a statement.
 use Rattle.std.specs.Prelude.{◌≡◌, ℕ, suc, ◌+◌, ◌<◌, ◌++◌, None, Option, List}
-use Rattle.mps_base.specs.Address.{Address, Id}
+use Rattle.mps_base.specs.Address.{Address}
 use Rattle.mps_base.specs.declared.address.Addr.{Addr}
 use Rattle.mps_base.specs.declared.moves.Move.{Move}
 use Rattle.mps_format.specs.Layout.{Layout}
@@ -8,17 +8,21 @@ use Rattle.mps_base.specs.Trail.{Moves}
 use Rattle.mps_seg.specs.Segs.{SegsState}
 use Rattle.mps_gen.specs.State.{ChainsState}
 use Rattle.mps_model.specs.Effect.{world_after_moves}
+use Rattle.mps_model.specs.World.{World}
 use Rattle.mps_colours.specs.Collecting.{Collecting, units_left}
-use Rattle.mps_colours.specs.Units.{IsUnit, IsLastUnit, GoesOn, Ends, scanned}
+use Rattle.mps_colours.specs.Units.{IsUnit, IsLastUnit, GoesOn, Ends}
 use Rattle.mps_image.specs.AtRest.{StandsAtRest}
 use Rattle.mps_trace.specs.Condemned.{IsNextCondemned}
 use Rattle.mps_trace.specs.Scan.{ScansOne, CanScanGrey, IsDrained}
 use Rattle.mps_trace.specs.Trace.{TraceState, Traced, traced}
 use Rattle.mps_trace.specs.Unit.{ReclaimsNext, LastUnitTo, UnitsTo, EndsWithin, CanUnit, AreUnitsReady, reclaimed_at}
 use Rattle.mps_trace.specs.declared.running.Running.{Running as RunningState}
-use Rattle.mps_trace_laws.specs.Scanning.{IsScan}
-use Rattle.mps_reclaim_laws.specs.Left.{AreHoused}
-use Rattle.mps_unit_laws.specs.Standing.{HasNoWeakMark, StandsReclaiming, UnitStands}
+use Rattle.mps_trace_laws.specs.Tracing.{AreSegmentsOf}
+use Rattle.mps_unit_laws.specs.Standing.{StandsReclaiming, UnitStands}
+
+-- the segments are those of this world
+abbrev pub HasSegmentsOf : SegsState → World → Type 0
+HasSegmentsOf s w = AreSegmentsOf s w.grains w.limit w.segments
 
 -- a unit of the abstract collector, which tells the same moves and after which the state stands for it
 pub record IsUnitDone {F : Type 0} (layout : F → Layout) (formats : List (Option F)) (of : ChainsState)
@@ -35,6 +39,7 @@ pub record IsLastUnitDone (x : Traced) (y : Collecting) (z : Traced) : Type 0 wh
   pub last : IsLastUnit y moves
   pub ended : (world_after_moves y.world moves).collection ≡ None
   pub stands : StandsAtRest z.segs (world_after_moves y.world moves)
+  pub segments : HasSegmentsOf z.segs (world_after_moves y.world moves)
   pub trail : z.moves.moves ≡ x.moves.moves ++ moves
 
 -- where nothing but weak blocks is grey the state stands in the last band
@@ -81,6 +86,7 @@ pub record AreLastUnitsDone (x : Traced) (y : Collecting) (count : ℕ) (z : Tra
   pub units : Ends y count moves
   pub ended : (world_after_moves y.world moves).collection ≡ None
   pub stands : StandsAtRest z.segs (world_after_moves y.world moves)
+  pub segments : HasSegmentsOf z.segs (world_after_moves y.world moves)
   pub trail : z.moves.moves ≡ x.moves.moves ++ moves
 
 -- where scans are units of the abstract collector, rows of units are
@@ -108,23 +114,11 @@ UnitsRunOut F =
 
 -- ---- scans
 
--- what a scan leaves beside what the state stands for: each object lies in one segment, and no mark is weak
-pub record IsScanKept (z : Traced) (after : Collecting) : Type 0 where
-  pub housed : AreHoused after.world.graph.objects z.segs.segments after.world.addresses
-  pub strong : HasNoWeakMark z.segs
-
--- each scan does
-abbrev pub ScansKeep : {F : Type 0} → (F → Layout) → List (Option F) → ChainsState → List (Option Address) → Type 0
-ScansKeep layout formats of at_flip =
-    (x z : Traced) (run : RunningState) (y : Collecting) (holder : Id) → UnitStands layout formats of at_flip x run y
-    → ScansOne layout formats of x z → (scan : IsScan layout formats of at_flip x z y holder)
-    → IsScanKept z (scanned scan.after holder)
-
--- where they do, each scan of a grey block is a unit of the abstract collector
-abbrev pub AScanIsDone : (F : Type 0) → Type 0
-AScanIsDone F =
+-- each scan of a grey block is a unit of the abstract collector
+abbrev pub ScansAreDone : (F : Type 0) → Type 0
+ScansAreDone F =
     (layout : F → Layout) (formats : List (Option F)) (of : ChainsState) (at_flip : List (Option Address))
-    → ScansKeep layout formats of at_flip → AreScansDone layout formats of at_flip
+    → AreScansDone layout formats of at_flip
 
 -- each grey block can be scanned
 abbrev pub ScansAreReady : (F : Type 0) → Type 0

@@ -1,7 +1,7 @@
 -- When the segments and the moves of a collector stand for the abstract collector between two units of a collection. Automatic pools
 -- are those that move blocks, and no object is weak.
 use Rattle.std.specs.Prelude.{◌≡◌, ℕ, ◌+◌, ◌*◌, ◌≤◌, true, false, IsTrue, Option, List, Contains}
-use Rattle.mps_base.specs.Address.{Address, Id, Word, word_of, words_of_grain, grain_of}
+use Rattle.mps_base.specs.Address.{Address, Id, word_of, words_of_grain, grain_of}
 use Rattle.mps_base.specs.Segment.{Segment, end_of_segment}
 use Rattle.mps_bits.specs.Table.{bit}
 use Rattle.mps_format.specs.Layout.{Layout}
@@ -15,8 +15,9 @@ use Rattle.mps_image.specs.Memory.{pool_layout}
 use Rattle.mps_image.specs.Image.{AreShaped, black_cells}
 use Rattle.mps_trace.specs.Trace.{Traced}
 use Rattle.mps_trace.specs.declared.running.Running.{Running as RunningState}
-use Rattle.mps_trace_laws.specs.Tracing.{AreKnownPools, TracingStands, moves_left}
-use Rattle.mps_reclaim_laws.specs.Left.{AreHoused, IsUnreserved}
+use Rattle.mps_trace_laws.specs.Housed.{AreAllExact, AreHoused, HasNoWeakMark}
+use Rattle.mps_trace_laws.specs.Tracing.{AreKnownPools, AreSegmentsOf, TracingStands, moves_left}
+use Rattle.mps_reclaim_laws.specs.Left.{IsUnreserved}
 use Rattle.mps_reclaim_laws.specs.Units.{FreesFor}
 
 -- what units leave as it is of a world: its objects, its pools, and that none is weak
@@ -25,10 +26,6 @@ pub record IsMoving {F : Type 0} (layout : F → Layout) (formats : List (Option
   pub pools : AreKnownPools layout formats of (is_copying_pool w) (pool_layout w) (generations_of w)
   pub all_move : (pool : ℕ) → IsTrue (pool_is is_automatic_kind w pool) → IsTrue (is_copying_pool w pool)
   pub strong : (id : Id) → object_is is_weak_object w id ≡ false
-
--- no weak block is grey
-abbrev pub HasNoWeakMark : SegsState → Type 0
-HasNoWeakMark s = (n : Word) → bit s.marks.weak n ≡ false
 
 -- no live reservation lies in a condemned segment
 abbrev pub AreCondemnedUnreserved : SegsState → List (Option Point) → List PointMemory → Type 0
@@ -39,16 +36,18 @@ AreCondemnedUnreserved s points memories =
 abbrev pub AreInArena : SegsState → Type 0
 AreInArena s = (t : Segment) → Contains s.segments t → word_of (end_of_segment t) ≤ words_of_grain * (s.grains + 1)
 
--- objects are traced: the cells of black objects are fixed, and each object lies in one segment
+-- objects are traced: the cells of black objects are fixed, each object lies in one segment, and no segment and no mark is weak
 pub record StandsTracing {F : Type 0} (layout : F → Layout) (formats : List (Option F)) (of : ChainsState)
     (at_flip : List (Option Address)) (x : Traced) (y : Collecting) : Type 0 where
   pub traces : TracingStands layout formats of at_flip (black_cells y.running.condemned y.colours) x y
   pub band : IsTrue (is_tracing_band y.band)
   pub housed : AreHoused y.world.graph.objects x.segs.segments y.world.addresses
+  pub exact : AreAllExact x.segs.segments
   pub strong : HasNoWeakMark x.segs
 
 -- the last band: nothing is grey, and there is room for the moves that are left
 pub record StandsReclaiming (x : Traced) (y : Collecting) : Type 0 where
+  pub segments : AreSegmentsOf x.segs y.world.grains y.world.limit y.world.segments
   pub frees : FreesFor x.segs y.world y.running y.colours (pool_layout y.world)
   pub scanned : AreAllScanned y.colours
   pub inside : AreInArena x.segs

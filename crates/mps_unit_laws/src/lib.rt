@@ -2,7 +2,7 @@
 //! Each function does nothing; what it shows is its contract.
 #![tactic(auto)]
 
-ghost use Rattle.mps_unit_laws.specs.Laws.{TheLastBandIsEntered, AReclaimIsDone, TheLastUnitIsDone, AScanIsDone, ScansAreReady, UnitsAreDone, TheEndIsDone, UnitsRunOut, AUnitIsReady, UnitsAreReady};
+ghost use Rattle.mps_unit_laws.specs.Laws.{TheLastBandIsEntered, AReclaimIsDone, TheLastUnitIsDone, ScansAreDone, ScansAreReady, UnitsAreDone, TheEndIsDone, UnitsRunOut, AUnitIsReady, UnitsAreReady};
 
 /// Where nothing is grey in words nothing is grey of the abstract collector, and the last band begins.
 pub fn the_last_band_is_entered<F>()
@@ -19,9 +19,9 @@ pub fn the_last_unit_is_done<F>()
     ensures { TheLastUnitIsDone F }
 {}
 
-/// Where scans keep each object in one segment and no mark weak, each is a unit of the abstract collector, and the state stands then.
-pub fn a_scan_is_done<F>()
-    ensures { AScanIsDone F }
+/// Each scan of a grey block is a unit of the abstract collector, with the same moves, and the state stands for it then.
+pub fn scans_are_done<F>()
+    ensures { ScansAreDone F }
 {}
 
 /// While the state stands each grey block can be scanned.
