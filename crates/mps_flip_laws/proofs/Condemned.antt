@@ -1,8 +1,8 @@
 -- The bits of condemned segments after a flip, and the model's flip of everything.
-use Rattle.std.proofs.Common.{◌≡◌, ◌∙◌, ℕ, zero, suc, ◌==◌, ◌<◌, Bool, true, false, refl, sym, ap, subst, List, [], ◌∷◌, length, map, Option, Some, None, Contains, inl, inr, arith}
-use Rattle.std.proofs.lemmas.Bool.{false≢true, cases_Bool, or_left, or_right, eqb-true, eqb-false, cond-true, cond-false}
+use Rattle.std.proofs.Common.{◌≡◌, ◌∙◌, ℕ, suc, ◌==◌, ◌<◌, Bool, true, false, refl, sym, ap, subst, List, [], ◌∷◌, length, map, Option, Some, None, Contains, inl, inr, arith}
+use Rattle.std.proofs.lemmas.Bool.{false≢true, cases_Bool, or_right, eqb-true, eqb-false, cond-true, cond-false}
 use Rattle.std.proofs.lemmas.List.{get_or-set_same, get_or-set_other, length-set}
-use Rattle.std.specs.Prelude.{◌||◌, ◌≢◌, IsTrue, filter, if◌then◌else◌, slice_set}
+use Rattle.std.specs.Prelude.{◌||◌, ◌≢◌, filter, if◌then◌else◌, slice_set}
 use Rattle.mps_base.specs.Address.{Address, Grain, address_of_grain, grain_of}
 use Rattle.mps_base.specs.Segment.{Segment, grains_of_segment}
 use Rattle.mps_base.specs.Zones.{zones_of_runs}
@@ -15,7 +15,7 @@ use Rattle.mps_buffer.specs.Points.{ended, ended_at, all_ended, without_reservat
 use Rattle.mps_colours.proofs.Lists.{contains_cases}
 use Rattle.mps_gen.specs.State.{max_chains}
 use Rattle.mps_model.specs.Graph.{contains}
-use Rattle.mps_model.specs.World.{World, is_automatic_kind, is_copying_pool, pool_is}
+use Rattle.mps_model.specs.World.{is_automatic_kind, is_copying_pool, pool_is}
 use Rattle.mps_model.specs.Effect.{Everything, condemned_by}
 use Rattle.mps_seg.specs.Segs.{SegsState}
 use Rattle.mps_seg.specs.Collecting.{condemning}

@@ -5,7 +5,6 @@ use Rattle.std.proofs.lemmas.Option.{same_Some}
 use Rattle.std.specs.Prelude.{filter, if◌then◌else◌, option_map}
 use Rattle.mps_base.specs.Address.{Address, Word, address_of_word, grain_of}
 use Rattle.mps_base.specs.Segment.{Segment, segment_over}
-use Rattle.mps_bits.specs.Table.{bit}
 use Rattle.mps_amc.proofs.Found.{over_is_there}
 use Rattle.mps_colours.proofs.Lists.{contains_here, contains_later, contains_cases}
 use Rattle.mps_model.specs.Graph.{contains}
@@ -15,7 +14,7 @@ use Rattle.mps_seg.specs.Collecting.{bit_of}
 use Rattle.mps_trace.specs.Condemned.{AreAscending}
 use Rattle.mps_trace.specs.Flip.{is_automatic, automatic_of, at_flip}
 use Rattle.mps_flip_laws.specs.Condemned.{bases_of, AreCondemnedToo}
-use Rattle.mps_flip_laws.specs.CondemnedWords.{AreWordsCondemned, AFlipCondemnsWords}
+use Rattle.mps_flip_laws.specs.CondemnedWords.{AFlipCondemnsWords}
 use Rattle.mps_flip_laws.proofs.Condemned.{flip_condemns}
 
 -- ---- the segment at a base

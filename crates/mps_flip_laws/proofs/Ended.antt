@@ -67,22 +67,3 @@ flip_ends_reservations formats points x blocks c apart =
     let e : SegsState = all_ended points.flips points.points x.segs in
     condemned_covered (automatic_of formats e.segments) e blocks
     (reservations_ended points.flips points.points x.segs blocks c apart)
-
-pub flip_leaves_runs : {F : Type 0} → AFlipLeavesRuns F
-flip_leaves_runs formats points x s addresses condemned is_condemned_over runs same apart =
-    let extents : List Run = extents_of s.objects addresses in
-    let c : AreCovered (at_flip formats points x).segs extents [] =
-    flip_ends_reservations formats points x extents
-    (record {
-      blocks = runs.blocks;
-      reservations = runs.reservations ∙ ap in_order same;
-      covered = runs.covered ∙ ap (λ rs. in_order (extents ++ rs)) same;
-    })
-    apart
-    in
-    let none = no_reservation_is_live s.points s.point_memories in
-    record {
-      blocks = c.blocks;
-      reservations = c.reservations ∙ sym (ap in_order none.extents);
-      covered = c.covered ∙ sym (ap (λ rs. in_order (extents ++ rs)) none.extents);
-    }

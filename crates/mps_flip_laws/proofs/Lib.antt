@@ -3,3 +3,5 @@ pub mod Condemned
 pub mod Reservations
 pub mod CondemnedWords
 pub mod Ended
+pub mod Apart
+pub mod OpenEnded

@@ -1,5 +1,5 @@
 -- Doomed reservations aren't live, and a flip changes no word, block or mark.
-use Rattle.std.proofs.Common.{◌≡◌, ◌∙◌, ℕ, zero, suc, ◌==◌, Bool, true, false, refl, sym, ap, List, [], ◌∷◌, map, Option, Some, None, inl, inr}
+use Rattle.std.proofs.Common.{◌≡◌, ◌∙◌, ℕ, zero, suc, ◌==◌, Bool, true, refl, sym, ap, List, [], ◌∷◌, map, Option, Some, None, inl, inr}
 use Rattle.std.proofs.lemmas.Bool.{cases_Bool, cond-true, cond-false}
 use Rattle.std.specs.Prelude.{◌++◌, if◌then◌else◌, option_map, option_and_then, slice_set}
 use Rattle.mps_base.specs.Address.{grain_of}

@@ -1,5 +1,5 @@
 -- What a flip of everything condemns, in words and in the model.
-use Rattle.std.specs.Prelude.{◌≡◌, ℕ, ◌<◌, ◌==◌, Bool, true, false, ◌||◌, IsTrue, Option, Some, None, List, [], ◌∷◌, map, length, Contains, refl}
+use Rattle.std.specs.Prelude.{◌≡◌, ℕ, ◌<◌, Bool, true, false, ◌||◌, IsTrue, Option, Some, None, List, [], ◌∷◌, map, length, Contains, refl}
 use Rattle.std.proofs.Common.{arith, lit<}
 use Rattle.mps_base.specs.Address.{Address, address_of_grain, grain_of}
 use Rattle.mps_base.specs.Segment.{Segment}

@@ -2,7 +2,7 @@
 use Rattle.std.specs.Prelude.{◌≡◌, ◌≢◌, ℕ, ◌==◌, Bool, if◌then◌else◌, Option, Some, None, List, [], ◌∷◌, ◌++◌, map, refl}
 use Rattle.std.specs.List.{AllByRecursion}
 use Rattle.mps_base.specs.Address.{Address, Id, Word}
-use Rattle.mps_base.specs.Run.{Run, in_order}
+use Rattle.mps_base.specs.Run.{Run, IsAscending, in_order}
 use Rattle.mps_buffer.specs.declared.point.Held.{Held}
 use Rattle.mps_buffer.specs.declared.point.Point.{Point}
 use Rattle.mps_buffer.specs.Points.{PointsState, run_of_held}
@@ -47,13 +47,13 @@ AFlipEndsReservations F =
     → AreCovered x.segs blocks (open_runs points.flips points.points) → BeginApart blocks (open_runs points.flips points.points)
     → AreCovered (at_flip formats points x).segs blocks []
 
--- where runs stand before a flip, and the reservations in words are the live ones of points, they stand after it
+-- where runs stand before a flip, what is covered ascends without overlap, and the reservations in words are those of points that no flip
+-- ended, in whatever order these are, runs stand after it
 abbrev pub AFlipLeavesRuns : (F : Type 0) → Type 0
 AFlipLeavesRuns F =
     (formats : List (Option F)) (points : PointsState) (x : Traced) (s : Setting) (addresses : List (Option Address))
-    (condemned : List Id) (is_condemned_over : Word → Bool) → RunsStand s (memory_in x.segs) addresses
-    → reserved_extents s.points s.point_memories ≡ open_runs points.flips points.points
-    → BeginApart (extents_of s.objects addresses) (open_runs points.flips points.points)
+    (condemned : List Id) (is_condemned_over : Word → Bool) (high : ℕ) → RunsStand s (memory_in x.segs) addresses
+    → IsAscending 0 high x.segs.covered → x.segs.reservations ≡ in_order (open_runs points.flips points.points)
     → RunsStand
     (setting_flipped s addresses (map doomed s.points) (map without_buffer s.point_memories) condemned is_condemned_over)
     (memory_in (at_flip formats points x).segs) addresses

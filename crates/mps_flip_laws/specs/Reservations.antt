@@ -1,5 +1,5 @@
 -- What a flip does to reservations, and what it leaves as it is.
-use Rattle.std.specs.Prelude.{◌≡◌, ℕ, true, false, Option, Some, None, List, [], ◌∷◌, map, refl}
+use Rattle.std.specs.Prelude.{◌≡◌, ℕ, false, Option, Some, List, [], ◌∷◌, map, refl}
 use Rattle.mps_base.specs.declared.names.Rank.TheVariants.{Exact}
 use Rattle.mps_buffer.specs.Points.{PointsState}
 use Rattle.mps_image.specs.Memory.{live_reservation}

@@ -37,7 +37,7 @@ pub fn a_flip_ends_reservations<F>()
     ensures { AFlipEndsReservations F }
 {}
 
-/// Where runs stand before a flip, and reservations in words are the model's, they stand after it.
+/// Where runs stand before a flip, and reservations in words are the open ones of points, in whatever order, they stand after it.
 pub fn a_flip_leaves_runs<F>()
     ensures { AFlipLeavesRuns F }
 {}
