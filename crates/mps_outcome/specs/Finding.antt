@@ -1,6 +1,6 @@
 -- What a call finds by its words, and with which refusal it finds nothing.
 use Rattle.std.specs.Prelude.{ℕ, ◌+◌, ◌%◌, ◌==◌, not, nat_le, if◌then◌else◌, Option, Some, None, option_and_then, Ok, Err, List, slice_get}
-use Rattle.mps_base.specs.Address.{Address, Word, word_of}
+use Rattle.mps_base.specs.Address.{Address, word_of}
 use Rattle.mps_base.specs.declared.names.Name.{Name}
 use Rattle.mps_base.specs.declared.names.Slot.{Slot}
 use Rattle.mps_base.specs.declared.refusal.Refusal.TheVariants as refusal

@@ -9,3 +9,4 @@ pub mod Finalizing
 pub mod Depending
 pub mod Arena
 pub mod Coming
+pub mod Collecting
