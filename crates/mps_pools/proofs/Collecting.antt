@@ -1,0 +1,30 @@
+-- A collection of what the collector knows of the pools is one of the pools.
+use Rattle.std.proofs.Common.{ℕ, ◌≡◌, subst}
+use Rattle.mps_base.specs.Trail.{Moves}
+use Rattle.mps_buffer.specs.Points.{PointsState}
+use Rattle.mps_final.specs.State.{FinalsState}
+use Rattle.mps_format.specs.Layout.{Layout}
+use Rattle.mps_root.specs.State.{RootsState}
+use Rattle.mps_seg.specs.Segs.{SegsState}
+use Rattle.mps_trace.specs.Collect.{CanCollect, Collects}
+use Rattle.mps_trace.specs.Trace.{TraceState, traced}
+use Rattle.mps_outcome.specs.Collecting.{IsTraceOf}
+use Rattle.mps_pools.specs.Collecting.{CanCollectPools, ArePoolsCollected}
+use Rattle.mps_pools.specs.Inside.{IsSoundTrace}
+use Rattle.mps_pools.specs.State.{PoolsState}
+use Rattle.mps_pools.proofs.Sound.{is_trace}
+
+-- the pools are seen in two ways
+module _ {F : Type 0} (layout : F → Layout) (seen value : PoolsState F) (is : seen ≡ value) (t : TraceState F)
+    (sound : IsSoundTrace seen.pools t) (points : PointsState) (roots : RootsState) (finals : FinalsState) (s : SegsState) (m : Moves)
+    (most : ℕ) where
+  known : IsTraceOf value.pools t
+  known = let P : PoolsState F → Type 0 = λ v. IsTraceOf v.pools t in subst P is (is_trace seen.pools t sound)
+
+  pub can_trace : CanCollectPools layout value.pools points roots finals s m most → CanCollect layout t points roots finals s m most
+  can_trace can = can t known
+
+  pub are_collected : (roots' : RootsState) (finals' : FinalsState) (t' : TraceState F) (s' : SegsState) (m' : Moves)
+      → Collects layout t.formats t.chains points roots finals (traced t s m) most roots' finals' (traced t' s' m')
+      → ArePoolsCollected layout value.pools points roots finals s m most roots' finals' s' m'
+  are_collected roots' finals' t' s' m' collects = record { before = t; after = t'; of_pools = known; collects = collects }

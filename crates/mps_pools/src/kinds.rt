@@ -1,0 +1,104 @@
+// What kinds of pool may do.
+#![tactic(auto)]
+
+ghost use Rattle.std.specs.Prelude.{◌≡◌};
+ghost use Rattle.mps_outcome.specs.State.{format_of_pool, is_automatic_pool, is_copying_pool, is_leaf_pool, is_weak_pool, size_of_pool};
+ghost use Rattle.mps_outcome.specs.Making.{may_have_point};
+ghost use Rattle.mps_outcome.specs.Collecting.{is_moved_or_manual};
+
+use mps_base::{Kind, Rank};
+use mps_format::Format;
+use mps_outcome::Pool;
+
+/// The format of the objects of a pool, where it is automatic.
+pub fn format_of_pool<F: Format>(pool: Pool<F>) -> Option<F>
+    ensures { result ≡ format_of_pool pool }
+{
+    match pool {
+        Pool::Automatic { format, .. } => Some(format),
+        Pool::OneSize { .. } => None,
+        Pool::AnySize => None,
+    }
+}
+
+/// Whether a pool is automatic.
+pub fn is_automatic<F: Format>(pool: Pool<F>) -> bool
+    ensures { result ≡ is_automatic_pool pool }
+{
+    match pool {
+        Pool::Automatic { .. } => true,
+        Pool::OneSize { .. } => false,
+        Pool::AnySize => false,
+    }
+}
+
+/// Whether a collection moves the blocks of a pool.
+pub fn is_copying<F: Format>(pool: Pool<F>) -> bool
+    ensures { result ≡ is_copying_pool pool }
+{
+    match pool {
+        Pool::Automatic { kind, .. } => match kind {
+            Kind::Amc | Kind::Amcz => true,
+            Kind::Ams | Kind::Awl | Kind::Lo => false,
+        },
+        Pool::OneSize { .. } => false,
+        Pool::AnySize => false,
+    }
+}
+
+/// Whether the objects of a pool have no references.
+pub fn is_leaf<F: Format>(pool: Pool<F>) -> bool
+    ensures { result ≡ is_leaf_pool pool }
+{
+    match pool {
+        Pool::Automatic { kind, .. } => match kind {
+            Kind::Amcz | Kind::Lo => true,
+            Kind::Amc | Kind::Ams | Kind::Awl => false,
+        },
+        Pool::OneSize { .. } => false,
+        Pool::AnySize => false,
+    }
+}
+
+/// Whether the objects of a pool may be weak.
+fn is_weak<F: Format>(pool: Pool<F>) -> bool
+    ensures { result ≡ is_weak_pool pool }
+{
+    match pool {
+        Pool::Automatic { kind, .. } => match kind {
+            Kind::Awl => true,
+            Kind::Amc | Kind::Amcz | Kind::Ams | Kind::Lo => false,
+        },
+        Pool::OneSize { .. } => false,
+        Pool::AnySize => false,
+    }
+}
+
+/// Whether a pool may have a point of this rank.
+pub fn may_have_point<F: Format>(pool: Pool<F>, rank: Rank) -> bool
+    ensures { result ≡ may_have_point pool rank }
+{
+    let may_be = match rank {
+        Rank::Exact => true,
+        Rank::Weak => is_weak(pool),
+    };
+    is_automatic(pool) && may_be
+}
+
+/// The size of a pool's blocks, 0 where that is open.
+pub(crate) fn size_of_pool<F: Format>(pool: Pool<F>) -> u32
+    ensures { result ≡ size_of_pool pool }
+{
+    match pool {
+        Pool::Automatic { .. } => 0,
+        Pool::OneSize { words } => words,
+        Pool::AnySize => 0,
+    }
+}
+
+/// Whether a collection moves the blocks of a pool, or leaves them alone since a client frees them.
+pub(crate) fn is_moved_or_manual<F: Format>(pool: Pool<F>) -> bool
+    ensures { result ≡ is_moved_or_manual pool }
+{
+    !is_automatic(pool) || is_copying(pool)
+}
