@@ -1,0 +1,11 @@
+// Items of lists by their indices.
+#![tactic(auto)]
+
+ghost use Rattle.std.specs.Prelude.{◌≡◌, slice_get};
+
+/// The item at an index, where there is one.
+pub fn item<T: Copy>(items: &[T], index: usize) -> Option<T>
+    ensures { result ≡ slice_get items.now index }
+{
+    items.get(index).copied()
+}
