@@ -1,6 +1,5 @@
-pub mod Blocks
+pub mod Collecting
 pub mod Dropping
 mod Lending
 pub mod Making
 pub mod Ready
-pub mod References

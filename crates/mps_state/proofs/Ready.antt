@@ -1,5 +1,5 @@
 -- What the calls of points ask for, of a heap that is ready.
-use Rattle.std.proofs.Common.{ℕ, ◌≡◌, Option, Some}
+use Rattle.std.proofs.Common.{ℕ, ◌≡◌, Some}
 use Rattle.mps_buffer.specs.declared.point.Held.{Held}
 use Rattle.mps_buffer.specs.declared.point.Point.{Point}
 use Rattle.mps_buffer.specs.Points.{point_at, IsAtHand, IsReserved}

@@ -1,9 +1,6 @@
-//! The heap at rest: what a client's calls find and change, as long as no collection runs.
+//! The heap at rest: what a client's calls find and change, and a collection of everything, from its flip to its end.
 #![tactic(auto)]
 
-mod cells;
-mod items;
-mod pools;
 mod state;
 
 pub use state::State;

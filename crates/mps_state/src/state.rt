@@ -9,6 +9,7 @@ ghost use Rattle.mps_outcome.specs.Arena.{new_heap};
 mod allocating;
 mod areas;
 mod arena;
+mod collecting;
 mod depending;
 mod finalizing;
 mod finding;
@@ -21,9 +22,9 @@ use mps_buffer::OpenPoints;
 use mps_final::Finals;
 use mps_format::Format;
 use mps_ld::{Epochs, Ld};
-use mps_manual::Manual;
 use mps_names::Names;
-use mps_outcome::{ArenaState, Pool};
+use mps_outcome::ArenaState;
+use mps_pools::Pools;
 use mps_root::Roots;
 use mps_seg::Segs;
 use std::alloc::{AllocError, Global};
@@ -40,8 +41,7 @@ pub struct State<F: Format> {
     finals: Finals,
     epochs: Epochs,
     dependencies: Vec<Ld>,
-    pools: Vec<Pool<F>>,
-    manual: Manual,
+    pools: Pools<F>,
     names: Names,
     arena: ArenaState,
 }
@@ -61,8 +61,8 @@ impl<F: Format> Model for State<F> {
       finals = s.finals;
       epochs = s.epochs;
       dependencies = s.dependencies.items;
-      pools = s.pools.items;
-      sizes = s.manual;
+      pools = s.pools.pools;
+      sizes = s.pools.sizes;
       names = s.names;
       arena = s.arena;
     } };
@@ -95,8 +95,7 @@ impl<F: Format> State<F> {
             finals,
             epochs: Epochs::new(),
             dependencies: Vec::new(alloc),
-            pools: Vec::new(alloc),
-            manual: Manual::new(alloc),
+            pools: Pools::new(alloc),
             names: Names::new(alloc),
             arena: ArenaState::Unclamped,
         })
@@ -124,7 +123,6 @@ impl<F: Format> State<F> {
             epochs: _,
             dependencies,
             pools,
-            manual,
             names,
             arena: _,
         } = self;
@@ -135,7 +133,6 @@ impl<F: Format> State<F> {
         drop(finals);
         drop(dependencies);
         drop(pools);
-        drop(manual);
         drop(names);
     }
 }

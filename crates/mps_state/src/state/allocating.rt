@@ -4,19 +4,19 @@
 ghost use Rattle.std.specs.Prelude.{◌≡◌, ◌<◌, ◌≤◌, Some, IsTrue, IfOk};
 ghost use Rattle.mps_base.specs.Address.{max_block_words};
 ghost use Rattle.mps_buffer.specs.Tokens.{IsClosedAt};
-ghost use Rattle.mps_model.specs.Checked.{required};
 ghost use Rattle.mps_outcome.specs.State.{IsReady};
 ghost use Rattle.mps_outcome.specs.Coming.{Comes, ComesMoving};
 ghost use Rattle.mps_outcome.specs.Allocating.{check_reserve, reserved, block_held, with_reserved_word, number_initialised, reference_initialised, committed};
 
 use super::State;
-use crate::cells::{number_cell_at, reference_cell_at, with_target, write_word};
-use crate::items::item;
-use crate::pools::{format_of_pool, takes_head};
 use mps_base::{Name, Refusal, Slot, Trail};
 use mps_buffer::{Held, Point};
+use mps_cells::{
+    number_cell_at, reference_cell_at, reservation_of, takes_head, with_target, write_word,
+};
 use mps_format::Format;
 use mps_outcome::{Block, Committed, Reserving};
+use mps_pools::format_of_pool;
 
 impl<F: Format> State<F> {
     /// The point at which a block is to be reserved, and the size of the block.
@@ -27,7 +27,7 @@ impl<F: Format> State<F> {
         ensures at_most { IfOk result (λ r. r.words ≤ max_block_words) }
     {
         let point = self.point_named(name)?;
-        let Some(pool) = item(&self.pools, point.value.pool as usize) else {
+        let Some(pool) = self.pools.get(point.value.pool) else {
             return Err(Refusal::BadName);
         };
         let Some(format) = format_of_pool(pool) else {
@@ -61,7 +61,7 @@ impl<F: Format> State<F> {
         ensures value { result ≡ block_held F.layout self.now point held }
         ensures valid { IfOk result (λ b. IsTrue ((F.layout b.format).is_valid b.head)) }
     {
-        let Some(pool) = item(&self.pools, point.pool as usize) else {
+        let Some(pool) = self.pools.get(point.pool) else {
             return Err(Refusal::NotOpen);
         };
         let Some(format) = format_of_pool(pool) else {
@@ -134,16 +134,5 @@ impl<F: Format> State<F> {
             }
             Err(_) => Ok(Committed::AsFlipped),
         }
-    }
-}
-
-/// The open reservation of a point. Refuses `NotOpen` where it has none.
-fn reservation_of(point: Point) -> Result<Held, Refusal>
-    ensures value { result ≡ required point.reservation Refusal.NotOpen }
-    ensures open { IfOk result (λ held. point.reservation ≡ Some held) }
-{
-    match point.reservation {
-        Some(held) => Ok(held),
-        None => Err(Refusal::NotOpen),
     }
 }

@@ -7,12 +7,11 @@ ghost use Rattle.mps_outcome.specs.Coming.{Comes};
 ghost use Rattle.mps_outcome.specs.Areas.{block_over, lies_in_object, is_of_pool, is_hold, with_area_word, poked, peeked, held_by, taken, pinned};
 
 use super::State;
-use crate::pools::{is_automatic, is_copying};
 use mps_base::{Addr, Refusal, Slot};
+use mps_cells::{block_over, is_of_pool};
 use mps_format::Format;
-use mps_outcome::{Entry, Pool};
+use mps_outcome::Entry;
 use mps_root::Stored;
-use mps_seg::Segs;
 
 impl<F: Format> State<F> {
     /// Writes a word of an area that was found.
@@ -99,21 +98,4 @@ impl<F: Format> State<F> {
         self.set_slot(into, object);
         Ok(())
     }
-}
-
-/// Whether a word lies in the block of a pool at an address.
-fn is_of_pool<F: Format>(word: u64, at: u64, pool: Option<Pool<F>>) -> bool
-    ensures { result ≡ is_of_pool word at pool }
-{
-    let Some(pool) = pool else {
-        return false;
-    };
-    is_automatic(pool) && (is_copying(pool) || word == at)
-}
-
-/// The address of the block that is over a byte.
-pub(crate) fn block_over(segs: &Segs, byte: u64) -> Option<u64>
-    ensures { result ≡ block_over segs.now byte }
-{
-    Some(segs.block_at(byte)?.0)
 }

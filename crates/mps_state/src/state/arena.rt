@@ -9,8 +9,8 @@ ghost use Rattle.mps_outcome.specs.Manual.{is_block_over};
 ghost use Rattle.mps_outcome.specs.Arena.{held_grains, limit_set, with_arena, BlockBegins};
 
 use super::State;
-use super::manual::begins_block;
 use mps_base::{Addr, Refusal};
+use mps_cells::begins_block;
 use mps_format::Format;
 use mps_outcome::ArenaState;
 

@@ -8,8 +8,8 @@ ghost use Rattle.mps_outcome.specs.Finding.{dependency_named};
 ghost use Rattle.mps_outcome.specs.Depending.{with_dependency, dependency_reset, dependency_added, dependency_merged, is_dependency_stale};
 
 use super::State;
-use crate::items::item;
 use mps_base::{Addr, Name, Refusal, Slot};
+use mps_cells::item;
 use mps_format::Format;
 use mps_ld::Ld;
 use mps_names::Thing;

@@ -8,13 +8,13 @@ ghost use Rattle.mps_outcome.specs.State.{pool_over, format_over};
 ghost use Rattle.mps_outcome.specs.Finding.{pool_named, point_named, slot_in, word_in, block_place_in, object_at, object_in};
 
 use super::State;
-use crate::items::item;
-use crate::pools::{format_of_pool, pool_of_segment};
 use mps_base::{Addr, Name, Refusal, Slot};
 use mps_buffer::Point;
+use mps_cells::{item, pool_of_segment};
 use mps_format::Format;
 use mps_names::Thing;
 use mps_outcome::{Block, Entry, Kept, Pool};
+use mps_pools::format_of_pool;
 use mps_root::Stored;
 
 impl<F: Format> State<F> {
@@ -25,7 +25,7 @@ impl<F: Format> State<F> {
         let Some(Thing::Pool(key)) = self.names.get(name) else {
             return Err(Refusal::BadName);
         };
-        let Some(value) = item(&self.pools, key as usize) else {
+        let Some(value) = self.pools.get(key) else {
             return Err(Refusal::BadName);
         };
         Ok(Kept { key, value })
@@ -105,7 +105,7 @@ impl<F: Format> State<F> {
         ensures { result ≡ pool_over self.now at }
     {
         let number = pool_of_segment(&self.segs, at)?;
-        item(&self.pools, number as usize)
+        self.pools.get(number)
     }
 
     /// The format of the objects in the segment that is held over an address.

@@ -7,15 +7,15 @@ ghost use Rattle.mps_base.specs.Address.{word_of, bytes_of_word};
 ghost use Rattle.mps_state.specs.Lending.{block_named, leaf_named, IsBlockBorrowed, IsBlockWritten, IsLeafBorrowed, IsNoBlock, IsNoLeaf};
 
 use super::State;
-use super::manual::is_block_over;
-use crate::pools::is_leaf;
 use mps_base::{Addr, Refusal, Slot};
+use mps_cells::begins_block;
 use mps_format::Format;
 use mps_manual::Manual;
+use mps_pools::is_leaf;
 
 impl<F: Format> State<F> {
     /// The address of the manual block in a place.
-    #[tactic(auto, using(crate::proofs::Blocks::begins_block, crate::proofs::Lending::begins_at_word))]
+    #[tactic(auto, using(crate::proofs::Lending::begins_at_word))]
     fn block_named(&self, place: Slot) -> Result<Addr, Refusal>
         ensures value { MatchResult result (λ at. block_named self.now place ≡ Ok at.0) (λ why. IsNoBlock self.now place why) }
         ensures block { IfOk result (λ at. (words : ℕ) × Contains self.now.segs.blocks (record { from = word_of at.0; count = words })) }
@@ -25,7 +25,7 @@ impl<F: Format> State<F> {
         if from.value == 0 {
             return Err(Refusal::NotABlock);
         }
-        if !is_block_over(&self.segs, from.value, from.value) {
+        if !begins_block(&self.segs, from.value) {
             return Err(Refusal::NotABlock);
         }
         Ok(Addr(from.value))
@@ -55,7 +55,7 @@ impl<F: Format> State<F> {
     }
 
     /// The address of the object in a slot, where it is of a leaf pool.
-    #[tactic(auto, using(crate::proofs::Blocks::begins_block, crate::proofs::Lending::begins_at_word))]
+    #[tactic(auto, using(crate::proofs::Lending::begins_at_word))]
     fn leaf_named(&self, slot: Slot) -> Result<Addr, Refusal>
         ensures value { MatchResult result (λ at. leaf_named F.layout self.now slot ≡ Ok at.0)
             (λ why. IsNoLeaf F.layout self.now slot why) }
@@ -67,7 +67,7 @@ impl<F: Format> State<F> {
         if !is_leaf(pool) {
             return Err(Refusal::WrongPool);
         }
-        if !is_block_over(&self.segs, object.at, object.at) {
+        if !begins_block(&self.segs, object.at) {
             return Err(Refusal::NullRef);
         }
         Ok(Addr(object.at))

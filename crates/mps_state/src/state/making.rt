@@ -3,21 +3,20 @@
 
 ghost use Rattle.std.specs.Prelude.{◌≡◌, ◌+◌, ◌<◌, ◌≤◌, None, Some, length, option_map, OnOk, IfErr};
 ghost use Rattle.std.specs.Option.{option_map_or};
-ghost use Rattle.mps_model.specs.Making.{refuse_at_limit};
 ghost use Rattle.mps_names.specs.State.{thing_named, Updates};
 ghost use Rattle.mps_names.specs.declared.names.Thing.TheVariants as thing;
 ghost use Rattle.mps_outcome.specs.declared.pool.Pool.TheVariants as kind_of_pool;
-ghost use Rattle.mps_outcome.specs.State.{size_of_pool};
 ghost use Rattle.mps_outcome.specs.Making.{IsUntouched, IsMaking, IsDropping, check_root, with_root, MakesTable, MakesArea, MakesBlocks, roots_without, root_dropped, point_dropped, passed, check_point, MakesPoint, MakesPointIn, check_pool, check_pool_of_size, MakesPool, check_dependency, MakesDependency};
 ghost use Rattle.mps_state.specs.Made.{IsMade};
 
 use super::State;
-use crate::pools::{is_copying, may_have_point};
 use mps_base::{Kind, Name, Rank, Refusal};
+use mps_cells::refuse_at_limit;
 use mps_format::Format;
 use mps_ld::Ld;
 use mps_names::Thing;
 use mps_outcome::{Kept, Pool};
+use mps_pools::{is_copying, may_have_point};
 
 /// How many roots, slots of all roots together, points, pools and dependencies there may be.
 const MAX_ROOTS: u32 = 256;
@@ -45,8 +44,6 @@ impl<F: Format> State<F> {
         };
         Ok(())
     }
-
-    // ---- roots
 
     /// Refuses a root of n slots where its name is taken or it passes a limit.
     fn check_root(&self, name: Name, n: u32) -> Result<(), Refusal>
@@ -191,8 +188,6 @@ impl<F: Format> State<F> {
         Ok(())
     }
 
-    // ---- points
-
     /// The pool of a point that may be made.
     fn check_point(&self, name: Name, pool: Name, rank: Rank) -> Result<Kept<Pool<F>>, Refusal>
         ensures value { result ≡ check_point self.now name pool rank }
@@ -245,8 +240,6 @@ impl<F: Format> State<F> {
         Ok(())
     }
 
-    // ---- pools
-
     /// Refuses a pool where its name is taken or there are 64.
     fn check_pool(&self, name: Name) -> Result<(), Refusal>
         ensures value { result ≡ check_pool self.now name }
@@ -254,7 +247,7 @@ impl<F: Format> State<F> {
         ensures few { OnOk result (length self.now.pools < 64) }
     {
         self.names.refuse_taken(name)?;
-        refuse_at_limit(self.pools.len(), MAX_POOLS)
+        refuse_at_limit(self.pools.count(), MAX_POOLS)
     }
 
     /// Refuses a pool of blocks of one size where its name is taken, the size isn't 1 to 65,536 words, or there are 64 pools.
@@ -268,26 +261,19 @@ impl<F: Format> State<F> {
         if words == 0 || words > MAX_BLOCK_WORDS {
             return Err(Refusal::BadSize);
         }
-        refuse_at_limit(self.pools.len(), MAX_POOLS)
+        refuse_at_limit(self.pools.count(), MAX_POOLS)
     }
 
-    /// Makes a pool whose manual blocks have `size` words, or are of any sizes or automatic where that is 0.
-    fn make_pool(&mut self, name: Name, pool: Pool<F>, size: u32) -> Result<usize, Refusal>
+    /// Makes a pool.
+    fn make_pool(&mut self, name: Name, pool: Pool<F>) -> Result<usize, Refusal>
         requires free { thing_named self.old.names name ≡ None }
         requires few { length self.old.pools < 64 }
-        requires size { size ≡ size_of_pool pool }
         ensures { IsMade self.old (MakesPool self.old name pool) result self.new }
     {
-        let number = self.pools.len();
+        let number = self.pools.count();
         self.make_room()?;
-        let Ok(()) = self.pools.reserve(1) else {
+        let Ok(()) = self.pools.add(pool) else {
             return Err(Refusal::OutOfMemory);
-        };
-        let Ok(()) = self.manual.add(size) else {
-            return Err(Refusal::OutOfMemory);
-        };
-        let Ok(()) = self.pools.push(pool) else {
-            unreachable!()
         };
         self.names.take(name, Thing::Pool(number as u32));
         Ok(number)
@@ -299,7 +285,7 @@ impl<F: Format> State<F> {
             result self.new }
     {
         self.check_pool(name)?;
-        self.make_pool(name, Pool::Automatic { kind, format }, 0)
+        self.make_pool(name, Pool::Automatic { kind, format })
     }
 
     /// Makes a manual pool of blocks of one size. Refuses `BadSize` where that isn't 1 to 65,536 words.
@@ -309,7 +295,7 @@ impl<F: Format> State<F> {
     {
         self.check_pool_of_size(name, words)?;
         let words = words as u32;
-        self.make_pool(name, Pool::OneSize { words }, words)
+        self.make_pool(name, Pool::OneSize { words })
     }
 
     /// Makes a manual pool of blocks of any sizes.
@@ -317,10 +303,8 @@ impl<F: Format> State<F> {
         ensures { IsMaking self.old (check_pool self.old name) (MakesPool self.old name kind_of_pool.AnySize) result self.new }
     {
         self.check_pool(name)?;
-        self.make_pool(name, Pool::AnySize, 0)
+        self.make_pool(name, Pool::AnySize)
     }
-
-    // ---- dependencies
 
     /// Refuses a dependency where its name is taken or there are 256.
     fn check_dependency(&self, name: Name) -> Result<(), Refusal>
@@ -353,15 +337,4 @@ impl<F: Format> State<F> {
         self.names.take(name, Thing::Dependency(number as u32));
         Ok(number)
     }
-}
-
-/// Refuses one more where a limit is reached.
-fn refuse_at_limit(count: usize, limit: u32) -> Result<(), Refusal>
-    ensures value { result ≡ refuse_at_limit count limit }
-    ensures few { OnOk result (count < limit) }
-{
-    if count >= limit as usize {
-        return Err(Refusal::TooMany { limit });
-    }
-    Ok(())
 }

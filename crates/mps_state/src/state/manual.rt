@@ -1,22 +1,19 @@
 // The calls on manual blocks.
 #![tactic(auto)]
 
-ghost use Rattle.std.specs.Prelude.{◌≡◌, ◌<◌, ℕ, true, IfOk, Contains};
+ghost use Rattle.std.specs.Prelude.{◌≡◌, ◌<◌, ℕ, IfOk, Contains};
 ghost use Rattle.mps_base.specs.Address.{word_of};
 ghost use Rattle.mps_root.specs.State.{HasPlace};
 ghost use Rattle.mps_outcome.specs.Coming.{Comes, ComesMoving};
-ghost use Rattle.mps_outcome.specs.Manual.{is_block_over, with_block_place, block_allocated, block_in, block_freed, word_in_block, word_loaded, word_stored};
+ghost use Rattle.mps_outcome.specs.Manual.{with_block_place, block_allocated, block_in, block_freed, word_in_block, word_loaded, word_stored};
 ghost use Rattle.mps_state.specs.Placed.{allocated_into, freed_at};
 
 use super::State;
-use super::areas::block_over;
-use crate::cells::write_word;
-use crate::items::item;
-use crate::pools::{is_automatic, pool_of_segment};
 use mps_base::{Addr, BYTES_OF_WORD, Name, Refusal, Slot, Trail};
+use mps_cells::{begins_block, is_block_over, item, pool_of_segment, write_word};
 use mps_format::Format;
 use mps_outcome::Entry;
-use mps_seg::Segs;
+use mps_pools::is_automatic;
 
 /// The most words that a block may have.
 const MAX_BLOCK_WORDS: u64 = 65_536;
@@ -63,7 +60,7 @@ impl<F: Format> State<F> {
         requires fits { 1 < trail.old.spare }
         ensures { ComesMoving self.old trail.old (allocated_into self.old trail.old pool words into) result self.new trail.new }
     {
-        let Some(takes) = self.manual.takes(pool, words) else {
+        let Some(takes) = self.pools.manual().takes(pool, words) else {
             return Err(Refusal::BadName);
         };
         if !takes {
@@ -72,9 +69,8 @@ impl<F: Format> State<F> {
         if into.value != 0 {
             return Err(Refusal::NameTaken);
         }
-        let at = self
-            .manual
-            .alloc(&mut self.segs, trail, pool, words as u32)?;
+        let manual = self.pools.manual();
+        let at = manual.alloc(&mut self.segs, trail, pool, words as u32)?;
         self.set_place(into, at.0);
         Ok(())
     }
@@ -113,10 +109,12 @@ impl<F: Format> State<F> {
         let Some(pool) = pool_of_segment(&self.segs, at) else {
             return Err(Refusal::NotABlock);
         };
-        if pool as usize >= self.manual.pools() {
+        if pool as usize >= self.pools.manual().pools() {
             return Err(Refusal::NotABlock);
         }
-        self.manual.free(&mut self.segs, trail, pool, Addr(at));
+        self.pools
+            .manual()
+            .free(&mut self.segs, trail, pool, Addr(at));
         self.set_place(from, 0);
         Ok(())
     }
@@ -161,24 +159,5 @@ impl<F: Format> State<F> {
         let word = self.word_in_block(at, k)?;
         write_word(&mut self.segs, word, value);
         Ok(())
-    }
-}
-
-/// Whether a block begins at an address.
-#[tactic(auto, using(crate::proofs::Blocks::begins_block))]
-pub(crate) fn begins_block(segs: &Segs, at: u64) -> bool
-    ensures value { result ≡ is_block_over segs.now at at }
-    ensures block { result ≡ true → (words : ℕ) × Contains segs.now.blocks (record { from = word_of at; count = words }) }
-{
-    is_block_over(segs, at, at)
-}
-
-/// Whether the block over a byte begins at an address.
-pub(crate) fn is_block_over(segs: &Segs, byte: u64, at: u64) -> bool
-    ensures { result ≡ is_block_over segs.now byte at }
-{
-    match block_over(segs, byte) {
-        Some(from) => from == at,
-        None => false,
     }
 }

@@ -7,8 +7,8 @@ ghost use Rattle.mps_outcome.specs.Coming.{Comes};
 ghost use Rattle.mps_outcome.specs.Objects.{with_slot, copied, cleared, are_same, is_null, head_in, address_in, number_in, number_set, reference_got, reference_put};
 
 use super::State;
-use crate::cells::{number_cell_at, reference_cell_at, with_target, write_word};
 use mps_base::{Refusal, Slot};
+use mps_cells::{number_cell_at, reference_cell_at, with_target, write_word};
 use mps_format::Format;
 use mps_outcome::Entry;
 
