@@ -7,7 +7,9 @@ use Rattle.std.specs.List.{flat_map, list_all}
 use Rattle.std.specs.Option.{option_map_or}
 use Rattle.mps_base.specs.Address.{Id}
 use Rattle.mps_base.specs.declared.moves.Move.{Move}
+use Rattle.mps_buffer.specs.Points.{WereMadeBefore}
 use Rattle.mps_format.specs.Layout.{Layout}
+use Rattle.mps_buffer.specs.Points.{WereMadeBefore}
 use Rattle.mps_model.specs.declared.call.Call.TheVariants as call
 use Rattle.mps_model.specs.declared.reply.Reply.TheVariants as reply
 use Rattle.mps_model.specs.Answer.{Replied}
@@ -44,7 +46,6 @@ use Rattle.mps_refinement.proofs.RestingActs.{resting_sound}
 use Rattle.mps_refinement.proofs.Steps.{HasParts, moving_is_right}
 use Rattle.mps_collect_laws.specs.Leaving.{IsPlain, IsCollected, AreInPlace}
 use Rattle.mps_collect_laws.specs.Standing.{IsCollectedHeap, world_collected}
-use Rattle.mps_collect_laws.proofs.FlippedPoints.{WereMadeBefore}
 use Rattle.mps_collect_laws.proofs.Leavings.{a_collection_moves_objects}
 use Rattle.mps_collect_laws.proofs.CollectedParts as parts_of
 

@@ -5,7 +5,8 @@ use Rattle.std.specs.Prelude.{Bool, option_map, not}
 use Rattle.std.specs.Option.{option_map_or}
 use Rattle.mps_base.specs.Address.{Id, Address, max_grains, word_of}
 use Rattle.mps_base.specs.Segment.{Segment}
-use Rattle.mps_buffer.specs.Points.{PointsState, point_at, emptied}
+use Rattle.mps_buffer.specs.Points.{PointsState, WereMadeBefore, point_at, emptied}
+use Rattle.mps_buffer.proofs.MadeBefore.{point_at-flipped, was_point}
 use Rattle.mps_buffer.specs.declared.point.Point.{Point}
 use Rattle.mps_format.specs.Layout.{Layout}
 use Rattle.mps_image.specs.Memory.{words_of_arena}
@@ -26,10 +27,11 @@ use Rattle.mps_refinement.specs.StandsFor.{AreParts, ArePools, IsPoint, Past, ad
 use Rattle.mps_refinement.specs.Numbering.{AreNumbered}
 use Rattle.mps_refinement.proofs.Named.{ThingsStay, named_alike}
 use Rattle.mps_refinement.proofs.Numbering.{kept_alike}
+use Rattle.mps_refinement.proofs.Ordering.{ordered_alike}
 use Rattle.mps_collect_laws.specs.Leaving.{AreInPlace}
 use Rattle.mps_collect_laws.specs.Standing.{IsCollectedHeap}
 use Rattle.mps_collect_laws.proofs.SameAddresses.{same_ids, same_places, tables_same, areas_same}
-use Rattle.mps_collect_laws.proofs.FlippedPoints.{WereMadeBefore, point_at-flipped, was_point, points_counted, points_flipped, one_flip_more}
+use Rattle.mps_collect_laws.proofs.FlippedPoints.{points_counted, points_flipped, one_flip_more}
 
 module _ {F : Type 0} (layout : F → Layout) (past : Past) (h after : HeapState F) (w : World) (parts : AreParts layout past h w)
     (formed : IsWellFormed w) (none_registered : w.graph.registered ≡ []) (made : WereMadeBefore (length w.flips) h.points)
@@ -97,6 +99,7 @@ module _ {F : Type 0} (layout : F → Layout) (past : Past) (h after : HeapState
       resting = record {
         at_most = subst (λ n. n ≤ max_grains) (sym heap.grains) parts.resting.at_most;
         not_condemned = heap.not_condemned;
+        not_kept = heap.not_kept;
         within = λ key p held is reserved.
             let was = was_point h.points key p (sym (ap (λ s. point_at s key) heap.points) ∙ is) in
             subst (λ n. word_of held.at.0 + held.words ≤ words_of_arena n) (sym heap.grains)
@@ -107,6 +110,7 @@ module _ {F : Type 0} (layout : F → Layout) (past : Past) (h after : HeapState
       };
       tables = tables_same acted.world.addresses addresses past.table_number (kept after.roots.tables) w.graph.tables
           (λ id there. places.held id (contains_left (ids_in_slots w.graph) w.graph.messages id there)) heap.tables;
+      ordered = ordered_alike parts.ordered after.roots.order heap.order heap.tables_there;
       areas = areas_same w.addresses addresses past.area_number (kept after.roots.areas) w.graph.areas (λ id there. places.holds id there)
           (kept_alike parts.areas (λ key. ap (λ rows. kept rows key) heap.areas));
       blocks = heap.blocks ∙ (parts.blocks ∙ same_places w.addresses addresses w.graph.blocks

@@ -3,11 +3,11 @@ use Rattle.std.proofs.Common.{◌≡◌, ◌∙◌, ℕ, zero, suc, ◌+◌, ◌
 use Rattle.std.proofs.lemmas.Bool.{ne_eqb}
 use Rattle.std.proofs.lemmas.List.{length-append}
 use Rattle.std.proofs.lemmas.List.Sums.{sum_by-cons}
-use Rattle.std.proofs.lemmas.Option.{none-some, same_Some, slice_get-map}
-use Rattle.std.specs.Prelude.{cond, not, option_map, get_or, count_by}
+use Rattle.std.proofs.lemmas.Option.{none-some, slice_get-map}
+use Rattle.std.specs.Prelude.{cond, not, option_map, count_by}
 use Rattle.mps_buffer.specs.declared.point.Held.{Held}
-use Rattle.mps_buffer.specs.declared.point.Point.{Point}
-use Rattle.mps_buffer.specs.Points.{PointsState, point_at, emptied, flipped}
+use Rattle.mps_buffer.specs.Points.{PointsState, WereMadeBefore, point_at, emptied, flipped}
+use Rattle.mps_buffer.proofs.MadeBefore.{point_at-flipped, was_point}
 use Rattle.mps_model.specs.Graph as graph
 use Rattle.mps_model.specs.Graph.{Reservation, entry_at}
 use Rattle.mps_model.specs.World.{PointMemory}
@@ -17,31 +17,19 @@ use Rattle.mps_refinement.specs.StandsFor.{AreHeldAlike, BothHeld, NoneHeld, IsP
 
 -- ---- lists
 
--- an option under a key of a list that was changed entry by entry
-get_or-mapped : {A : Type 0} (f : A → A) (xs : List (Option A)) (key : ℕ)
-    → get_or (map (option_map f) xs) key None ≡ option_map f (get_or xs key None)
-get_or-mapped f [] key = refl
-get_or-mapped f (x ∷ xs) zero = refl
-get_or-mapped f (x ∷ xs) (suc key) = get_or-mapped f xs key
-
-pub point_at-flipped : (s : PointsState) (key : ℕ) → point_at (flipped s) key ≡ option_map emptied (point_at s key)
-point_at-flipped s key = get_or-mapped emptied s.points key
-
--- a point that there is after a flip is one that there was
-pub was_point : (s : PointsState) (key : ℕ) (p : Point) → point_at (flipped s) key ≡ Some p
-    → (q : Point) × (point_at s key ≡ Some q) × (emptied q ≡ p)
-was_point s key p e = of_point (point_at s key) refl (sym (point_at-flipped s key) ∙ e)
-  where
-    of_point : (o : Option Point) → point_at s key ≡ o → option_map emptied o ≡ Some p
-        → (q : Point) × (point_at s key ≡ Some q) × (emptied q ≡ p)
-    of_point None there f = absurd (none-some p f)
-    of_point (Some q) there f = (q, there, same_Some (emptied q) p f)
-
 entry-doomed : (points : List (Option graph.Point)) (n : ℕ) (q : graph.Point) → entry_at points n ≡ Some q
     → entry_at (map doomed points) n ≡ doomed (Some q)
 entry-doomed [] n q e = absurd (none-some q e)
 entry-doomed (p ∷ ps) zero q e = ap doomed e
 entry-doomed (p ∷ ps) (suc n) q e = entry-doomed ps n q e
+
+-- an entry that there is after it is one that there was
+was_entry : (points : List (Option graph.Point)) (n : ℕ) (q : graph.Point) → entry_at (map doomed points) n ≡ Some q
+    → (p : graph.Point) × (entry_at points n ≡ Some p)
+was_entry [] n q e = absurd (none-some q e)
+was_entry (None ∷ ps) zero q e = absurd (none-some q e)
+was_entry (Some p ∷ ps) zero q e = (p, refl)
+was_entry (p ∷ ps) (suc n) q e = was_entry ps n q e
 
 abbrev one_where_some : Option graph.Point → ℕ
 one_where_some p = cond (is_some p) 1 0
@@ -61,19 +49,6 @@ points_counted (p ∷ ps) =
     omega (arith, then_more, before, rest, same)
 
 -- ---- a reservation
-
--- no reservation was made after the last flip but one of those that came
-pub record WereMadeBefore (flips : ℕ) (s : PointsState) : Type 0 where
-  pub before : (key : ℕ) (p : Point) (held : Held) → point_at s key ≡ Some p → p.reservation ≡ Some held → held.flips ≤ flips
-
--- so it is after one more flip
-pub made_before_then : (flips : ℕ) (s : PointsState) → WereMadeBefore flips s → WereMadeBefore (flips + 1) (flipped s)
-made_before_then flips s made = record {
-  before = λ key p held e reserved.
-      let was = was_point s key p e in
-      let most = made.before key was.0 held was.1 (ap (λ (q : Point). q.reservation) was.2 ∙ reserved) in
-      omega (arith, most);
-}
 
 -- the reservations of a point are doomed
 abbrev doomed_one : Reservation → Reservation
@@ -118,6 +93,15 @@ module _ (flips : ℕ) (copying : ℕ → Bool) (memories : List PointMemory) (n
         let here = was_point s key p e in
         let there = was_point s other q f in
         are.apart key other here.0 there.0 here.1 there.1 same;
+    complete = λ n q e.
+        let was = was_entry points n q e in
+        let found = are.complete n was.0 was.1 in
+        record {
+          key = found.key;
+          value = emptied found.value;
+          there = point_at-flipped s found.key ∙ ap (option_map emptied) found.there;
+          numbered = found.numbered;
+        };
   }
 
 -- the number of flips, one more

@@ -12,7 +12,7 @@ use Rattle.mps_refinement.specs.StandsFor.{AreSlots, AreWords, address_of_id, ad
 use Rattle.mps_refinement.proofs.Numbering.{fitting_there}
 
 -- an entry of a list, among all that its entries have
-has_entry : {A : Type 0} (ids_of : Option A → List ℕ) (rows : List (Option A)) (n : ℕ) (a : A) (id : ℕ) → entry_at rows n ≡ Some a
+pub has_entry : {A : Type 0} (ids_of : Option A → List ℕ) (rows : List (Option A)) (n : ℕ) (a : A) (id : ℕ) → entry_at rows n ≡ Some a
     → contains (ids_of (Some a)) id ≡ true → contains (flat_map ids_of rows) id ≡ true
 has_entry ids_of [] n a id e h = absurd (none-some a e)
 has_entry ids_of (None ∷ rows) zero a id e h = absurd (none-some a e)

@@ -22,14 +22,16 @@ world_collected w ms = record (world_after_moves w ms) { state = Parked }
 -- the world after the call
 pub record IsCollectedHeap {F : Type 0} (past : Past) (w : World) (h after : HeapState F) (acted : List (Option Address))
     (v : World) : Type 0 where
-  -- the arena: segments, and words, marks and runs stand for the world after the call, and no segment is condemned
+  -- the arena: segments, and words, marks and runs stand for the world after the call, no segment is condemned, and no block is kept
   pub grains : after.segs.grains ≡ h.segs.grains
   pub limit : after.segs.limit ≡ h.segs.limit
   pub segments : after.segs.segments ≡ v.segments
   pub image : StandsAtRest after.segs v
   pub not_condemned : (grain : ℕ) → bit after.segs.condemned grain ≡ false
+  pub not_kept : (n : ℕ) → bit after.segs.marks.kept n ≡ false
   -- slots and messages hold the addresses that the act of the flip left
   pub tables : AreNumbered (AreSlots acted) past.table_number (kept after.roots.tables) w.graph.tables
+  pub order : after.roots.order ≡ h.roots.order
   pub tables_there : (key : ℕ) → IsSome (kept h.roots.tables key) → IsSome (kept after.roots.tables key)
   pub messages : after.finals.messages ≡ map (address_of_id acted) w.graph.messages
   pub registered : after.finals.registered ≡ []

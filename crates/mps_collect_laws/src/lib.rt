@@ -4,6 +4,7 @@
 
 ghost use Rattle.mps_collect_laws.specs.Staying.{AKeptObjectStays};
 ghost use Rattle.mps_collect_laws.specs.Leaving.{ACollectionMovesObjects};
+ghost use Rattle.mps_collect_laws.specs.Collecting.{AHeapCanCollect, ACollectIsRight};
 
 /// What isn't white stays so, and where it is, over units and to the end of a collection. For each kind of pool, also where objects
 /// are posted and weak references splatted.
@@ -16,4 +17,16 @@ pub fn a_kept_object_stays()
 /// stay where they were, and what slots and messages hold where the act of the flip left it.
 pub fn a_collection_moves_objects()
     ensures { ACollectionMovesObjects }
+{}
+
+/// A heap that stands for a world can collect everything, in the room that is asked for, where each automatic pool moves its blocks and
+/// nothing is registered.
+pub fn a_heap_can_collect<F>()
+    ensures { AHeapCanCollect F }
+{}
+
+/// What it does is the call `collect`: its step is legal in each world for which the heap stood, the heap stands for the world after it,
+/// and its trail keeps its room.
+pub fn a_collect_is_right<F>()
+    ensures { ACollectIsRight F }
 {}
