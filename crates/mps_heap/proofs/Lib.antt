@@ -1,3 +1,4 @@
+pub mod Collected
 pub mod Lending
 pub mod NewHeaps
 pub mod Results

@@ -4,6 +4,7 @@
 mod allocating;
 mod areas;
 mod arena;
+mod collecting;
 mod depending;
 mod finalizing;
 mod lending;
