@@ -5,6 +5,7 @@ ghost use Rattle.mps_refinement.specs.RightMoving.{KeepsRoom};
 use crate::Tail;
 use mps_base::{Kind, Name, Rank, Refusal, Slot, Trail};
 use mps_heap::Heap;
+use std::alloc::{AllocError, Global};
 
 /// The head of an item: four words, of which cell 1 is its number, cell 2 the next item, and cell 3 null.
 pub const HEAD: u64 = 33;
@@ -59,6 +60,21 @@ pub fn push(heap: &mut Heap<Tail>, trail: &mut Trail, number: u64) -> Result<(),
     trail.clear();
     let _ = heap.commit(trail, point, first())?;
     Ok(())
+}
+
+/// Drops the first item.
+pub fn pop(heap: &mut Heap<Tail>) -> Result<(), Refusal> {
+    heap.get(first(), first(), NEXT)
+}
+
+/// Collects all that was dropped, where that can be done, with a trail that has room for it. Returns whether it was done.
+pub fn collect(alloc: Global, heap: &mut Heap<Tail>) -> Result<bool, AllocError> {
+    if !heap.can_collect() {
+        return Ok(false);
+    }
+    let mut trail = Trail::new(alloc, heap.most_moves())?;
+    heap.collect(&mut trail);
+    Ok(true)
 }
 
 /// The sum of the first numbers of the list, at most `most` of them, modulo 2^64. This is a runtime's inner loop: it takes no memory, and

@@ -2,7 +2,7 @@
 ghost use Rattle.std.specs.Prelude.{◌<◌};
 
 use crate::list::named;
-use crate::{HEAD, Tail, make, push, sum};
+use crate::{HEAD, Tail, collect, make, pop, push, sum};
 use mps_base::{Kind, Rank, Refusal, Slot, Trail};
 use mps_format::Leaf;
 use mps_heap::Heap;
@@ -83,6 +83,35 @@ fn a_heap_over_a_format_of_its_own(rt: HostRuntime) -> Result<(), AllocError> {
     let mut heap = Heap::<Tail>::new(rt.alloc(), 8, 8)?;
     use_list(&rt, rt.alloc(), &mut heap);
     use_block(&rt, rt.alloc(), &mut heap);
+    heap.finish();
+    Ok(())
+}
+
+/// Pushes a number, with a trail of its own.
+fn push_one(alloc: Global, heap: &mut Heap<Tail>, number: u64) -> Result<(), Refusal> {
+    let mut trail = Trail::new(alloc, 1).map_err(|_| Refusal::OutOfMemory)?;
+    push(heap, &mut trail, number)
+}
+
+/// A runtime collects: what is in the list stays, and what was dropped is gone.
+fn collect_list(rt: &impl Abort, alloc: Global, heap: &mut Heap<Tail>) {
+    assert!(rt; make(heap).is_ok());
+    assert!(rt; push_five(alloc, heap).is_ok());
+    assert!(rt; pop(heap) == Ok(()));
+    assert!(rt; pop(heap) == Ok(()));
+    assert!(rt; sum(heap, 10) == Ok(6));
+    assert!(rt; heap.live() == (5, 20));
+    assert!(rt; matches!(collect(alloc, heap), Ok(true)));
+    assert!(rt; sum(heap, 10) == Ok(6));
+    assert!(rt; heap.live() == (3, 12));
+    assert!(rt; push_one(alloc, heap, 10).is_ok());
+    assert!(rt; sum(heap, 10) == Ok(16));
+}
+
+#[test]
+fn what_was_dropped_is_collected(rt: HostRuntime) -> Result<(), AllocError> {
+    let mut heap = Heap::<Tail>::new(rt.alloc(), 8, 8)?;
+    collect_list(&rt, rt.alloc(), &mut heap);
     heap.finish();
     Ok(())
 }
