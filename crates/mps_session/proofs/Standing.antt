@@ -1,9 +1,10 @@
 -- What the answers of a session guarantee of worlds: before the arena is made, and afterwards.
 use Rattle.std.proofs.Common.{◌≡◌, ◌∙◌, ◌<◌, ℕ, Bool, true, false, refl, sym, ap, subst, List, [], Option, Some, None, Result, Ok, Err}
 use Rattle.std.proofs.lemmas.Bool.{and_parts, false≢true, lt-ltb}
-use Rattle.std.specs.Prelude.{◌↔◌, ◌&&◌, IfOk, if◌then◌else◌, nat_eq, nat_lt, not}
+use Rattle.std.specs.Prelude.{◌↔◌, IfOk, if◌then◌else◌, nat_eq, not}
 use Rattle.mps_base.specs.declared.moves.Move.{Move}
 use Rattle.mps_commands.specs.RightAnswer.{step_in}
+use Rattle.mps_format.specs.AnyFormat.{any_layout}
 use Rattle.mps_format.specs.Any.{front_number, mapped_number, numbered_layout}
 use Rattle.mps_format.specs.Front.{front_layout}
 use Rattle.mps_format.specs.Laws.{front_is_lawful, leaf_is_lawful, mapped_is_lawful}
@@ -22,10 +23,12 @@ use Rattle.mps_model.specs.declared.call.Call.{Call}
 use Rattle.mps_model.specs.declared.call.Call.TheVariants as call
 use Rattle.mps_model.specs.declared.reply.Reply.{Reply}
 use Rattle.mps_model.specs.declared.reply.Reply.TheVariants as reply
+use Rattle.mps_outcome.specs.Collecting.{can_collect}
 use Rattle.mps_outcome.specs.State.{HeapState}
-use Rattle.mps_session.specs.Built.{is_answered, is_built, is_unsupported_call}
+use Rattle.mps_session.specs.Built.{can_collect_world, is_answered, is_built, is_unsupported_call}
 use Rattle.mps_session.specs.Session.{MadeState, last_moves, arena_words}
 use Rattle.mps_session.specs.Standing.{AnswersRightly, Answered, BeginsRightly, Begun, HeapStands, NotBegun, NotSupported, SessionStands}
+use Rattle.mps_session.proofs.CanCollect.{collects_alike}
 
 -- a reply is `unsupported` exactly where a call is
 abbrev pub IsExact : World → Call → Reply → Type 0
@@ -37,7 +40,7 @@ either_lawful : (b : Bool) (l m : Layout) → IsLawful l → IsLawful m → IsLa
 either_lawful true l m first second = first
 either_lawful false l m first second = second
 
-numbers_are_lawful : (number : ℕ) → IsLawful (numbered_layout number)
+pub numbers_are_lawful : (number : ℕ) → IsLawful (numbered_layout number)
 numbers_are_lawful number =
     either_lawful (nat_eq number front_number) front_layout _ front_is_lawful
     (either_lawful (nat_eq number mapped_number) mapped_layout leaf_layout mapped_is_lawful leaf_is_lawful)
@@ -102,11 +105,14 @@ module _ (h after : HeapState AnyFormat) (c : Call) (moves : List Move) (given :
   abbrev pub answer : Answer
   answer = answer_of after.segs.words given
 
-  pub answers_in : AnswersRightly (is_answered c) h c moves given after → (w : World) (line : ℕ) → HeapStands h w
-      → StepsTo (HeapStands after) w (step_in line c moves answer)
-  answers_in (Answered one a) w line st =
+  pub makes_none : (collects : Bool) → is_answered collects c ≡ true → makes_arena c ≡ false
+  makes_none collects one = made_once c ∙ of_not (is_arena c) (and_parts (is_built collects c) (not (is_arena c)) one).1
+
+  pub answers_in : (collects : Bool) → AnswersRightly (is_answered collects c) h c moves given after → (w : World) (line : ℕ)
+      → HeapStands h w → StepsTo (HeapStands after) w (step_in line c moves answer)
+  answers_in collects (Answered one a) w line st =
       let r = a.right w line st.formats st.heap in
-      let other : makes_arena c ≡ false = made_once c ∙ of_not (is_arena c) (and_parts (is_built c) (not (is_arena c)) one).1 in
+      let other = makes_none collects one in
       record {
         legal = r.legal;
         stands = record {
@@ -115,17 +121,23 @@ module _ (h after : HeapState AnyFormat) (c : Call) (moves : List Move) (given :
           arena = subst (λ (n : ℕ). 0 < n) (sym (step_grains line w c moves answer other)) st.arena;
         };
       }
-  answers_in (NotSupported other is none same) w line st =
+  answers_in collects (NotSupported other is none same) w line st =
       subst (StepsTo (HeapStands after) w) (sym (step_same line refl none (ap (answer_of after.segs.words) is)))
       (record { legal = refl; stands = subst (λ k. HeapStands k w) (sym same) st })
 
-  pub answers_exactly : AnswersRightly (is_answered c) h c moves given after → (w : World) → HeapStands h w → IsExact w c given
+  pub answers_exactly : AnswersRightly (is_answered (can_collect h) c) h c moves given after → (w : World) → HeapStands h w
+      → IsExact w c given
   answers_exactly answers w st = of_answer answers
     where
-      made : is_unsupported_call w c ≡ not (is_answered c)
-      made = ap (λ b. if b then not (is_answered c) else not (is_arena c)) (lt-ltb 0 w.grains st.arena)
+      one_of : Bool
+      one_of = is_answered (can_collect h) c
 
-      of_answer : AnswersRightly (is_answered c) h c moves given after → IsExact w c given
+      made : is_unsupported_call w c ≡ not one_of
+      made =
+          ap (λ b. if b then not (is_answered (can_collect_world w) c) else not (is_arena c)) (lt-ltb 0 w.grains st.arena)
+          ∙ ap (λ collects. not (is_answered collects c)) (sym (collects_alike any_layout h w st.heap))
+
+      of_answer : AnswersRightly one_of h c moves given after → IsExact w c given
       of_answer (Answered one a) = (λ e. absurd (a.supported e), λ t. absurd (false≢true (sym (ap not one) ∙ sym made ∙ t)))
       of_answer (NotSupported other is none same) = (λ _. made ∙ ap not other, λ _. is)
 

@@ -1,24 +1,39 @@
 -- What is built, and what takes memory.
-use Rattle.std.specs.Prelude.{◌≡◌, ◌∷◌, [], Bool, true, false, ◌&&◌, nat_lt, not, if◌then◌else◌, refl}
+use Rattle.std.specs.Prelude.{◌≡◌, ◌∷◌, [], length, Bool, true, false, ◌&&◌, ◌||◌, nat_lt, not, if◌then◌else◌, None, refl}
+use Rattle.std.specs.List.{list_all}
+use Rattle.mps_base.specs.declared.names.Kind.TheVariants as kind
 use Rattle.mps_model.specs.declared.call.Call.{Call}
 use Rattle.mps_model.specs.declared.call.Call.TheVariants as call
 use Rattle.mps_model.specs.FirstCall.{is_arena}
-use Rattle.mps_model.specs.World.{World, empty_world}
+use Rattle.mps_model.specs.Graph.{empty_graph}
+use Rattle.mps_model.specs.World.{World, Pool, PoolKind, Collected, is_automatic_kind, is_copying_kind, empty_world}
 use Rattle.mps_commands.specs.Built.{Built}
+use Rattle.mps_outcome.specs.Collecting.{is_empty, most_flips}
 
--- whether the form of a call is built: all but chains of generations and what begins or drives a collection
-abbrev pub is_built : Call → Bool
-is_built (call.Chain chain count capacities) = false
-is_built (call.PoolOnChain pool kind format chain) = false
-is_built call.Collect = false
-is_built call.Start = false
-is_built (call.StartChain chain generation) = false
-is_built (call.Step units) = false
-is_built _ = true
+-- whether a collection moves the blocks of pools of a kind, or leaves them alone
+abbrev pub is_moved_or_manual_kind : PoolKind → Bool
+is_moved_or_manual_kind of = not (is_automatic_kind of) || is_copying_kind of
+
+-- whether everything can be collected in a world: each automatic pool moves its blocks, nothing is registered, and fewer flips came than a
+-- heap counts
+abbrev pub can_collect_world : World → Bool
+can_collect_world w =
+    list_all (λ (p : Pool). is_moved_or_manual_kind p.kind) w.pools && is_empty w.graph.registered && nat_lt (length w.flips) most_flips
+
+-- whether the form of a call is built: all but chains of generations and what begins or drives a collection by steps; a collection of
+-- everything is where it can be done
+abbrev pub is_built : (collects : Bool) → Call → Bool
+is_built collects (call.Chain chain count capacities) = false
+is_built collects (call.PoolOnChain pool kind format chain) = false
+is_built collects call.Collect = collects
+is_built collects call.Start = false
+is_built collects (call.StartChain chain generation) = false
+is_built collects (call.Step units) = false
+is_built collects _ = true
 
 -- whether a heap answers it: it is built, and doesn't make the arena
-abbrev pub is_answered : Call → Bool
-is_answered c = is_built c && not (is_arena c)
+abbrev pub is_answered : (collects : Bool) → Call → Bool
+is_answered collects c = is_built collects c && not (is_arena c)
 
 -- whether the arena was made
 abbrev pub has_arena : World → Bool
@@ -26,7 +41,7 @@ has_arena w = nat_lt 0 w.grains
 
 -- whether a call is answered `unsupported`: its form isn't built, it comes before the arena, or it makes the arena again
 abbrev pub is_unsupported_call : World → Call → Bool
-is_unsupported_call w c = if has_arena w then not (is_answered c) else not (is_arena c)
+is_unsupported_call w c = if has_arena w then not (is_answered (can_collect_world w) c) else not (is_arena c)
 
 -- whether a call takes memory: all that make something do
 abbrev pub call_takes_memory : Call → Bool
@@ -61,5 +76,17 @@ no_second_arena = refl
 pub live_is_built : is_unsupported_call example_world call.Live ≡ false
 live_is_built = refl
 
-pub no_collection_is : is_unsupported_call example_world call.Collect ≡ true
-no_collection_is = refl
+pub a_collection_is : is_unsupported_call example_world call.Collect ≡ false
+a_collection_is = refl
+
+pub no_collection_by_steps_is : is_unsupported_call example_world call.Start ≡ true
+no_collection_by_steps_is = refl
+
+pub no_collection_beside_a_pool_that_marks :
+    is_unsupported_call (record example_world { pools = record { kind = Collected kind.Ams; format = 1; chain = None } ∷ [] }) call.Collect
+    ≡ true
+no_collection_beside_a_pool_that_marks = refl
+
+pub none_while_an_object_is_registered :
+    is_unsupported_call (record example_world { graph = record empty_graph { registered = 0 ∷ [] } }) call.Collect ≡ true
+none_while_an_object_is_registered = refl

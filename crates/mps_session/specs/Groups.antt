@@ -3,7 +3,12 @@ use Rattle.std.specs.Prelude.{Bool, true, false}
 use Rattle.mps_model.specs.declared.call.Call.{Call}
 use Rattle.mps_model.specs.declared.call.Call.TheVariants as call
 
--- a call that may make moves where no collection runs
+-- a call that collects
+abbrev pub is_collection : Call → Bool
+is_collection call.Collect = true
+is_collection _ = false
+
+-- a call that makes or ends a block, and may make moves
 abbrev pub may_move : Call → Bool
 may_move (call.Reserve point head) = true
 may_move (call.Commit point target) = true

@@ -1,21 +1,18 @@
 -- What a session has: a heap and the moves of its last call, once the arena was made.
-use Rattle.std.specs.Prelude.{◌≡◌, ℕ, ◌+◌, ◌≤◌, List, [], ◌∷◌, length, Option, Some, None, refl}
+use Rattle.std.specs.Prelude.{ℕ, ◌+◌, ◌≤◌, List, [], length, Option, Some, None}
 use Rattle.mps_base.specs.Trail.{Moves}
 use Rattle.mps_base.specs.declared.moves.Move.{Move}
 use Rattle.mps_format.specs.declared.any.AnyFormat.{AnyFormat}
 use Rattle.mps_outcome.specs.State.{HeapState}
+use Rattle.mps_trace.specs.Collect.{most_moves}
 
 pub record MadeState : Type 0 where
   pub heap : HeapState AnyFormat
   pub trail : Moves
 
--- the most moves that a call makes where no collection runs
-abbrev pub most_moves : ℕ
-most_moves = 2
-
--- the trail has room for the moves of one call
-abbrev pub HasRoomForMoves : Moves → Type 0
-HasRoomForMoves trail = most_moves ≤ trail.spare + length trail.moves
+-- the trail has room for the moves of one call in an arena of these grains: a collection of everything makes the most
+abbrev pub HasRoomForMoves : (grains : ℕ) → Moves → Type 0
+HasRoomForMoves grains trail = most_moves grains ≤ trail.spare + length trail.moves
 
 abbrev pub last_moves : Option MadeState → List Move
 last_moves None = []

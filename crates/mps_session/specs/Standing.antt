@@ -1,5 +1,6 @@
 -- When a session stands for a world, and what an answer of its heap guarantees.
 use Rattle.std.specs.Prelude.{◌≡◌, ◌≢◌, ◌<◌, ℕ, Bool, true, false, List, [], Option, Some, None}
+use Rattle.mps_base.specs.Trail.{Moves}
 use Rattle.mps_base.specs.declared.moves.Move.{Move}
 use Rattle.mps_format.specs.Any.{numbered_layout}
 use Rattle.mps_format.specs.AnyFormat.{any_layout}
@@ -15,7 +16,7 @@ use Rattle.mps_model.specs.declared.reply.Reply.TheVariants as reply
 use Rattle.mps_outcome.specs.State.{HeapState}
 use Rattle.mps_refinement.specs.RightStep.{IsRightIn, step_of}
 use Rattle.mps_refinement.specs.StandsFor.{StandsFor}
-use Rattle.mps_session.specs.Session.{MadeState}
+use Rattle.mps_session.specs.Session.{HasRoomForMoves, MadeState}
 
 -- the numbers of formats mean the three of a script
 abbrev pub HasScriptFormats : World → Type 0
@@ -26,6 +27,12 @@ pub record HeapStands (h : HeapState AnyFormat) (w : World) : Type 0 where
   pub heap : StandsFor any_layout h w
   pub formats : HasScriptFormats w
   pub arena : 0 < w.grains
+
+-- a heap stands for some world of a script, in which the arena was made, and its trail has room for the moves of each call
+pub record StandsForScript (h : HeapState AnyFormat) (trail : Moves) : Type 0 where
+  pub world : World
+  pub stands : HeapStands h world
+  pub fits : HasRoomForMoves h.segs.grains trail
 
 -- a session stands for the empty world, until the arena is made
 abbrev pub SessionStands : Option MadeState → World → Type 0

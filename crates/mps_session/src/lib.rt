@@ -3,6 +3,8 @@
 
 mod areas;
 mod arena;
+mod calls;
+mod collecting;
 mod made;
 mod making;
 mod moving;

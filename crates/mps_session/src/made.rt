@@ -4,19 +4,17 @@ ghost use Rattle.mps_base.specs.Address.{max_grains};
 ghost use Rattle.mps_commands.specs.Range.{IsInRange};
 ghost use Rattle.mps_format.specs.AnyFormat.{any_layout};
 ghost use Rattle.mps_heap.specs.Right.{IsNewHeap};
+ghost use Rattle.mps_outcome.specs.Collecting.{can_collect};
 ghost use Rattle.mps_session.specs.Built.{is_answered, call_takes_memory};
 ghost use Rattle.mps_session.specs.Standing.{AnswersRightly, HeapStandsStill};
 
-use crate::{areas, arena, making, moving, objects};
+use crate::calls;
 use mps_base::{Move, Trail};
 use mps_format::AnyFormat;
 use mps_heap::Heap;
 use mps_model::{Call, Reply};
 use std::alloc::{AllocError, Global};
 use std::marker::Model;
-
-/// The most moves that a call makes where no collection runs: those of a segment and of the block in it.
-const MOST_MOVES: u32 = 2;
 
 /// A heap, and the moves of the last call.
 pub struct Made {
@@ -25,51 +23,47 @@ pub struct Made {
 }
 
 impl Model for Made {
-    ghost use Rattle.mps_session.specs.Session.{HasRoomForMoves, MadeState};
+    ghost use Rattle.mps_session.specs.Session.{MadeState};
+    ghost use Rattle.mps_session.specs.Standing.{StandsForScript};
 
     ghost Value = { MadeState };
 
     ghost view = { λ m. record { heap = m.heap; trail = m.trail } };
 
-    ghost invariant = { λ m. HasRoomForMoves m.trail };
+    ghost invariant = { λ m. StandsForScript m.heap m.trail };
 }
 
 impl Made {
-    /// The heap of a new arena, which made no move. The numbers are in grains.
+    /// The heap of a new arena, which made no move, with room for the moves of a collection: no call makes more. The numbers are in grains.
     pub fn new(alloc: Global, grains: u32, limit: u32) -> Result<Made, AllocError>
         requires nonzero { 0 < grains }
         requires at_most { grains ≤ max_grains }
         ensures right { IfOk result (λ made. IsNewHeap any_layout grains limit made.heap) }
         ensures unmoved { IfOk result (λ made. made.trail.moves ≡ []) }
     {
-        let trail = Trail::new(alloc, MOST_MOVES)?;
         let heap = Heap::new(alloc, grains, limit)?;
+        let trail = match Trail::new(alloc, heap.most_moves()) {
+            Ok(trail) => trail,
+            Err(why) => {
+                heap.finish();
+                return Err(why);
+            }
+        };
         Ok(Made { heap, trail })
     }
 
     /// Answers a call. An `Err` says that memory is out.
     pub fn answer(&mut self, call: &Call) -> Result<Reply, AllocError>
         requires range { IsInRange call.now }
-        ensures right { IfOk result (λ reply.
-            AnswersRightly (is_answered call.now) self.old.heap call.now self.new.trail.moves reply self.new.heap) }
+        ensures right { IfOk result (λ reply. AnswersRightly (is_answered (can_collect self.old.heap) call.now) self.old.heap call.now
+            self.new.trail.moves reply self.new.heap) }
         ensures unchanged { OnErr result (HeapStandsStill self.old.heap self.new.heap) }
         ensures memory { OnErr result (IsTrue (call_takes_memory call.now)) }
     {
         self.trail.clear();
-        if let Some(reply) = moving::answer(&mut self.heap, &mut self.trail, call) {
-            return Ok(reply);
-        }
-        if let Some(reply) = objects::answer(&mut self.heap, call) {
-            return Ok(reply);
-        }
-        if let Some(reply) = areas::answer(&mut self.heap, call) {
-            return Ok(reply);
-        }
-        if let Some(reply) = arena::answer(&mut self.heap, call) {
-            return Ok(reply);
-        }
-        making::answer(&mut self.heap, call)
+        calls::answer(&mut self.heap, &mut self.trail, call)
     }
+
     /// The moves of the last call.
     pub fn moves(&self) -> &[Move]
         ensures { result.now ≡ self.now.trail.moves }

@@ -3,7 +3,7 @@ ghost use Rattle.std.specs.Prelude.{IsTrue};
 ghost use Rattle.mps_commands.specs.Range.{IsInRange};
 
 use crate::Session;
-use mps_base::{Addr, Kind, Move, Name, Rank, Refusal, Slot};
+use mps_base::{Addr, Kind, Move, Name, Rank, Refusal, Slot, ZoneSet};
 use mps_commands::Commands;
 use mps_model::{Call, Reply};
 use std::alloc::Global;
@@ -143,7 +143,7 @@ fn committed(at: u64) -> Move {
 
 #[test]
 fn numbers_of_two_blocks(rt: HostRuntime) {
-    let steps: [Step<'_>; 20] = [
+    let steps: [Step<'_>; 19] = [
         (pool(), NO, &[]),
         (arena(8), Reply::Ok, &[]),
         (arena(8), NO, &[]),
@@ -167,7 +167,6 @@ fn numbers_of_two_blocks(rt: HostRuntime) {
             &[],
         ),
         (Call::Committed, Reply::Number(1), &[]),
-        (Call::Collect, NO, &[]),
     ];
     run(&rt, rt.alloc(), &steps);
 }
@@ -221,6 +220,73 @@ fn a_manual_block_comes_and_goes(rt: HostRuntime) {
             Reply::Refused(Refusal::NotABlock),
             &[],
         ),
+    ];
+    run(&rt, rt.alloc(), &steps);
+}
+
+/// Makes the pool `m`, of blocks that a collection doesn't move.
+fn marking_pool() -> Call {
+    Call::Pool {
+        pool: named(b'm'),
+        kind: Kind::Ams,
+        format: 1,
+    }
+}
+
+/// Registers the object in the slot 0 for finalization, or takes that back.
+fn registration(registers: bool) -> Call {
+    let slot = slot(0);
+    if registers {
+        Call::Finalize { slot }
+    } else {
+        Call::Definalize { slot }
+    }
+}
+
+#[test]
+fn a_block_is_moved(rt: HostRuntime) {
+    let base = Addr(0x1000);
+    let to = Addr(0x2000);
+    let moved = [
+        Move::Flip {
+            zones: ZoneSet(2),
+            chain: 16,
+            generation: 0,
+        },
+        Move::Seg {
+            base: to,
+            grains: 1,
+            pool: 0,
+            generation: 0,
+        },
+        Move::Moved { from: base, to },
+        Move::Unseg { base },
+        Move::End,
+    ];
+    let steps: [Step<'_>; 16] = [
+        (
+            Call::Arena {
+                grains: 8,
+                limit: 2,
+            },
+            Reply::Ok,
+            &[],
+        ),
+        (table(), Reply::Ok, &[]),
+        (pool(), Reply::Ok, &[]),
+        (point(), Reply::Ok, &[]),
+        (reserve(ONE_REFERENCE), Reply::Ok, &[SEGMENT]),
+        (init(2, 7), Reply::Ok, &[]),
+        (commit(0), Reply::Ok, &[committed(0x1000)]),
+        (registration(true), Reply::Ok, &[]),
+        (Call::Collect, NO, &[]),
+        (registration(false), Reply::Ok, &[]),
+        (Call::Collect, Reply::Ok, &moved),
+        (number(0, 2), Reply::Number(7), &[]),
+        (Call::Dump { at: to.0 }, Reply::Words(to, 3), &[]),
+        (Call::Committed, Reply::Number(1), &[]),
+        (marking_pool(), Reply::Ok, &[]),
+        (Call::Collect, NO, &[]),
     ];
     run(&rt, rt.alloc(), &steps);
 }

@@ -1,4 +1,3 @@
-use Rattle.std.proofs.Common.{refl, subst, sym}
 use Rattle.mps_session.proofs.Answering.{answered_dump, refused_dump}
 use Rattle.mps_session.proofs.arena.dump.Goals as goal
 

@@ -1,13 +1,20 @@
 use Rattle.std.proofs.Common.{subst}
+use Rattle.mps_outcome.specs.Collecting.{can_collect}
 use Rattle.mps_session.specs.Standing.{SessionStands}
-use Rattle.mps_session.proofs.Standing.{answers_in, begins_exactly, begins_in, ok_then}
+use Rattle.mps_session.proofs.Standing.{answers_exactly, answers_in, begins_exactly, begins_in, ok_then}
 use Rattle.mps_session.proofs.session.SessionCommands.answer.Goals as goal
 
 pub returns-in-Some-clause-stands : goal.returns-in-Some-clause-stands
 returns-in-Some-clause-stands c =
     ok_then c.answer.result c.answer.ensures.right (λ given answers w line stood.
-    (answers_in c.in-Some.made.heap c.answer.new.self.heap c.args.call.now c.answer.new.self.trail.moves given answers w line
-    (subst (λ o. SessionStands o w) c.in-Some.is stood)).stands)
+    (answers_in c.in-Some.made.heap c.answer.new.self.heap c.args.call.now c.answer.new.self.trail.moves given
+    (can_collect c.in-Some.made.heap) answers w line (subst (λ o. SessionStands o w) c.in-Some.is stood)).stands)
+
+pub returns-in-Some-clause-unsupported : goal.returns-in-Some-clause-unsupported
+returns-in-Some-clause-unsupported c =
+    ok_then c.answer.result c.answer.ensures.right (λ given answers w stood.
+    answers_exactly c.in-Some.made.heap c.answer.new.self.heap c.args.call.now c.answer.new.self.trail.moves given answers w
+    (subst (λ o. SessionStands o w) c.in-Some.is stood))
 
 pub returns-clause-legal : goal.returns-clause-legal
 returns-clause-legal c =
