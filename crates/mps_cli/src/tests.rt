@@ -45,9 +45,17 @@ const FULL_ARENA_ANSWERS: &[u8] =
     b"ok\nok\nok\nok\nrefused 4\nok\nok\nrefused 10 1 1 1\nrefused 5\n";
 
 /// A command that isn't built.
-const NOT_BUILT: &[u8] = b"# x\n arena  8   9 \ncollect\n";
+const NOT_BUILT: &[u8] = b"# x\n arena  8   9 \nstart\n";
 
 const NOT_BUILT_ANSWERS: &[u8] = b"ok\nunsupported\n";
+
+/// A collection moves a block from 0x1000 to 0x2000, and gives its segment back.
+const COLLECTED: &[u8] =
+    b"arena 8 8\ntable t 4\npool p amc front\nap x p exact\nreserve x f:3:1\ninit x 2 7\ncommit x t.0\nnum t.0 2\naddr t.0\n\
+    collect\naddr t.0\ncommitted\ndump 0x2000\n";
+
+const COLLECTED_ANSWERS: &[u8] =
+    b"ok\nok\nok\nok\nok\nok\nok\n7\n0x1000\nok\n0x2000\n1\n0x100000301 0x0 0x7\n";
 
 /// A command before the arena, and the arena again.
 const NO_ARENA_FIRST: &[u8] = b"\ntable t 4\narena 8 9\n";

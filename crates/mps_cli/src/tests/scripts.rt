@@ -1,7 +1,8 @@
 // Scripts on standard input.
 use super::{
-    ARENA_AGAIN, COMMENTS, Ends, FIRST, FIRST_ANSWERS, FIRST_LOG, FULL_ARENA, FULL_ARENA_ANSWERS,
-    HEADER, NO_ARENA_FIRST, NOT_BUILT, NOT_BUILT_ANSWERS, compare, run,
+    ARENA_AGAIN, COLLECTED, COLLECTED_ANSWERS, COMMENTS, Ends, FIRST, FIRST_ANSWERS, FIRST_LOG,
+    FULL_ARENA, FULL_ARENA_ANSWERS, HEADER, NO_ARENA_FIRST, NOT_BUILT, NOT_BUILT_ANSWERS, compare,
+    run,
 };
 use mps_desk::{DeskCall, MemDesk};
 use std::alloc::{AllocError, Global};
@@ -65,7 +66,7 @@ fn compare_log(rt: &impl Abort, desk: &MemDesk, case: &ScriptCase) {
 
 /// Whole and in pieces of 1 and of 7 bytes, the first script has its answers, and its log byte for byte. Then scripts that
 /// have no command, an arena that is full, and commands out of turn.
-const SCRIPTS: [ScriptCase; 9] = [
+const SCRIPTS: [ScriptCase; 10] = [
     ScriptCase {
         script: FIRST,
         most: 0,
@@ -137,6 +138,18 @@ const SCRIPTS: [ScriptCase; 9] = [
         },
         log: HEADER,
         log_bytes: 136,
+    },
+    ScriptCase {
+        script: COLLECTED,
+        most: 0,
+        failing: None,
+        ends: Ends {
+            status: 0,
+            printed: COLLECTED_ANSWERS,
+            reported: b"",
+        },
+        log: FIRST_LOG,
+        log_bytes: 256,
     },
     ScriptCase {
         script: NOT_BUILT,
