@@ -1,5 +1,5 @@
 -- What a caller sees of the names: a finite map from names to things.
-use Rattle.std.specs.Prelude.{ℕ, ◌≡◌, ◌==◌, ◌&&◌, Bool, false, Option, Some, None, List, [], ◌∷◌, refl}
+use Rattle.std.specs.Prelude.{ℕ, ◌≡◌, false, Option, Some, None, List, [], ◌∷◌, refl}
 use Rattle.std.specs.Map.{lookup}
 use Rattle.mps_base.specs.declared.names.Name.{Name}
 use Rattle.mps_names.specs.declared.names.Thing.{Thing}

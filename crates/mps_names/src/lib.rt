@@ -1,6 +1,7 @@
 //! The names of a client's things. All names share one name space, and a name stands for at most one thing.
 #![tactic(auto)]
 
+mod key;
 mod names;
 
 pub use names::{Names, Thing};

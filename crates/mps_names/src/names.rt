@@ -4,6 +4,7 @@
 ghost use Rattle.std.specs.Prelude.{◌≡◌, ◌<◌, ◌≤◌, [], None, Some, IfErr, OnOk, OnErr, IsSome, IsOk};
 ghost use Rattle.mps_names.specs.State.{NamesState, thing_named, IsSameMap, Updates};
 
+use crate::key::Key;
 use mps_base::{Name, Refusal};
 use std::alloc::{AllocError, Global};
 use std::collections::HashMap;
@@ -24,7 +25,7 @@ pub enum Thing {
 /// The names that are taken, and what each stands for.
 #[derive(Drop)]
 pub struct Names {
-    things: HashMap<Name, Thing>,
+    things: HashMap<Key, Thing>,
 }
 
 impl Model for Names {
@@ -58,7 +59,7 @@ impl Names {
     pub fn get(&self, name: Name) -> Option<Thing>
         ensures { result ≡ thing_named self.now name }
     {
-        self.things.get(&name).copied()
+        self.things.get(&Key { name }).copied()
     }
 
     /// Refuses `NameTaken` where a name stands for something.
@@ -66,7 +67,7 @@ impl Names {
         ensures sound { OnOk result (thing_named self.now name ≡ None) }
         ensures refuses { IfErr result (λ why. (why ≡ Refusal.NameTaken) × IsSome (thing_named self.now name)) }
     {
-        if self.things.contains_key(&name) {
+        if self.things.contains_key(&Key { name }) {
             return Err(Refusal::NameTaken);
         }
         Ok(())
@@ -78,7 +79,7 @@ impl Names {
         requires fits { 0 < self.old.room }
         ensures { Updates self.old self.new name (Some thing) }
     {
-        let Ok(_) = self.things.insert(name, thing) else {
+        let Ok(_) = self.things.insert(Key { name }, thing) else {
             unreachable!()
         };
     }
@@ -88,6 +89,6 @@ impl Names {
         ensures value { result ≡ thing_named self.old name }
         ensures dropped { Updates self.old self.new name None }
     {
-        self.things.remove(&name)
+        self.things.remove(&Key { name })
     }
 }
