@@ -5,7 +5,7 @@ use Rattle.std.specs.Prelude.{Bool, ◌&&◌, ◌||◌, if◌then◌else◌}
 use Rattle.mps_model.specs.declared.call.Call.{Call}
 use Rattle.mps_model.specs.declared.call.Call.TheVariants as call
 use Rattle.mps_session.specs.Built.{call_takes_memory, is_answered}
-use Rattle.mps_session.specs.Groups.{is_collection, is_on_areas, is_on_arena, is_on_words, makes_thing, may_move}
+use Rattle.mps_session.specs.Groups.{is_collection, is_on_areas, is_on_arena, is_on_words, makes_thing, may_move, reads_words, writes_words}
 
 and_true : (b : Bool) → (b && true) ≡ b
 and_true true = refl
@@ -96,3 +96,22 @@ making_takes_memory (call.Point point pool rank) one = refl
 making_takes_memory (call.Dependency dependency) one = refl
 making_takes_memory (call.Arena grains limit) one = refl
 making_takes_memory _ one = absurd (false≢true one)
+
+-- a call on words reads or writes
+pub it_reads : (c : Call) → true ≡ reads_words c → true ≡ is_on_words c
+it_reads (call.Number slot cell) one = refl
+it_reads (call.Same slot other) one = refl
+it_reads (call.Null slot) one = refl
+it_reads (call.Head slot) one = refl
+it_reads (call.Address slot) one = refl
+it_reads (call.Load place word) one = refl
+it_reads _ one = absurd (false≢true (sym one))
+
+pub reads_or_writes : (c : Call) → false ≡ reads_words c → writes_words c ≡ is_on_words c
+reads_or_writes (call.Number slot cell) one = absurd (false≢true one)
+reads_or_writes (call.Same slot other) one = absurd (false≢true one)
+reads_or_writes (call.Null slot) one = absurd (false≢true one)
+reads_or_writes (call.Head slot) one = absurd (false≢true one)
+reads_or_writes (call.Address slot) one = absurd (false≢true one)
+reads_or_writes (call.Load place word) one = absurd (false≢true one)
+reads_or_writes _ one = refl

@@ -34,6 +34,28 @@ is_on_words (call.Load place word) = true
 is_on_words (call.Store place word value) = true
 is_on_words _ = false
 
+-- a call that reads a slot, or a word of an object or a manual block
+abbrev pub reads_words : Call → Bool
+reads_words (call.Number slot cell) = true
+reads_words (call.Same slot other) = true
+reads_words (call.Null slot) = true
+reads_words (call.Head slot) = true
+reads_words (call.Address slot) = true
+reads_words (call.Load place word) = true
+reads_words _ = false
+
+-- a call that writes a slot, or a word of an object, a reservation or a manual block
+abbrev pub writes_words : Call → Bool
+writes_words (call.Get target source cell) = true
+writes_words (call.Put target cell source) = true
+writes_words (call.SetNumber slot cell value) = true
+writes_words (call.Copy target source) = true
+writes_words (call.Clear slot) = true
+writes_words (call.InitNumber point cell value) = true
+writes_words (call.InitReference point cell source) = true
+writes_words (call.Store place word value) = true
+writes_words _ = false
+
 -- a call on an area, a registration, a message or a dependency
 abbrev pub is_on_areas : Call → Bool
 is_on_areas (call.Poke word value) = true

@@ -9,6 +9,7 @@ mod made;
 mod making;
 mod moving;
 mod objects;
+mod reading;
 mod replies;
 mod session;
 #[cfg(test)]

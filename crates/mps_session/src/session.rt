@@ -28,6 +28,8 @@ impl Session {
     }
 
     /// Answers a call before the arena is made: `arena` makes it, and no other is supported.
+    #[cold]
+    #[inline(never)]
     fn begin(&mut self, call: &Call) -> Result<Reply, AllocError>
         requires none { self.old.made ≡ None }
         requires range { IsInRange call.now }
