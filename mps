@@ -28,21 +28,38 @@ end_proofs() {
   done
 }
 
-# The libraries of the repository that a crate names in crates.txt.
-libraries_of() {
-  local name
-  for name in $(sed -n "s/^$1\( [a-z]*\)\?:\(.*\)/\2/p" "$home/crates.txt"); do
-    if [ -d "$home/crates/$name" ]; then echo "$name"; fi
+# Reads from crates.txt which libraries of the repository each crate names.
+read_libraries() {
+  local name words word
+  while IFS=: read -r name words; do
+    for word in ${words%%#*}; do
+      if [ -d "$home/crates/$word" ]; then libraries[${name%% *}]+=" $word"; fi
+    done
+  done <"$home/crates.txt"
+}
+
+# Finds all that the program stands on, and of each how long the longest chain of crates from it up to the program is.
+find_chains() {
+  local name library waiting=(mps_cli)
+  chain[mps_cli]=0
+  while [ "${#waiting[@]}" -gt 0 ]; do
+    name=${waiting[-1]}
+    unset 'waiting[-1]'
+    for library in ${libraries[$name]}; do
+      if [ "${chain[$library]:-0}" -le "${chain[$name]}" ]; then
+        chain[$library]=$((chain[$name] + 1))
+        waiting+=("$library")
+      fi
+    done
   done
 }
 
-# All that a crate stands on.
-all_below() {
+# The libraries of the program, those with the longest chains above them first.
+longest_first() {
   local name
-  for name in $(libraries_of "$1"); do
-    echo "$name"
-    all_below "$name"
-  done | sort -u
+  for name in "${!chain[@]}"; do
+    if [ "$name" != mps_cli ]; then echo "${chain[$name]} $name"; fi
+  done | sort -k1,1nr -k2 | cut -d' ' -f2
 }
 
 proofs_at_once() {
@@ -58,7 +75,7 @@ proofs_at_once() {
 # All libraries of a crate are proved.
 stands() {
   local name
-  for name in $(libraries_of "$1"); do
+  for name in ${libraries[$1]}; do
     [ "${state[$name]}" = proved ] || return 1
   done
 }
@@ -85,13 +102,16 @@ note_ended() {
 }
 
 prove_libraries() {
-  local name running=0 most
+  local name running=0 most order
   most=$(proofs_at_once)
-  for name in $(all_below mps_cli); do state[$name]=waiting; done
+  read_libraries
+  find_chains
+  order=$(longest_first)
+  for name in $order; do state[$name]=waiting; done
   left=$((${#state[@]} + 1))
   echo "mps: proving $left crates, up to $most at a time" >&2
   while [ "$left" -gt 1 ]; do
-    for name in "${!state[@]}"; do
+    for name in $order; do
       if [ "$running" -lt "$most" ] && [ "${state[$name]}" = waiting ] && stands "$name"; then
         start "$name"
         running=$((running + 1))
@@ -104,7 +124,7 @@ prove_libraries() {
 
 build() {
   local output
-  declare -A state
+  declare -A state libraries chain
   work=$(mktemp -d)
   trap 'rm -rf "$work"' EXIT
   trap 'end_proofs; exit 130' INT TERM
