@@ -48,7 +48,10 @@ impl FreeWords {
         self.words[index]
     }
 
-    /// From now on `words` words are free at an index.
+    /// From now on `words` words are free at an index. The greatest number of its group is looked for only where one that was above half of
+    /// the bound falls to half of it or less: so a row of blocks in one segment costs few searches, and a bound is less than twice the
+    /// greatest number.
+    #[inline(always)]
     pub fn set(&mut self, index: usize, words: u32)
         requires { index < length self.old }
         ensures { self.new ≡ slice_set self.old index words }
@@ -59,7 +62,7 @@ impl FreeWords {
         let bound = self.bounds[group];
         if words > bound {
             self.bounds[group] = words;
-        } else if before == bound {
+        } else if before > bound / 2 && words <= bound / 2 {
             self.bounds[group] = greatest(&self.words, INDEXES_OF_GROUP * group);
         }
     }
@@ -86,6 +89,8 @@ impl FreeWords {
 }
 
 /// A number that none of those of a group is above, from the index `from` on.
+#[cold]
+#[inline(never)]
 fn greatest(words: &[u32], from: usize) -> u32
     ensures at_most { (i : ℕ) → from ≤ i → i < from + 32 → get_or words.now i 0 ≤ result }
 {
