@@ -8,7 +8,7 @@ use Rattle.mps_base.specs.Address.{words_of_grain}
 use Rattle.mps_bits.specs.Table.{bit, with_range, lowest_from, next_set_below}
 use Rattle.mps_bits.proofs.Ranges.{length-with_range, with_range_inside}
 use Rattle.mps_bits.proofs.Searches.{IsLowest, found, missing, lowest_cases, lowest_from_is, lowest_from_none}
-use Rattle.mps_marks.specs.Inside.{IsTallied}
+use Rattle.mps_marks.specs.Inside.{IsTallied, IsNoted}
 
 -- ---- bits of a written table
 
@@ -86,6 +86,12 @@ cleared bits =
     with_range_inside bits 0 (length bits) false i d (omega arith) (omega arith) (omega arith) within
     ∙ sym (get_or-replicate (length bits) i false d within))
 
+pub noted_still : (kept : List Bool) (is_any_kept : Bool) (word : ℕ) → word < length kept → IsNoted kept is_any_kept
+    → IsNoted (set kept word false) is_any_kept
+noted_still kept is_any_kept word within noted none =
+    let clear = ap (λ (bits : List Bool). bit bits word) (noted none) ∙ bit-none (length kept) word in
+    sym (set_again kept word false clear within) ∙ noted none ∙ ap (λ (n : ℕ). replicate n false) (sym (length-set kept word false))
+
 -- ---- tallies
 
 pub no_tally : (grains : ℕ) → words_of_grain * grains < 2 ^ 32
@@ -125,15 +131,6 @@ one_more blocks grains n word tally within clear = record {
   ];
 }
 
-pub some_counted : (blocks grains : List Bool) (n word : ℕ) → IsTallied blocks grains n → bit blocks word ≡ true → 1 ≤ n
-some_counted blocks grains n word tally is =
-    omega (
-      arith,
-      count_set blocks word false (bit_within blocks word is),
-      ap {B = ℕ} (λ (b : Bool). cond b 1 0) is,
-      tally.counted,
-    )
-
 pub one_fewer : (blocks grains : List Bool) (n word : ℕ) → IsTallied blocks grains n → bit blocks word ≡ true
     → IsTallied (set blocks word false) grains (n - 1)
 one_fewer blocks grains n word tally is = record {
@@ -162,6 +159,21 @@ none_below bits from to i none above below =
           cc
       | missing is_none clear ↦ clear i above (omega arith)
     ]
+
+pub none_within : (bits : List Bool) (from to from' to' : ℕ) → next_set_below bits from to ≡ None → from ≤ from' → to' ≤ to
+    → next_set_below bits from' to' ≡ None
+unfolding next_set_below
+none_within bits from to from' to' none above below =
+    lowest_from_none (bit bits) from' (to' - from') (λ i higher lower. none_below bits from to i none (omega arith) (omega arith))
+
+pub none_joined : (bits : List Bool) (from middle to : ℕ) → next_set_below bits from middle ≡ None
+    → next_set_below bits middle to ≡ None → next_set_below bits from to ≡ None
+unfolding next_set_below
+none_joined bits from middle to none none' =
+    lowest_from_none (bit bits) from (to - from) (λ i above below. elim (cases_lt i middle) [
+      | inl before ↦ none_below bits from middle i none above before
+      | inr after ↦ none_below bits middle to i none' after (omega arith)
+    ])
 
 pub empty_grain : (blocks grains : List Bool) (n grain : ℕ) → IsTallied blocks grains n
     → next_set_below blocks (words_of_grain * grain) (words_of_grain * grain + words_of_grain) ≡ None

@@ -1,5 +1,5 @@
 -- How the grey blocks of a rank are kept.
-use Rattle.std.specs.Prelude.{ℕ, ◌≡◌, ◌*◌, ◌/◌, ◌^◌, ◌<◌, Bool, true, List, length, count_by}
+use Rattle.std.specs.Prelude.{ℕ, ◌≡◌, ◌*◌, ◌/◌, ◌^◌, ◌<◌, Bool, true, false, List, length, replicate, count_by}
 use Rattle.mps_base.specs.Address.{words_of_grain}
 use Rattle.mps_bits.specs.Table.{bit}
 
@@ -9,3 +9,7 @@ pub record IsTallied (blocks grains : List Bool) (count : ℕ) : Type 0 where
   pub small : length blocks < 2 ^ 32
   pub counted : count_by (λ b. b) blocks ≡ count
   pub grain_of_block : (word : ℕ) → bit blocks word ≡ true → bit grains (word / words_of_grain) ≡ true
+
+-- nothing is kept where it isn't noted that something is
+abbrev pub IsNoted : (kept : List Bool) → (is_any_kept : Bool) → Type 0
+IsNoted kept is_any_kept = is_any_kept ≡ false → kept ≡ replicate (length kept) false

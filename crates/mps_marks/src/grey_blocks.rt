@@ -1,7 +1,7 @@
 // The grey blocks of one rank.
 #![tactic(auto)]
 
-ghost use Rattle.std.specs.Prelude.{◌≡◌, ℕ, true, false, ◌*◌, ◌^◌, ◌<◌, ◌≤◌, length, replicate, slice_set, count_by, IfOk, IfSome, IfNone};
+ghost use Rattle.std.specs.Prelude.{◌≡◌, ℕ, true, false, None, ◌+◌, ◌*◌, ◌/◌, ◌^◌, ◌<◌, ◌≤◌, length, replicate, slice_set, count_by, IfOk, IfSome, IfNone};
 ghost use Rattle.mps_base.specs.Address.{words_of_grain};
 ghost use Rattle.mps_bits.specs.Table.{bit, next_set_below};
 
@@ -91,22 +91,21 @@ impl GreyBlocks {
     }
 
     /// The block that begins at a word is no longer grey.
-    #[tactic(auto, using(crate::proofs::Tally::set_again, crate::proofs::Tally::some_counted, crate::proofs::Tally::one_fewer))]
+    #[inline(always)]
+    #[tactic(auto, using(crate::proofs::Tally::set_again, crate::proofs::Tally::clear_where_none, crate::proofs::Tally::one_fewer))]
     pub(crate) fn clear(&mut self, word: usize)
         requires { word < length self.old }
         ensures { self.new ≡ slice_set self.old word false }
     {
+        if self.count == 0 {
+            return;
+        }
         if !self.blocks.test(word) {
             return;
         }
         self.blocks.clear(word);
         self.count -= 1;
-        let low = word - word % WORDS_OF_GRAIN;
-        if self
-            .blocks
-            .next_set_below(low, low + WORDS_OF_GRAIN)
-            .is_none()
-        {
+        if is_clear_around(&self.blocks, word) {
             self.grains.clear(word / WORDS_OF_GRAIN);
         }
     }
@@ -172,6 +171,8 @@ impl GreyBlocks {
     }
 
     /// The lowest grey block from the cursor on, or else the lowest of all.
+    #[cold]
+    #[inline(never)]
     #[tactic(auto, using(crate::proofs::Tally::search_sound, crate::proofs::Tally::search_complete))]
     fn search(&self) -> Option<usize>
         ensures sound { IfSome result (λ word. bit self.now word ≡ true) }
@@ -183,4 +184,20 @@ impl GreyBlocks {
             None => self.lowest_in(0, end),
         }
     }
+}
+
+/// Whether no block of a word's grain is grey. The word itself and those after it come first: what a scan makes grey mostly lies there.
+#[inline(never)]
+#[tactic(auto, using(crate::proofs::Tally::none_joined, crate::proofs::Tally::none_within))]
+fn is_clear_around(blocks: &Bits, word: usize) -> bool
+    requires in_table { words_of_grain * (word / words_of_grain) + words_of_grain ≤ length blocks.now }
+    requires small { length blocks.now < 2 ^ 32 }
+    ensures sound { result ≡ true → next_set_below blocks.now (words_of_grain * (word / words_of_grain))
+        (words_of_grain * (word / words_of_grain) + words_of_grain) ≡ None }
+    ensures complete { next_set_below blocks.now (words_of_grain * (word / words_of_grain))
+        (words_of_grain * (word / words_of_grain) + words_of_grain) ≡ None → result ≡ true }
+{
+    let low = WORDS_OF_GRAIN * (word / WORDS_OF_GRAIN);
+    let high = low + WORDS_OF_GRAIN;
+    blocks.next_set_below(word, high).is_none() && blocks.next_set_below(low, word).is_none()
 }

@@ -1,7 +1,7 @@
 // The marks of a collection, by the words at which blocks begin.
 #![tactic(auto)]
 
-ghost use Rattle.std.specs.Prelude.{◌≡◌, ℕ, true, false, ◌*◌, ◌^◌, ◌<◌, ◌≤◌, ◌||◌, length, slice_set, count_by, IfOk, IfSome, IfNone};
+ghost use Rattle.std.specs.Prelude.{◌≡◌, ℕ, true, false, ◌*◌, ◌^◌, ◌<◌, ◌≤◌, ◌||◌, length, replicate, slice_set, count_by, IfOk, IfSome, IfNone};
 ghost use Rattle.mps_base.specs.Address.{words_of_grain};
 ghost use Rattle.mps_bits.specs.Table.{bit, next_set_below};
 ghost use Rattle.mps_marks.specs.Marks.{MarkTables, no_marks, grey_of, with_grey, blackened, without_marks};
@@ -17,6 +17,8 @@ use std::marker::Model;
 #[derive(Drop)]
 pub struct Marks {
     kept: Bits,
+    // Whether a block was kept since all marks were clear.
+    is_any_kept: bool,
     exact: GreyBlocks,
     weak: GreyBlocks,
 }
@@ -24,12 +26,14 @@ pub struct Marks {
 impl Model for Marks {
     ghost use Rattle.std.specs.Prelude.{◌≡◌, length};
     ghost use Rattle.mps_marks.specs.Marks.{MarkTables};
+    ghost use Rattle.mps_marks.specs.Inside.{IsNoted};
 
     ghost Value = { MarkTables };
 
     ghost view = { λ m. record { kept = m.kept; exact = m.exact; weak = m.weak } };
 
-    ghost invariant = { λ m. (length m.exact ≡ length m.kept) × (length m.weak ≡ length m.kept) };
+    ghost invariant = { λ m. (length m.exact ≡ length m.kept) × (length m.weak ≡ length m.kept)
+        × IsNoted m.kept m.is_any_kept };
 }
 
 impl Marks {
@@ -40,6 +44,7 @@ impl Marks {
     {
         Ok(Marks {
             kept: Bits::new(alloc, WORDS_OF_GRAIN * grains)?,
+            is_any_kept: false,
             exact: GreyBlocks::new(alloc, grains)?,
             weak: GreyBlocks::new(alloc, grains)?,
         })
@@ -58,6 +63,7 @@ impl Marks {
         ensures { self.new ≡ record self.old { kept = slice_set self.old.kept word true } }
     {
         self.kept.set(word);
+        self.is_any_kept = true;
     }
 
     /// Whether the collection keeps the block that begins at a word.
@@ -97,6 +103,7 @@ impl Marks {
     }
 
     /// Clears all marks at a word.
+    #[tactic(auto, using(crate::proofs::Tally::noted_still))]
     pub fn clear(&mut self, word: usize)
         requires { word < length self.old.kept }
         ensures { self.new ≡ without_marks word self.old }
@@ -105,13 +112,23 @@ impl Marks {
         self.blacken(word);
     }
 
-    /// Clears all marks: the collection ends.
+    /// No block is kept. Its table is gone over only where one was.
     #[tactic(auto, using(crate::proofs::Tally::cleared))]
+    fn clear_kept(&mut self)
+        ensures { self.new ≡ record self.old { kept = replicate (length self.old.kept) false } }
+    {
+        if self.is_any_kept {
+            let words = self.kept.len();
+            self.kept.clear_range(0, words);
+            self.is_any_kept = false;
+        }
+    }
+
+    /// Clears all marks: the collection ends.
     pub fn clear_all(&mut self)
         ensures { self.new ≡ no_marks (length self.old.kept) }
     {
-        let words = self.kept.len();
-        self.kept.clear_range(0, words);
+        self.clear_kept();
         self.exact.clear_all();
         self.weak.clear_all();
     }
