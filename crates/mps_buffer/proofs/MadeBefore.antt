@@ -1,12 +1,11 @@
--- No reservation remembers a flip that is still to come: so it is of new points, and each change of a point and each flip keeps it.
-use Rattle.std.proofs.Common.{◌≡◌, ◌∙◌, ◌⊎◌, ℕ, zero, suc, ◌+◌, ◌≤◌, refl, sym, ap, List, [], ◌∷◌, map, Option, Some, None, inl, inr, arith}
+-- No reservation remembers a flip that is still to come: so it is of new points, and each flip keeps it.
+use Rattle.std.proofs.Common.{◌≡◌, ◌∙◌, ℕ, zero, suc, ◌+◌, refl, sym, ap, List, [], ◌∷◌, map, Option, Some, None, arith}
 use Rattle.std.proofs.lemmas.Option.{none-some, same_Some}
-use Rattle.std.specs.Prelude.{get_or, replicate, slice_set, option_map}
-use Rattle.mps_buffer.specs.declared.point.Held.{Held}
+use Rattle.std.specs.Prelude.{get_or, replicate, option_map}
 use Rattle.mps_buffer.specs.declared.point.Point.{Point}
-use Rattle.mps_buffer.specs.Points.{PointsState, WereMadeBefore, max_points, no_points, point_at, with_point, emptied, flipped}
+use Rattle.mps_buffer.specs.Points.{PointsState, WereMadeBefore, max_points, no_points, point_at, emptied, flipped}
 
--- ---- points as they are made and written
+-- ---- new points
 
 abbrev nothing_there : ℕ → List (Option Point)
 nothing_there n = replicate n None
@@ -16,53 +15,10 @@ none_repeated zero key = refl
 none_repeated (suc n) zero = refl
 none_repeated (suc n) (suc key) = none_repeated n key
 
--- what is found after an entry was written was written, or was there
-written_cases : {A : Type 0} (xs : List (Option A)) (i key : ℕ) (new : Option A) (x : A) → get_or (slice_set xs i new) key None ≡ Some x
-    → (new ≡ Some x) ⊎ (get_or xs key None ≡ Some x)
-written_cases [] i key new x e = inr e
-written_cases (y ∷ ys) zero zero new x e = inl e
-written_cases (y ∷ ys) zero (suc key) new x e = inr e
-written_cases (y ∷ ys) (suc i) zero new x e = inr e
-written_cases (y ∷ ys) (suc i) (suc key) new x e = written_cases ys i key new x e
-
 pub new_points_made_before : (flips : ℕ) → WereMadeBefore flips no_points
 new_points_made_before flips = record {
   before = λ key p held e reserved. absurd (none-some p (sym (none_repeated max_points key) ∙ e));
 }
-
--- a point was made, written or dropped
-pub made_before_written : (flips : ℕ) (s : PointsState) (key : ℕ) (new : Option Point) → WereMadeBefore flips s
-    → ((p : Point) (held : Held) → new ≡ Some p → p.reservation ≡ Some held → held.flips ≤ flips)
-    → WereMadeBefore flips (with_point s key new)
-made_before_written flips s key new made written = record {
-  before = λ k p held e reserved. elim (written_cases s.points key k new p e) [
-    | inl now ↦ written p held now reserved
-    | inr there ↦ made.before k p held there reserved
-  ];
-}
-
--- a point was written that has no reservation
-pub made_before_closed : (flips : ℕ) (s : PointsState) (key : ℕ) (q : Point) → WereMadeBefore flips s → q.reservation ≡ None
-    → WereMadeBefore flips (with_point s key (Some q))
-made_before_closed flips s key q made none =
-    made_before_written flips s key (Some q) made
-    (λ p held same reserved. absurd (none-some held (sym none ∙ ap (λ (x : Point). x.reservation) (same_Some q p same) ∙ reserved)))
-
--- a point was written whose reservation was made after as many flips
-pub made_before_opened : (flips : ℕ) (s : PointsState) (key : ℕ) (q : Point) (h : Held) → WereMadeBefore flips s
-    → q.reservation ≡ Some h → h.flips ≡ flips → WereMadeBefore flips (with_point s key (Some q))
-made_before_opened flips s key q h made opened now =
-    made_before_written flips s key (Some q) made
-    (λ p held same reserved.
-    let is : h ≡ held =
-    same_Some h held (sym opened ∙ ap (λ (x : Point). x.reservation) (same_Some q p same) ∙ reserved) in
-    let flips_are = ap (λ (x : Held). x.flips) is in
-    omega (arith, flips_are, now))
-
--- a point was dropped
-pub made_before_dropped : (flips : ℕ) (s : PointsState) (key : ℕ) → WereMadeBefore flips s → WereMadeBefore flips (with_point s key None)
-made_before_dropped flips s key made =
-    made_before_written flips s key None made (λ p held same reserved. absurd (none-some p same))
 
 -- ---- a flip
 
