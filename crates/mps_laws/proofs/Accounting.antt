@@ -16,10 +16,11 @@ use Rattle.mps_model.specs.Effect.{where_one, world_after_move, world_after_move
 use Rattle.mps_model.specs.LegalMove.{IsLegalFlip, AreLegalMoves}
 use Rattle.mps_model.specs.Policy.{units_asked}
 use Rattle.mps_model.specs.Reply.{world_from}
-use Rattle.mps_model.specs.History.{AreMovesOf, after_its_moves, after_own_segment, asking, moved_world, moves_of_collector, moves_of_poll, own_segment, with_client_remembered, with_buffer, rank_of_point}
+use Rattle.mps_model.specs.History.{AreMovesOf, after_its_moves, after_own_segment, asking, moved_world, moves_of_collector, moves_of_poll, own_segment, with_client_remembered}
 use Rattle.mps_laws.specs.Staying.{is_flip}
 use Rattle.mps_laws.proofs.Acts.{ForAct, accepted, refused}
 use Rattle.mps_laws.proofs.LeftByActs.{Leaves, changes_dependencies}
+use Rattle.mps_laws.proofs.OwnSegments.{own_segment_taken}
 use Rattle.mps_laws.proofs.Places.{IsPutIn, IsMovedLegally, AreMovedLegally, move_put, all_moved_legally, is_moving, none_moved, commit_moves_none, alloc_moves_none, free_moves_none, own_segment_put, asking_put, left_put, remembered_put}
 use Rattle.mps_laws.proofs.AddedBlocks.{Accounts, AreAccounts, IsAccounted, IsFlippedSince, accounts_carried}
 use Rattle.mps_laws.proofs.FlippedZones.{AreHome, flip_accounts}
@@ -68,9 +69,9 @@ carries_itself w = same_flips w w refl refl (λ id at p. p)
 -- ---- moves
 
 -- what a move that is no flip leaves
-record LeavesFlips (w v : World) : Type 0 where
-  flips : v.flips ≡ w.flips
-  dependencies : v.dependencies ≡ w.dependencies
+pub record LeavesFlips (w v : World) : Type 0 where
+  pub flips : v.flips ≡ w.flips
+  pub dependencies : v.dependencies ≡ w.dependencies
 
 as_before : (w : World) → LeavesFlips w w
 as_before w = record { flips = refl; dependencies = refl }
@@ -90,7 +91,7 @@ free_leaves : (w : World) (id at : ℕ) (b : Bool)
 free_leaves w id at true = record { flips = refl; dependencies = refl }
 free_leaves w id at false = record { flips = refl; dependencies = refl }
 
-move_leaves : (w : World) (m : Move) → is_flip m ≡ false → LeavesFlips w (world_after_move w m)
+pub move_leaves : (w : World) (m : Move) → is_flip m ≡ false → LeavesFlips w (world_after_move w m)
 move_leaves w (moves.Seg base grains pool generation) no_flip =
     let s = segment_of_move base.0 grains pool generation in segment_leaves w s (is_copying_pool w s.pool)
 move_leaves w (moves.Unseg base) no_flip = record { flips = refl; dependencies = refl }
@@ -154,24 +155,17 @@ client_carries w ms none = moves_carry w ms (none_moved w ms none) (none_flipped
 -- ---- the moves of a call
 
 own_segment_leaves : (w : World) (ms : List Move) (point : Option ℕ) → LeavesFlips w (after_own_segment w ms point)
-own_segment_leaves w [] point = as_before w
-own_segment_leaves w (moves.Seg base grains pool generation ∷ ms) None = as_before w
-own_segment_leaves w (moves.Seg base grains pool generation ∷ ms) (Some point) = by_case (is_copying_pool w pool)
-  where
-    s : Segment
-    s = segment_of_move base.0 grains pool generation
-
-    by_case : (b : Bool) → LeavesFlips w (if b then record (holding w (record s { rank = rank_of_point w point })) {
-      point_memories = with_buffer w.point_memories point (words_of_segment s);
-    } else holding w (record s { rank = rank_of_point w point }))
-    by_case true = record { flips = refl; dependencies = refl }
-    by_case false = record { flips = refl; dependencies = refl }
-own_segment_leaves w (_ ∷ ms) point = as_before w
+own_segment_leaves w ms point =
+    own_segment_taken (LeavesFlips w) w (as_before w) (λ s. record { flips = refl; dependencies = refl })
+    (λ s n r. record { flips = refl; dependencies = refl }) ms point
 
 own_segment_carries : (w : World) (ms : List Move) (point : Option ℕ) → Carries w (after_own_segment w ms point)
 own_segment_carries w ms point =
     let leaves = own_segment_leaves w ms point in
     same_flips w (after_own_segment w ms point) leaves.dependencies leaves.flips (λ id at p. own_segment_put id at w ms point p)
+
+pub own_segment_flips : (w : World) (ms : List Move) (point : Option ℕ) → (after_own_segment w ms point).flips ≡ w.flips
+own_segment_flips w ms point = (own_segment_leaves w ms point).flips
 
 asking_carries : (units : Option ℕ) (w : World) → Carries w (asking units w)
 asking_carries None w = carries_itself w

@@ -11,7 +11,7 @@ use Rattle.mps_base.specs.declared.refusal.Refusal.{Refusal}
 use Rattle.mps_base.specs.declared.refusal.Refusal.TheVariants as refusal
 use Rattle.mps_model.specs.declared.call.Call.{Call}
 use Rattle.mps_model.specs.declared.call.Call.TheVariants as call
-use Rattle.mps_model.specs.Graph.{Graph, Object, Point, Reservation, Cell, NumberCell, AreaWord, Body, Automatic, Manual, Thing, ChainThing, PoolThing, TableThing, AreaThing, BlocksThing, PointThing, DependencyThing, TransformThing, CacheThing, entry_at, object_at, size_of_body, is_weak_body, with_last, with_target_cell, graph_with_cells, position_of_first, thing_named}
+use Rattle.mps_model.specs.Graph.{Graph, Object, Point, Reservation, Cell, NumberCell, AreaWord, Body, Automatic, Manual, Thing, ChainThing, PoolThing, TableThing, AreaThing, BlocksThing, PointThing, DependencyThing, TransformThing, CacheThing, entry_at, object_at, size_of_body, is_weak_body, with_last, with_target_cell, graph_with_cells, position_of_first, thing_named, without_name}
 use Rattle.mps_model.specs.World.{World, Pool, PointMemory, Dependency, Collected, OneSize, AnySize, block_of_word, committed, id_at, is_running, empty_run, is_weak_kind, is_automatic_kind}
 use Rattle.mps_model.specs.Checked.{Act, Checked, Found, Numbered, ◌>>=◌, ◌>>◌, as_point, as_pool, number_named, numbered, required, refuse_when, done, tells, chain_named, pool_named, point_named, dependency_named, slot_in, word_in, block_place_in, object_in, cells_of_body, number_at, reference_at, with_graph}
 use Rattle.mps_model.specs.Making.{graph_without_root, is_block_size, is_weak_rank, live_points, may_have_point, most_chains, most_dependencies, most_points, most_pools, refuse_at_limit, refuse_root, refuse_taken}
@@ -25,6 +25,24 @@ use Rattle.mps_laws.proofs.LaidOut.{IsLaidOut, IsRightPointShape}
 use Rattle.mps_laws.proofs.LegalMoves.{condemned_kept, cells_kept, shapes_written, length-with_target_cell}
 use Rattle.mps_laws.proofs.Making.{pool_laid_out, point_laid_out, dropped_laid_out}
 use Rattle.mps_laws.proofs.PoolKinds.{kind_of_pool}
+
+-- ---- a root is dropped
+
+-- a fact of a graph without a table, and of one without an area, holds of it without a root
+pub without_root : (Holds : Graph → Type 0) (g : Graph) (name : Name) (o : Option Thing) (left : Graph)
+    → graph_without_root g name o ≡ Some left
+    → ((n : ℕ) → Holds (record g { tables = slice_set g.tables n None; names = without_name g.names name }))
+    → ((n : ℕ) → Holds (record g { areas = slice_set g.areas n None; names = without_name g.names name })) → Holds left
+without_root Holds g name None left e table area = absurd (none-some left e)
+without_root Holds g name (Some (TableThing n)) left e table area = subst Holds (same_Some _ left e) (table n)
+without_root Holds g name (Some (AreaThing n)) left e table area = subst Holds (same_Some _ left e) (area n)
+without_root Holds g name (Some (ChainThing n)) left e table area = absurd (none-some left e)
+without_root Holds g name (Some (PoolThing n)) left e table area = absurd (none-some left e)
+without_root Holds g name (Some (BlocksThing n)) left e table area = absurd (none-some left e)
+without_root Holds g name (Some (PointThing n)) left e table area = absurd (none-some left e)
+without_root Holds g name (Some (DependencyThing n)) left e table area = absurd (none-some left e)
+without_root Holds g name (Some (TransformThing n)) left e table area = absurd (none-some left e)
+without_root Holds g name (Some (CacheThing n)) left e table area = absurd (none-some left e)
 
 -- ---- what is checked
 
@@ -144,16 +162,8 @@ module _ (limit : ℕ) (v : World) where
 
   dropped_kept : (name : Name) (o : Option Thing) (g : Graph) → graph_without_root v.graph name o ≡ Some g
       → occupancy_of (with_graph v g) ≡ occupancy_of v
-  dropped_kept name None g e = absurd (none-some g e)
-  dropped_kept name (Some (TableThing n)) g e = ap (λ x. occupancy_of (with_graph v x)) (sym (same_Some _ g e))
-  dropped_kept name (Some (AreaThing n)) g e = ap (λ x. occupancy_of (with_graph v x)) (sym (same_Some _ g e))
-  dropped_kept name (Some (ChainThing n)) g e = absurd (none-some g e)
-  dropped_kept name (Some (PoolThing n)) g e = absurd (none-some g e)
-  dropped_kept name (Some (BlocksThing n)) g e = absurd (none-some g e)
-  dropped_kept name (Some (PointThing n)) g e = absurd (none-some g e)
-  dropped_kept name (Some (DependencyThing n)) g e = absurd (none-some g e)
-  dropped_kept name (Some (TransformThing n)) g e = absurd (none-some g e)
-  dropped_kept name (Some (CacheThing n)) g e = absurd (none-some g e)
+  dropped_kept name o g e =
+      without_root (λ x. occupancy_of (with_graph v x) ≡ occupancy_of v) v.graph name o g e (λ n. refl) (λ n. refl)
 
   size_kept : (b : Body) (k value : ℕ) → size_of_body (body_with_word b k value) ≡ size_of_body b
   size_kept (Automatic head cells is_weak) k value = refl

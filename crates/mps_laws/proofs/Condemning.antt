@@ -12,7 +12,7 @@ use Rattle.mps_model.specs.World.{PointMemory}
 use Rattle.mps_model.specs.Effect.{doomed, without_buffer}
 use Rattle.mps_laws.proofs.Lookups.{opened}
 use Rattle.mps_laws.proofs.Occupancy.{Occupancy, Occupant, OfBlock, OfReservation, OfBuffer, OfTail, PointShape, shape_of_point, reserved_words, run_of, run_of_reservation, run_of_buffer}
-use Rattle.mps_laws.proofs.LaidOut.{Home, HomeOf, ArePlaced, IsLaidOut, IsRightPointShape, IsKept, AreDistinct, is_at_hand, kind_in, placed_kept, laid_out_again}
+use Rattle.mps_laws.proofs.LaidOut.{Home, HomeOf, ArePlaced, IsLaidOut, IsRightPointShape, IsKept, AreDistinct, is_at_hand, kind_in, placed_kept, laid_out_again, home_otherwise}
 use Rattle.mps_laws.proofs.Segments.{IsAmong, IsAligned, all_without, among_kept, ascending_without, segment_bounds}
 
 -- ---- lists of bases
@@ -100,17 +100,8 @@ recondemned_home : {segments : List Segment} {pool : ℕ} {rank : Rattle.mps_bas
     (pools : List Rattle.mps_model.specs.World.Pool) (condemned condemned' : List Address) (o : Occupant)
     → ((base : Address) → is_at_hand o ≡ true → contains condemned base ≡ false → contains condemned' base ≡ false)
     → Home segments pools condemned o pool rank r → Home segments pools condemned' o pool rank r
-recondemned_home pools condemned condemned' o spared home = record {
-  segment = home.segment;
-  held = home.held;
-  of_pool = home.of_pool;
-  of_rank = home.of_rank;
-  above = home.above;
-  below = home.below;
-  copying = home.copying;
-  spared = λ h. spared home.segment.base h (home.spared h);
-  to_end = home.to_end;
-}
+recondemned_home pools condemned condemned' o spared home =
+    home_otherwise pools condemned' home home.copying (λ h. spared home.segment.base h (home.spared h))
 
 pub recondemned : (limit : ℕ) (g : Occupancy) (condemned : List Address) → IsLaidOut limit g
     → ((o : Occupant) (base : Address) → 0 < (run_of g o).count → is_at_hand o ≡ true → contains g.condemned base ≡ false

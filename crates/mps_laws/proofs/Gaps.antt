@@ -12,7 +12,7 @@ use Rattle.mps_base.specs.declared.names.Rank.TheVariants as rank
 use Rattle.mps_base.proofs.Runs.{between_some}
 use Rattle.mps_model.specs.World.{is_copying_kind}
 use Rattle.mps_laws.proofs.ApartRuns.{AreApart, EndsWithin, ascending_within, all_runs_within, all_in_order, all_from_in_order, lowest_gap, put_apart, put_below}
-use Rattle.mps_laws.proofs.Segments.{IsAmong, among_aligned, same_by_word}
+use Rattle.mps_laws.proofs.Segments.{IsAligned, IsAmong, among_aligned, same_by_word}
 use Rattle.mps_laws.proofs.Occupancy.{Occupancy, Occupant, run_of}
 use Rattle.mps_laws.proofs.LaidOut.{IsLaidOut, kind_in, is_at_hand}
 use Rattle.mps_laws.proofs.Covered.{covered_in, listed, all_listed, each_listed, covered_ascending}
@@ -173,7 +173,8 @@ fits_somewhere need (r ∷ rs) h =
       | false ↦ (λ g. fits_somewhere need rs g)
     ] h
 
-none_within : (from to : ℕ) (rs : List Run) → AllByRecursion (λ (r : Run). (r.from < from) ⊎ (to ≤ r.from)) rs → runs_within from to rs ≡ []
+pub none_within : (from to : ℕ) (rs : List Run) → AllByRecursion (λ (r : Run). (r.from < from) ⊎ (to ≤ r.from)) rs
+    → runs_within from to rs ≡ []
 none_within from to [] all = refl
 none_within from to (r ∷ rs) all =
     ap (λ b. if b then r ∷ runs_within from to rs else runs_within from to rs) (outside all.0) ∙ none_within from to rs all.1
@@ -184,15 +185,13 @@ none_within from to (r ∷ rs) all =
     outside (inr h) = Rattle.std.proofs.lemmas.Bool.and_right (nat_le from r.from) (Rattle.std.specs.Prelude.nat_lt r.from to)
         (Rattle.std.proofs.lemmas.Bool.le-ltb r.from to h)
 
--- in a segment in which nobody has words there is a gap of all of it
-pub gap_in_empty : (limit : ℕ) (g : Occupancy) (laid : IsLaidOut limit g) (s : Segment) (words : ℕ) → IsAmong s g.segments
-    → ((o : Occupant) (n : ℕ) → Covers (run_of g o) n → Covers (words_of_segment s) n → ⊥) → 0 < words → words ≤ 512 * s.grains
-    → (word : ℕ) × (lowest_fitting words (gaps_of (covered_in g) g.segments s.pool s.rank) ≡ Some word)
-gap_in_empty limit g laid s words held empty some fits =
-    let a = among_aligned s g.segments laid.aligned held in
+-- in a segment in which nobody has words nothing is covered
+pub none_covered : (limit : ℕ) (g : Occupancy) (laid : IsLaidOut limit g) (s : Segment) → IsAligned s
+    → ((o : Occupant) (n : ℕ) → Covers (run_of g o) n → Covers (words_of_segment s) n → ⊥)
+    → runs_within (word_of s.base) (word_of (end_of_segment s)) (covered_in g) ≡ []
+none_covered limit g laid s a empty =
     let low = word_of s.base in
     let high = word_of (end_of_segment s) in
-    let none : runs_within low high (covered_in g) ≡ [] =
     none_within low high (covered_in g) (all_in_order (λ (r : Run). (r.from < low) ⊎ (high ≤ r.from)) (listed limit g laid)
     (all_listed limit g laid (λ (r : Run). (r.from < low) ⊎ (high ≤ r.from)) (λ o h here.
     elim (cases_lt (run_of g o).from low) [
@@ -203,7 +202,17 @@ gap_in_empty limit g laid s words held empty some fits =
                 absurd (empty o (run_of g o).from (omega arith, omega (arith, here)) (omega (arith, from), omega (arith, within, a)))
             | inr past ↦ inr past
           ]
-    ]))) in
+    ])))
+
+-- in a segment in which nobody has words there is a gap of all of it
+pub gap_in_empty : (limit : ℕ) (g : Occupancy) (laid : IsLaidOut limit g) (s : Segment) (words : ℕ) → IsAmong s g.segments
+    → ((o : Occupant) (n : ℕ) → Covers (run_of g o) n → Covers (words_of_segment s) n → ⊥) → 0 < words → words ≤ 512 * s.grains
+    → (word : ℕ) × (lowest_fitting words (gaps_of (covered_in g) g.segments s.pool s.rank) ≡ Some word)
+gap_in_empty limit g laid s words held empty some fits =
+    let a = among_aligned s g.segments laid.aligned held in
+    let low = word_of s.base in
+    let high = word_of (end_of_segment s) in
+    let none = none_covered limit g laid s a empty in
     let whole : gaps_in (covered_in g) s ≡ record { from = low; count = high - low } ∷ [] =
     ap (gaps low high) none ∙ between_some low high (omega (arith, some, fits)) in
     let one : list_any (λ (r : Run). nat_le words r.count) (gaps_in (covered_in g) s) ≡ true =

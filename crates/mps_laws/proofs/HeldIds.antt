@@ -290,6 +290,18 @@ module _ (test : ℕ → Bool) (g : Graph) (a : AreHeld test g) where
     reservations = all-weaker test less implies (ids_in_reservations g) a.reservations;
   }
 
+-- ---- a graph in which as much is held
+
+-- the same ids are held where tables, areas, messages and points are the same
+pub held_again : (test : ℕ → Bool) (g h : Graph) → h.tables ≡ g.tables → h.areas ≡ g.areas → h.messages ≡ g.messages
+    → h.points ≡ g.points → AreHeld test g → AreHeld test h
+held_again test g h tables areas messages points a = record {
+  slots = subst (λ ts. All test (flat_map slots_of ts)) (sym tables) a.slots;
+  holds = subst (λ xs. All test (flat_map holds_of xs)) (sym areas) a.holds;
+  messages = subst (All test) (sym messages) a.messages;
+  reservations = subst (λ ps. All test (flat_map targets_of_point ps)) (sym points) a.reservations;
+}
+
 -- ---- effects on tables of blocks
 
 module _ (test : ℕ → Bool) (g : Graph) (a : All test (ids_in_blocks g)) where

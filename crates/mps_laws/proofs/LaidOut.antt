@@ -44,6 +44,23 @@ pub record Home (segments : List Segment) (pools : List Pool) (condemned : List 
   pub spared : is_at_hand o ≡ true → contains condemned segment.base ≡ false
   pub to_end : is_tail o ≡ true → end_of r ≡ end_of (words_of_segment segment)
 
+-- the segment of a home serves with other pools and condemned segments too
+pub home_otherwise : {segments : List Segment} {pools : List Pool} {condemned : List Address} {o : Occupant} {pool : ℕ} {rank : Rank}
+    {r : Run} (pools' : List Pool) (condemned' : List Address) (home : Home segments pools condemned o pool rank r)
+    → (is_at_hand o ≡ true → kind_in is_copying_kind pools' home.segment.pool ≡ true)
+    → (is_at_hand o ≡ true → contains condemned' home.segment.base ≡ false) → Home segments pools' condemned' o pool rank r
+home_otherwise pools' condemned' home copying spared = record {
+  segment = home.segment;
+  held = home.held;
+  of_pool = home.of_pool;
+  of_rank = home.of_rank;
+  above = home.above;
+  below = home.below;
+  copying = copying;
+  spared = spared;
+  to_end = home.to_end;
+}
+
 abbrev pub HomeOf : Occupancy → Occupant → Type 0
 HomeOf g o = Home g.segments g.pools g.condemned o (pool_of_occupant g o) (rank_of_occupant g o) (run_of g o)
 

@@ -1,7 +1,7 @@
 -- What the act of a call leaves of a world: where objects lie, what moves are judged by, and the dependencies.
 use Rattle.std.proofs.Common.{◌≡◌, ◌⊎◌, inl, inr, ℕ, zero, suc, ◌+◌, Bool, true, false, true≢false, refl, sym, ◌∙◌, ap, List, [], ◌∷◌, append-nil, length, map, Option, Some, None}
 use Rattle.std.proofs.lemmas.List.{map-append}
-use Rattle.std.proofs.lemmas.Option.{none-some, same_Some}
+use Rattle.std.proofs.lemmas.Option.{same_Some}
 use Rattle.std.specs.Prelude.{if◌then◌else◌, is_none, is_some, nat_le, nat_lt, not, replicate, slice_get, slice_set, option_map}
 use Rattle.std.specs.Option.{option_map_or}
 use Rattle.mps_base.specs.Staleness.{is_stale}
@@ -10,7 +10,7 @@ use Rattle.mps_base.specs.declared.refusal.Refusal.TheVariants as refusal
 use Rattle.mps_model.specs.declared.call.Call.{Call}
 use Rattle.mps_model.specs.declared.call.Call.TheVariants as call
 use Rattle.mps_model.specs.declared.reply.Reply.TheVariants as reply
-use Rattle.mps_model.specs.Graph.{Graph, Object, Manual, Cell, NumberCell, Reservation, Point, AreaWord, Thing, ChainThing, PoolThing, TableThing, AreaThing, BlocksThing, PointThing, DependencyThing, TransformThing, CacheThing, thing_named, object_at, graph_with_cells, object_with_cells, with_target_cell, position_of_first, with_last}
+use Rattle.mps_model.specs.Graph.{Graph, Object, Manual, Cell, NumberCell, Reservation, Point, AreaWord, Thing, thing_named, object_at, graph_with_cells, object_with_cells, with_target_cell, position_of_first, with_last}
 use Rattle.mps_model.specs.Collection.{Collection}
 use Rattle.mps_model.specs.World.{World, Pool, Dependency, is_automatic_kind, block_of_word, committed, id_at, is_running}
 use Rattle.mps_model.specs.Checked.{Act, Checked, Found, Numbered, ◌>>=◌, required, refuse_when, says, done, tells, block_place_in, cells_of_body, chain_named, dependency_named, number_at, object_in, point_named, pool_named, reference_at, slot_in, word_in, with_graph}
@@ -20,7 +20,7 @@ use Rattle.mps_model.specs.Allocating.{Reserving, address_of_placement, allows_s
 use Rattle.mps_model.specs.Accessing.{AsBlock, AsMarked, AsNumber, Poked, act_poke_in, act_poked, held_in, poked, same_target}
 use Rattle.mps_model.specs.Collecting.{act_message_in, most_registrations, without_registration}
 use Rattle.mps_model.specs.Reply.{act}
-use Rattle.mps_laws.proofs.Acts.{ForAct, accepted, refused, with_value, after_check}
+use Rattle.mps_laws.proofs.Acts.{ForAct, accepted, refused, with_value, after_check, without_root}
 use Rattle.mps_laws.proofs.Entries.{GoesOn}
 
 -- of an act after a check whose value it uses
@@ -77,20 +77,28 @@ same before after e = ([], e ∙ sym (append-nil before))
 one_more : {X : Type 0} (xs : List X) (x : X) → GoesOn xs (with_last xs x)
 one_more xs x = (x ∷ [], refl)
 
+-- lists that may go on, and what is as it was unless the call changes it
+left_so : {c : Call} {v u : World} → u.addresses ≡ v.addresses → GoesOn v.pools u.pools → owners u.graph ≡ owners v.graph
+    → u.flips ≡ v.flips → IsCollectionLeft v.collection u.collection
+    → (changes_dependencies c ≡ false → u.dependencies ≡ v.dependencies)
+    → (changes_points c ≡ false → u.graph.points ≡ v.graph.points) → Leaves c v u
+left_so {c} {v} {u} addresses pools owned flips collection dependencies points = record {
+  addresses = same v.addresses u.addresses addresses;
+  pools = pools;
+  owned = same (owners v.graph) (owners u.graph) owned;
+  flips = flips;
+  collection = collection;
+  dependencies = dependencies;
+  points = points;
+  objects = λ h. owned;
+}
+
 -- all is as it was
 unchanged : {c : Call} {v u : World} → u.addresses ≡ v.addresses → u.pools ≡ v.pools → owners u.graph ≡ owners v.graph
     → u.flips ≡ v.flips → u.collection ≡ v.collection → u.dependencies ≡ v.dependencies
     → (changes_points c ≡ false → u.graph.points ≡ v.graph.points) → Leaves c v u
-unchanged {c} {v} {u} addresses pools owned flips collection dependencies points = record {
-  addresses = same v.addresses u.addresses addresses;
-  pools = same v.pools u.pools pools;
-  owned = same (owners v.graph) (owners u.graph) owned;
-  flips = flips;
-  collection = inl collection;
-  dependencies = λ h. dependencies;
-  points = points;
-  objects = λ h. owned;
-}
+unchanged {c} {v} {u} addresses pools owned flips collection dependencies points =
+    left_so addresses (same v.pools u.pools pools) owned flips (inl collection) (λ h. dependencies) points
 
 -- ---- acts that need a look
 
@@ -133,22 +141,10 @@ reserved_leaves {c} changes v p r cells = by_case (r.is_doomed)
     by_case false = unchanged refl refl refl refl refl refl (λ h. absurd (true≢false (sym changes ∙ h)))
 
 dropped_points : (g : Graph) (name : Name) (o : Option Thing) (h : Graph) → graph_without_root g name o ≡ Some h → h.points ≡ g.points
-dropped_points g name None h e = absurd (none-some h e)
-dropped_points g name (Some (TableThing n)) h e = ap (λ (x : Graph). x.points) (sym (same_Some _ h e))
-dropped_points g name (Some (AreaThing n)) h e = ap (λ (x : Graph). x.points) (sym (same_Some _ h e))
-dropped_points g name (Some _) h e = absurd (none-some h e)
+dropped_points g name o h e = without_root (λ x. x.points ≡ g.points) g name o h e (λ n. refl) (λ n. refl)
 
 dropped_objects : (g : Graph) (name : Name) (o : Option Thing) (h : Graph) → graph_without_root g name o ≡ Some h → h.objects ≡ g.objects
-dropped_objects g name None h e = absurd (none-some h e)
-dropped_objects g name (Some (ChainThing n)) h e = absurd (none-some h e)
-dropped_objects g name (Some (PoolThing n)) h e = absurd (none-some h e)
-dropped_objects g name (Some (TableThing n)) h e = ap (λ (x : Graph). x.objects) (sym (same_Some _ h e))
-dropped_objects g name (Some (AreaThing n)) h e = ap (λ (x : Graph). x.objects) (sym (same_Some _ h e))
-dropped_objects g name (Some (BlocksThing n)) h e = absurd (none-some h e)
-dropped_objects g name (Some (PointThing n)) h e = absurd (none-some h e)
-dropped_objects g name (Some (DependencyThing n)) h e = absurd (none-some h e)
-dropped_objects g name (Some (TransformThing n)) h e = absurd (none-some h e)
-dropped_objects g name (Some (CacheThing n)) h e = absurd (none-some h e)
+dropped_objects g name o h e = without_root (λ x. x.objects ≡ g.objects) g name o h e (λ n. refl) (λ n. refl)
 
 drop_root_leaves : {c : Call} (v : World) (o : Option Graph) → ((g : Graph) → o ≡ Some g → g.objects ≡ v.graph.objects)
     → ((g : Graph) → o ≡ Some g → g.points ≡ v.graph.points)
@@ -228,58 +224,18 @@ act_leaves marked judged v (call.Chain chain count capacities) =
     (unchanged refl refl refl refl refl refl (λ h. refl))))
 act_leaves marked judged v (call.Pool pool kind format) =
     after_check (refuse_taken v pool) (after_check (refuse_at_limit (length v.pools) most_pools) (accepted
-    (record {
-      addresses = same v.addresses v.addresses refl;
-      pools = one_more v.pools _;
-      owned = same (owners v.graph)
-          (owners v.graph) refl;
-      flips = refl;
-      collection = inl refl;
-      dependencies = λ h. refl;
-      points = λ h. refl;
-      objects = λ h. refl;
-    })))
+    (left_so refl (one_more v.pools _) refl refl (inl refl) (λ h. refl) (λ h. refl))))
 act_leaves marked judged v (call.PoolOnChain pool kind format chain) =
     after_check (refuse_taken v pool) (andthen (chain_named v chain) (λ (on : Numbered (List ℕ)). after_check (refuse_at_limit
     (length v.pools) most_pools) (accepted
-    (record {
-      addresses = same v.addresses v.addresses refl;
-      pools = one_more v.pools _;
-      owned = same (owners v.graph)
-          (owners v.graph) refl;
-      flips = refl;
-      collection = inl refl;
-      dependencies = λ h. refl;
-      points = λ h. refl;
-      objects = λ h. refl;
-    }))))
+    (left_so refl (one_more v.pools _) refl refl (inl refl) (λ h. refl) (λ h. refl)))))
 act_leaves marked judged v (call.PoolMfs pool words) =
     after_check (refuse_taken v pool) (after_check (refuse_when (not (is_block_size words)) refusal.BadSize) (after_check (refuse_at_limit
     (length v.pools) most_pools) (accepted
-    (record {
-      addresses = same v.addresses v.addresses refl;
-      pools = one_more v.pools _;
-      owned = same (owners v.graph)
-          (owners v.graph) refl;
-      flips = refl;
-      collection = inl refl;
-      dependencies = λ h. refl;
-      points = λ h. refl;
-      objects = λ h. refl;
-    }))))
+    (left_so refl (one_more v.pools _) refl refl (inl refl) (λ h. refl) (λ h. refl)))))
 act_leaves marked judged v (call.PoolMvff pool) =
     after_check (refuse_taken v pool) (after_check (refuse_at_limit (length v.pools) most_pools) (accepted
-    (record {
-      addresses = same v.addresses v.addresses refl;
-      pools = one_more v.pools _;
-      owned = same (owners v.graph)
-          (owners v.graph) refl;
-      flips = refl;
-      collection = inl refl;
-      dependencies = λ h. refl;
-      points = λ h. refl;
-      objects = λ h. refl;
-    })))
+    (left_so refl (one_more v.pools _) refl refl (inl refl) (λ h. refl) (λ h. refl))))
 act_leaves marked judged v (call.Table table slots) =
     after_check (refuse_taken v table) (after_check (refuse_root v slots) (accepted (unchanged refl refl refl refl refl refl (λ h. refl))))
 act_leaves marked judged v (call.Area area words) =
@@ -299,17 +255,7 @@ act_leaves marked judged v (call.DropPoint point) =
     (unchanged refl refl refl refl refl refl (λ h. absurd (true≢false h)))))
 act_leaves marked judged v (call.Dependency dependency) =
     after_check (refuse_taken v dependency) (after_check (refuse_at_limit (length v.dependencies) most_dependencies) (accepted
-    (record {
-      addresses = same v.addresses v.addresses refl;
-      pools = same v.pools v.pools refl;
-      owned = same (owners v.graph)
-          (owners v.graph) refl;
-      flips = refl;
-      collection = inl refl;
-      dependencies = λ h. absurd (true≢false h);
-      points = λ h. refl;
-      objects = λ h. refl;
-    })))
+    (left_so refl (same v.pools v.pools refl) refl refl (inl refl) (λ h. absurd (true≢false h)) (λ h. refl))))
 act_leaves marked judged v (call.Reserve point head) =
     andthen (check_reserve judged point head) (λ (r : Reserving). after_check (refuse_without_place (placement_of judged
     (ForReserve r.point.number (length r.cells)))) (andthen (point_named v point) (λ (p : Numbered Point). accepted
@@ -407,60 +353,20 @@ act_leaves marked judged v (call.Finalize slot) =
 act_leaves marked judged v (call.Definalize slot) =
     andthen (slot_in v slot) (λ (from : Found (Option ℕ)). andthen (object_in v from.value) (λ (object : Numbered Object). andthen
     (required (position_of_first v.graph.registered object.number) refusal.NotRegistered) (λ (position : ℕ). accepted
-    (record {
-      addresses = same v.addresses v.addresses refl;
-      pools = same v.pools v.pools refl;
-      owned = same (owners v.graph)
-          (owners v.graph) refl;
-      flips = refl;
-      collection = inr (position, refl);
-      dependencies = λ h. refl;
-      points = λ h. refl;
-      objects = λ h. refl;
-    }))))
+    (left_so refl (same v.pools v.pools refl) refl refl (inr (position, refl)) (λ h. refl) (λ h. refl)))))
 act_leaves marked judged v (call.Message slot) =
     andthen (slot_in v slot) (λ (into : Found (Option ℕ)). message_leaves v into v.graph.messages)
 act_leaves marked judged v (call.DependencyReset dependency) =
     andthen (dependency_named v dependency) (λ (d : Numbered Dependency). accepted
-    (record {
-      addresses = same v.addresses v.addresses refl;
-      pools = same v.pools v.pools refl;
-      owned = same (owners v.graph)
-          (owners v.graph) refl;
-      flips = refl;
-      collection = inl refl;
-      dependencies = λ h. absurd (true≢false h);
-      points = λ h. refl;
-      objects = λ h. refl;
-    }))
+    (left_so refl (same v.pools v.pools refl) refl refl (inl refl) (λ h. absurd (true≢false h)) (λ h. refl)))
 act_leaves marked judged v (call.DependencyAdd dependency slot) =
     andthen (dependency_named v dependency) (λ (d : Numbered Dependency). andthen (slot_in v slot) (λ (from : Found (Option ℕ)). andthen
     (object_in v from.value) (λ (object : Numbered Object). accepted
-    (record {
-      addresses = same v.addresses v.addresses refl;
-      pools = same v.pools v.pools refl;
-      owned = same (owners v.graph)
-          (owners v.graph) refl;
-      flips = refl;
-      collection = inl refl;
-      dependencies = λ h. absurd (true≢false h);
-      points = λ h. refl;
-      objects = λ h. refl;
-    }))))
+    (left_so refl (same v.pools v.pools refl) refl refl (inl refl) (λ h. absurd (true≢false h)) (λ h. refl)))))
 act_leaves marked judged v (call.DependencyMerge dependency source) =
     andthen (dependency_named v dependency) (λ (d : Numbered Dependency). andthen (dependency_named v source) (λ
     (e : Numbered Dependency). accepted
-    (record {
-      addresses = same v.addresses v.addresses refl;
-      pools = same v.pools v.pools refl;
-      owned = same (owners v.graph)
-          (owners v.graph) refl;
-      flips = refl;
-      collection = inl refl;
-      dependencies = λ h. absurd (true≢false h);
-      points = λ h. refl;
-      objects = λ h. refl;
-    })))
+    (left_so refl (same v.pools v.pools refl) refl refl (inl refl) (λ h. absurd (true≢false h)) (λ h. refl))))
 act_leaves marked judged v (call.DependencyStale dependency) =
     andthen (dependency_named v dependency) (λ (d : Numbered Dependency). tells_leaves v (is_stale v.flips d.value.epoch d.value.zones))
 act_leaves marked judged v call.Live =

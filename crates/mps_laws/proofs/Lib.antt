@@ -31,6 +31,8 @@ pub mod Entries
 pub mod LegalHistories
 pub mod Held
 pub mod LeftByActs
+pub mod OwnSegments
+pub mod SameArena
 pub mod Reading
 pub mod Places
 pub mod Staying
@@ -40,6 +42,7 @@ pub mod FlippedZones
 pub mod Accounting
 pub mod Depending
 pub mod Fresh
+pub mod Flipping
 pub mod Same
 pub mod JoiningMoves
 pub mod QuietSteps

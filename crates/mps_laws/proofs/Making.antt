@@ -15,7 +15,7 @@ use Rattle.mps_model.specs.World.{Pool, PointMemory, extent, is_copying_kind, is
 use Rattle.mps_laws.proofs.InOrder.{all_weaker}
 use Rattle.mps_laws.proofs.Lookups.{slice_get-last, slice_get-at_last, slice_get-after_last, slice_get-set_other, entry_at-last, entry_at-at_last, entry_at-after_last, entry_at-set_other, entry_at-set_none, entry_within, entry_within_set, length-with_last, length-slice_set, there_is}
 use Rattle.mps_laws.proofs.Occupancy.{Occupancy, Occupant, OfBlock, OfReservation, OfBuffer, OfTail, Shape, PointShape, run_of, run_of_block, run_of_reservation, run_of_reserved, run_of_buffer, pool_of_occupant, rank_of_occupant, rank_where}
-use Rattle.mps_laws.proofs.LaidOut.{Home, IsLaidOut, IsRightShape, IsRightPointShape, IsRightlyRanked, IsKept, placed_kept, placed_new, laid_out_again}
+use Rattle.mps_laws.proofs.LaidOut.{Home, IsLaidOut, IsRightShape, IsRightPointShape, IsRightlyRanked, IsKept, placed_kept, placed_new, laid_out_again, home_otherwise}
 use Rattle.mps_laws.proofs.PoolKinds.{kind_in-more}
 use Rattle.mps_laws.proofs.Segments.{IsAmong}
 
@@ -45,17 +45,9 @@ arena_laid_out limit limit' grains g order range laid = record {
 in_more_pools : {segments : List Segment} {condemned : List Address} {pool : ℕ} {at_rank : Rank} {r : Run} (pools : List Pool) (p : Pool)
     (o : Occupant)
     → Home segments pools condemned o pool at_rank r → Home segments (with_last pools p) condemned o pool at_rank r
-in_more_pools pools p o home = record {
-  segment = home.segment;
-  held = home.held;
-  of_pool = home.of_pool;
-  of_rank = home.of_rank;
-  above = home.above;
-  below = home.below;
-  copying = λ h. kind_in-more is_copying_kind pools p home.segment.pool (home.copying h);
-  spared = home.spared;
-  to_end = home.to_end;
-}
+in_more_pools {condemned = condemned} pools p o home =
+    home_otherwise (with_last pools p) condemned home
+    (λ h. kind_in-more is_copying_kind pools p home.segment.pool (home.copying h)) home.spared
 
 pub pool_laid_out : (limit : ℕ) (p : Pool) (g : Occupancy) → IsLaidOut limit g → IsLaidOut limit (record g { pools = with_last g.pools p })
 pool_laid_out limit p g laid = record {

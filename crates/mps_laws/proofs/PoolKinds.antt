@@ -9,7 +9,7 @@ use Rattle.mps_model.specs.World.{Pool, PoolKind, Collected, OneSize, AnySize, i
 use Rattle.mps_laws.proofs.LaidOut.{kind_in}
 use Rattle.mps_laws.proofs.Lookups.{slice_get-kept}
 
-copying_not_weak : (k : PoolKind) → is_copying_kind k ≡ true → is_weak_kind k ≡ true → ⊥
+pub copying_not_weak : (k : PoolKind) → is_copying_kind k ≡ true → is_weak_kind k ≡ true → ⊥
 copying_not_weak (Collected kind.Amc) c w = false≢true w
 copying_not_weak (Collected kind.Amcz) c w = false≢true w
 copying_not_weak (Collected kind.Ams) c w = false≢true c

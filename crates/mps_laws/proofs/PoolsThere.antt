@@ -24,12 +24,13 @@ use Rattle.mps_model.specs.Placement.{ForReserve, ForAlloc, placement_of}
 use Rattle.mps_model.specs.Allocating.{act_alloc, act_commit, act_init_number, act_init_reference, act_reserve, allows_size, check_reserve, committed_object, refuse_without_place, with_reservation, with_reserved_cells, world_committed}
 use Rattle.mps_model.specs.Effect.{where_one, world_after_move, world_after_moves, after_splat, doomed, holding, segment_of_move, with_address, with_collection, reclaiming, segment_base_of}
 use Rattle.mps_model.specs.Reply.{act, world_from}
-use Rattle.mps_model.specs.History.{after_its_moves, after_own_segment, asking, judged_world, moved_world, moves_of_poll, own_segment, rank_of_point, with_buffer, with_client_remembered, world_after}
+use Rattle.mps_model.specs.History.{after_its_moves, after_own_segment, asking, judged_world, moved_world, moves_of_poll, own_segment, with_client_remembered, world_after}
 use Rattle.mps_model.specs.Policy.{units_asked}
 use Rattle.mps_laws.proofs.Entries.{GoesOn}
 use Rattle.mps_laws.proofs.Acts.{pool_named-is, point_named-is, ForAct, accepted, refused, with_value, after_check}
 use Rattle.mps_laws.proofs.LeftByActs.{andthen, Leaves, owners, owners-graph_with_cells, act_leaves, changes_points, makes_objects}
 use Rattle.mps_laws.proofs.LegalHistories.{IsAnswered}
+use Rattle.mps_laws.proofs.OwnSegments.{own_segment_taken}
 
 abbrev pub IsPoolThere : List Pool → ℕ → Type 0
 IsPoolThere pools number = number < length pools
@@ -157,19 +158,9 @@ moves_leave_pools w (m ∷ ms) =
     (moves_leave_pools (world_after_move w m) ms)
 
 own_segment_leaves : (w : World) (ms : List Move) (point : Option ℕ) → LeavesPools w (after_own_segment w ms point)
-own_segment_leaves w [] point = as_before w
-own_segment_leaves w (moves.Seg base grains pool generation ∷ ms) None = as_before w
-own_segment_leaves w (moves.Seg base grains pool generation ∷ ms) (Some point) = by_case (is_copying_pool w pool)
-  where
-    s : Segment
-    s = segment_of_move base.0 grains pool generation
-
-    by_case : (b : Bool) → LeavesPools w (if b then record (holding w (record s { rank = rank_of_point w point })) {
-      point_memories = with_buffer w.point_memories point (words_of_segment s);
-    } else holding w (record s { rank = rank_of_point w point }))
-    by_case true = record { pools = refl; there = λ h. h }
-    by_case false = record { pools = refl; there = λ h. h }
-own_segment_leaves w (_ ∷ ms) point = as_before w
+own_segment_leaves w ms point =
+    own_segment_taken (LeavesPools w) w (as_before w) (λ s. record { pools = refl; there = λ h. h })
+    (λ s n r. record { pools = refl; there = λ h. h }) ms point
 
 asking_leaves : (units : Option ℕ) (w : World) → LeavesPools w (asking units w)
 asking_leaves None w = as_before w

@@ -143,7 +143,7 @@ module _ (limit : ℕ) (a : World) (laid : HasLayout limit a) (p : Numbered Poin
 -- ---- a reservation in a new segment
 
 -- where nothing that is held serves, a segment fits in the free grains
-new_for : (v : World) (n : ℕ) (p : Point) (words grain grains : ℕ) → placement_at_point v n p words ≡ NewSegment grain grains
+pub new_for : (v : World) (n : ℕ) (p : Point) (words grain grains : ℕ) → placement_at_point v n p words ≡ NewSegment grain grains
     → new_segment_for v words ≡ NewSegment grain grains
 new_for v n p words grain grains e =
     elim (is_copying_pool v p.pool) as (λ b. (if b then placement_at_front v (buffer_of v n) words

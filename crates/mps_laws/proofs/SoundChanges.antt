@@ -7,7 +7,7 @@ use Rattle.std.specs.List.{flat_map, list_all}
 use Rattle.std.specs.Option.{option_map_or}
 use Rattle.mps_base.specs.declared.names.Name.{Name}
 use Rattle.mps_base.specs.declared.names.Rank.{Rank}
-use Rattle.mps_model.specs.Graph.{Graph, Object, PlainWord, entry_at, ids_in_blocks, ids_in_holds, ids_in_reservations, ids_in_slots, targets, entries, holds_of, slots_of, targets_of, targets_of_point, with_last, without_name}
+use Rattle.mps_model.specs.Graph.{Graph, Object, PlainWord, entry_at, ids_in_blocks, ids_in_holds, ids_in_reservations, ids_in_slots, targets, entries, targets_of, with_last, without_name}
 use Rattle.mps_model.specs.Collection.{Collection}
 use Rattle.mps_model.specs.World.{World, Pool, empty_world, is_live, is_running}
 use Rattle.mps_model.specs.Checked.{with_graph}
@@ -19,7 +19,7 @@ use Rattle.mps_laws.proofs.LeftByActs.{owners}
 use Rattle.mps_laws.proofs.Entries.{entry_at-append, entry_at-written}
 use Rattle.mps_laws.proofs.Lookups.{entry_at-set_other, entry_at-last, entry_at-after_last, entry_within}
 use Rattle.mps_laws.proofs.QuietSteps.{IsSound}
-use Rattle.mps_laws.proofs.HeldIds.{All, AreHeld, area_dropped, area_made, blocks_made, message_taken, point_dropped, point_made, all-weaker, table_dropped, table_made, weaker_test}
+use Rattle.mps_laws.proofs.HeldIds.{All, AreHeld, area_dropped, area_made, blocks_made, message_taken, point_dropped, point_made, all-weaker, table_dropped, table_made, weaker_test, held_again}
 use Rattle.mps_laws.proofs.Referred.{AreReferred, SoundParts, object_made, sound_parts, sound_world}
 use Rattle.mps_laws.proofs.SoundEffects.{graph_sound}
 
@@ -52,16 +52,6 @@ sound_again w v graph addresses running pools s =
     (subst (λ a. IsSound (of_parts w.graph a v.collection v.pools)) (sym addresses)
     (subst (λ c. IsSound (of_parts w.graph w.addresses c v.pools)) (sym running)
     (subst (λ p. IsSound (of_parts w.graph w.addresses w.collection p)) (sym pools) (to_parts w s)))))
-
--- the same ids are held where tables, areas, messages and points are the same
-pub held_again : (test : ℕ → Bool) (g h : Graph) → h.tables ≡ g.tables → h.areas ≡ g.areas → h.messages ≡ g.messages
-    → h.points ≡ g.points → AreHeld test g → AreHeld test h
-held_again test g h tables areas messages points a = record {
-  slots = subst (λ ts. All test (flat_map slots_of ts)) (sym tables) a.slots;
-  holds = subst (λ xs. All test (flat_map holds_of xs)) (sym areas) a.holds;
-  messages = subst (All test) (sym messages) a.messages;
-  reservations = subst (λ ps. All test (flat_map targets_of_point ps)) (sym points) a.reservations;
-}
 
 -- ---- effects
 

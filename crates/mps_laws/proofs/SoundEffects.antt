@@ -17,7 +17,7 @@ use Rattle.mps_laws.specs.Held.{target_found}
 use Rattle.mps_laws.proofs.LeftByActs.{owners, owners-graph_with_cells}
 use Rattle.mps_laws.proofs.Reading.{slot_is_held}
 use Rattle.mps_laws.proofs.QuietSteps.{IsSound}
-use Rattle.mps_laws.proofs.HeldIds.{All, AreHeld, PassesOrNull, for_client, place_written, reservation_ended, reservation_written, slot_written, weaker_test, word_written}
+use Rattle.mps_laws.proofs.HeldIds.{All, AreHeld, PassesOrNull, for_client, place_written, reservation_ended, reservation_written, slot_written, weaker_test, word_written, held_again}
 use Rattle.mps_laws.proofs.Referred.{AreReferred, SoundParts, cells_written, sound_parts, sound_world}
 
 -- ---- what is held already
@@ -107,20 +107,9 @@ module _ (w : World) (sound : IsSound w) where
       → PassesOrNull (is_live w) block → IsSound (with_graph w (with_block_place w.graph found block))
   place_sound found block there passes =
       graph_sound (with_block_place w.graph found block) refl
-      (record {
-        slots = parts.held.slots;
-        holds = parts.held.holds;
-        messages =
-            parts.held.messages;
-        reservations = parts.held.reservations;
-      })
+      (held_again (is_live w) w.graph (with_block_place w.graph found block) refl refl refl refl parts.held)
       (place_written (is_live w) w.graph parts.blocks found block there passes) parts.referred
-      (λ c e. record {
-        slots = (parts.kept c e).slots;
-        holds = (parts.kept c e).holds;
-        messages = (parts.kept c e).messages;
-        reservations = (parts.kept c e).reservations;
-      })
+      (λ c e. held_again (is_held_rightly w c) w.graph (with_block_place w.graph found block) refl refl refl refl (parts.kept c e))
 
   -- a reservation is made or written: what it refers to may be held
   pub reservation_sound : (point : Numbered Point) (r : Reservation) → All (is_live w) (targets_of_reservation r)
@@ -142,17 +131,6 @@ module _ (w : World) (sound : IsSound w) where
       → IsSound (with_graph w (graph_with_cells w.graph x change))
   cells_sound x change live =
       graph_sound (graph_with_cells w.graph x change) (owners-graph_with_cells w.graph x change)
-      (record {
-        slots = parts.held.slots;
-        holds = parts.held.holds;
-        messages =
-            parts.held.messages;
-        reservations = parts.held.reservations;
-      })
+      (held_again (is_live w) w.graph (graph_with_cells w.graph x change) refl refl refl refl parts.held)
       parts.blocks (λ rest. cells_written (is_live w) w.graph (is_live w) x change (live rest) (parts.referred rest))
-      (λ c e. record {
-        slots = (parts.kept c e).slots;
-        holds = (parts.kept c e).holds;
-        messages = (parts.kept c e).messages;
-        reservations = (parts.kept c e).reservations;
-      })
+      (λ c e. held_again (is_held_rightly w c) w.graph (graph_with_cells w.graph x change) refl refl refl refl (parts.kept c e))

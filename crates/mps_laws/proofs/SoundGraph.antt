@@ -21,6 +21,13 @@ abbrev pub PassesOrNull : (ℕ → Bool) → Option ℕ → Type 0
 PassesOrNull test None = Unit {0}
 PassesOrNull test (Some id) = test id ≡ true
 
+pub all-both : (p q : ℕ → Bool) (ids : List ℕ) → All p ids → All q ids → All (λ id. p id && q id) ids
+all-both p q [] h k = refl
+all-both p q (x ∷ xs) h k =
+    let a = and_parts (p x) (list_all p xs) h in
+    let b = and_parts (q x) (list_all q xs) k in
+    and_from (p x && q x) (list_all (λ id. p id && q id) xs) (and_from (p x) (q x) a.0 b.0) (all-both p q xs a.1 b.1)
+
 pub all-weaker : (test less : ℕ → Bool) → ((id : ℕ) → test id ≡ true → less id ≡ true) → (ids : List ℕ) → All test ids → All less ids
 all-weaker test less implies [] h = refl
 all-weaker test less implies (id ∷ ids) h =

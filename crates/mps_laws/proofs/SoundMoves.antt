@@ -2,7 +2,7 @@
 use Rattle.std.proofs.Common.{◌≡◌, ◌∙◌, ℕ, ◌+◌, Bool, true, false, refl, sym, ap, List, [], ◌∷◌, Option, Some, None, subst, inl, inr}
 use Rattle.std.proofs.lemmas.Bool.{false≢true, true≢false, and_parts, and_from, cases_eq, eq-eqb}
 use Rattle.std.proofs.lemmas.Option.{none-some, same_Some, slice_get-map}
-use Rattle.std.specs.Prelude.{slice_get, slice_set, option_map, not, ◌&&◌, ◌||◌, ◌==◌, ◌≢◌, if◌then◌else◌, is_some}
+use Rattle.std.specs.Prelude.{slice_get, slice_set, option_map, not, ◌||◌, ◌==◌, ◌≢◌, if◌then◌else◌, is_some}
 use Rattle.std.specs.Option.{option_map_or}
 use Rattle.std.specs.List.{list_all}
 use Rattle.mps_base.specs.Address.{Address}
@@ -18,7 +18,7 @@ use Rattle.mps_model.specs.Checked.{with_graph}
 use Rattle.mps_laws.proofs.Lookups.{entry_at-set_same, entry_at-set_other, entry_within, opened}
 use Rattle.mps_laws.proofs.Finding.{for_both, for_one, id_at-found}
 use Rattle.mps_laws.proofs.LegalMoves.{length-with_target_cell}
-use Rattle.mps_laws.proofs.SoundGraph.{All, IsSoundGraph, IsRightPoint, IsAlike, Grows, IsEdited, auto, manual, is_sound_reservation, all-contains, all-without, all-ended, all-weaker, edited, grows_alike, untouched, right_target_cell}
+use Rattle.mps_laws.proofs.SoundGraph.{All, IsSoundGraph, IsRightPoint, IsAlike, Grows, IsEdited, auto, manual, is_sound_reservation, all-contains, all-without, all-ended, all-weaker, edited, grows_alike, untouched, right_target_cell, all-both}
 use Rattle.mps_laws.proofs.SoundActs.{held_written, cells_changed}
 
 pub grows_on : (u v w : World) → Grows u v → Grows v w → Grows u w
@@ -80,7 +80,7 @@ with_live w w' s formats pools graph live =
             (subst (λ (g : Graph). All (manual w) (Rattle.mps_model.specs.Graph.ids_in_blocks g)) (sym graph) s.blocks);
         registered =
             subst (λ (g : Graph). All (is_live_automatic w') g.registered) (sym graph)
-            (both (is_live w') (auto w') w.graph.registered live
+            (all-both (is_live w') (auto w') w.graph.registered live
             (all-weaker (is_live_automatic w) (auto w') (λ id h.
             Rattle.mps_laws.proofs.SoundGraph.auto_kept w w' grows id (and_parts (is_live w id) (auto w id) h).1)
             w.graph.registered s.registered));
@@ -89,13 +89,6 @@ with_live w w' s formats pools graph live =
             (subst (λ (g : Graph). All (auto w) g.messages) (sym graph) s.messages);
       };
     }
-  where
-    both : (p q : ℕ → Bool) (ids : List ℕ) → All p ids → All q ids → All (λ id. p id && q id) ids
-    both p q [] h k = refl
-    both p q (x ∷ xs) h k =
-        let a = and_parts (p x) (list_all p xs) h in
-        let b = and_parts (q x) (list_all q xs) k in
-        and_from (p x && q x) (list_all (λ id. p id && q id) xs) (and_from (p x) (q x) a.0 b.0) (both p q xs a.1 b.1)
 
 registered_live : (w : World) → IsSoundGraph w → All (is_live w) w.graph.registered
 registered_live w s = all-weaker (is_live_automatic w) (is_live w)

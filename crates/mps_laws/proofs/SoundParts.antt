@@ -9,7 +9,7 @@ use Rattle.mps_base.specs.declared.names.Name.{Name}
 use Rattle.mps_base.specs.declared.names.Rank.{Rank}
 use Rattle.mps_base.specs.declared.names.Slot.{Slot}
 use Rattle.mps_format.specs.Layout.{Layout}
-use Rattle.mps_model.specs.Graph.{Graph, Object, Body, Automatic, Manual, Cell, HeadCell, NumberCell, ReferenceCell, Point, Reservation, AreaWord, PlainWord, Hold, Slots, Thing, ChainThing, PoolThing, TableThing, AreaThing, BlocksThing, PointThing, DependencyThing, TransformThing, CacheThing, contains, entries, entry_at, object_at, is_automatic, slots_of, ids_in_slots, target_of_cell, targets_of_cells, thing_named, with_last, without_first, with_target_cell, graph_with_cells, new_cells, new_cells_from, position_of_first}
+use Rattle.mps_model.specs.Graph.{Graph, Object, Cell, NumberCell, ReferenceCell, Point, Reservation, AreaWord, PlainWord, Hold, Thing, entries, entry_at, object_at, slots_of, ids_in_slots, targets_of_cells, with_last, without_name, new_cells, new_cells_from}
 use Rattle.mps_model.specs.World.{World, Pool, block_of_word, is_live, pool_at}
 use Rattle.mps_model.specs.WellFormed.{are_shaped, are_right_cells}
 use Rattle.mps_model.specs.Checked.{Found, Numbered, done, tells, point_named, slot_in, word_in, object_in, with_graph}
@@ -18,7 +18,7 @@ use Rattle.mps_model.specs.Allocating.{with_reservation, with_reserved_cells, wi
 use Rattle.mps_model.specs.Accessing.{Poked, AsBlock, AsMarked, AsNumber, act_poke_in, act_poked, held_in, hold_of, poked}
 use Rattle.mps_model.specs.Collecting.{act_message_in}
 use Rattle.mps_laws.proofs.Lookups.{slice_get-kept, entry_at-last, entry_at-at_last, entry_at-after_last, entry_within_set}
-use Rattle.mps_laws.proofs.Acts.{ForAct, accepted, after_check, point_named-is}
+use Rattle.mps_laws.proofs.Acts.{ForAct, accepted, after_check, point_named-is, without_root}
 use Rattle.mps_laws.proofs.SoundGraph.{All, PassesOrNull, AreRight, IsSoundGraph, IsRightPoint, auto, manual, is_sound_word, is_sound_reservation, all-written, all-last, entries-written, entry-passes, entries-none, each-replicated, edited, grows_alike, untouched}
 use Rattle.mps_laws.proofs.SoundActs.{table_passes, slot_passes, held_written, word_written, reservation_written, block_lies, hold_is_sound}
 use Rattle.mps_laws.proofs.FoundBy.{slot_found, object_found}
@@ -93,20 +93,16 @@ module _ (v : World) (s : IsSoundGraph v) where
   -- ---- roots
 
   pub dropped : (name : Name) (o : Option Thing) (g : Graph) → graph_without_root v.graph name o ≡ Some g → IsSoundGraph (with_graph v g)
-  dropped name (Some (TableThing n)) g e =
-      subst (λ x. IsSoundGraph (with_graph v x)) (same_Some _ g e)
-      (held_written v s (record v.graph {
+  dropped name o g e =
+      without_root (λ x. IsSoundGraph (with_graph v x)) v.graph name o g e
+      (λ n. held_written v s (record v.graph {
         tables = slice_set v.graph.tables n None;
-        names =
-            Rattle.mps_model.specs.Graph.without_name v.graph.names name;
+        names = without_name v.graph.names name;
       }) refl refl
       (inr (all-written (auto v) slots_of v.graph.tables n None s.slots refl)) (inl refl) (inl refl) (inl refl) (inl refl))
-  dropped name (Some (AreaThing n)) g e =
-      subst (λ x. IsSoundGraph (with_graph v x)) (same_Some _ g e)
-      (held_written v s (record v.graph {
+      (λ n. held_written v s (record v.graph {
         areas = slice_set v.graph.areas n None;
-        names =
-            Rattle.mps_model.specs.Graph.without_name v.graph.names name;
+        names = without_name v.graph.names name;
       }) refl refl
       (inl refl)
       (inr (λ k area h.
@@ -115,14 +111,6 @@ module _ (v : World) (s : IsSoundGraph v) where
         | inr other ↦ s.words k area other.1
       ]))
       (inl refl) (inl refl) (inl refl))
-  dropped name None g e = absurd (none-some g e)
-  dropped name (Some (ChainThing n)) g e = absurd (none-some g e)
-  dropped name (Some (PoolThing n)) g e = absurd (none-some g e)
-  dropped name (Some (BlocksThing n)) g e = absurd (none-some g e)
-  dropped name (Some (PointThing n)) g e = absurd (none-some g e)
-  dropped name (Some (DependencyThing n)) g e = absurd (none-some g e)
-  dropped name (Some (TransformThing n)) g e = absurd (none-some g e)
-  dropped name (Some (CacheThing n)) g e = absurd (none-some g e)
 
   pub new_table : (name : Name) (n : ℕ) → IsSoundGraph (with_graph v (graph_with_table v.graph name n))
   new_table name n =

@@ -3,7 +3,7 @@ use Rattle.std.proofs.Common.{◌≡◌, ◌∙◌, ℕ, zero, suc, ◌+◌, ◌
 use Rattle.std.proofs.lemmas.Bool.{cases_Bool, false≢true, and_parts, and_from, le-leb, lt-ltb, ltb-true, eq-eqb, eqb-true, or_left, or_right}
 use Rattle.std.proofs.lemmas.Option.{slice_get-map}
 use Rattle.std.proofs.lemmas.List.{length-map}
-use Rattle.std.specs.Prelude.{map, slice_get, option_map, option_and_then, ◌==◌, ◌&&◌, ◌||◌, nat_le, nat_lt, if◌then◌else◌, is_some}
+use Rattle.std.specs.Prelude.{map, slice_get, option_map, option_and_then, ◌==◌, ◌||◌, nat_le, nat_lt, if◌then◌else◌, is_some}
 use Rattle.std.specs.Option.{option_map_or}
 use Rattle.std.specs.List.{list_all}
 use Rattle.mps_base.specs.Segment.{Segment, words_of_segment}
@@ -17,7 +17,7 @@ use Rattle.mps_laws.proofs.Occupancy.{Occupancy, OfBlock, OfReservation, OfBuffe
 use Rattle.mps_laws.proofs.LaidOut.{Home}
 use Rattle.mps_laws.proofs.LegalMoves.{HasLayout}
 use Rattle.mps_laws.proofs.Reserving.{rank_where-weak}
-use Rattle.mps_laws.proofs.SoundGraph.{All, PassesOrNull, IsSoundGraph, auto, is_sound_word, is_sound_reservation, all-parts, all-at, entry-passes, each-all}
+use Rattle.mps_laws.proofs.SoundGraph.{All, PassesOrNull, IsSoundGraph, auto, is_sound_word, is_sound_reservation, all-parts, all-at, entry-passes, each-all, all-both}
 use Rattle.mps_laws.proofs.WellPlaced.{segments_right, ascending_apart, apart_right, places_right, tails_right, home_is, at_hand_is}
 
 -- what the client holds is live
@@ -119,13 +119,6 @@ module _ (w : World) (s : IsSoundGraph w) (live : ClientIsLive w) where
       (ids_in_reservations w.graph) live in
       (all-parts (is_live w) (ids_in_slots w.graph ++ ids_in_holds w.graph) w.graph.messages a.0).1
 
-  both : (p q : ℕ → Bool) (ids : List ℕ) → All p ids → All q ids → All (λ id. p id && q id) ids
-  both p q [] h k = refl
-  both p q (x ∷ xs) h k =
-      let a = and_parts (p x) (list_all p xs) h in
-      let b = and_parts (q x) (list_all q xs) k in
-      and_from (p x && q x) (list_all (λ id. p id && q id) xs) (and_from (p x) (q x) a.0 b.0) (both p q xs a.1 b.1)
-
   in_it : (copying : Bool) (at words offset : ℕ) → (if copying then nat_lt offset (8 * words) else offset == 0) ≡ true
       → is_word_in copying at words (at + offset) ≡ true
   in_it true at words offset h =
@@ -179,5 +172,5 @@ well_formed w laid s live = record {
   words = each-all (are_right_words w) w.graph.areas (λ n area e. area_right w s live n area e);
   blocks = s.blocks;
   registered = s.registered;
-  messages = both w s live (is_live w) (auto w) w.graph.messages (messages_live w s live) s.messages;
+  messages = all-both (is_live w) (auto w) w.graph.messages (messages_live w s live) s.messages;
 }

@@ -4,3 +4,4 @@ pub mod Held
 pub mod Staying
 pub mod Depending
 pub mod WellFormed
+pub mod Flipping

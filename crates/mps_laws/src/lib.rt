@@ -7,6 +7,7 @@ ghost use Rattle.mps_laws.specs.Held.{HeldObjectsAreLive, GetsReachLiveObjects};
 ghost use Rattle.mps_laws.specs.Staying.{HeldBlocksStay, HeldThroughoutStays, AddressesStayRight};
 ghost use Rattle.mps_laws.specs.Depending.{FreshDependenciesHold};
 ghost use Rattle.mps_laws.specs.Replay.{StepReplaysToLiveBlocks, LogReplaysToLiveBlocks};
+ghost use Rattle.mps_laws.specs.Flipping.{StepFlipsOnceAtMost, FlipsAreNoMoreThanSteps};
 ghost use Rattle.mps_laws.specs.WellFormed.{ReachedWorldsAreWellFormed, ArenaMadeAgainLeavesSegments};
 
 /// Commands with their lines, their answers and the log determine the history: no two histories have one log.
@@ -51,6 +52,12 @@ pub fn addresses_stay_right()
 /// unless it is live no more.
 pub fn fresh_dependencies_hold()
     ensures { FreshDependenciesHold }
+{}
+
+/// A legal step flips at most once, whatever its call is; so a legal history has no more flips than steps.
+pub fn a_step_flips_once_at_most()
+    ensures step { StepFlipsOnceAtMost }
+    ensures history { FlipsAreNoMoreThanSteps }
 {}
 
 /// Each world that a legal history reaches is well-formed, where no command but the first makes an arena, as in any script:

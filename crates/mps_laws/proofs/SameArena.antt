@@ -1,0 +1,127 @@
+-- Moves, and the acts of calls with moves, change neither the arena's grains nor what the numbers of formats mean.
+use Rattle.std.proofs.Common.{◌≡◌, ◌∙◌, ℕ, true, false, refl, length, List, [], ◌∷◌, Option, Some, None}
+use Rattle.std.specs.Prelude.{if◌then◌else◌, is_some, not}
+use Rattle.mps_base.specs.Segment.{Segment, words_of_segment}
+use Rattle.mps_base.specs.declared.moves.Move.{Move}
+use Rattle.mps_base.specs.declared.moves.Move.TheVariants as moves
+use Rattle.mps_base.specs.declared.names.Name.{Name}
+use Rattle.mps_base.specs.declared.names.Slot.{Slot}
+use Rattle.mps_base.specs.declared.refusal.Refusal.TheVariants as refusal
+use Rattle.mps_model.specs.declared.call.Call.{Call}
+use Rattle.mps_model.specs.declared.call.Call.TheVariants as call
+use Rattle.mps_model.specs.declared.reply.Reply.TheVariants as reply
+use Rattle.mps_model.specs.Graph.{Reservation, is_automatic}
+use Rattle.mps_model.specs.World.{World, id_at, is_automatic_kind, is_copying_pool, object_is, with_tail}
+use Rattle.mps_model.specs.Checked.{Found, Numbered, as_point, block_place_in, done, number_named, point_named, pool_named, refuse_when, required, says, slot_in, with_graph}
+use Rattle.mps_model.specs.World.{Pool}
+use Rattle.mps_model.specs.Allocating.{Reserving, act_alloc, act_commit, act_reserve, allows_size, check_reserve, refuse_without_place, with_reservation, world_committed}
+use Rattle.mps_model.specs.Placement.{ForAlloc, ForReserve, placement_of}
+use Rattle.mps_model.specs.Effect.{world_after_move, world_after_moves, after_segment, after_free, after_moved, after_post, after_splat, holding, where_one, with_collection, with_address, reclaiming, segment_base_of, segment_of_move, placing}
+use Rattle.mps_model.specs.Policy.{units_asked}
+use Rattle.mps_model.specs.History.{after_own_segment, asking, moved_world, moves_of_poll, own_segment}
+use Rattle.mps_laws.proofs.Acts.{ForAct, accepted, after_check, with_value}
+use Rattle.mps_laws.proofs.OwnSegments.{own_segment_taken}
+
+pub record IsSameArena (before after : World) : Type 0 where
+  pub grains : after.grains ≡ before.grains
+  pub formats : after.formats ≡ before.formats
+
+pub itself : (w : World) → IsSameArena w w
+itself w = record { grains = refl; formats = refl }
+
+then_same : (u v w : World) → IsSameArena u v → IsSameArena v w → IsSameArena u w
+then_same u v w first second = record { grains = second.grains ∙ first.grains; formats = second.formats ∙ first.formats }
+
+-- ---- moves
+
+one_same : (w : World) (o : Option ℕ) (change : ℕ → World) → ((id : ℕ) → IsSameArena w (change id)) → IsSameArena w (where_one w o change)
+one_same w None change each = itself w
+one_same w (Some id) change each = each id
+
+free_same : (w : World) (id at : ℕ) → IsSameArena w (after_free w id at)
+free_same w id at =
+    elim (object_is is_automatic w id) as (λ b. IsSameArena w (if b then with_collection (with_address w id None)
+    (reclaiming (segment_base_of w at)) else with_address w id None)) [
+      | true ↦ record { grains = refl; formats = refl }
+      | false ↦ record { grains = refl; formats = refl }
+    ]
+
+segment_same : (w : World) (s : Segment) → IsSameArena w (after_segment w s)
+segment_same w s =
+    elim (is_copying_pool w s.pool) as (λ b. IsSameArena w (if b then with_tail (holding w s) s.pool s.generation (words_of_segment s)
+    else holding w s)) [
+      | true ↦ record { grains = refl; formats = refl }
+      | false ↦ record { grains = refl; formats = refl }
+    ]
+
+move_same : (w : World) (m : Move) → IsSameArena w (world_after_move w m)
+move_same w (moves.Seg base grains pool generation) = segment_same w (segment_of_move base.0 grains pool generation)
+move_same w (moves.Unseg base) = record { grains = refl; formats = refl }
+move_same w (moves.Flip zones chain generation) = record { grains = refl; formats = refl }
+move_same w moves.End = record { grains = refl; formats = refl }
+move_same w (moves.Moved from to) =
+    one_same w (id_at w from.0) (λ id. after_moved w id to.0) (λ id. record { grains = refl; formats = refl })
+move_same w (moves.Stay at) =
+    one_same w (id_at w at.0) (λ id. with_collection w (placing id)) (λ id. record { grains = refl; formats = refl })
+move_same w (moves.Splat holder cell) =
+    one_same w (id_at w holder.0) (λ id. after_splat w id cell) (λ id. record { grains = refl; formats = refl })
+move_same w (moves.Post at) = one_same w (id_at w at.0) (after_post w) (λ id. record { grains = refl; formats = refl })
+move_same w (moves.Commit at words pool) = record { grains = refl; formats = refl }
+move_same w (moves.Alloc at words pool) = record { grains = refl; formats = refl }
+move_same w (moves.Free at) = one_same w (id_at w at.0) (λ id. after_free w id at.0) (λ id. free_same w id at.0)
+
+moves_same : (w : World) (ms : List Move) → IsSameArena w (world_after_moves w ms)
+moves_same w [] = itself w
+moves_same w (m ∷ ms) =
+    then_same w (world_after_move w m) (world_after_moves (world_after_move w m) ms) (move_same w m) (moves_same (world_after_move w m) ms)
+
+asked_same : (units : Option ℕ) (w : World) → IsSameArena w (asking units w)
+asked_same None w = itself w
+asked_same (Some units) w = record { grains = refl; formats = refl }
+
+own_same : (w : World) (ms : List Move) (number : Option ℕ) → IsSameArena w (after_own_segment w ms number)
+own_same w ms number =
+    own_segment_taken (IsSameArena w) w (itself w) (λ s. record { grains = refl; formats = refl })
+    (λ s n r. record { grains = refl; formats = refl }) ms number
+
+-- the moves of a call
+pub moved_same : (w : World) (c : Call) (ms : List Move) → IsSameArena w (moved_world w c ms)
+moved_same w (call.Reserve name head) ms =
+    let polled = world_after_moves w (moves_of_poll ms) in
+    let owned = after_own_segment polled (own_segment ms) (number_named w name as_point) in
+    then_same w owned (asking (units_asked w (call.Reserve name head)) owned)
+    (then_same w polled owned (moves_same w (moves_of_poll ms)) (own_same polled (own_segment ms) (number_named w name as_point)))
+    (asked_same (units_asked w (call.Reserve name head)) owned)
+moved_same w (call.Step units) ms =
+    then_same w (world_after_moves w ms) (asking (units_asked w (call.Step units)) (world_after_moves w ms)) (moves_same w ms)
+    (asked_same (units_asked w (call.Step units)) (world_after_moves w ms))
+moved_same w _ ms = moves_same w ms
+
+-- ---- acts of calls with moves
+
+pub reserve_same : (judged v : World) (name : Name) (head : ℕ) → ForAct (IsSameArena v) (act_reserve judged v name head)
+reserve_same judged v name head =
+    with_value (check_reserve judged name head) (λ (r : Reserving) e.
+    after_check (refuse_without_place (placement_of judged (ForReserve r.point.number (length r.cells))))
+    (with_value (point_named v name) (λ p f. accepted (record { grains = refl; formats = refl }))))
+
+pub commit_same : (v : World) (name : Name) (target : Slot) → ForAct (IsSameArena v) (act_commit v name target)
+commit_same v name target =
+    with_value (point_named v name) (λ p e.
+    with_value (slot_in v target) (λ slot e'.
+    with_value (required p.value.reservation refusal.NotOpen) (λ (r : Reservation) f.
+    elim (r.is_doomed) as (λ b. ForAct (IsSameArena v) (if b then says reply.Flipped (with_graph v (with_reservation v.graph p None))
+    else done (world_committed v p r slot))) [
+      | true ↦ accepted (record { grains = refl; formats = refl })
+      | false ↦ accepted (record { grains = refl; formats = refl })
+    ])))
+
+pub alloc_same : (judged v : World) (pool : Name) (words : ℕ) (place : Slot) → ForAct (IsSameArena v) (act_alloc judged v pool words place)
+alloc_same judged v pool words place =
+    with_value (pool_named judged pool) (λ (p : Numbered Pool) e.
+    after_check (refuse_when (is_automatic_kind p.value.kind) refusal.WrongPool)
+    (with_value (block_place_in judged place) (λ (into : Found (Option ℕ)) e'.
+    after_check (refuse_when (not (allows_size p.value.kind words)) refusal.BadSize)
+    (after_check (refuse_when (is_some into.value) refusal.NameTaken)
+    (after_check (refuse_without_place (placement_of judged (ForAlloc p.number words)))
+    (accepted (record { grains = refl; formats = refl })))))))
