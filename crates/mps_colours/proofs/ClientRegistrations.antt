@@ -14,6 +14,7 @@ use Rattle.mps_model.specs.Collecting.{act_finalize, without_position, without_r
 use Rattle.mps_model.specs.History.{remembering, with_client_remembered}
 use Rattle.mps_model.specs.Reply.{world_from}
 use Rattle.mps_colours.specs.Collecting.{Collecting, Running, AreExamined, is_white_in}
+use Rattle.mps_colours.proofs.Counted.{counted_runs, survivors_again}
 use Rattle.mps_colours.proofs.Lists.{contains_append, contains_cases, index_below}
 use Rattle.mps_colours.proofs.Registrations.{StandsFirst, contains-without_first, length-without_first, slice_get-without_before, slice_get-without_after}
 use Rattle.mps_colours.proofs.ClientBeside.{bind_keeps, refuse_keeps, slot_found, slot_held}
@@ -91,12 +92,9 @@ module _ (x : Collecting) (run : Running x) where
     };
     grey = run.grey;
     settled = record { settled = run.settled.settled; in_place = run.settled.in_place };
-    survivors = record {
-      existing = run.survivors.existing;
-      kept = run.survivors.kept;
-      written = run.survivors.written;
-      outside = run.survivors.outside;
-    };
+    survivors =
+        survivors_again w.graph ids (is_live w) x.running x.colours x.colours x.running.had before examined x.running.spent
+        (λ id white. white) run.survivors;
     examined = all_examined;
     band = record {
       tracing = run.band.tracing;
@@ -272,41 +270,10 @@ module _ (x : Collecting) (run : Running x) where
     world = with_client_remembered w;
     running = remembering (ids_of_client w.graph) x.running;
   })
-  remembered_keeps = record {
-    runs = ap (option_map (remembering (ids_of_client w.graph))) run.runs;
-    different = run.different;
-    condemned = record { objects = run.condemned.objects; bases = run.condemned.bases; segments = run.condemned.segments };
-    coloured = run.coloured;
-    grey = run.grey;
-    settled = record {
-      settled = λ id h. elim (settled_or_held (ids_of_client w.graph) id h) [
+  remembered_keeps =
+      counted_runs x run (ids_of_client w.graph ++ x.running.had) x.running.spent
+      (option_map (remembering (ids_of_client w.graph)) w.collection) (ap (option_map (remembering (ids_of_client w.graph))) run.runs)
+      (λ id h. elim (settled_or_held (ids_of_client w.graph) id h) [
         | inl old ↦ run.settled.settled id old
         | inr held ↦ run.coloured.held id held
-      ];
-      in_place = run.settled.in_place;
-    };
-    survivors = record {
-      existing = run.survivors.existing;
-      kept = run.survivors.kept;
-      written = run.survivors.written;
-      outside = run.survivors.outside;
-    };
-    examined = record {
-      live_registered = run.examined.live_registered;
-      from = run.examined.from;
-      up_to = run.examined.up_to;
-      existing = run.examined.existing;
-      examined = run.examined.examined;
-    };
-    band = record {
-      tracing = run.band.tracing;
-      splatting = run.band.splatting;
-      drained = run.band.drained;
-      examined = run.band.examined;
-      scanned = run.band.scanned;
-      referred_live = run.band.referred_live;
-      unswept = run.band.unswept;
-    };
-    swept = record { hold = run.swept.hold; to_go = run.swept.to_go; in_turn = run.swept.in_turn; one_left = run.swept.one_left };
-    units = run.units;
-  }
+      ]) run.units

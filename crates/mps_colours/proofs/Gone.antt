@@ -9,7 +9,7 @@ use Rattle.mps_model.specs.Reachable.{IsReachableWith}
 use Rattle.mps_model.specs.Collection.{Collection, is_condemned, is_settled, is_surely_kept}
 use Rattle.mps_model.specs.World.{World, is_live, live_automatic_ids, object_is, is_copying_object}
 use Rattle.mps_model.specs.LegalMove.{ids_kept, IsLost, IsGone, IsLegalSweep}
-use Rattle.mps_colours.specs.Colours.{Colours, is_white, AreColoured, IsDrained, AreSettled}
+use Rattle.mps_colours.specs.Colours.{Colours, is_white, AreColoured, AreColoursDrained, AreSettled}
 use Rattle.mps_colours.proofs.Lists.{contains-filter}
 use Rattle.mps_colours.proofs.Addresses.{automatic_is_live}
 use Rattle.mps_colours.proofs.Keeping.{is_condemned_if_white, not_white_outside}
@@ -37,7 +37,7 @@ module _ (w : World) (c : Collection) (k : Colours)
       outside true h = absurd (false≢true h)
       outside false h = refl
 
-  module _ (drained : IsDrained (object_is is_weak_object w) k) where
+  module _ (drained : AreColoursDrained (object_is is_weak_object w) k) where
     pub reachable_with_kept : (except id : Id) → IsReachableWith w.graph (ids_kept w c except) id
         → (is_live w id ≡ true) × (is_white c.condemned k id ≡ false)
     reachable_with_kept except id path =

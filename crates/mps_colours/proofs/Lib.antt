@@ -35,6 +35,7 @@ pub mod KeepsLegal
 pub mod Keeping
 pub mod KeptRunning
 pub mod Further
+pub mod Counted
 pub mod Scanning
 pub mod Pieces
 pub mod UnitScans

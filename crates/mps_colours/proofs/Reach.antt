@@ -6,7 +6,7 @@ use Rattle.std.specs.Option.{option_map_or}
 use Rattle.mps_base.specs.Address.{Id}
 use Rattle.mps_model.specs.Graph.{Graph, Object, contains, targets, targets_of, strong_targets, strong_targets_of, is_weak_object, object_at, for_object, ids_of_client}
 use Rattle.mps_model.specs.Reachable.{begins, goes_on, IsReachableWith}
-use Rattle.mps_colours.specs.Colours.{Colours, is_white, is_grey, AreColoured, IsDrained}
+use Rattle.mps_colours.specs.Colours.{Colours, is_white, is_grey, AreColoured, AreColoursDrained}
 use Rattle.mps_colours.proofs.Lists.{contains_append}
 
 strong_of : (o : Option Object) (t : Id) → contains (option_map_or strong_targets_of o []) t ≡ true
@@ -24,7 +24,7 @@ pub strong_is_target : (g : Graph) (id t : Id) → contains (strong_targets g id
     → (contains (targets g id) t ≡ true) × (for_object g id is_weak_object false ≡ false)
 strong_is_target g id t h = strong_of (object_at g id) t h
 
-pub not_grey : (weak : Id → Bool) (k : Colours) (id : Id) → IsDrained weak k → weak id ≡ false → is_grey k id ≡ false
+pub not_grey : (weak : Id → Bool) (k : Colours) (id : Id) → AreColoursDrained weak k → weak id ≡ false → is_grey k id ≡ false
 not_grey weak k id drained strong = elim (cases_Bool (is_grey k id)) [
   | inl grey ↦ absurd (false≢true (sym strong ∙ drained id grey))
   | inr isnt ↦ isnt
@@ -32,7 +32,8 @@ not_grey weak k id drained strong = elim (cases_Bool (is_grey k id)) [
 
 -- where these too are live, and none of them is white
 module _ (g : Graph) (live : Id → Bool) (condemned : List Id) (k : Colours) (more : List Id)
-    (coloured : AreColoured (ids_of_client g) g live condemned k) (drained : IsDrained (λ id. for_object g id is_weak_object false) k)
+    (coloured : AreColoured (ids_of_client g) g live condemned k)
+    (drained : AreColoursDrained (λ id. for_object g id is_weak_object false) k)
     (kept : (id : Id) → contains more id ≡ true → (live id ≡ true) × (is_white condemned k id ≡ false)) where
   pub reachable_is_kept : {id : Id} → IsReachableWith g more id → (live id ≡ true) × (is_white condemned k id ≡ false)
   reachable_is_kept (begins {id} h) = elim (contains_append (ids_of_client g) more id h) [

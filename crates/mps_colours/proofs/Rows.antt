@@ -14,6 +14,7 @@ use Rattle.mps_colours.specs.Colours.{AllReferredLive}
 use Rattle.mps_colours.specs.Collecting.{Collecting, units_left, segments_left, Running}
 use Rattle.mps_colours.specs.Units.{IsUnit, scans, examines, posts, splats, reclaims, IsLastUnit, reclaims_last, GoesOn, begun, by_one_more, Ends, by_last, asked}
 use Rattle.mps_colours.specs.Laws.{IsUnitDone, IsLastUnitDone, AreUnitsDone, AreLastUnitsDone}
+use Rattle.mps_colours.proofs.Counted.{counted_runs}
 use Rattle.mps_colours.proofs.Lists.{count_by-lt}
 use Rattle.mps_colours.proofs.Joining.{AreLegalAnywhere, no_moves_legal, legal_append, legal_alone}
 use Rattle.mps_colours.proofs.UnitScans.{IsUnitShown, scans_shown}
@@ -60,43 +61,7 @@ module _ (x : Collecting) (run : Running x) (count : ℕ) (enough : x.running.sp
   asked_state = record x { world = record x.world { collection = Some asked_running }; running = asked_running }
 
   asked_state_runs : Running asked_state
-  asked_state_runs = record {
-    runs = refl;
-    different = run.different;
-    condemned = record { objects = run.condemned.objects; bases = run.condemned.bases; segments = run.condemned.segments };
-    coloured = record {
-      held_live = run.coloured.held_live;
-      held = run.coloured.held;
-      referred_live = run.coloured.referred_live;
-      referred = run.coloured.referred;
-    };
-    grey = record { grey_live = run.grey.grey_live; grey_automatic = run.grey.grey_automatic; grey_kept = run.grey.grey_kept };
-    settled = record { settled = run.settled.settled; in_place = run.settled.in_place };
-    survivors = record {
-      existing = run.survivors.existing;
-      kept = run.survivors.kept;
-      written = run.survivors.written;
-      outside = run.survivors.outside;
-    };
-    examined = record {
-      live_registered = run.examined.live_registered;
-      from = run.examined.from;
-      up_to = run.examined.up_to;
-      existing = run.examined.existing;
-      examined = run.examined.examined;
-    };
-    band = record {
-      tracing = run.band.tracing;
-      splatting = run.band.splatting;
-      drained = run.band.drained;
-      examined = run.band.examined;
-      scanned = run.band.scanned;
-      referred_live = run.band.referred_live;
-      unswept = run.band.unswept;
-    };
-    swept = record { hold = run.swept.hold; to_go = run.swept.to_go; in_turn = run.swept.in_turn; one_left = run.swept.one_left };
-    units = enough;
-  }
+  asked_state_runs = counted_runs x run x.running.had (x.running.spent + count) (Some asked_running) refl run.settled.settled enough
 
   pub asked_runs : Running (asked x count)
   asked_runs =

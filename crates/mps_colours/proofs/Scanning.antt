@@ -12,6 +12,7 @@ use Rattle.mps_colours.specs.Colours.{is_grey, is_to_scan, blackened, Survives}
 use Rattle.mps_colours.specs.Collecting.{Collecting, is_tracing_band, is_white_in, units_left, Running}
 use Rattle.mps_colours.specs.Fixing.{Keeps, Fixes, fixes_no_more, passes, keeps, kept_by}
 use Rattle.mps_colours.specs.Units.{scanned, AreTargetsKept}
+use Rattle.mps_colours.proofs.Counted.{examined_again, survivors_again}
 use Rattle.mps_colours.proofs.Lists.{count_by-le, count_by-lt, contains_here, contains_later, contains_cases}
 use Rattle.mps_colours.proofs.Addresses.{live_is_listed}
 use Rattle.mps_colours.proofs.Joining.{AreLegalAnywhere, no_moves_legal, legal_append}
@@ -129,19 +130,12 @@ module _ (x : Collecting) (run : Running x) (id : Id) (fixed : AreTargetsKept x 
       grey_kept = λ n h. run.grey.grey_kept n (grey_still x.running.condemned x.colours id n h);
     };
     settled = record { settled = run.settled.settled; in_place = run.settled.in_place };
-    survivors = record {
-      existing = run.survivors.existing;
-      kept = run.survivors.kept;
-      written = run.survivors.written;
-      outside = run.survivors.outside;
-    };
-    examined = record {
-      live_registered = run.examined.live_registered;
-      from = run.examined.from;
-      up_to = run.examined.up_to;
-      existing = run.examined.existing;
-      examined = run.examined.examined;
-    };
+    survivors =
+        survivors_again x.world.graph x.world.graph.registered (is_live x.world) x.running x.colours (blackened x.colours id) x.running.had
+        x.running.registered_before x.running.examined x.running.spent (λ n white. white) run.survivors;
+    examined =
+        examined_again x.world.graph.registered (is_live x.world) x.running x.colours (blackened x.colours id) x.next x.running.had
+        x.running.phase x.running.spent (λ n white. white) run.examined;
     band = record {
       tracing = run.band.tracing;
       splatting = run.band.splatting;

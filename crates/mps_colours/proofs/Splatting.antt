@@ -8,7 +8,7 @@ use Rattle.mps_base.specs.declared.moves.Move.{Move}
 use Rattle.mps_base.specs.declared.moves.Move.TheVariants as moves
 use Rattle.mps_model.specs.Graph.{Graph, Object, Body, Automatic, Manual, Cell, contains, targets, is_automatic, is_automatic_body, is_weak_object, is_weak_body, body_with_cells, with_target_cell, graph_with_cells}
 use Rattle.mps_model.specs.Collection.{Collection}
-use Rattle.mps_model.specs.World.{id_at, object_is, is_copying_object, is_copying_pool}
+use Rattle.mps_model.specs.World.{id_at, is_live, object_is, is_copying_object, is_copying_pool}
 use Rattle.mps_model.specs.Accessing.{address_or_null}
 use Rattle.mps_model.specs.Effect.{splatting, after_splat, where_one, world_after_moves}
 use Rattle.mps_model.specs.Flip.{at_address}
@@ -17,6 +17,8 @@ use Rattle.mps_model.specs.Units.{splats_of, splats}
 use Rattle.mps_colours.specs.Colours.{is_grey}
 use Rattle.mps_colours.specs.Collecting.{Weak, Collecting, is_tracing_band, is_reclaiming_band, IsDrainedIn, AreAllExamined, is_white_in, units_left, Running}
 use Rattle.mps_colours.specs.Units.{Splats, splats_no_more, splats_cell, splatted, AreTargetsKept, splats_by, scanned}
+use Rattle.mps_colours.proofs.Counted.{examined_again}
+use Rattle.mps_model.specs.Collection.{Splatting}
 use Rattle.mps_colours.proofs.Addresses.{id_at-live}
 use Rattle.mps_colours.proofs.Joining.{AreLegalAnywhere, no_moves_legal, one_legal, legal_append, for_some}
 use Rattle.mps_colours.proofs.Cells.{gives_target, for_object-with_cells, length-with_cells, targets-with_cells}
@@ -100,13 +102,9 @@ module _ (x : Collecting) (run : Running x) (later : is_tracing_band x.band ≡ 
       written = λ n t live refers. run.survivors.written n t live (referred_before n t refers);
       outside = run.survivors.outside;
     };
-    examined = record {
-      live_registered = run.examined.live_registered;
-      from = run.examined.from;
-      up_to = run.examined.up_to;
-      existing = run.examined.existing;
-      examined = run.examined.examined;
-    };
+    examined =
+        examined_again x.world.graph.registered (is_live x.world) x.running x.colours x.colours x.next x.running.had Splatting
+        x.running.spent (λ n white. white) run.examined;
     band = record {
       tracing = λ h. absurd (true≢false (sym h ∙ later));
       splatting = λ h. refl;

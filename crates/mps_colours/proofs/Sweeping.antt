@@ -13,7 +13,7 @@ use Rattle.mps_model.specs.Effect.{after_free, with_collection, with_address, wh
 use Rattle.mps_model.specs.Flip.{at_address}
 use Rattle.mps_model.specs.LegalMove.{ForOne, IsLegalMove, IsLegalSweep}
 use Rattle.mps_model.specs.Units.{frees_at, is_ascending}
-use Rattle.mps_colours.specs.Colours.{Colours, is_white, AreColoured, AreAllScanned, AreSettled, AreDifferent, IsDrained}
+use Rattle.mps_colours.specs.Colours.{Colours, is_white, AreColoured, AreAllScanned, AreSettled, AreDifferent, AreColoursDrained}
 use Rattle.mps_colours.proofs.Lists.{contains_here, contains_later, contains_cases, entry_that_is, entry_at-set_cases, entry_at-set_other}
 use Rattle.mps_colours.proofs.Addresses.{id_at-address}
 use Rattle.mps_colours.proofs.Keeping.{is_condemned_if_white, differ_by_colour}
@@ -50,7 +50,7 @@ pub record IsWhiteThere (w : World) (condemned : List Id) (k : Colours) (base at
   pub white : is_white condemned k id ≡ true
   pub in_base : segment_base_of w at ≡ base
 
-none_grey : (k : Colours) (weak : Id → Bool) → AreAllScanned k → IsDrained weak k
+none_grey : (k : Colours) (weak : Id → Bool) → AreAllScanned k → AreColoursDrained weak k
 none_grey k weak scanned id grey = absurd (true≢false (sym grey ∙ scanned id))
 
 -- ---- one is freed

@@ -9,7 +9,7 @@ use Rattle.mps_model.specs.World.{World, is_automatic_kind, pool_is, is_live, li
 use Rattle.mps_model.specs.Effect.{segment_base_of}
 use Rattle.mps_model.specs.LegalMove.{ForOne, is_tracing, may_splat, holds_something}
 use Rattle.mps_model.specs.Units.{is_ascending}
-use Rattle.mps_colours.specs.Colours.{Colours, is_white, is_to_scan, AreColoured, AllReferredLive, AreGreyKept, IsDrained, AreAllScanned, AreSettled, AreSurvivors, AreDifferent}
+use Rattle.mps_colours.specs.Colours.{Colours, is_white, is_to_scan, AreColoured, AllReferredLive, AreGreyKept, AreColoursDrained, AreAllScanned, AreSettled, AreSurvivors, AreDifferent}
 
 -- the bands of a collection, in their order. A band is entered by the first unit that works in it
 pub data Band : Type 0 where
@@ -54,7 +54,7 @@ is_white_in x id = is_white x.running.condemned x.colours id
 
 -- nothing but weak objects is grey
 abbrev pub IsDrainedIn : Collecting → Type 0
-IsDrainedIn x = IsDrained (object_is is_weak_object x.world) x.colours
+IsDrainedIn x = AreColoursDrained (object_is is_weak_object x.world) x.colours
 
 -- every registration that was made before the flip was examined
 abbrev pub AreAllExamined : Collecting → Type 0

@@ -59,8 +59,8 @@ pub record AreGreyKept (automatic live : Id → Bool) (condemned : List Id) (k :
   pub grey_kept : (id : Id) → IsTrue (is_grey k id) → is_white condemned k id ≡ false
 
 -- nothing but weak objects is grey
-abbrev pub IsDrained : (weak : Id → Bool) → Colours → Type 0
-IsDrained weak k = (id : Id) → IsTrue (is_grey k id) → IsTrue (weak id)
+abbrev pub AreColoursDrained : (weak : Id → Bool) → Colours → Type 0
+AreColoursDrained weak k = (id : Id) → IsTrue (is_grey k id) → IsTrue (weak id)
 
 -- nothing is grey
 abbrev pub AreAllScanned : Colours → Type 0
@@ -126,5 +126,5 @@ pub keeping_makes_grey : is_to_scan (1 ∷ 2 ∷ []) (keeping some_kept 2) 2 ≡
 keeping_makes_grey = refl
 
 -- where only an object that isn't weak is grey, the collection isn't drained
-pub a_grey_strong_object : IsDrained (λ id. false) some_kept → ⊥
+pub a_grey_strong_object : AreColoursDrained (λ id. false) some_kept → ⊥
 a_grey_strong_object drained = let h : false ≡ true = drained 1 refl in absurd cc
