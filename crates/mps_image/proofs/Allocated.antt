@@ -8,13 +8,14 @@ use Rattle.mps_model.specs.Graph.{Cell, HeadCell, NumberCell, ReferenceCell, Aut
 use Rattle.mps_model.specs.World.{PointMemory, extents_of}
 use Rattle.mps_colours.specs.Colours.{Colours}
 use Rattle.mps_image.specs.Memory.{Setting, Memory, Lies, LiesReserved, live_reservation}
-use Rattle.mps_image.specs.Image.{IsCellWord, IsAddress, LieApart, IsFixed, CellSet, ImageStands}
-use Rattle.mps_image.specs.Changes.{setting_made, addresses_made, setting_with_points, memory_with_reservation, memory_without_reservation, IsUnforwarded, AreFree, AreHome, memory_allocated, IsAllocated}
+use Rattle.mps_image.specs.Image.{IsCellWord, IsAddress, LieApart, IsFixedWord, CellSet, ImageStands}
+use Rattle.mps_image.specs.Changes.{setting_made, addresses_made, setting_with_points, memory_with_reservation, memory_without_reservation, IsOfNoMovedBlock, AreFree, AreHome, memory_allocated, IsAllocated}
 use Rattle.mps_image.proofs.Entries.{slice_get-last, slice_get-still, slice_get-pushed, slice_get-set_same, slice_get-set_other, entry_pushed, entry_still}
 use Rattle.mps_image.proofs.InOrder.{BeginElsewhere}
 use Rattle.mps_image.proofs.LastObject.{old_below, lies_made}
 use Rattle.mps_image.proofs.ChangedRuns.{blocks_elsewhere, runs_made, runs_reserved}
 use Rattle.mps_image.proofs.Made.{image_made}
+use Rattle.mps_image.proofs.Placed.{placed_with_points}
 use Rattle.mps_image.proofs.Reserved.{image_reserved}
 use Rattle.mps_image.proofs.Reservations.{reserved_cases, reserved_unforwarded, reservation_ended}
 
@@ -132,7 +133,7 @@ block_allocated s m addresses k done o at words kept st v free home =
 
 -- a fixed cell stays so where there is one object more
 fixed_still : (condemned : List Id) (addresses : List (Option Address)) (at : Address) (k : Colours) (head : ℕ) (c : Cell) (word : ℕ)
-    → IsFixed condemned addresses k head c word → IsFixed condemned (addresses_made addresses at) k head c word
+    → IsFixedWord condemned addresses k head c word → IsFixedWord condemned (addresses_made addresses at) k head c word
 fixed_still condemned addresses at k head c word f = record { holds = go c f.holds; not_white = f.not_white }
   where
     go : (d : Cell) → IsCellWord addresses [] head d word → IsCellWord (addresses_made addresses at) [] head d word
@@ -194,7 +195,7 @@ module _ (s : Setting) (m : Memory) (addresses : List (Option Address)) (k : Col
 
     -- the cells of a committed block are fixed, as those of its reservation were
     pub committed_cells : (q : Reservation) → live_reservation p ≡ Some q → (l : ℕ) (c : Cell) → slice_get q.cells l ≡ Some c
-        → IsFixed s.condemned (addresses_made addresses memory.reserved_at) k q.head c
+        → IsFixedWord s.condemned (addresses_made addresses memory.reserved_at) k q.head c
         (slice_index m.words (word_of memory.reserved_at + l))
     committed_cells q live l c cell =
         fixed_still s.condemned addresses memory.reserved_at k q.head c (slice_index m.words (word_of memory.reserved_at + l))
@@ -211,7 +212,7 @@ module _ (s : Setting) (m : Memory) (addresses : List (Option Address)) (k : Col
         → live_reservation (Some p') ≡ Some q → 0 < length q.cells → AreFree s addresses there.reserved_at (length q.cells)
         → length words ≡ length m.words
         → ((l : ℕ) (c : Cell) → slice_get q.cells l ≡ Some c
-        → IsFixed s.condemned addresses k q.head c (slice_index words (word_of there.reserved_at + l)))
+        → IsFixedWord s.condemned addresses k q.head c (slice_index words (word_of there.reserved_at + l)))
         → ((n : Word) → ((l : ℕ) → l < length q.cells → n ≢ word_of there.reserved_at + l) → slice_index words n ≡ slice_index m.words n)
         → ImageStands (setting_with_points s (slice_set s.points i (Some p')) (slice_set s.point_memories i there))
         (memory_with_reservation (record m { words = words }) there.reserved_at (length q.cells)) addresses k done
@@ -236,8 +237,8 @@ module _ (s : Setting) (m : Memory) (addresses : List (Option Address)) (k : Col
           long = long;
           cells = λ j l r n c x cell. elim (cases j l r n x) [
             | inl e ↦
-                inr (subst (λ y. IsFixed s.condemned addresses k r.head c (slice_index words y)) (sym e.3)
-                (subst (λ (y : Reservation). IsFixed s.condemned addresses k y.head c
+                inr (subst (λ y. IsFixedWord s.condemned addresses k r.head c (slice_index words y)) (sym e.3)
+                (subst (λ (y : Reservation). IsFixedWord s.condemned addresses k y.head c
                 (slice_index words (word_of there.reserved_at + l))) (sym e.1)
                 (fixed l c (subst (λ (y : Reservation). slice_get y.cells l ≡ Some c) e.1 cell))))
             | inr y ↦
@@ -255,7 +256,7 @@ module _ (s : Setting) (m : Memory) (addresses : List (Option Address)) (k : Col
             | inr e ↦ inr (i, e.0, q, new_word e.0 n e.1 e.2)
           ];
           clear = λ j l r n x. elim (cases j l r n x) [
-            | inl e ↦ subst (λ y. IsUnforwarded s addresses y) (sym e.3) (free.unforwarded l e.2)
+            | inl e ↦ subst (λ y. IsOfNoMovedBlock s addresses y) (sym e.3) (free.unforwarded l e.2)
             | inr y ↦ reserved_unforwarded s m addresses k done st j l r n y
           ];
         })
@@ -321,45 +322,37 @@ module _ (s : Setting) (m : Memory) (addresses : List (Option Address)) (k : Col
             (let e : word_of there.reserved_at ≡ word_of there.reserved_at + 0 = omega arith in e) x))
 
         placed : LieApart (setting_with_points s (slice_set s.points i (Some p')) (slice_set s.point_memories i there)) addresses
-        placed = record {
-          exists = st.placed.exists;
-          positive = st.placed.positive;
-          address = st.placed.address;
-          address_at_flip = st.placed.address_at_flip;
-          within = st.placed.within;
-          apart = st.placed.apart;
-          home = st.placed.home;
-          whole = st.placed.whole;
-          reserved_positive = λ j r e. elim (cases_eq j i) [
-            | inl same ↦
-                let is_q : r ≡ q =
-                same_Some r q (sym e ∙ ap live_reservation (ap (entry_at (slice_set s.points i (Some p'))) same ∙ there_is) ∙ live)
-                in
-                subst (λ (y : Reservation). 0 < length y.cells) (sym is_q) positive
-            | inr other ↦
-                st.placed.reserved_positive j r
-                (ap (λ x. live_reservation (option_and_then (λ o. o) x)) (sym (slice_get-set_other s.points i j (Some p') other)) ∙ e)
-          ];
-          reserved_within = λ j l r n x. elim (cases j l r n x) [
-            | inl e ↦ subst (λ y. y < s.size) (sym e.3) (free.within l e.2)
-            | inr y ↦ st.placed.reserved_within j l r n y
-          ];
-          reserved_alone = λ a b l l' r r' n x y. elim (cases a l r n x) [
-            | inl e ↦
-                elim (cases b l' r' n y) [
-                  | inl f ↦ e.0 ∙ sym f.0
-                  | inr f ↦
-                      absurd (free.unreserved l b l' r' e.2 (subst (λ z. LiesReserved s.points s.point_memories b l' r' z) e.3 f))
-                ]
-            | inr e ↦
-                elim (cases b l' r' n y) [
-                  | inl f ↦
-                      absurd (free.unreserved l' a l r f.2 (subst (λ z. LiesReserved s.points s.point_memories a l r z) f.3 e))
-                  | inr f ↦ st.placed.reserved_alone a b l l' r r' n e f
-                ]
-          ];
-          reserved_apart = λ id j l l' o r n x y. elim (cases j l' r n y) [
-            | inl e ↦ free.unoccupied l' id l o e.2 (subst (λ z. Lies s.objects addresses id l o z) e.3 x)
-            | inr f ↦ st.placed.reserved_apart id j l l' o r n x f
-          ];
-        }
+        placed =
+            placed_with_points s addresses st.placed (slice_set s.points i (Some p')) (slice_set s.point_memories i there)
+            (λ j r e. elim (cases_eq j i) [
+              | inl same ↦
+                  let is_q : r ≡ q =
+                  same_Some r q (sym e ∙ ap live_reservation (ap (entry_at (slice_set s.points i (Some p'))) same ∙ there_is) ∙ live)
+                  in
+                  subst (λ (y : Reservation). 0 < length y.cells) (sym is_q) positive
+              | inr other ↦
+                  st.placed.reserved_positive j r
+                  (ap (λ x. live_reservation (option_and_then (λ o. o) x)) (sym (slice_get-set_other s.points i j (Some p') other)) ∙ e)
+            ])
+            (λ j l r n x. elim (cases j l r n x) [
+              | inl e ↦ subst (λ y. y < s.size) (sym e.3) (free.within l e.2)
+              | inr y ↦ st.placed.reserved_within j l r n y
+            ])
+            (λ a b l l' r r' n x y. elim (cases a l r n x) [
+              | inl e ↦
+                  elim (cases b l' r' n y) [
+                    | inl f ↦ e.0 ∙ sym f.0
+                    | inr f ↦
+                        absurd (free.unreserved l b l' r' e.2 (subst (λ z. LiesReserved s.points s.point_memories b l' r' z) e.3 f))
+                  ]
+              | inr e ↦
+                  elim (cases b l' r' n y) [
+                    | inl f ↦
+                        absurd (free.unreserved l' a l r f.2 (subst (λ z. LiesReserved s.points s.point_memories a l r z) f.3 e))
+                    | inr f ↦ st.placed.reserved_alone a b l l' r r' n e f
+                  ]
+            ])
+            (λ id j l l' o r n x y. elim (cases j l' r n y) [
+              | inl e ↦ free.unoccupied l' id l o e.2 (subst (λ z. Lies s.objects addresses id l o z) e.3 x)
+              | inr f ↦ st.placed.reserved_apart id j l l' o r n x f
+            ])

@@ -18,7 +18,8 @@ use Rattle.mps_image.proofs.Reserved.{image_reserved}
 
 -- ---- a new arena
 
-clear_bit : (count n : ℕ) → bit (replicate count false) n ≡ false
+-- no bit of a row of clear ones is set
+pub clear_bit : (count n : ℕ) → bit (replicate count false) n ≡ false
 unfolding bit
 clear_bit count n =
     elim (cases_lt n count) [

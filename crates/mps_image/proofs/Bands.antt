@@ -1,16 +1,18 @@
 -- The image where no collection runs, at a flip, and once blocks are freed.
-use Rattle.std.proofs.Common.{◌≡◌, ◌∙◌, ℕ, Bool, false, refl, sym, ap, List, [], length, Option, Some, slice_index, subst}
+use Rattle.std.proofs.Common.{◌≡◌, ◌∙◌, ℕ, Bool, true, false, refl, sym, ap, List, [], length, Option, Some, slice_index, subst}
 use Rattle.std.proofs.lemmas.Bool.{true≢false, and_from}
 use Rattle.std.proofs.lemmas.Option.{none-some, same_Some}
 use Rattle.std.specs.Prelude.{slice_get, not, IsTrue}
 use Rattle.mps_base.specs.Address.{Address, Id, Word, word_of}
+use Rattle.mps_format.specs.Layout.{Layout}
 use Rattle.mps_model.specs.Graph.{Cell, Object, Point, Reservation, entry_at, target_of_cell}
 use Rattle.mps_model.specs.Checked.{head_of_body}
 use Rattle.mps_model.specs.World.{PointMemory}
 use Rattle.mps_colours.specs.Colours.{Colours, is_white, is_grey, is_black}
 use Rattle.mps_image.specs.Memory.{Setting, Memory, Lies, all_cells, live_reservation}
-use Rattle.mps_image.specs.Image.{IsCellWord, IsFixed, CellSet, MarksStand, RunsStand, ImageStands, Stands}
+use Rattle.mps_image.specs.Image.{IsCellWord, IsFixedWord, CellSet, MarksStand, RunsStand, ImageStands, Stands, black_cells}
 use Rattle.mps_image.specs.Bands.{setting_flipped, setting_freeing}
+use Rattle.mps_image.proofs.Placed.{placed_otherwise, placed_unreserved, setting_otherwise}
 use Rattle.mps_image.proofs.Written.{holds_still}
 
 -- ---- at rest, and at a flip
@@ -35,20 +37,10 @@ module _ (s : Setting) (m m' : Memory) (addresses : List (Option Address)) (k k'
       → ((point : ℕ) (r : Reservation) → live_reservation (entry_at points point) ≡ Some r → ⊥)
       → MarksStand after m'.kept m'.grey addresses k' → RunsStand after m' addresses → Stands after m' addresses k'
   flip_stands st whole targets doomed marks runs = record {
-    placed = record {
-      exists = st.placed.exists;
-      positive = st.placed.positive;
-      address = st.placed.address;
-      address_at_flip = st.placed.address;
-      within = st.placed.within;
-      apart = st.placed.apart;
-      home = st.placed.home;
-      whole = whole;
-      reserved_positive = λ point r live. absurd (doomed point r live);
-      reserved_within = λ point i r n l. absurd (doomed point r l.reserved);
-      reserved_alone = λ a b i j r q n l l'. absurd (doomed a r l.reserved);
-      reserved_apart = λ id point i j o r n l l'. doomed point r l'.reserved;
-    };
+    placed =
+        placed_unreserved (setting_otherwise s s.layout addresses condemned (λ id. true) is_condemned_over) addresses
+        (placed_otherwise s addresses st.placed s.layout addresses condemned (λ id. true) is_condemned_over st.placed.address whole) points
+        memories doomed;
     words = record {
       long = ap length same ∙ st.words.long;
       cells = λ id i o n c read l cell. holds_still addresses addresses (head_of_body o.body) c (slice_index m'.words n)
@@ -72,30 +64,20 @@ module _ (s : Setting) (m m' : Memory) (addresses : List (Option Address)) (k k'
 
 -- ---- the last band
 
--- once nothing is grey, addresses of the flip are used no more, and white objects aren't read any more
-pub freeing_begins : (s : Setting) (m : Memory) (addresses : List (Option Address)) (k : Colours)
-    → ((id : Id) (at : Address) → entry_at addresses id ≡ Some at → is_grey k id ≡ false) → Stands s m addresses k
-    → Stands (setting_freeing s k) m addresses k
-freeing_begins s m addresses k none_grey st = record {
-  placed = record {
-    exists = st.placed.exists;
-    positive = st.placed.positive;
-    address = st.placed.address;
-    address_at_flip = λ id at e. absurd (none-some at e);
-    within = st.placed.within;
-    apart = st.placed.apart;
-    home = st.placed.home;
-    whole = st.placed.whole;
-    reserved_positive = st.placed.reserved_positive;
-    reserved_within = st.placed.reserved_within;
-    reserved_alone = st.placed.reserved_alone;
-    reserved_apart = st.placed.reserved_apart;
-  };
+-- where words that are read hold addresses of now, those of the flip count no more; nor do the formats, as no block has moved
+pub unmoved_stands : (s : Setting) (m : Memory) (addresses : List (Option Address)) (k : Colours) (done : CellSet)
+    (layout : (pool : ℕ) → Layout) (is_read : Id → Bool) → ImageStands s m addresses k done
+    → ((id i : ℕ) (o : Object) (n : Word) (c : Cell) → IsTrue (is_read id) → Lies s.objects addresses id i o n
+    → slice_get (all_cells o.body) i ≡ Some c → IsCellWord addresses [] (head_of_body o.body) c (slice_index m.words n))
+    → ((id : Id) → IsTrue (is_read id) → is_white s.condemned k id ≡ false)
+    → ImageStands (record s { layout = layout; at_flip = []; is_read = is_read }) m addresses k done
+unmoved_stands s m addresses k done layout is_read st holds none_white = record {
+  placed =
+      placed_otherwise s addresses st.placed layout [] s.condemned is_read s.is_condemned_over (λ id at e. absurd (none-some at e))
+      st.placed.whole;
   words = record {
     long = st.words.long;
-    cells = λ id i o n c read l cell.
-        let black = and_from (not (is_white s.condemned k id)) (not (is_grey k id)) read (ap not (none_grey id l.at l.address)) in
-        (st.fixed.cells id i o n c black l cell).holds;
+    cells = holds;
     forwarded = λ id from to o was now x object. absurd (none-some from was);
   };
   fixed = record { cells = st.fixed.cells; reserved = st.fixed.reserved };
@@ -103,10 +85,25 @@ freeing_begins s m addresses k none_grey st = record {
     white_there = st.marks.white_there;
     grey_there = st.marks.grey_there;
     marked = st.marks.marked;
-    unmoved = λ id at e read white. absurd (true≢false (sym read ∙ ap not white));
+    unmoved = λ id at e read white. absurd (true≢false (sym white ∙ none_white id read));
   };
   runs = record { blocks = st.runs.blocks; reservations = st.runs.reservations; covered = st.runs.covered };
 }
+
+-- once nothing is grey, addresses of the flip are used no more, and white objects aren't read any more
+pub freeing_begins : (s : Setting) (m : Memory) (addresses : List (Option Address)) (k : Colours)
+    → ((id : Id) (at : Address) → entry_at addresses id ≡ Some at → is_grey k id ≡ false) → Stands s m addresses k
+    → Stands (setting_freeing s k) m addresses k
+freeing_begins s m addresses k none_grey st =
+    unmoved_stands s m addresses k (black_cells s.condemned k) s.layout (λ id. not (is_white s.condemned k id)) st
+    (λ id i o n c read l cell.
+    let black = and_from (not (is_white s.condemned k id)) (not (is_grey k id)) read (ap not (none_grey id l.at l.address)) in
+    (st.fixed.cells id i o n c black l cell).holds)
+    (λ id read. not_true (is_white s.condemned k id) read)
+  where
+    not_true : (b : Bool) → not b ≡ true → b ≡ false
+    not_true false is = refl
+    not_true true is = absurd (true≢false (sym is))
 
 -- where a collection ends, no white object is live, so all words are read and hold addresses of now
 pub collection_ends : (s : Setting) (m m' : Memory) (addresses : List (Option Address)) (k k' : Colours) (is_condemned_over : Word → Bool)
@@ -119,20 +116,8 @@ pub collection_ends : (s : Setting) (m m' : Memory) (addresses : List (Option Ad
     → RunsStand (setting_flipped s [] s.points s.point_memories [] is_condemned_over) m' addresses
     → Stands (setting_flipped s [] s.points s.point_memories [] is_condemned_over) m' addresses k'
 collection_ends s m m' addresses k k' is_condemned_over none_white none_grey same st whole marks runs = record {
-  placed = record {
-    exists = st.placed.exists;
-    positive = st.placed.positive;
-    address = st.placed.address;
-    address_at_flip = λ id at e. absurd (none-some at e);
-    within = st.placed.within;
-    apart = st.placed.apart;
-    home = st.placed.home;
-    whole = whole;
-    reserved_positive = st.placed.reserved_positive;
-    reserved_within = st.placed.reserved_within;
-    reserved_alone = st.placed.reserved_alone;
-    reserved_apart = st.placed.reserved_apart;
-  };
+  placed =
+      placed_otherwise s addresses st.placed s.layout [] [] (λ id. true) is_condemned_over (λ id at e. absurd (none-some at e)) whole;
   words = record {
     long = ap length same ∙ st.words.long;
     cells = λ id i o n c read l cell. (fixed id i o n c l cell).holds;
@@ -152,11 +137,11 @@ collection_ends s m m' addresses k k' is_condemned_over none_white none_grey sam
 }
   where
     fixed : (id i : ℕ) (o : Object) (n : Word) (c : Cell) → Lies s.objects addresses id i o n → slice_get (all_cells o.body) i ≡ Some c
-        → IsFixed s.condemned addresses k (head_of_body o.body) c (slice_index m'.words n)
+        → IsFixedWord s.condemned addresses k (head_of_body o.body) c (slice_index m'.words n)
     fixed id i o n c l cell =
         let black =
         and_from (not (is_white s.condemned k id)) (not (is_grey k id)) (ap not (none_white id l.at l.address))
         (ap not (none_grey id l.at l.address))
         in
-        subst (λ ws. IsFixed s.condemned addresses k (head_of_body o.body) c (slice_index ws n)) (sym same)
+        subst (λ ws. IsFixedWord s.condemned addresses k (head_of_body o.body) c (slice_index ws n)) (sym same)
         (st.fixed.cells id i o n c black l cell)

@@ -10,7 +10,8 @@ use Rattle.mps_model.specs.World.{PointMemory, extent, extents_of, extent_of_res
 use Rattle.mps_image.specs.Memory.{Setting, Memory, Lies, live_reservation}
 use Rattle.mps_image.specs.Image.{LieApart, RunsStand}
 use Rattle.mps_image.specs.Changes.{setting_made, addresses_made, setting_with_points, memory_with_block, memory_with_reservation, memory_without_reservation}
-use Rattle.mps_image.proofs.InOrder.{BeginElsewhere, all_append, in_order-with, in_order-without}
+use Rattle.mps_image.proofs.InOrder.{BeginElsewhere, in_order-with, in_order-without}
+use Rattle.mps_laws.proofs.InOrder.{all_append}
 use Rattle.mps_image.proofs.Extents.{all_extents, extents_made, reserved_extent, parted_points}
 use Rattle.mps_image.proofs.Marked.{begins_there}
 

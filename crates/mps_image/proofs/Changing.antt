@@ -10,8 +10,8 @@ use Rattle.mps_model.specs.Checked.{head_of_body}
 use Rattle.mps_model.specs.World.{PointMemory}
 use Rattle.mps_colours.specs.Colours.{Colours}
 use Rattle.mps_image.specs.Memory.{Setting, Lies, LiesReserved, all_cells}
-use Rattle.mps_image.specs.Image.{IsCellWord, IsForwarded, WordsStand, IsFixed, CellSet, FixedCellsStand}
-use Rattle.mps_image.specs.Changes.{setting_with, IsUnforwarded}
+use Rattle.mps_image.specs.Image.{IsCellWord, IsForwardedObject, WordsStand, IsFixedWord, CellSet, FixedCellsStand}
+use Rattle.mps_image.specs.Changes.{setting_with, IsOfNoMovedBlock}
 use Rattle.mps_image.proofs.Forwarded.{forwarded_still}
 use Rattle.mps_image.proofs.Written.{holds_still}
 
@@ -70,10 +70,10 @@ pub record CallChanges (x : Change) (k : Colours) (done : CellSet) : Type 0 wher
   pub long : length x.words_after ≡ length x.words
   pub cells : (id i : ℕ) (o : Object) (n : Word) (c : Cell) → Lies x.objects x.addresses_after id i o n
       → slice_get (all_cells o.body) i ≡ Some c → WasCell x done id i o n c
-      ⊎ IsFixed x.before.condemned x.addresses_after k (head_of_body o.body) c (slice_index x.words_after n)
+      ⊎ IsFixedWord x.before.condemned x.addresses_after k (head_of_body o.body) c (slice_index x.words_after n)
   pub reserved : (point i : ℕ) (r : Reservation) (n : Word) (c : Cell) → LiesReserved x.points x.memories point i r n
       → slice_get r.cells i ≡ Some c → WasReserved x r n c
-      ⊎ IsFixed x.before.condemned x.addresses_after k r.head c (slice_index x.words_after n)
+      ⊎ IsFixedWord x.before.condemned x.addresses_after k r.head c (slice_index x.words_after n)
   pub forwarded : (id : Id) (from to : Address) (o : Object) → entry_at x.before.at_flip id ≡ Some from
       → entry_at x.addresses_after id ≡ Some to → from ≢ to → slice_get x.objects id ≡ Some o → WasForwarded x id from to o
 
@@ -95,7 +95,7 @@ module _ (x : Change) (k : Colours) (done : CellSet) (changes : CallChanges x k 
   }
 
   forwarded_changed : (id : Id) (from to : Address) (o : Object) → WasForwarded x id from to o
-      → IsForwarded x.before x.words x.addresses (o) from to → IsForwarded (after x) x.words_after x.addresses_after o from to
+      → IsForwardedObject x.before x.words x.addresses (o) from to → IsForwardedObject (after x) x.words_after x.addresses_after o from to
   forwarded_changed id from to o w f =
       let lower : (q : ℕ) → q < size_of o → q < size_of w.was = λ q lt. subst (λ y. q < y) (sym w.size) lt in
       let still =
@@ -112,7 +112,7 @@ module _ (x : Change) (k : Colours) (done : CellSet) (changes : CallChanges x k 
 
   -- a forwarded block of an object of this pool and size
   like : (words : List ℕ) (was o : Object) (from to : Address) → was.pool ≡ o.pool → size_of was ≡ size_of o
-      → IsForwarded x.before words x.addresses was from to → IsForwarded x.before words x.addresses o from to
+      → IsForwardedObject x.before words x.addresses was from to → IsForwardedObject x.before words x.addresses o from to
   like words was o from to pool size f =
       let lower : (q : ℕ) → q < size_of o → q < size_of was = λ q lt. subst (λ y. q < y) (sym size) lt in
       record {
@@ -148,8 +148,8 @@ module _ (x : Change) (k : Colours) (done : CellSet) (changes : CallChanges x k 
     cells = λ id i o n c d l cell. elim (changes.cells id i o n c l cell) [
       | inl y ↦
           let old =
-          subst (λ v. IsFixed x.before.condemned x.addresses k (head_of_body o.body) c v) (sym y.word)
-          (subst (λ h. IsFixed x.before.condemned x.addresses k h c (slice_index x.words n)) y.head
+          subst (λ v. IsFixedWord x.before.condemned x.addresses k (head_of_body o.body) c v) (sym y.word)
+          (subst (λ h. IsFixedWord x.before.condemned x.addresses k h c (slice_index x.words n)) y.head
           (f.cells id i y.was n c d y.lies y.cell))
           in
           record {
@@ -161,8 +161,8 @@ module _ (x : Change) (k : Colours) (done : CellSet) (changes : CallChanges x k 
     reserved = λ point i r n c l cell. elim (changes.reserved point i r n c l cell) [
       | inl y ↦
           let old =
-          subst (λ v. IsFixed x.before.condemned x.addresses k r.head c v) (sym y.word)
-          (subst (λ h. IsFixed x.before.condemned x.addresses k h c (slice_index x.words n)) y.head
+          subst (λ v. IsFixedWord x.before.condemned x.addresses k r.head c v) (sym y.word)
+          (subst (λ h. IsFixedWord x.before.condemned x.addresses k h c (slice_index x.words n)) y.head
           (f.reserved y.point y.i y.was n c y.lies y.cell))
           in
           record {
@@ -177,7 +177,7 @@ module _ (x : Change) (k : Colours) (done : CellSet) (changes : CallChanges x k 
 
 module _ (s : Setting) (words : List ℕ) (addresses : List (Option Address)) (stand : WordsStand s words addresses) (n : Word) where
   -- so it is outside condemned segments
-  pub clear_outside : s.is_condemned_over n ≡ false → IsUnforwarded s addresses n
+  pub clear_outside : s.is_condemned_over n ≡ false → IsOfNoMovedBlock s addresses n
   clear_outside outside = record {
     clear = λ id from to o q was now apart object lt e.
         let f = stand.forwarded id from to o was now apart object in
@@ -187,7 +187,7 @@ module _ (s : Setting) (words : List ℕ) (addresses : List (Option Address)) (s
   -- and in pools from which nothing has moved
   pub clear_in_pool : (pool : ℕ) → s.pool_over n ≡ Some pool
       → ((id : Id) (from to : Address) (o : Object) → entry_at s.at_flip id ≡ Some from → entry_at addresses id ≡ Some to → from ≢ to
-      → slice_get s.objects id ≡ Some o → o.pool ≢ pool) → IsUnforwarded s addresses n
+      → slice_get s.objects id ≡ Some o → o.pool ≢ pool) → IsOfNoMovedBlock s addresses n
   clear_in_pool pool over none = record {
     clear = λ id from to o q was now apart object lt e.
         let f = stand.forwarded id from to o was now apart object in
@@ -195,7 +195,7 @@ module _ (s : Setting) (words : List ℕ) (addresses : List (Option Address)) (s
   }
 
 -- where no addresses of a flip count, nothing has moved
-pub clear_at_rest : (s : Setting) (addresses : List (Option Address)) (n : Word) → s.at_flip ≡ [] → IsUnforwarded s addresses n
+pub clear_at_rest : (s : Setting) (addresses : List (Option Address)) (n : Word) → s.at_flip ≡ [] → IsOfNoMovedBlock s addresses n
 clear_at_rest s addresses n none = record {
   clear = λ id from to o q was now apart object lt e. none-some from (sym (ap (λ old. entry_at old id) none) ∙ was);
 }

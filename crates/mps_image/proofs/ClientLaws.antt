@@ -4,7 +4,7 @@ use Rattle.std.proofs.lemmas.Bool.{or_right}
 use Rattle.std.specs.Prelude.{slice_get, ◌==◌, ◌&&◌}
 use Rattle.mps_model.specs.Graph.{graph_with_cells}
 use Rattle.mps_model.specs.Checked.{head_of_body}
-use Rattle.mps_image.specs.Image.{IsFixed, black_cells, with_cell}
+use Rattle.mps_image.specs.Image.{IsFixedWord, black_cells, with_cell}
 use Rattle.mps_image.specs.Changes.{setting_with_objects, memory_with_word, IsCellChanged}
 use Rattle.mps_image.specs.ClientLaws.{ACellOfAnObjectIsWritten, AReservationIsMade, AReservationIsWritten, AReservationEnds, ABlockIsCommitted, CommittedCellsAreFixed, ABlockIsAllocated, AManualBlockIsFreed, AWhiteBlockIsFreed}
 use Rattle.mps_image.proofs.Written.{cell_written}
@@ -23,7 +23,7 @@ cell_of_an_object_is_written s g m addresses k id i o head cells is_weak n new w
     fewer_fixed (setting_with_objects s objects') (memory_with_word m n word) addresses k (with_cell (black_cells s.condemned k) id i)
     (black_cells s.condemned k) (λ j l d. or_right (j == id && l == i) (black_cells s.condemned k j l) d)
     (cell_written s objects' m addresses k (black_cells s.condemned k) id i o n new word changed st lies
-    (subst (λ h. IsFixed s.condemned addresses k h new word) (sym (ap head_of_body body)) fixed))
+    (subst (λ h. IsFixedWord s.condemned addresses k h new word) (sym (ap head_of_body body)) fixed))
 
 pub reservation_is_made : AReservationIsMade
 reservation_is_made s m addresses k i p p' memory there q words st point has none live positive free long fixed others =

@@ -8,7 +8,7 @@ use Rattle.mps_model.specs.Graph.{Cell, HeadCell, NumberCell, ReferenceCell, Obj
 use Rattle.mps_model.specs.Checked.{head_of_body}
 use Rattle.mps_colours.specs.Colours.{Colours, is_white, is_grey, keeping}
 use Rattle.mps_image.specs.Memory.{Setting, Lies, LiesReserved, BlockBegins}
-use Rattle.mps_image.specs.Image.{MeansAt, IsCellWord, IsAddress, LieApart, IsForwarded, WordsStand, IsFixed, CellSet, FixedCellsStand, MarksStand}
+use Rattle.mps_image.specs.Image.{MeansAt, IsCellWord, IsAddress, LieApart, IsForwardedObject, WordsStand, IsFixedWord, CellSet, FixedCellsStand, MarksStand}
 use Rattle.mps_image.specs.Fixing.{AreCopied, AreAtHand, AreMarksMoved, address_moved}
 use Rattle.mps_image.proofs.Entries.{entry_at-set_same, entry_at-set_other, entry_replaced}
 use Rattle.mps_image.proofs.Forwarded.{forwarded_still}
@@ -155,8 +155,8 @@ module _ (s : Setting) (addresses : List (Option Address)) (k : Colours) (t : Id
     ];
   }
 
-  fixed_moved : (head : ℕ) (c : Cell) (word : ℕ) → IsFixed s.condemned addresses k head c word
-      → IsFixed s.condemned addresses_after (keeping k t) head c word
+  fixed_moved : (head : ℕ) (c : Cell) (word : ℕ) → IsFixedWord s.condemned addresses k head c word
+      → IsFixedWord s.condemned addresses_after (keeping k t) head c word
   fixed_moved head c word f = record {
     holds = fixed_cell_moved head c word f.holds f.not_white;
     not_white = λ u e. still_not_white s.condemned k t u (f.not_white u e);
@@ -164,8 +164,8 @@ module _ (s : Setting) (addresses : List (Option Address)) (k : Colours) (t : Id
 
   module _ (words words' : List ℕ) (copy : AreCopied (s.layout o.pool) words words' from to (size_of o)) where
     -- nothing that was forwarded is where it was or where it comes
-    forwarded_moved : (id : Id) (from' to' : Address) (p : Object) → id ≢ t → IsForwarded s words addresses p from' to'
-        → IsForwarded s words' addresses_after p from' to'
+    forwarded_moved : (id : Id) (from' to' : Address) (p : Object) → id ≢ t → IsForwardedObject s words addresses p from' to'
+        → IsForwardedObject s words' addresses_after p from' to'
     forwarded_moved id from' to' p x f =
         let apart_to : (q a : ℕ) → q < size_of p → a < size_of o → word_of from' + q ≢ word_of to + a =
         λ q a lt la e. false≢true (sym (v.hand.not_condemned a la) ∙ ap s.is_condemned_over (sym e) ∙ f.condemned q lt)
@@ -189,7 +189,7 @@ module _ (s : Setting) (addresses : List (Option Address)) (k : Colours) (t : Id
           unreserved = f.unreserved;
         }
 
-    now_forwarded : IsForwarded s words' addresses_after o from to
+    now_forwarded : IsForwardedObject s words' addresses_after o from to
     now_forwarded =
         let condemned : (q : ℕ) → q < size_of o → s.is_condemned_over (word_of from + q) ≡ true =
         λ q lt. placed.whole t q o (word_of from + q) from (was_there q lt) v.there ∙ v.condemned
@@ -231,9 +231,9 @@ module _ (s : Setting) (addresses : List (Option Address)) (k : Colours) (t : Id
         | inl e ↦
             let is_o : p ≡ o = same_Some p o (sym object ∙ ap (slice_get s.objects) e.0 ∙ v.object) in
             let at_from : from' ≡ from = same_Some from' from (sym was ∙ ap (entry_at s.at_flip) e.0 ∙ v.at_flip) in
-            subst (λ y. IsForwarded s words' addresses_after p y to') (sym at_from)
-            (subst (λ y. IsForwarded s words' addresses_after p from y) (sym e.1)
-            (subst (λ (q : Object). IsForwarded s words' addresses_after q from to) (sym is_o) now_forwarded))
+            subst (λ y. IsForwardedObject s words' addresses_after p y to') (sym at_from)
+            (subst (λ y. IsForwardedObject s words' addresses_after p from y) (sym e.1)
+            (subst (λ (q : Object). IsForwardedObject s words' addresses_after q from to) (sym is_o) now_forwarded))
         | inr e ↦ forwarded_moved id from' to' p e.0 (w.forwarded id from' to' p was e.1 x object)
       ];
     }
@@ -244,7 +244,7 @@ module _ (s : Setting) (addresses : List (Option Address)) (k : Colours) (t : Id
       cells = λ id i p n c d l cell.
           let was = came_from id i p n l in
           fixed_moved (head_of_body p.body) c (slice_index words' n)
-          (subst (λ y. IsFixed s.condemned addresses k (head_of_body p.body) c y) (sym was.2) (f.cells id i p was.0 c d was.1 cell));
+          (subst (λ y. IsFixedWord s.condemned addresses k (head_of_body p.body) c y) (sym was.2) (f.cells id i p was.0 c d was.1 cell));
       reserved = λ point i r n c there cell.
           let not_from' : (q : ℕ) → q < size_of o → n ≢ word_of from + q =
           λ q lt x. placed.reserved_apart t point q i o r (word_of from + q) (was_there q lt)
@@ -254,7 +254,7 @@ module _ (s : Setting) (addresses : List (Option Address)) (k : Colours) (t : Id
           λ q lt x. v.hand.unreserved q point i r lt (subst (λ y. LiesReserved s.points s.point_memories point i r y) x there)
           in
           fixed_moved r.head c (slice_index words' n)
-          (subst (λ y. IsFixed s.condemned addresses k r.head c y) (sym (copy.others n not_from' not_to'))
+          (subst (λ y. IsFixedWord s.condemned addresses k r.head c y) (sym (copy.others n not_from' not_to'))
           (f.reserved point i r n c there cell));
     }
 

@@ -9,7 +9,7 @@ use Rattle.mps_base.specs.Run.{Run}
 use Rattle.mps_model.specs.Graph.{Object, Point, Reservation, entry_at, size_of, is_live_reservation}
 use Rattle.mps_model.specs.World.{PointMemory, extent, extents_of, extent_of_reservation, reserved_extents}
 use Rattle.mps_image.specs.Memory.{live_reservation}
-use Rattle.mps_image.proofs.InOrder.{all_append}
+use Rattle.mps_laws.proofs.InOrder.{all_append}
 
 -- ---- blocks
 

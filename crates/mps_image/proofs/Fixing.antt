@@ -36,16 +36,6 @@ image_copied s m addresses k done t from to o words' kept' grey' st v copy b = r
 module _ (s : Setting) (m : Memory) (addresses : List (Option Address)) (k : Colours) (done : CellSet)
     (shaped : AreShaped s.objects s.layout)
     (st : ImageStands s m addresses k done) (t address now : ℕ) (p : Object) (x : Target s addresses t address now p) where
-  at_there : address ≡ now → is_white s.condemned k t ≡ false → IsFixedAt s m addresses k done t address
-  at_there e w = record {
-    addresses_after = addresses;
-    colours_after = k;
-    step = passed t w;
-    there = x.there ∙ ap Some (sym e);
-    not_white = w;
-    stands = st;
-  }
-
   at_moved : (answer : Address) → answer ≡ now → is_white s.condemned k t ≡ false → IsFixedAt s m addresses k done t answer
   at_moved answer e w = record {
     addresses_after = addresses;
@@ -55,6 +45,9 @@ module _ (s : Setting) (m : Memory) (addresses : List (Option Address)) (k : Col
     not_white = w;
     stands = st;
   }
+
+  at_there : address ≡ now → is_white s.condemned k t ≡ false → IsFixedAt s m addresses k done t address
+  at_there e w = at_moved address e w
 
   at_stay : (kept' grey' : Word → Bool) → address ≡ now → is_white s.condemned k t ≡ true → IsMarkSet m.kept kept' (word_of address)
       → IsMarkSet m.grey grey' (word_of address) → IsFixedAt s (marked_in m kept' grey') addresses k done t address

@@ -4,12 +4,12 @@ use Rattle.std.proofs.lemmas.List.{get_or-drop, length-drop}
 use Rattle.mps_base.specs.Address.{Address, word_of}
 use Rattle.mps_model.specs.Graph.{Object, size_of}
 use Rattle.mps_image.specs.Memory.{Setting}
-use Rattle.mps_image.specs.Image.{IsForwarded}
+use Rattle.mps_image.specs.Image.{IsForwardedObject}
 
 pub forwarded_still : (s : Setting) (words words' : List ℕ) (addresses : List (Option Address)) (o : Object) (from to : Address)
     → length words' ≡ length words
     → ((k : ℕ) → k < size_of o → slice_index words' (word_of from + k) ≡ slice_index words (word_of from + k))
-    → IsForwarded s words addresses o from to → IsForwarded s words' addresses o from to
+    → IsForwardedObject s words addresses o from to → IsForwardedObject s words' addresses o from to
 forwarded_still s words words' addresses o from to long same f = record {
   begins = record {
     in_range = f.begins.in_range;

@@ -14,7 +14,8 @@ use Rattle.mps_image.specs.Image.{LieApart, CellSet, MarksStand, RunsStand, Imag
 use Rattle.mps_image.specs.Fixing.{IsMarkCleared}
 use Rattle.mps_image.specs.Changes.{memory_without_block, MayGo}
 use Rattle.mps_image.proofs.Entries.{entry_left, entry_at-set_other}
-use Rattle.mps_image.proofs.InOrder.{all_append, in_order-without}
+use Rattle.mps_image.proofs.InOrder.{in_order-without}
+use Rattle.mps_laws.proofs.InOrder.{all_append}
 use Rattle.mps_image.proofs.Extents.{parted}
 use Rattle.mps_image.proofs.Marked.{begins_there, begins_apart}
 use Rattle.mps_image.proofs.Runs.{reserved_elsewhere}

@@ -7,6 +7,8 @@ pub mod Marked
 pub mod Copied
 pub mod InOrder
 pub mod Extents
+pub mod Placed
+pub mod BlockRuns
 pub mod Runs
 pub mod Fixing
 pub mod Segments

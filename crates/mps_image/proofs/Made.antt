@@ -9,8 +9,8 @@ use Rattle.mps_model.specs.Checked.{head_of_body}
 use Rattle.mps_model.specs.World.{PointMemory}
 use Rattle.mps_colours.specs.Colours.{Colours, is_white, is_grey}
 use Rattle.mps_image.specs.Memory.{Setting, Memory, Lies, LiesReserved, BlockBegins, all_cells}
-use Rattle.mps_image.specs.Image.{IsFixed, CellSet, MarksStand, ImageStands, is_white_over}
-use Rattle.mps_image.specs.Changes.{setting_made, addresses_made, IsMade}
+use Rattle.mps_image.specs.Image.{IsFixedWord, CellSet, MarksStand, ImageStands, is_white_over}
+use Rattle.mps_image.specs.Changes.{setting_made, addresses_made, IsObjectMade}
 use Rattle.mps_image.proofs.Entries.{slice_get-last, entry_pushed, entry_still}
 use Rattle.mps_image.proofs.LastObject.{old_below, old_object, lies_made, new_address, new_there}
 use Rattle.mps_image.proofs.Marked.{begins_apart}
@@ -18,7 +18,7 @@ use Rattle.mps_image.proofs.Changing.{Change, CallChanges, words_changed, fixed_
 
 module _ (s : Setting) (m m' : Memory) (addresses : List (Option Address)) (k : Colours) (done : CellSet) (o : Object) (at : Address)
     (points : List (Option Point)) (memories : List PointMemory) (st : ImageStands s m addresses k done)
-    (v : IsMade s m m' addresses k o at points memories) where
+    (v : IsObjectMade s m m' addresses k o at points memories) where
   abbrev new : Id
   new = length s.objects
 
@@ -51,8 +51,9 @@ module _ (s : Setting) (m m' : Memory) (addresses : List (Option Address)) (k : 
     cells = λ id i p n c there cell. elim (lies_made s.objects addresses o at v.numbered id i p n there) [
       | inl e ↦
           let cell' : slice_get (all_cells o.body) i ≡ Some c = subst (λ (q : Object). slice_get (all_cells q.body) i ≡ Some c) e.1 cell in
-          inr (subst (λ y. IsFixed s.condemned (addresses_made addresses at) k (head_of_body p.body) c (slice_index m'.words y)) (sym e.3)
-          (subst (λ (q : Object). IsFixed s.condemned (addresses_made addresses at) k (head_of_body q.body) c
+          inr (subst (λ y. IsFixedWord s.condemned (addresses_made addresses at) k (head_of_body p.body) c (slice_index m'.words y))
+          (sym e.3)
+          (subst (λ (q : Object). IsFixedWord s.condemned (addresses_made addresses at) k (head_of_body q.body) c
           (slice_index m'.words (word_of at + i)))
           (sym e.1) (v.words i c cell')))
       | inr l ↦

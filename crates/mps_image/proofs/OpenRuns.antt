@@ -11,7 +11,7 @@ use Rattle.mps_model.specs.Graph.{Object, Point, Reservation, entry_at, size_of}
 use Rattle.mps_model.specs.World.{PointMemory, extent, extents_of, extent_of_reservation, reserved_extents}
 use Rattle.mps_image.specs.Memory.{Setting, Memory, live_reservation}
 use Rattle.mps_image.specs.Image.{RunsStand}
-use Rattle.mps_image.specs.Changes.{AreFree, IsUnforwarded}
+use Rattle.mps_image.specs.Changes.{AreFree, IsOfNoMovedBlock}
 use Rattle.mps_image.proofs.ChangedRuns.{extent_live}
 
 -- no number lies in both
@@ -111,7 +111,7 @@ of_reserved P (Some p ∷ ps) (n ∷ ms) all (suc i) r m e x =
 -- n words that nothing covers, and where no block was that has moved, are free
 pub open_is_free : (s : Setting) (m : Memory) (addresses : List (Option Address)) (at : Address) (size : ℕ) → RunsStand s m addresses
     → IsAscending 0 s.size (with_run (extent at size) m.covered)
-    → ((k : ℕ) → k < size → IsUnforwarded s addresses (word_of at + k)) → AreFree s addresses at size
+    → ((k : ℕ) → k < size → IsOfNoMovedBlock s addresses (word_of at + k)) → AreFree s addresses at size
 open_is_free s m addresses at size runs ascending unforwarded =
     let apart : AllByRecursion (AreApart (extent at size)) (extents_of s.objects addresses ++ reserved_extents s.points s.point_memories) =
     all_from_in_order (AreApart (extent at size)) (extents_of s.objects addresses ++ reserved_extents s.points s.point_memories)

@@ -9,12 +9,13 @@ use Rattle.mps_model.specs.Graph.{Cell, Point, Reservation, entry_at}
 use Rattle.mps_model.specs.World.{PointMemory, extents_of}
 use Rattle.mps_colours.specs.Colours.{Colours}
 use Rattle.mps_image.specs.Memory.{Setting, Memory, LiesReserved, live_reservation}
-use Rattle.mps_image.specs.Image.{LieApart, IsFixed, CellSet, ImageStands}
-use Rattle.mps_image.specs.Changes.{setting_with_points, memory_with_word, memory_without_reservation, IsUnforwarded}
+use Rattle.mps_image.specs.Image.{LieApart, IsFixedWord, CellSet, ImageStands}
+use Rattle.mps_image.specs.Changes.{setting_with_points, memory_with_word, memory_without_reservation, IsOfNoMovedBlock}
 use Rattle.mps_image.proofs.Entries.{slice_get-set_same, slice_get-set_other}
 use Rattle.mps_image.proofs.InOrder.{BeginElsewhere}
 use Rattle.mps_image.proofs.CellChanged.{set_cases}
 use Rattle.mps_image.proofs.ChangedRuns.{blocks_elsewhere, runs_ended, runs_written}
+use Rattle.mps_image.proofs.Placed.{placed_with_points}
 use Rattle.mps_image.proofs.Reserved.{image_reserved}
 
 -- ---- one point among others
@@ -54,28 +55,19 @@ pub apart_still : (s : Setting) (addresses : List (Option Address)) (points : Li
     → ((j l : ℕ) (r : Reservation) (n : Word) → LiesReserved points memories j l r n
     → (q : Reservation) × LiesReserved s.points s.point_memories j l q n)
     → LieApart (setting_with_points s points memories) addresses
-apart_still s addresses points memories placed positive back = record {
-  exists = placed.exists;
-  positive = placed.positive;
-  address = placed.address;
-  address_at_flip = placed.address_at_flip;
-  within = placed.within;
-  apart = placed.apart;
-  home = placed.home;
-  whole = placed.whole;
-  reserved_positive = positive;
-  reserved_within = λ j l r n x. let y = back j l r n x in placed.reserved_within j l y.0 n y.1;
-  reserved_alone = λ a b j l r q n x y.
-      let u = back a j r n x in
-      let v = back b l q n y in
-      placed.reserved_alone a b j l u.0 v.0 n u.1 v.1;
-  reserved_apart = λ id j l b o r n x y. let u = back j b r n y in placed.reserved_apart id j l b o u.0 n x u.1;
-}
+apart_still s addresses points memories placed positive back =
+    placed_with_points s addresses placed points memories positive
+    (λ j l r n x. let y = back j l r n x in placed.reserved_within j l y.0 n y.1)
+    (λ a b j l r q n x y.
+    let u = back a j r n x in
+    let v = back b l q n y in
+    placed.reserved_alone a b j l u.0 v.0 n u.1 v.1)
+    (λ id j l b o r n x y. let u = back j b r n y in placed.reserved_apart id j l b o u.0 n x u.1)
 
 -- no block that has moved had a word of a live reservation
 pub reserved_unforwarded : (s : Setting) (m : Memory) (addresses : List (Option Address)) (k : Colours) (done : CellSet)
     → ImageStands s m addresses k done → (j l : ℕ) (r : Reservation) (n : Word) → LiesReserved s.points s.point_memories j l r n
-    → IsUnforwarded s addresses n
+    → IsOfNoMovedBlock s addresses n
 reserved_unforwarded s m addresses k done st j l r n x = record {
   clear = λ id from to o q was now apart object lt e.
       let f = st.words.forwarded id from to o was now apart object in
@@ -165,7 +157,7 @@ module _ (s : Setting) (m : Memory) (addresses : List (Option Address)) (k : Col
 
   pub reservation_written : (p' : Point) (l : ℕ) (new : Cell) (word : ℕ) → l < length q.cells
       → live_reservation (Some p') ≡ Some (record q { cells = slice_set q.cells l new })
-      → IsFixed s.condemned addresses k q.head new word
+      → IsFixedWord s.condemned addresses k q.head new word
       → ImageStands (setting_with_points s (slice_set s.points i (Some p')) s.point_memories)
       (memory_with_word m (word_of memory.reserved_at + l) word) addresses k done
   reservation_written p' l new word within live' fixed =
@@ -252,7 +244,7 @@ module _ (s : Setting) (m : Memory) (addresses : List (Option Address)) (k : Col
           → slice_get r.cells l' ≡ Some c
           → ((q₀ : Reservation) × LiesReserved s.points s.point_memories j l' q₀ n × (slice_get q₀.cells l' ≡ Some c) × (q₀.head ≡ r.head)
           × (slice_index (slice_set m.words (word_of memory.reserved_at + l) word) n ≡ slice_index m.words n))
-          ⊎ IsFixed s.condemned addresses k r.head c (slice_index (slice_set m.words (word_of memory.reserved_at + l) word) n)
+          ⊎ IsFixedWord s.condemned addresses k r.head c (slice_index (slice_set m.words (word_of memory.reserved_at + l) word) n)
       cells j l' r n c x cell =
           elim (reserved_cases s i p point p' s.point_memories (λ j' other. refl) j l' r n x) [
             | inl e ↦
@@ -287,9 +279,9 @@ module _ (s : Setting) (m : Memory) (addresses : List (Option Address)) (k : Col
                       ap (slice_index (slice_set m.words (word_of memory.reserved_at + l) word)) n_w
                       ∙ get_or-set_same m.words (word_of memory.reserved_at + l) word 0 in_range
                       in
-                      inr (subst (λ y. IsFixed s.condemned addresses k r.head c y) (sym value)
-                      (subst (λ y. IsFixed s.condemned addresses k r.head y word) (sym z.1)
-                      (subst (λ (y : Reservation). IsFixed s.condemned addresses k y.head new word) same fixed)))
+                      inr (subst (λ y. IsFixedWord s.condemned addresses k r.head c y) (sym value)
+                      (subst (λ y. IsFixedWord s.condemned addresses k r.head y word) (sym z.1)
+                      (subst (λ (y : Reservation). IsFixedWord s.condemned addresses k y.head new word) same fixed)))
                 ]
             | inr e ↦
                 let not_w : n ≢ word_of memory.reserved_at + l =

@@ -7,11 +7,12 @@ use Rattle.mps_model.specs.World.{PointMemory}
 use Rattle.mps_colours.specs.Colours.{Colours}
 use Rattle.mps_image.specs.Memory.{Setting, Memory, LiesReserved}
 use Rattle.mps_image.specs.Image.{CellSet, ImageStands, is_white_over}
-use Rattle.mps_image.specs.Changes.{setting_with_points, AreReserved}
+use Rattle.mps_image.specs.Changes.{setting_with_points, AreReservationsChanged}
 use Rattle.mps_image.proofs.Changing.{Change, CallChanges, words_changed, fixed_changed}
 
 module _ (s : Setting) (m m' : Memory) (addresses : List (Option Address)) (k : Colours) (done : CellSet) (points : List (Option Point))
-    (memories : List PointMemory) (st : ImageStands s m addresses k done) (v : AreReserved s m m' addresses k points memories) where
+    (memories : List PointMemory) (st : ImageStands s m addresses k done)
+    (v : AreReservationsChanged s m m' addresses k points memories) where
   abbrev change : Change
   change = record {
     before = s;

@@ -10,7 +10,8 @@ use Rattle.mps_colours.specs.Colours.{Colours}
 use Rattle.mps_image.specs.Memory.{Setting, Memory, LiesReserved}
 use Rattle.mps_image.specs.Image.{LieApart, RunsStand}
 use Rattle.mps_image.specs.Fixing.{run_moved_in, copied_in, address_moved}
-use Rattle.mps_image.proofs.InOrder.{BeginElsewhere, all_append, in_order-moved}
+use Rattle.mps_image.proofs.InOrder.{BeginElsewhere, in_order-moved}
+use Rattle.mps_laws.proofs.InOrder.{all_append}
 use Rattle.mps_image.proofs.Extents.{all_reserved, parted}
 use Rattle.mps_image.proofs.Marked.{begins_there, begins_apart}
 use Rattle.mps_image.proofs.Copied.{IsMove, to_apart}

@@ -9,7 +9,7 @@ use Rattle.mps_model.specs.Graph.{Cell, HeadCell, NumberCell, ReferenceCell, Bod
 use Rattle.mps_model.specs.Checked.{head_of_body}
 use Rattle.mps_colours.specs.Colours.{Colours, is_white, is_grey, is_black, keeping, blackened}
 use Rattle.mps_image.specs.Memory.{Setting, Memory, Lies, BlockBegins, all_cells}
-use Rattle.mps_image.specs.Image.{IsCellWord, AreShaped, IsFixed, CellSet, with_cell, black_cells, ImageStands, Stands}
+use Rattle.mps_image.specs.Image.{IsCellWord, AreShaped, IsFixedWord, CellSet, with_cell, black_cells, ImageStands, Stands}
 use Rattle.mps_image.specs.Fixing.{IsMarkCleared, address_moved, FixWord, FixesOne, nothing, passed, kept, moved, IsFixedCell}
 use Rattle.mps_image.specs.Scanning.{setting_with_pools, ScansFrom, ends, takes, skips, fixes, IsToScan, ScansBlock, LeavesOthers}
 use Rattle.mps_image.proofs.Entries.{entry_at-set_same, entry_at-set_other}
@@ -61,7 +61,7 @@ module _ (condemned : List Id) where
     black = λ id b. keeping_blackens_none k u id b;
   }
 
-  both_leave : (a b c : List (Option Address)) (k l n : Colours) → LeavesOthers condemned a b k l → LeavesOthers condemned b c l n
+  pub both_leave : (a b c : List (Option Address)) (k l n : Colours) → LeavesOthers condemned a b k l → LeavesOthers condemned b c l n
       → LeavesOthers condemned a c k n
   both_leave a b c k l n x y = record {
     there = λ id at w e. y.there id at (x.not_white id w) (x.there id at w e);
@@ -117,7 +117,7 @@ one_more s pools m' addresses addresses' k k' done id i size l x = record {
 
 -- what isn't a reference is fixed as it is
 fixed_number : (condemned : List Id) (addresses at_flip : List (Option Address)) (k : Colours) (head word : ℕ) (c : Cell)
-    → is_reference_cell c ≡ false → IsCellWord addresses at_flip head c word → IsFixed condemned addresses k head c word
+    → is_reference_cell c ≡ false → IsCellWord addresses at_flip head c word → IsFixedWord condemned addresses k head c word
 fixed_number condemned addresses at_flip k head word HeadCell e h = record { holds = h; not_white = λ t x. absurd (none-some t x) }
 fixed_number condemned addresses at_flip k head word (NumberCell number) e h =
     record { holds = h; not_white = λ t x. absurd (none-some t x) }

@@ -5,7 +5,7 @@ use Rattle.mps_model.specs.Graph.{Object}
 use Rattle.mps_colours.specs.Colours.{Colours}
 use Rattle.mps_image.specs.Memory.{Setting, Memory}
 use Rattle.mps_image.specs.Scanning.{setting_with_pools, HoldsMore}
-use Rattle.mps_image.specs.Image.{IsForwarded, LieApart, CellSet, ImageStands}
+use Rattle.mps_image.specs.Image.{IsForwardedObject, LieApart, CellSet, ImageStands}
 
 module _ (s : Setting) (pools : Word → Option ℕ) (more : HoldsMore s.pool_over pools) (addresses : List (Option Address)) where
   pub placed_more : LieApart s addresses → LieApart (setting_with_pools s pools) addresses
@@ -24,8 +24,8 @@ module _ (s : Setting) (pools : Word → Option ℕ) (more : HoldsMore s.pool_ov
     reserved_apart = p.reserved_apart;
   }
 
-  forwarded_more : (words : List ℕ) (o : Object) (from to : Address) → IsForwarded s words addresses o from to
-      → IsForwarded (setting_with_pools s pools) words addresses o from to
+  forwarded_more : (words : List ℕ) (o : Object) (from to : Address) → IsForwardedObject s words addresses o from to
+      → IsForwardedObject (setting_with_pools s pools) words addresses o from to
   forwarded_more words o from to f = record {
     begins = f.begins;
     leads = f.leads;

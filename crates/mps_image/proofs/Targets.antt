@@ -10,7 +10,7 @@ use Rattle.mps_model.specs.Graph.{Cell, HeadCell, Object, entry_at, size_of}
 use Rattle.mps_model.specs.Checked.{head_of_body}
 use Rattle.mps_colours.specs.Colours.{Colours, is_white}
 use Rattle.mps_image.specs.Memory.{Setting, Memory, Lies, all_cells}
-use Rattle.mps_image.specs.Image.{AreShaped, IsForwarded, IsFixed, CellSet, with_cell, FixedCellsStand, ImageStands, is_white_over}
+use Rattle.mps_image.specs.Image.{AreShaped, IsForwardedObject, IsFixedWord, CellSet, with_cell, FixedCellsStand, ImageStands, is_white_over}
 use Rattle.mps_image.specs.Fixing.{Target, IsNotForwarded}
 
 -- ---- the words of an object
@@ -36,7 +36,7 @@ cell_cases done holder i id j d =
 module _ (s : Setting) (addresses : List (Option Address)) (k : Colours) (done : CellSet) (holder i : ℕ) (o : Object) (n : Word) (c : Cell)
     (lies : Lies s.objects addresses holder i o n) (cell : slice_get (all_cells o.body) i ≡ Some c) where
   -- where a cell is fixed, it is one more
-  pub one_more_fixed : (words : List ℕ) → IsFixed s.condemned addresses k (head_of_body o.body) c (slice_index words n)
+  pub one_more_fixed : (words : List ℕ) → IsFixedWord s.condemned addresses k (head_of_body o.body) c (slice_index words n)
       → FixedCellsStand s words addresses k done → FixedCellsStand s words addresses k (with_cell done holder i)
   one_more_fixed words fixed a = record {
     cells = λ id j p l d done' there cell'. elim (cell_cases done holder i id j done') [
@@ -47,9 +47,10 @@ module _ (s : Setting) (addresses : List (Option Address)) (k : Colours) (done :
           subst (λ x. slice_get (all_cells o.body) x ≡ Some d) e.1
           (subst (λ (q : Object). slice_get (all_cells q.body) j ≡ Some d) (sym same.0) cell')
           in
-          subst (λ x. IsFixed s.condemned addresses k (head_of_body p.body) d (slice_index words x)) same.1
-          (subst (λ (q : Object). IsFixed s.condemned addresses k (head_of_body q.body) d (slice_index words n)) same.0
-          (subst (λ x. IsFixed s.condemned addresses k (head_of_body o.body) x (slice_index words n)) (same_Some c d (sym cell ∙ cell''))
+          subst (λ x. IsFixedWord s.condemned addresses k (head_of_body p.body) d (slice_index words x)) same.1
+          (subst (λ (q : Object). IsFixedWord s.condemned addresses k (head_of_body q.body) d (slice_index words n)) same.0
+          (subst (λ x. IsFixedWord s.condemned addresses k (head_of_body o.body) x (slice_index words n))
+          (same_Some c d (sym cell ∙ cell''))
           fixed))
       | inr e ↦ a.cells id j p l d e there cell'
     ];
@@ -57,7 +58,7 @@ module _ (s : Setting) (addresses : List (Option Address)) (k : Colours) (done :
   }
 
   -- nothing is written where the word is right already
-  pub passed : (m : Memory) → IsFixed s.condemned addresses k (head_of_body o.body) c (slice_index m.words n)
+  pub passed : (m : Memory) → IsFixedWord s.condemned addresses k (head_of_body o.body) c (slice_index m.words n)
       → ImageStands s m addresses k done
       → ImageStands s m addresses k (with_cell done holder i)
   passed m fixed st = record {
@@ -75,7 +76,7 @@ module _ (s : Setting) (m : Memory) (addresses : List (Option Address)) (k : Col
     (st : ImageStands s m addresses k done) (t address now : ℕ) (p : Object) (x : Target s addresses t address now p) where
   -- it is there, or it was there and has moved
   there_or_moved : (address ≡ now)
-      ⊎ ((address ≢ now) × (entry_at s.at_flip t ≡ Some address) × IsForwarded s m.words addresses p address now)
+      ⊎ ((address ≢ now) × (entry_at s.at_flip t ≡ Some address) × IsForwardedObject s m.words addresses p address now)
   there_or_moved =
       elim (cases_eq address now) [
         | inl e ↦ inl e

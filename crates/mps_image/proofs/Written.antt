@@ -13,7 +13,7 @@ use Rattle.mps_model.specs.Checked.{head_of_body}
 use Rattle.mps_model.specs.World.{reserved_extents}
 use Rattle.mps_colours.specs.Colours.{Colours}
 use Rattle.mps_image.specs.Memory.{Setting, Memory, Lies, LiesReserved, all_cells}
-use Rattle.mps_image.specs.Image.{IsCellWord, LieApart, IsForwarded, WordsStand, IsFixed, CellSet, with_cell, FixedCellsStand, ImageStands}
+use Rattle.mps_image.specs.Image.{IsCellWord, LieApart, IsForwardedObject, WordsStand, IsFixedWord, CellSet, with_cell, FixedCellsStand, ImageStands}
 use Rattle.mps_image.specs.Changes.{setting_with_objects, memory_with_word, IsCellChanged}
 use Rattle.mps_image.proofs.Targets.{cell_cases}
 use Rattle.mps_image.proofs.Forwarded.{forwarded_still}
@@ -30,7 +30,7 @@ holds_still addresses at_flip head (ReferenceCell (Some id) tag) word h =
 module _ (s : Setting) (objects' : List Object) (m : Memory) (addresses : List (Option Address)) (k : Colours) (done : CellSet)
     (holder i : ℕ) (o : Object) (n : Word) (new : Cell) (word : ℕ) (changed : IsCellChanged s.objects objects' holder i new)
     (st : ImageStands s m addresses k done) (lies : Lies s.objects addresses holder i o n)
-    (fixed : IsFixed s.condemned addresses k (head_of_body o.body) new word) where
+    (fixed : IsFixedWord s.condemned addresses k (head_of_body o.body) new word) where
   lay : (id j : ℕ) (p : Object) (l : Word) (there : Lies objects' addresses id j p l)
       → Lies s.objects addresses id j (changed.was id p there.object).object l
   lay id j p l there =
@@ -85,19 +85,19 @@ module _ (s : Setting) (objects' : List Object) (m : Memory) (addresses : List (
 
   -- the new cell's word, where it is a cell of the object with this head
   new_word : (id j : ℕ) (p : Object) (l : Word) (c : Cell) → Lies objects' addresses id j p l → (id ≡ holder) × (j ≡ i) × (c ≡ new)
-      → IsFixed s.condemned addresses k (head_of_body p.body) c (slice_index words_after l)
+      → IsFixedWord s.condemned addresses k (head_of_body p.body) c (slice_index words_after l)
   new_word id j p l c there e =
       let w = changed.was id p there.object in
       let same : there.at ≡ lies.at = same_Some there.at lies.at (sym there.address ∙ ap (entry_at addresses) e.0 ∙ lies.address) in
       let at_n : l ≡ n = there.is ∙ ap (λ x. word_of x + j) same ∙ ap (λ x. word_of lies.at + x) e.1 ∙ sym lies.is in
       let is_o : o ≡ w.object = same_Some o w.object (sym lies.object ∙ ap (slice_get s.objects) (sym e.0) ∙ w.there) in
       let head : head_of_body o.body ≡ head_of_body p.body = ap (λ (q : Object). head_of_body q.body) is_o ∙ w.head in
-      subst (λ x. IsFixed s.condemned addresses k (head_of_body p.body) x (slice_index words_after l)) (sym e.2)
-      (subst (λ x. IsFixed s.condemned addresses k x new (slice_index words_after l)) head
-      (subst (λ x. IsFixed s.condemned addresses k (head_of_body o.body) new x) (sym (ap (slice_index words_after) at_n ∙ here)) fixed))
+      subst (λ x. IsFixedWord s.condemned addresses k (head_of_body p.body) x (slice_index words_after l)) (sym e.2)
+      (subst (λ x. IsFixedWord s.condemned addresses k x new (slice_index words_after l)) head
+      (subst (λ x. IsFixedWord s.condemned addresses k (head_of_body o.body) new x) (sym (ap (slice_index words_after) at_n ∙ here)) fixed))
 
   forwarded_written : (id from to : ℕ) (p : Object) → entry_at s.at_flip id ≡ Some from → entry_at addresses id ≡ Some to → from ≢ to
-      → slice_get objects' id ≡ Some p → IsForwarded (setting_with_objects s objects') words_after addresses p from to
+      → slice_get objects' id ≡ Some p → IsForwardedObject (setting_with_objects s objects') words_after addresses p from to
   forwarded_written id from to p was now x object =
       let w = changed.was id p object in
       let f = st.words.forwarded id from to w.object was now x w.there in
@@ -146,8 +146,8 @@ module _ (s : Setting) (objects' : List Object) (m : Memory) (addresses : List (
               elim (cell_cases done holder i id j d) [
                 | inl y ↦ absurd (x.0 y)
                 | inr y ↦
-                    subst (λ z. IsFixed s.condemned addresses k z c (slice_index words_after l)) w.head
-                    (subst (λ z. IsFixed s.condemned addresses k (head_of_body w.object.body) c z)
+                    subst (λ z. IsFixedWord s.condemned addresses k z c (slice_index words_after l)) w.head
+                    (subst (λ z. IsFixedWord s.condemned addresses k (head_of_body w.object.body) c z)
                     (sym (elsewhere l (other_word id j p l there x.0))) (st.fixed.cells id j w.object l c y (lay id j p l there) x.1))
               ]
           | inr x ↦ new_word id j p l c there x
@@ -156,7 +156,7 @@ module _ (s : Setting) (objects' : List Object) (m : Memory) (addresses : List (
         let not_n : l ≢ n =
         λ e. st.placed.reserved_apart holder point i j o r n lies (subst (λ y. LiesReserved s.points s.point_memories point j r y) e there)
         in
-        subst (λ y. IsFixed s.condemned addresses k r.head c y) (sym (elsewhere l not_n)) (st.fixed.reserved point j r l c there cell);
+        subst (λ y. IsFixedWord s.condemned addresses k r.head c y) (sym (elsewhere l not_n)) (st.fixed.reserved point j r l c there cell);
   }
 
   -- the cell is fixed then

@@ -12,7 +12,7 @@ use Rattle.mps_model.specs.Checked.{head_of_body}
 use Rattle.mps_model.specs.World.{PointMemory, extent, extents_of}
 use Rattle.mps_colours.specs.Colours.{Colours, is_white, is_grey}
 use Rattle.mps_image.specs.Memory.{Setting, Memory, Lies, LiesReserved, all_cells, setting_at_rest}
-use Rattle.mps_image.specs.Image.{IsAddress, LieApart, IsFixed, CellSet, RunsStand, is_white_over}
+use Rattle.mps_image.specs.Image.{IsAddress, LieApart, IsFixedWord, CellSet, RunsStand, is_white_over}
 use Rattle.mps_image.specs.Fixing.{IsMarkCleared}
 
 -- the setting after a client's call, with these objects, points and what points have in the arena
@@ -64,7 +64,7 @@ pub record IsCellChanged (objects objects' : List Object) (holder i : ℕ) (new 
 -- ---- n words where nothing is
 
 -- no block that has moved had this word
-pub record IsUnforwarded (s : Setting) (addresses : List (Option Address)) (n : Word) : Type 0 where
+pub record IsOfNoMovedBlock (s : Setting) (addresses : List (Option Address)) (n : Word) : Type 0 where
   pub clear : (id : Id) (from to : Address) (o : Object) (q : ℕ) → entry_at s.at_flip id ≡ Some from → entry_at addresses id ≡ Some to
       → from ≢ to → slice_get s.objects id ≡ Some o → q < size_of o → n ≢ word_of from + q
 
@@ -73,7 +73,7 @@ pub record AreFree (s : Setting) (addresses : List (Option Address)) (at : Addre
   pub within : (k : ℕ) → k < size → word_of at + k < s.size
   pub unoccupied : (k id i : ℕ) (o : Object) → k < size → Lies s.objects addresses id i o (word_of at + k) → ⊥
   pub unreserved : (k point i : ℕ) (r : Reservation) → k < size → LiesReserved s.points s.point_memories point i r (word_of at + k) → ⊥
-  pub unforwarded : (k : ℕ) → k < size → IsUnforwarded s addresses (word_of at + k)
+  pub unforwarded : (k : ℕ) → k < size → IsOfNoMovedBlock s addresses (word_of at + k)
 
 -- n words from an address on lie in a segment of a pool
 pub record AreHome (s : Setting) (at : Address) (size pool : ℕ) : Type 0 where
@@ -91,7 +91,7 @@ abbrev pub addresses_made : List (Option Address) → (at : Address) → List (O
 addresses_made addresses at = addresses ++ Some at ∷ []
 
 -- what the call does, where the object is made at an address
-pub record IsMade (s : Setting) (m m' : Memory) (addresses : List (Option Address)) (k : Colours) (o : Object) (at : Address)
+pub record IsObjectMade (s : Setting) (m m' : Memory) (addresses : List (Option Address)) (k : Colours) (o : Object) (at : Address)
     (points : List (Option Point)) (memories : List PointMemory) : Type 0 where
   pub placed : LieApart (setting_made s o points memories) (addresses_made addresses at)
   pub runs : RunsStand (setting_made s o points memories) m' (addresses_made addresses at)
@@ -110,9 +110,9 @@ pub record IsMade (s : Setting) (m m' : Memory) (addresses : List (Option Addres
   -- its words are those of its cells, and no others change
   pub long : length m'.words ≡ length m.words
   pub words : (i : ℕ) (c : Cell) → slice_get (all_cells o.body) i ≡ Some c
-      → IsFixed s.condemned (addresses_made addresses at) k (head_of_body o.body) c (slice_index m'.words (word_of at + i))
+      → IsFixedWord s.condemned (addresses_made addresses at) k (head_of_body o.body) c (slice_index m'.words (word_of at + i))
   pub others : (n : Word) → ((i : ℕ) → i < size_of o → n ≢ word_of at + i) → slice_index m'.words n ≡ slice_index m.words n
-  pub clear : (i : ℕ) → i < size_of o → IsUnforwarded s addresses (word_of at + i)
+  pub clear : (i : ℕ) → i < size_of o → IsOfNoMovedBlock s addresses (word_of at + i)
 
 -- the memory after a block was put there
 abbrev pub memory_allocated : Memory → (words : List ℕ) → (kept : Word → Bool) → (at : Address) → (size : ℕ) → Memory
@@ -130,7 +130,7 @@ pub record IsAllocated (s : Setting) (m : Memory) (addresses : List (Option Addr
   pub kept_others : (n : Word) → n ≢ word_of at → kept n ≡ m.kept n
   pub long : length words ≡ length m.words
   pub cells : (i : ℕ) (c : Cell) → slice_get (all_cells o.body) i ≡ Some c
-      → IsFixed s.condemned (addresses_made addresses at) k (head_of_body o.body) c (slice_index words (word_of at + i))
+      → IsFixedWord s.condemned (addresses_made addresses at) k (head_of_body o.body) c (slice_index words (word_of at + i))
   pub others : (n : Word) → ((i : ℕ) → i < size_of o → n ≢ word_of at + i) → slice_index words n ≡ slice_index m.words n
 
 -- ---- a block goes
@@ -163,7 +163,8 @@ abbrev pub setting_with_points : Setting → List (Option Point) → List PointM
 setting_with_points s points memories = setting_with s s.objects points memories
 
 -- what the call does: the words that it changes are those of live reservations, whose new cells are fixed
-pub record AreReserved (s : Setting) (m m' : Memory) (addresses : List (Option Address)) (k : Colours) (points : List (Option Point))
+pub record AreReservationsChanged (s : Setting) (m m' : Memory) (addresses : List (Option Address)) (k : Colours)
+    (points : List (Option Point))
     (memories : List PointMemory) : Type 0 where
   pub placed : LieApart (setting_with_points s points memories) addresses
   pub runs : RunsStand (setting_with_points s points memories) m' addresses
@@ -174,10 +175,10 @@ pub record AreReserved (s : Setting) (m m' : Memory) (addresses : List (Option A
   pub cells : (point i : ℕ) (r : Reservation) (n : Word) (c : Cell) → LiesReserved points memories point i r n
       → slice_get r.cells i ≡ Some c
       → ((q : Reservation) × LiesReserved s.points s.point_memories point i q n × (slice_get q.cells i ≡ Some c) × (q.head ≡ r.head)
-      × (slice_index m'.words n ≡ slice_index m.words n)) ⊎ IsFixed s.condemned addresses k r.head c (slice_index m'.words n)
+      × (slice_index m'.words n ≡ slice_index m.words n)) ⊎ IsFixedWord s.condemned addresses k r.head c (slice_index m'.words n)
   pub written : (n : Word) → (slice_index m'.words n ≡ slice_index m.words n)
       ⊎ ((point : ℕ) × (i : ℕ) × (r : Reservation) × LiesReserved points memories point i r n)
-  pub clear : (point i : ℕ) (r : Reservation) (n : Word) → LiesReserved points memories point i r n → IsUnforwarded s addresses n
+  pub clear : (point i : ℕ) (r : Reservation) (n : Word) → LiesReserved points memories point i r n → IsOfNoMovedBlock s addresses n
 
 -- ---- vectors
 

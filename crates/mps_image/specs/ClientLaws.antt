@@ -5,7 +5,7 @@ use Rattle.mps_model.specs.Graph.{Cell, ReferenceCell, Automatic, Object, Point,
 use Rattle.mps_model.specs.World.{PointMemory}
 use Rattle.mps_colours.specs.Colours.{Colours, is_white, is_grey}
 use Rattle.mps_image.specs.Memory.{Setting, Memory, Lies, live_reservation}
-use Rattle.mps_image.specs.Image.{AreShaped, IsFixed, Stands}
+use Rattle.mps_image.specs.Image.{AreShaped, IsFixedWord, Stands}
 use Rattle.mps_image.specs.Fixing.{IsMarkCleared}
 use Rattle.mps_image.specs.Changes.{setting_with_objects, setting_with_points, setting_made, addresses_made, memory_with_word, memory_with_reservation, memory_without_reservation, memory_without_block, memory_allocated, AreFree, AreHome, IsAllocated}
 
@@ -15,7 +15,7 @@ ACellOfAnObjectIsWritten =
     (s : Setting) (g : Graph) (m : Memory) (addresses : List (Option Address)) (k : Colours) (id i : ℕ) (o : Object) (head : ℕ)
     (cells : List Cell) (is_weak : Bool) (n : Word) (new : Cell) (word : ℕ) (change : List Cell → List Cell) → s.objects ≡ g.objects
     → o.body ≡ Automatic head cells is_weak → change cells ≡ slice_set cells i new → Stands s m addresses k
-    → Lies s.objects addresses id i o n → IsFixed s.condemned addresses k head new word
+    → Lies s.objects addresses id i o n → IsFixedWord s.condemned addresses k head new word
     → Stands (setting_with_objects s (graph_with_cells g id change).objects) (memory_with_word m n word) addresses k
 
 -- a point without a live reservation gets one, where nothing is
@@ -26,7 +26,7 @@ AReservationIsMade =
     → slice_get s.point_memories i ≡ Some memory → live_reservation p ≡ None → live_reservation (Some p') ≡ Some q → 0 < length q.cells
     → AreFree s addresses there.reserved_at (length q.cells) → length words ≡ length m.words
     → ((l : ℕ) (c : Cell) → slice_get q.cells l ≡ Some c
-    → IsFixed s.condemned addresses k q.head c (slice_index words (word_of there.reserved_at + l)))
+    → IsFixedWord s.condemned addresses k q.head c (slice_index words (word_of there.reserved_at + l)))
     → ((n : Word) → ((l : ℕ) → l < length q.cells → n ≢ word_of there.reserved_at + l) → slice_index words n ≡ slice_index m.words n)
     → Stands (setting_with_points s (slice_set s.points i (Some p')) (slice_set s.point_memories i there))
     (memory_with_reservation (record m { words = words }) there.reserved_at (length q.cells)) addresses k
@@ -37,7 +37,7 @@ AReservationIsWritten =
     (s : Setting) (m : Memory) (addresses : List (Option Address)) (k : Colours) (i : ℕ) (p : Option Point) (p' : Point)
     (memory : PointMemory) (q : Reservation) (l : ℕ) (new : Cell) (word : ℕ) → Stands s m addresses k → slice_get s.points i ≡ Some p
     → slice_get s.point_memories i ≡ Some memory → live_reservation p ≡ Some q → l < length q.cells
-    → live_reservation (Some p') ≡ Some (record q { cells = slice_set q.cells l new }) → IsFixed s.condemned addresses k q.head new word
+    → live_reservation (Some p') ≡ Some (record q { cells = slice_set q.cells l new }) → IsFixedWord s.condemned addresses k q.head new word
     → Stands (setting_with_points s (slice_set s.points i (Some p')) s.point_memories)
     (memory_with_word m (word_of memory.reserved_at + l) word) addresses k
 
@@ -73,7 +73,8 @@ CommittedCellsAreFixed =
     (s : Setting) (m : Memory) (addresses : List (Option Address)) (k : Colours) (i : ℕ) (p : Option Point) (memory : PointMemory)
     (q : Reservation) → Stands s m addresses k → slice_get s.points i ≡ Some p → slice_get s.point_memories i ≡ Some memory
     → live_reservation p ≡ Some q → (l : ℕ) (c : Cell) → slice_get q.cells l ≡ Some c
-    → IsFixed s.condemned (addresses_made addresses memory.reserved_at) k q.head c (slice_index m.words (word_of memory.reserved_at + l))
+    → IsFixedWord s.condemned (addresses_made addresses memory.reserved_at) k q.head c
+    (slice_index m.words (word_of memory.reserved_at + l))
 
 -- a block is put where nothing is
 abbrev pub ABlockIsAllocated : Type 0

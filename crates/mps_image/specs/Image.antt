@@ -79,7 +79,8 @@ pub record LieApart (s : Setting) (addresses : List (Option Address)) : Type 0 w
 -- ---- words
 
 -- the address that an object had at the flip tells where it is now, and nothing else is there
-pub record IsForwarded (s : Setting) (words : List ℕ) (addresses : List (Option Address)) (o : Object) (from to : Address) : Type 0 where
+pub record IsForwardedObject (s : Setting) (words : List ℕ) (addresses : List (Option Address)) (o : Object)
+    (from to : Address) : Type 0 where
   pub begins : BeginsForwarded (s.layout o.pool) (drop (word_of from) words) (size_of o)
   pub leads : slice_index words (word_of from + 1) ≡ to
   pub condemned : (k : ℕ) → k < size_of o → IsTrue (s.is_condemned_over (word_of from + k))
@@ -94,10 +95,11 @@ pub record WordsStand (s : Setting) (words : List ℕ) (addresses : List (Option
   pub cells : (id i : ℕ) (o : Object) (n : Word) (c : Cell) → IsTrue (s.is_read id) → Lies s.objects addresses id i o n
       → slice_get (all_cells o.body) i ≡ Some c → IsCellWord addresses s.at_flip (head_of_body o.body) c (slice_index words n)
   pub forwarded : (id : Id) (from to : Address) (o : Object) → entry_at s.at_flip id ≡ Some from → entry_at addresses id ≡ Some to
-      → from ≢ to → slice_get s.objects id ≡ Some o → IsForwarded s words addresses o from to
+      → from ≢ to → slice_get s.objects id ≡ Some o → IsForwardedObject s words addresses o from to
 
 -- a word holds the address of what its cell refers to, which isn't white
-pub record IsFixed (condemned : List Id) (addresses : List (Option Address)) (k : Colours) (head : ℕ) (c : Cell) (word : ℕ) : Type 0 where
+pub record IsFixedWord (condemned : List Id) (addresses : List (Option Address)) (k : Colours) (head : ℕ) (c : Cell)
+    (word : ℕ) : Type 0 where
   pub holds : IsCellWord addresses [] head c word
   pub not_white : (t : Id) → target_of_cell c ≡ Some t → is_white condemned k t ≡ false
 
@@ -116,9 +118,9 @@ black_cells condemned k = λ id cell. is_black condemned k id
 -- some cells are fixed, and so are those of live reservations
 pub record FixedCellsStand (s : Setting) (words : List ℕ) (addresses : List (Option Address)) (k : Colours) (done : CellSet) : Type 0 where
   pub cells : (id i : ℕ) (o : Object) (n : Word) (c : Cell) → IsTrue (done id i) → Lies s.objects addresses id i o n
-      → slice_get (all_cells o.body) i ≡ Some c → IsFixed s.condemned addresses k (head_of_body o.body) c (slice_index words n)
+      → slice_get (all_cells o.body) i ≡ Some c → IsFixedWord s.condemned addresses k (head_of_body o.body) c (slice_index words n)
   pub reserved : (point i : ℕ) (r : Reservation) (n : Word) (c : Cell) → LiesReserved s.points s.point_memories point i r n
-      → slice_get r.cells i ≡ Some c → IsFixed s.condemned addresses k r.head c (slice_index words n)
+      → slice_get r.cells i ≡ Some c → IsFixedWord s.condemned addresses k r.head c (slice_index words n)
 
 -- ---- marks
 
@@ -187,14 +189,14 @@ a_null_reference_is_its_tag = refl
 pub a_null_reference_is_no_address : IsCellWord moved before 0x201 (ReferenceCell None 5) 0x1005 → ⊥
 a_null_reference_is_no_address h = omega (arith, h)
 
-pub an_old_address_is_not_fixed : IsFixed [] moved no_colours 0x201 (ReferenceCell (Some 1) 3) 0x1023 → ⊥
+pub an_old_address_is_not_fixed : IsFixedWord [] moved no_colours 0x201 (ReferenceCell (Some 1) 3) 0x1023 → ⊥
 an_old_address_is_not_fixed f = other f.holds.address f.holds.is f.holds.means
   where
     other : (at : ℕ) → 0x1023 ≡ at + 3 → MeansAt moved [] at 1 → ⊥
     other at e (inl there) = let h : Some 0x2000 ≡ Some at = there in omega (arith, e, same_Some 0x2000 at h)
     other at e (inr there) = absurd (none-some at there)
 
-pub a_white_target_is_not_fixed : IsFixed (1 ∷ []) moved no_colours 0x201 (ReferenceCell (Some 1) 3) 0x2003 → ⊥
+pub a_white_target_is_not_fixed : IsFixedWord (1 ∷ []) moved no_colours 0x201 (ReferenceCell (Some 1) 3) 0x2003 → ⊥
 a_white_target_is_not_fixed f = let h : true ≡ false = f.not_white 1 refl in absurd cc
 
 pub one_cell_more : with_cell (λ id cell. false) 3 1 3 1 ≡ true

@@ -8,10 +8,10 @@ use Rattle.mps_model.specs.World.{World, PointMemory}
 use Rattle.mps_model.specs.WellFormed.{IsWellFormed}
 use Rattle.mps_colours.specs.Colours.{Colours, is_white, is_grey, is_black, blackened}
 use Rattle.mps_image.specs.Memory.{Setting, Memory, Lies, all_cells, live_reservation, pool_layout}
-use Rattle.mps_image.specs.Image.{AreShaped, IsFixed, MarksStand, RunsStand, CellSet, with_cell, ImageStands, Stands}
+use Rattle.mps_image.specs.Image.{AreShaped, IsFixedWord, MarksStand, RunsStand, CellSet, with_cell, ImageStands, Stands}
 use Rattle.mps_image.specs.Fixing.{Target, FixAt, FixWord, IsFixedAt, IsFixedCell, IsMarkCleared}
 use Rattle.mps_image.specs.Scanning.{setting_with_pools, IsToScan, ScansBlock, LeavesOthers}
-use Rattle.mps_image.specs.Changes.{setting_with_objects, memory_with_word, IsCellChanged, setting_made, addresses_made, IsMade, memory_without_block, MayGo, setting_with_points, AreReserved}
+use Rattle.mps_image.specs.Changes.{setting_with_objects, memory_with_word, IsCellChanged, setting_made, addresses_made, IsObjectMade, memory_without_block, MayGo, setting_with_points, AreReservationsChanged}
 use Rattle.mps_image.specs.Bands.{setting_flipped, setting_freeing}
 
 -- all words are read: blocks aren't freed yet
@@ -60,7 +60,7 @@ abbrev pub ACellIsWritten : Type 0
 ACellIsWritten =
     (s : Setting) (objects' : List Object) (m : Memory) (addresses : List (Option Address)) (k : Colours) (done : CellSet) (holder i : ℕ)
     (o : Object) (n : Word) (new : Cell) (word : ℕ) → IsCellChanged s.objects objects' holder i new → ImageStands s m addresses k done
-    → Lies s.objects addresses holder i o n → IsFixed s.condemned addresses k (head_of_body o.body) new word
+    → Lies s.objects addresses holder i o n → IsFixedWord s.condemned addresses k (head_of_body o.body) new word
     → ImageStands (setting_with_objects s objects') (memory_with_word m n word) addresses k (with_cell done holder i)
 
 -- an object is made
@@ -68,7 +68,7 @@ abbrev pub AnObjectIsMade : Type 0
 AnObjectIsMade =
     (s : Setting) (m m' : Memory) (addresses : List (Option Address)) (k : Colours) (done : CellSet) (o : Object) (at : Address)
     (points : List (Option Point)) (memories : List PointMemory) → ImageStands s m addresses k done
-    → IsMade s m m' addresses k o at points memories
+    → IsObjectMade s m m' addresses k o at points memories
     → ImageStands (setting_made s o points memories) m' (addresses_made addresses at) k done
 
 -- a block goes
@@ -82,7 +82,7 @@ ABlockGoes =
 abbrev pub ReservationsChange : Type 0
 ReservationsChange =
     (s : Setting) (m m' : Memory) (addresses : List (Option Address)) (k : Colours) (done : CellSet) (points : List (Option Point))
-    (memories : List PointMemory) → ImageStands s m addresses k done → AreReserved s m m' addresses k points memories
+    (memories : List PointMemory) → ImageStands s m addresses k done → AreReservationsChanged s m m' addresses k points memories
     → ImageStands (setting_with_points s points memories) m' addresses k done
 
 -- ---- the bands of a collection

@@ -12,7 +12,7 @@ use Rattle.mps_model.specs.Graph.{Object, Point}
 use Rattle.mps_model.specs.World.{PointMemory, extent}
 use Rattle.mps_image.specs.Memory.{Setting, memory_in, setting_in, words_of_arena}
 use Rattle.mps_image.specs.Image.{RunsStand}
-use Rattle.mps_image.specs.Changes.{IsUnforwarded, AreFree, AreHome}
+use Rattle.mps_image.specs.Changes.{IsOfNoMovedBlock, AreFree, AreHome}
 
 -- segments begin at grains from 1 on, and ascend without overlap below a limit
 pub record AreSegmentsInOrder (ss : List Segment) : Type 0 where
@@ -24,7 +24,7 @@ abbrev pub OpenWordsAreFree : Type 0
 OpenWordsAreFree =
     (g : SegsState) (s : Setting) (addresses : List (Option Address)) (at : Address) (size : ℕ) → s.size ≡ words_of_arena g.grains
     → RunsStand s (memory_in g) addresses → CanCover g (extent at size)
-    → ((k : ℕ) → k < size → IsUnforwarded s addresses (word_of at + k)) → AreFree s addresses at size
+    → ((k : ℕ) → k < size → IsOfNoMovedBlock s addresses (word_of at + k)) → AreFree s addresses at size
 
 -- words of one held segment are home to its pool
 abbrev pub SegmentsAreHome : Type 0
