@@ -1,10 +1,12 @@
 -- One slot or message is fixed: a step of the abstract collector.
-use Rattle.std.proofs.Common.{refl, sym, List, [], Option, Some, None, arith}
+use Rattle.std.proofs.Common.{◌≡◌, refl, subst, sym, List, [], ◌∷◌, ◌++◌, Option, Some, None, arith}
 use Rattle.std.proofs.lemmas.List.{append-nil}
 use Rattle.mps_base.specs.Address.{Address, Id}
 use Rattle.mps_format.specs.Layout.{Layout}
 use Rattle.mps_gen.specs.State.{ChainsState}
+use Rattle.mps_model.specs.Graph.{entries}
 use Rattle.mps_colours.specs.Collecting.{Collecting}
+use Rattle.mps_colours.specs.Fixing.{Fixes}
 use Rattle.mps_image.specs.Memory.{pool_layout}
 use Rattle.mps_image.specs.Image.{CellSet, AreShaped}
 use Rattle.mps_image.specs.Fixing.{Target, nothing}
@@ -14,7 +16,22 @@ use Rattle.mps_trace.specs.Roots.{FixesRoot, is_null, leads, CanFixRootAt}
 use Rattle.mps_trace_laws.specs.Tracing.{TracingStands, setting_of}
 use Rattle.mps_trace_laws.proofs.Found.{target_can_be_fixed}
 use Rattle.mps_trace_laws.proofs.EachFix.{fix_is_a_step}
-use Rattle.mps_slot_laws.specs.OneRoot.{MeansLive, RefersTo, IsRootStep, ARootCanBeFixed, ARootIsAStep}
+use Rattle.mps_slot_laws.specs.OneRoot.{AreFixed, MeansLive, RefersTo, IsRootStep, ARootCanBeFixed, ARootIsAStep}
+
+-- nothing was fixed, where the targets are null
+pub none_fixed : {F : Type 0} (layout : F → Layout) (formats : List (Option F)) (of : ChainsState) (at_flip : List (Option Address))
+    (done : CellSet) (x : Traced) (y : Collecting) (targets : List (Option Id)) → entries targets ≡ []
+    → TracingStands layout formats of at_flip done x y → AreFixed layout formats of at_flip done x x y targets
+none_fixed layout formats of at_flip done x y targets null stands = record {
+  moves = [];
+  after = y;
+  fixes = λ ids ms last rest. subst (λ these. Fixes y (these ++ ids) ms last) (sym null) rest;
+  stands = stands;
+  trail = sym (append-nil x.moves.moves);
+  leaves = fix_leaves y.running.condemned y.world.addresses y.world.addresses y.colours y.colours None nothing;
+  same = record { graph = refl; pools = refl; formats = refl };
+  same_condemned = refl;
+}
 
 module _ {F : Type 0} (layout : F → Layout) (formats : List (Option F)) (of : ChainsState) (at_flip : List (Option Address))
     (done : CellSet) (x : Traced) (y : Collecting) (shaped : AreShaped y.world.graph.objects (pool_layout y.world))
@@ -29,19 +46,7 @@ module _ {F : Type 0} (layout : F → Layout) (formats : List (Option F)) (of : 
       target_can_be_fixed layout formats of at_flip done x y (record { 0 = at }) t m.now m.object shaped stands (target_of at t m)
 
   null_step : IsRootStep layout formats of at_flip done x x y None 0
-  null_step = record {
-    fixed = record {
-      moves = [];
-      after = y;
-      fixes = λ ids ms last rest. rest;
-      stands = stands;
-      trail = sym (append-nil x.moves.moves);
-      leaves = fix_leaves y.running.condemned y.world.addresses y.world.addresses y.colours y.colours None nothing;
-      same = record { graph = refl; pools = refl; formats = refl };
-      same_condemned = refl;
-    };
-    answers = refl;
-  }
+  null_step = record { fixed = none_fixed layout formats of at_flip done x y (None ∷ []) refl stands; answers = refl }
 
   pub root_step : (z : Traced) (at answer : Address) (target : Option Id) → RefersTo at_flip y at target
       → FixesRoot layout formats of x at z answer → IsRootStep layout formats of at_flip done x z y target answer

@@ -2,7 +2,7 @@
 use Rattle.std.proofs.Common.{◌≡◌, ◌∙◌, ℕ, zero, suc, ◌+◌, ◌<◌, ◌≤◌, false, refl, sym, ap, List, [], ◌∷◌, ◌++◌, length, map, Option, Some, None, subst, inl, inr, arith}
 use Rattle.std.proofs.Math.Seq.{get_or-set_same, get_or-set_other}
 use Rattle.std.proofs.lemmas.Bool.{cases_eq}
-use Rattle.std.proofs.lemmas.List.{append-nil, append_assoc}
+use Rattle.std.proofs.lemmas.List.{append_assoc}
 use Rattle.std.proofs.lemmas.Option.{none-some, same_Some}
 use Rattle.std.specs.Prelude.{slice_get, slice_set, slice_index_or, take}
 use Rattle.mps_base.specs.Address.{Address, Id}
@@ -10,24 +10,22 @@ use Rattle.mps_final.specs.State.{FinalsState}
 use Rattle.mps_format.specs.Layout.{Layout}
 use Rattle.mps_gen.specs.State.{ChainsState}
 use Rattle.mps_model.specs.Graph.{Graph, entries}
-use Rattle.mps_model.specs.World.{World}
 use Rattle.mps_root.specs.State.{RootsState, items_of, with_item}
-use Rattle.mps_colours.specs.Colours.{Colours, is_white}
+use Rattle.mps_colours.specs.Colours.{is_white}
 use Rattle.mps_colours.specs.Collecting.{Collecting}
 use Rattle.mps_colours.specs.Fixing.{Fixes}
 use Rattle.mps_image.specs.Memory.{pool_layout}
 use Rattle.mps_image.specs.Image.{CellSet, AreShaped}
-use Rattle.mps_image.specs.Fixing.{nothing}
 use Rattle.mps_image.specs.Scanning.{LeavesOthers}
-use Rattle.mps_image.proofs.Scanning.{fix_leaves}
+use Rattle.mps_image.proofs.Scanning.{both_leave}
 use Rattle.mps_trace.specs.Trace.{Traced}
 use Rattle.mps_trace.specs.Roots.{FixesRoot, CanFixRootAt, FixesSlots, FixesMessages, begins, goes_on, slot_of, message_of}
 use Rattle.mps_trace_laws.specs.Steps.{IsSameGraph}
 use Rattle.mps_trace_laws.specs.Tracing.{TracingStands}
-use Rattle.mps_trace_laws.proofs.ScanRun.{shaped_still}
+use Rattle.mps_trace_laws.proofs.ScanRun.{both_same, shaped_still}
 use Rattle.mps_slot_laws.specs.OneRoot.{RefersTo, IsWhere, AreFixed}
 use Rattle.mps_slot_laws.specs.Rows.{HoldsAtFlip, AreHeldAtFlip, AreFixedBefore, SlotsAreSteps, SlotsAreReady, MessagesAreSteps, MessagesAreReady}
-use Rattle.mps_slot_laws.proofs.OneRoot.{can_root, root_step}
+use Rattle.mps_slot_laws.proofs.OneRoot.{can_root, none_fixed, root_step}
 
 -- ---- lists
 
@@ -80,35 +78,10 @@ still_where y y' at None leaves same null = null
 still_where y y' at (Some t) leaves same w =
     (leaves.there t at w.1 w.0, subst (λ ids. is_white ids y'.colours t ≡ false) (sym same) (leaves.not_white t w.1))
 
-pub both_same : (a b c : World) → IsSameGraph a b → IsSameGraph b c → IsSameGraph a c
-both_same a b c x y = record { graph = y.graph ∙ x.graph; pools = y.pools ∙ x.pools; formats = y.formats ∙ x.formats }
-
-pub both_leave : (condemned : List Id) (a b c : List (Option Address)) (k l n : Colours) → LeavesOthers condemned a b k l
-    → LeavesOthers condemned b c l n → LeavesOthers condemned a c k n
-both_leave condemned a b c k l n x y = record {
-  there = λ id at w e. y.there id at (x.not_white id w) (x.there id at w e);
-  not_white = λ id w. y.not_white id (x.not_white id w);
-  live = λ id at e. let b = x.live id at e in y.live id b.0 b.1;
-  black = λ id w. x.black id (y.black id w);
-}
-
 module _ {F : Type 0} (layout : F → Layout) (formats : List (Option F)) (of : ChainsState) (at_flip : List (Option Address))
     (done : CellSet) where
   abbrev Fixed : Traced → Traced → Collecting → List (Option Id) → Type 0
   Fixed x z y ts = AreFixed layout formats of at_flip done x z y ts
-
-  -- nothing was fixed
-  pub none_fixed : (x : Traced) (y : Collecting) → TracingStands layout formats of at_flip done x y → Fixed x x y []
-  none_fixed x y stands = record {
-    moves = [];
-    after = y;
-    fixes = λ ids ms last rest. rest;
-    stands = stands;
-    trail = sym (append-nil x.moves.moves);
-    leaves = fix_leaves y.running.condemned y.world.addresses y.world.addresses y.colours y.colours None nothing;
-    same = record { graph = refl; pools = refl; formats = refl };
-    same_condemned = refl;
-  }
 
   -- these were fixed, and then those
   unfoldable pub joined : (x z z' : Traced) (y : Collecting) (ts us vs : List (Option Id)) (one : Fixed x z y ts) → Fixed z z' one.after us
@@ -141,7 +114,7 @@ module _ {F : Type 0} (layout : F → Layout) (formats : List (Option F)) (of : 
 
     pub start : Before x slots 0
     start = record {
-      fixed = none_fixed x y stands;
+      fixed = none_fixed layout formats of at_flip done x y [] refl stands;
       long = refl;
       answers = λ i target below e. absurd (omega (arith, below));
       rest = λ i low. refl;

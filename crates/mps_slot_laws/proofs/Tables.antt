@@ -21,7 +21,8 @@ use Rattle.mps_trace_laws.proofs.ScanRun.{shaped_still}
 use Rattle.mps_slot_laws.specs.OneRoot.{IsWhere}
 use Rattle.mps_slot_laws.specs.Rows.{HoldsAtFlip, AreHeldAtFlip}
 use Rattle.mps_slot_laws.specs.Tables.{AreTablesHeld, AreTablesFixed, TablesAreSteps, TablesAreReady}
-use Rattle.mps_slot_laws.proofs.Rows.{none_fixed, joined, still_where, run_slots, ready_slots}
+use Rattle.mps_slot_laws.proofs.OneRoot.{none_fixed}
+use Rattle.mps_slot_laws.proofs.Rows.{joined, still_where, run_slots, ready_slots}
 
 -- ---- lists
 
@@ -109,7 +110,7 @@ module _ {F : Type 0} (layout : F → Layout) (formats : List (Option F)) (of : 
 
     start : Before x roots 0
     start = record {
-      fixed = none_fixed layout formats of at_flip done x y stands;
+      fixed = none_fixed layout formats of at_flip done x y [] refl stands;
       answers = λ n row below e i target is. absurd (omega (arith, below));
       rest = λ n low within. refl;
     }

@@ -8,9 +8,10 @@ use Rattle.mps_format.specs.Layout.{Layout}
 use Rattle.mps_gen.specs.State.{ChainsState}
 use Rattle.mps_model.specs.Graph.{Cell, entries, target_of_cell, targets_of_cells}
 use Rattle.mps_colours.specs.Collecting.{Collecting}
-use Rattle.mps_image.specs.Image.{CellSet, with_cell}
+use Rattle.mps_image.specs.Image.{CellSet, ImageStands, with_cell}
+use Rattle.mps_image.specs.Memory.{memory_in}
 use Rattle.mps_trace.specs.Trace.{Traced}
-use Rattle.mps_trace_laws.specs.Tracing.{TracingStands}
+use Rattle.mps_trace_laws.specs.Tracing.{TracingStands, setting_of}
 use Rattle.mps_trace_laws.specs.Scanning.{with_cells}
 
 -- what a cell more refers to
@@ -27,11 +28,12 @@ targets_more (x ∷ xs) (suc k) c ids is = go (target_of_cell x) (targets_more x
     go None rest = rest
     go (Some n) rest = ap (λ ns. n ∷ ns) rest
 
--- the facts hold of fewer fixed cells too
-pub fewer_done : {F : Type 0} (layout : F → Layout) (formats : List (Option F)) (of : ChainsState) (at_flip : List (Option Address))
-    (done done' : CellSet) (x : Traced) (y : Collecting) → ((id i : ℕ) → IsTrue (done' id i) → IsTrue (done id i))
+-- the facts hold of other fixed cells, where the image stands for these
+pub image_again : {F : Type 0} (layout : F → Layout) (formats : List (Option F)) (of : ChainsState) (at_flip : List (Option Address))
+    (done done' : CellSet) (x : Traced) (y : Collecting)
+    → ImageStands (setting_of x.segs at_flip y) (memory_in x.segs) y.world.addresses y.colours done'
     → TracingStands layout formats of at_flip done x y → TracingStands layout formats of at_flip done' x y
-fewer_done layout formats of at_flip done done' x y sub stands =
+image_again layout formats of at_flip done done' x y image stands =
     let st = stands.state in
     record {
       state = record {
@@ -41,16 +43,7 @@ fewer_done layout formats of at_flip done done' x y sub stands =
         covered = st.covered;
         reserved = st.reserved;
         condemned = st.condemned;
-        image = record {
-          placed = st.image.placed;
-          words = st.image.words;
-          fixed = record {
-            cells = λ id i o n c is lies cell. st.image.fixed.cells id i o n c (sub id i is) lies cell;
-            reserved = st.image.fixed.reserved;
-          };
-          marks = st.image.marks;
-          runs = st.image.runs;
-        };
+        image = image;
         pools = st.pools;
         all_move = st.all_move;
         tails = st.tails;
@@ -58,6 +51,23 @@ fewer_done layout formats of at_flip done done' x y sub stands =
       };
       room = stands.room;
     }
+
+-- they hold of fewer
+pub fewer_done : {F : Type 0} (layout : F → Layout) (formats : List (Option F)) (of : ChainsState) (at_flip : List (Option Address))
+    (done done' : CellSet) (x : Traced) (y : Collecting) → ((id i : ℕ) → IsTrue (done' id i) → IsTrue (done id i))
+    → TracingStands layout formats of at_flip done x y → TracingStands layout formats of at_flip done' x y
+fewer_done layout formats of at_flip done done' x y sub stands =
+    let image = stands.state.image in
+    image_again layout formats of at_flip done done' x y (record {
+      placed = image.placed;
+      words = image.words;
+      fixed = record {
+        cells = λ id i o n c is lies cell. image.fixed.cells id i o n c (sub id i is) lies cell;
+        reserved = image.fixed.reserved;
+      };
+      marks = image.marks;
+      runs = image.runs;
+    }) stands
 
 -- one cell more is among the cells before the next
 pub next_cells : (done : CellSet) (holder k id i : ℕ) → IsTrue (with_cells done holder (suc k) id i)

@@ -31,7 +31,7 @@ use Rattle.mps_image.specs.Image.{CellSet, ImageStands}
 use Rattle.mps_image.specs.Fixing.{AreCopied, AreMarksMoved, address_moved}
 use Rattle.mps_image.proofs.Copied as copying
 use Rattle.mps_image.proofs.Extents.{all_extents, all_reserved}
-use Rattle.mps_image.proofs.InOrder.{all_append}
+use Rattle.mps_laws.proofs.InOrder.{all_append}
 use Rattle.mps_image.proofs.Runs.{runs_moved}
 use Rattle.mps_image.proofs.SegmentMarks.{moving_marks}
 use Rattle.mps_trace_laws.specs.Tracing.{StateStands, setting_of}

@@ -10,7 +10,7 @@ use Rattle.mps_seg.specs.Segs.{SegsState}
 use Rattle.mps_seg.specs.Collecting.{noting_in, first_grain_over}
 use Rattle.mps_amc.specs.Amc.{AmcState}
 use Rattle.mps_gen.specs.State.{ChainsState}
-use Rattle.mps_model.specs.Graph.{ReferenceCell, Object, entry_at, size_of}
+use Rattle.mps_model.specs.Graph.{ReferenceCell, Object}
 use Rattle.mps_colours.specs.Colours.{is_white}
 use Rattle.mps_colours.specs.Collecting.{Collecting}
 use Rattle.mps_image.specs.Memory.{Lies, memory_in, pool_layout}
@@ -25,6 +25,7 @@ use Rattle.mps_trace.specs.Scan.{FixesCell, is_null, leads, CanFixCellAt, target
 use Rattle.mps_trace_laws.specs.Tracing.{StateStands, TracingStands, setting_of}
 use Rattle.mps_trace_laws.specs.Steps.{IsFixStep}
 use Rattle.mps_trace_laws.specs.Cells.{HoldsReference, IsCellStep, ACellCanBeFixed, ACellIsAStep}
+use Rattle.mps_trace_laws.proofs.CellLists.{image_again}
 use Rattle.mps_trace_laws.proofs.Found.{can_fix}
 use Rattle.mps_trace_laws.proofs.EachFix.{each_step}
 
@@ -94,28 +95,14 @@ module _ (F : Type 0) (layout : F → Layout) (formats : List (Option F)) (of : 
           moves = [];
           after = y;
           fixes = λ ids ms last rest. rest;
-          stands = record {
-            state = record {
-              segments = st.segments;
-              held = st.held;
-              tables = st.tables;
-              covered = st.covered;
-              reserved = st.reserved;
-              condemned = st.condemned;
-              image =
-                  targets.passed setting y.world.addresses y.colours done holder i o n (ReferenceCell None tag) lies_null holds.cell
-                  (memory_in x.segs)
-                  (record {
-                    holds = st.image.words.cells holder i o n (ReferenceCell None tag) refl lies_null holds.cell;
-                    not_white = λ u e. absurd (none-some u e);
-                  }) st.image;
-              pools = st.pools;
-              all_move = st.all_move;
-              tails = st.tails;
-              hands = st.hands;
-            };
-            room = stands.room;
-          };
+          stands =
+              image_again layout formats of at_flip done (with_cell done holder i) x y
+              (targets.passed setting y.world.addresses y.colours done holder i o n (ReferenceCell None tag) lies_null holds.cell
+              (memory_in x.segs)
+              (record {
+                holds = st.image.words.cells holder i o n (ReferenceCell None tag) refl lies_null holds.cell;
+                not_white = λ u e. absurd (none-some u e);
+              }) st.image) stands;
           trail = sym (append-nil x.moves.moves);
           step = fixing.nothing;
           same = record { graph = refl; pools = refl; formats = refl };

@@ -6,9 +6,9 @@ use Rattle.std.specs.Option.{option_map_or}
 use Rattle.std.specs.Prelude.{◌&&◌, ◌||◌, ◌==◌, not, nat_lt, map}
 use Rattle.mps_base.specs.Address.{address_of_grain}
 use Rattle.mps_base.specs.Segment.{Segment, grains_of_segment}
-use Rattle.mps_base.specs.declared.names.Kind.TheVariants as kind
 use Rattle.mps_base.specs.declared.names.Rank.{Rank}
 use Rattle.mps_base.specs.declared.names.Rank.TheVariants.{Exact, Weak}
+use Rattle.mps_laws.proofs.PoolKinds.{copying_not_weak}
 use Rattle.mps_laws.proofs.Segments.{IsAmong}
 use Rattle.mps_model.specs.Making.{is_weak_rank}
 use Rattle.mps_model.specs.WellFormed.{are_apart, is_right_segment, lies_within}
@@ -16,20 +16,11 @@ use Rattle.mps_model.specs.World.{World, Pool, PoolKind, Collected, OneSize, Any
 use Rattle.mps_trace_laws.specs.Housed.{CopyingSegmentsAreExact}
 use Rattle.mps_trace_laws.proofs.Hands.{contains_among}
 
--- a pool of weak references is automatic, and doesn't move blocks
+-- a pool of weak references is automatic
 weak_automatic : (k : PoolKind) → is_weak_kind k ≡ true → is_automatic_kind k ≡ true
 weak_automatic (Collected which) weak = refl
 weak_automatic (OneSize words) weak = absurd (false≢true weak)
 weak_automatic AnySize weak = absurd (false≢true weak)
-
-never_copying : (k : PoolKind) → is_weak_kind k ≡ true → is_copying_kind k ≡ true → ⊥
-never_copying (Collected kind.Amc) weak copying = false≢true weak
-never_copying (Collected kind.Amcz) weak copying = false≢true weak
-never_copying (Collected kind.Ams) weak copying = false≢true weak
-never_copying (Collected kind.Awl) weak copying = false≢true copying
-never_copying (Collected kind.Lo) weak copying = false≢true weak
-never_copying (OneSize words) weak copying = false≢true weak
-never_copying AnySize weak copying = false≢true weak
 
 module _ (w : World) (moves : (pool : ℕ) → pool_is is_automatic_kind w pool ≡ true → is_copying_pool w pool ≡ true) where
   not_weak : (pool : ℕ) → pool_is is_weak_kind w pool ≡ true → ⊥
@@ -38,7 +29,7 @@ module _ (w : World) (moves : (pool : ℕ) → pool_is is_automatic_kind w pool 
       go : (o : Option Pool) → option_map_or (λ p. is_weak_kind p.kind) o false ≡ true
           → (option_map_or (λ p. is_automatic_kind p.kind) o false ≡ true → option_map_or (λ p. is_copying_kind p.kind) o false ≡ true) → ⊥
       go None is of = false≢true is
-      go (Some p) is of = never_copying p.kind is (of (weak_automatic p.kind is))
+      go (Some p) is of = copying_not_weak p.kind (of (weak_automatic p.kind is)) is
 
   right_in : (ss : List Segment) (t : Segment) → list_all (is_right_segment w) ss ≡ true → IsAmong t ss → is_right_segment w t ≡ true
   right_in [] t all there = absurd there

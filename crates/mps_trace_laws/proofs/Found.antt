@@ -6,11 +6,9 @@ use Rattle.std.proofs.lemmas.List.{get_or-drop, length-drop}
 use Rattle.std.specs.Prelude.{IsTrue, option_map, slice_get}
 use Rattle.std.specs.List.{AllByRecursion}
 use Rattle.mps_base.specs.Address.{Address, Id, Word, word_of, address_of_word}
-use Rattle.mps_base.specs.Run.{Run, Covers, in_order, with_run}
+use Rattle.mps_base.specs.Run.{Run, Covers}
 use Rattle.mps_base.specs.Segment.{Segment, segment_over, grains_of_segment}
 use Rattle.mps_base.proofs.Runs.{contains_first, contains_later, contains_cases}
-use Rattle.mps_extents.proofs.ApartRuns.{contains_put}
-use Rattle.mps_extents.proofs.ContainedRuns.{contains_put_other}
 use Rattle.mps_format.specs.Layout.{Layout, IsLawful}
 use Rattle.mps_seg.specs.Segs.{held_runs, IsOpenRun, LiesIn}
 use Rattle.mps_amc.specs.Moving.{IsForwarded, IsUnforwarded, BlockStands, IsBlockOf, size_at, run_at}
@@ -20,11 +18,12 @@ use Rattle.mps_model.specs.Checked.{head_of_body}
 use Rattle.mps_model.specs.World.{extent, extents_of, reserved_extents, is_copying_pool, tail_of}
 use Rattle.mps_colours.specs.Collecting.{Collecting}
 use Rattle.mps_image.specs.Memory.{Setting, Lies, memory_in, pool_layout, words_of_arena}
-use Rattle.mps_image.specs.Image.{CellSet, AreShaped, ImageStands}
+use Rattle.mps_image.specs.Image.{CellSet, AreShaped}
 use Rattle.mps_image.specs.Image as image
 use Rattle.mps_image.specs.Fixing.{Target}
+use Rattle.mps_image.proofs.BlockRuns.{contained_in_order}
 use Rattle.mps_image.proofs.Extents.{all_extents, all_reserved, parted}
-use Rattle.mps_image.proofs.InOrder.{all_append}
+use Rattle.mps_laws.proofs.InOrder.{all_append}
 use Rattle.mps_image.proofs.Targets.{pool_at_target}
 use Rattle.mps_laws.proofs.ApartRuns.{AreApart, all_in_order, ascending_with_run}
 use Rattle.mps_laws.proofs.Segments.{among_aligned}
@@ -34,14 +33,6 @@ use Rattle.mps_trace_laws.specs.Fixing.{ATargetCanBeFixed}
 use Rattle.mps_trace_laws.proofs.Hands.{contains_among, in_hand}
 
 -- ---- runs
-
-there_in_order : (rs : List Run) (r : Run) → Contains rs r → Contains (in_order rs) r
-there_in_order [] r there = there
-there_in_order (s ∷ rs) r there =
-    elim (contains_cases rs r s there) [
-      | inl same ↦ subst (λ (x : Run). Contains (with_run s (in_order rs)) x) same (contains_put s (in_order rs))
-      | inr later ↦ contains_put_other s r (in_order rs) (there_in_order rs r later)
-    ]
 
 there_between : (xs ys : List Run) (r : Run) → Contains (xs ++ r ∷ ys) r
 there_between [] ys r = contains_first ys r
@@ -152,7 +143,7 @@ module _ (F : Type 0) (layout : F → Layout) (formats : List (Option F)) (of : 
         (shaped.first t o target.object target.automatic)
 
     -- where it is now, or where a forwarded block leads to that
-    there_or_moved : (at ≡ now) ⊎ image.IsForwarded setting x.segs.words y.world.addresses o at now
+    there_or_moved : (at ≡ now) ⊎ image.IsForwardedObject setting x.segs.words y.world.addresses o at now
     there_or_moved =
         elim (cases_eq at now) [
           | inl e ↦ inl e
@@ -231,11 +222,11 @@ module _ (F : Type 0) (layout : F → Layout) (formats : List (Option F)) (of : 
             there =
                 subst (Contains x.segs.blocks) (sym run)
                 (subst (λ rs. Contains rs (extent now (size_of o))) (sym stands.state.image.runs.blocks)
-                (there_in_order (extents_of y.world.graph.objects y.world.addresses) (extent now (size_of o)) among));
+                (contained_in_order (extents_of y.world.graph.objects y.world.addresses) (extent now (size_of o)) among));
             covered =
                 subst (Contains x.segs.covered) (sym run)
                 (subst (λ rs. Contains rs (extent now (size_of o))) (sym stands.state.image.runs.covered)
-                (there_in_order
+                (contained_in_order
                 (extents_of y.world.graph.objects y.world.addresses ++ reserved_extents y.world.graph.points y.world.point_memories)
                 (extent now (size_of o))
                 (there_before (extents_of y.world.graph.objects y.world.addresses)

@@ -19,9 +19,8 @@ use Rattle.mps_colours.specs.Fixing.{Fixes}
 use Rattle.mps_image.specs.Memory.{Lies, memory_in, all_cells, pool_layout}
 use Rattle.mps_image.specs.Image.{CellSet, with_cell, AreShaped}
 use Rattle.mps_image.specs.Scanning.{LeavesOthers}
-use Rattle.mps_image.proofs.Scanning.{fix_leaves, cell_there}
+use Rattle.mps_image.proofs.Scanning.{both_leave, fix_leaves, cell_there}
 use Rattle.mps_image.specs.Fixing.{nothing}
-use Rattle.mps_colours.specs.Colours.{Colours}
 use Rattle.mps_image.proofs.Targets as targets
 use Rattle.mps_trace.specs.Trace.{Traced}
 use Rattle.mps_trace.specs.Scan.{ScansTo, begins, goes_on, FixesCell, CanFixCellAt, AreReady}
@@ -29,7 +28,7 @@ use Rattle.mps_trace_laws.specs.Tracing.{TracingStands, setting_of}
 use Rattle.mps_trace_laws.specs.Steps.{IsSameGraph}
 use Rattle.mps_trace_laws.specs.Cells.{HoldsReference}
 use Rattle.mps_trace_laws.specs.Scanning.{with_cells, IsToBeScanned, IsScannedTo, AScanIsReady, AScanIsOfSteps}
-use Rattle.mps_trace_laws.proofs.CellLists.{targets_more, fewer_done, next_cells, no_cells}
+use Rattle.mps_trace_laws.proofs.CellLists.{targets_more, fewer_done, image_again, next_cells, no_cells}
 use Rattle.mps_trace_laws.proofs.EachCell.{can_cell, cell_step}
 
 -- ---- a world with the same objects and pools
@@ -49,17 +48,8 @@ shaped_still w w' same shaped =
     (λ pool. w.formats (option_map_or (λ (p : Pool). p.format) (slice_get ps pool) 0))) (sym same.pools)
     (subst (λ (g : Graph). AreShaped g.objects (pool_layout w)) (sym same.graph) shaped))
 
-both_same : (a b c : World) → IsSameGraph a b → IsSameGraph b c → IsSameGraph a c
+pub both_same : (a b c : World) → IsSameGraph a b → IsSameGraph b c → IsSameGraph a c
 both_same a b c x y = record { graph = y.graph ∙ x.graph; pools = y.pools ∙ x.pools; formats = y.formats ∙ x.formats }
-
-both_leave : (condemned : List Id) (a b c : List (Option Address)) (k l n : Colours) → LeavesOthers condemned a b k l
-    → LeavesOthers condemned b c l n → LeavesOthers condemned a c k n
-both_leave condemned a b c k l n x y = record {
-  there = λ id at w e. y.there id at (x.not_white id w) (x.there id at w e);
-  not_white = λ id w. y.not_white id (x.not_white id w);
-  live = λ id at e. let b = x.live id at e in y.live id b.0 b.1;
-  black = λ id w. x.black id (y.black id w);
-}
 
 -- a cell is no reference, or is one with a tag
 data CellCases (c : Cell) : Type 0 where
@@ -132,7 +122,6 @@ module _ (F : Type 0) (layout : F → Layout) (formats : List (Option F)) (of : 
         let lies : Lies y'.world.graph.objects y'.world.addresses holder k o (word_of at.0 + k) =
         record { at = at.0; address = there_now; object = object_now; within = within; is = refl }
         in
-        let st = run.stands.state in
         record {
           moves = run.moves;
           after = y';
@@ -144,24 +133,9 @@ module _ (F : Type 0) (layout : F → Layout) (formats : List (Option F)) (of : 
           stands = fewer_done layout formats of at_flip (with_cell (with_cells done holder k) holder k) (with_cells done holder
               (suc k)) z y'
               (next_cells done holder k)
-              (record {
-                state = record {
-                  segments = st.segments;
-                  held = st.held;
-                  tables = st.tables;
-                  covered = st.covered;
-                  reserved = st.reserved;
-                  condemned = st.condemned;
-                  image =
-                      targets.passed (setting_of z.segs at_flip y') y'.world.addresses y'.colours (with_cells done holder k) holder k o
-                      (word_of at.0 + k) c lies cell (memory_in z.segs) (not_one c cell none lies) st.image;
-                  pools = st.pools;
-                  all_move = st.all_move;
-                  tails = st.tails;
-                  hands = st.hands;
-                };
-                room = run.stands.room;
-              });
+              (image_again layout formats of at_flip (with_cells done holder k) (with_cell (with_cells done holder k) holder k) z y'
+              (targets.passed (setting_of z.segs at_flip y') y'.world.addresses y'.colours (with_cells done holder k) holder k o
+              (word_of at.0 + k) c lies cell (memory_in z.segs) (not_one c cell none lies) run.stands.state.image) run.stands);
           trail = run.trail;
           leaves = run.leaves;
           same = run.same;
@@ -170,7 +144,7 @@ module _ (F : Type 0) (layout : F → Layout) (formats : List (Option F)) (of : 
       where
         not_one : (c : Cell) → slice_get (all_cells o.body) k ≡ Some c → target_of_cell c ≡ None
             → Lies y'.world.graph.objects y'.world.addresses holder k o (word_of at.0 + k)
-            → Rattle.mps_image.specs.Image.IsFixed y'.running.condemned y'.world.addresses y'.colours head c
+            → Rattle.mps_image.specs.Image.IsFixedWord y'.running.condemned y'.world.addresses y'.colours head c
             (Rattle.std.specs.Prelude.slice_index z.segs.words (word_of at.0 + k))
         not_one HeadCell cell none lies = record {
           holds = run.stands.state.image.words.cells holder k o (word_of at.0 + k) HeadCell refl lies cell;
