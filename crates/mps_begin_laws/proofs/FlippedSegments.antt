@@ -30,7 +30,7 @@ use Rattle.mps_flip_laws.proofs.Reservations.{flip_moves_nothing}
 use Rattle.mps_nail_laws.specs.Nailed.{AreTablesWhole, AreMarkedAt}
 use Rattle.mps_begin_laws.specs.Before.{StandsBefore}
 use Rattle.mps_begin_laws.proofs.HeldSegments.{begin_in_table, ready_to_condemn, copying_is_exact}
-use Rattle.mps_begin_laws.proofs.StrongNails.{IsStrong}
+use Rattle.mps_begin_laws.proofs.StrongNails.{AreCondemnedExact}
 
 module _ {F : Type 0} (layout : F → Layout) (t : TraceState F) (s : SegsState) (m : Moves) (points : PointsState) (w : World)
     (b : StandsBefore layout t s m points w) where
@@ -114,7 +114,7 @@ module _ {F : Type 0} (layout : F → Layout) (t : TraceState F) (s : SegsState)
       in
       copying_is_exact w b.plain.rest.well_formed u there (b.pools.copying u.pool (sym (b.pools.formats u.pool) ∙ automatic))
 
-  pub strong : IsStrong g
+  pub strong : AreCondemnedExact g
   strong = record {
     none = λ n. ap (λ (k : MarkTables). bit k.weak n) moved.marks ∙ b.segments.strong n;
     exact = λ n condemned. exact_over n condemned (segment_over g.segments (address_of_word n)) refl;

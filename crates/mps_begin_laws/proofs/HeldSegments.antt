@@ -15,7 +15,7 @@ use Rattle.mps_model.specs.World.{World, Pool, PoolKind, Collected, OneSize, Any
 use Rattle.mps_model.specs.WellFormed.{IsWellFormed, is_right_segment, are_apart, lies_within}
 use Rattle.mps_seg.specs.Segs.{SegsState}
 use Rattle.mps_trace_laws.specs.Tracing.{AreHeld, HasTables}
-use Rattle.mps_reclaim_laws.proofs.BlockRuns.{aligned_in}
+use Rattle.mps_reclaim_laws.proofs.SegmentBounds.{aligned_in}
 use Rattle.mps_reclaim_laws.proofs.HeldSegments.{some_grains}
 use Rattle.mps_reclaim_laws.proofs.Room.{segments_are_in_order}
 use Rattle.mps_unit_laws.proofs.Entering.{held_in_order, held_inside}

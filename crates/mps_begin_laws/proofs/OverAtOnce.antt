@@ -2,7 +2,6 @@
 use Rattle.std.proofs.Common.{◌≡◌, ◌∙◌, ℕ, ◌==◌, true, false, refl, sym, ap, subst, List, [], ◌∷◌, ◌++◌, length, map, Option, Some, None, inl, inr, arith}
 use Rattle.std.proofs.lemmas.Bool.{cases_Bool, cond-true, cond-false}
 use Rattle.std.proofs.lemmas.List.{append_assoc}
-use Rattle.std.proofs.lemmas.Option.{none-some}
 use Rattle.mps_base.specs.Address.{Address}
 use Rattle.mps_base.specs.Run.{Run}
 use Rattle.mps_base.specs.Segment.{Segment}
@@ -24,8 +23,10 @@ use Rattle.mps_model.specs.World.{World, PointMemory}
 use Rattle.mps_colours.specs.FlipLaws.{IsFlipEnded}
 use Rattle.mps_colours.proofs.FlipBegins.{flip_ended}
 use Rattle.mps_image.specs.AtRest.{StandsAtRest}
-use Rattle.mps_image.specs.Image.{RunsStand, Stands, no_colours}
+use Rattle.mps_image.specs.Image.{RunsStand, Stands, black_cells, no_colours}
 use Rattle.mps_image.specs.Memory.{Setting, memory_in, pool_layout, setting_at_rest, words_of_arena}
+use Rattle.mps_image.proofs.Placed.{placed_unreserved}
+use Rattle.mps_image.proofs.Reserved.{image_reserved}
 use Rattle.mps_trace.specs.Begin.{EndsAtOnce}
 use Rattle.mps_trace.specs.Flip.{at_flip, automatic_of, condemning_all}
 use Rattle.mps_trace.specs.Trace.{TraceState, Traced, traced}
@@ -83,35 +84,20 @@ module _ (s : SegsState) (objects : List Object) (points : List (Option Point)) 
 
   none_reserved : Stands (setting_at_rest e objects (map doomed points) (map without_buffer memories) layout) (memory_in e) addresses
       no_colours
-  none_reserved = record {
-    placed = record {
-      exists = st.placed.exists;
-      positive = st.placed.positive;
-      address = st.placed.address;
-      address_at_flip = st.placed.address_at_flip;
-      within = st.placed.within;
-      apart = st.placed.apart;
-      home = st.placed.home;
-      whole = st.placed.whole;
-      reserved_positive = λ point r live. absurd (none.not_live point r live);
-      reserved_within = λ point i r n l. absurd (none.not_live point r l.reserved);
-      reserved_alone = λ a b i j r q n l l'. absurd (none.not_live a r l.reserved);
-      reserved_apart = λ id point i j o r n l l'. none.not_live point r l'.reserved;
-    };
-    words = record {
-      long = st.words.long;
-      cells = st.words.cells;
-      forwarded = λ id from to o was now x object. absurd (none-some from was);
-    };
-    fixed = record { cells = st.fixed.cells; reserved = λ point i r n c l cell. absurd (none.not_live point r l.reserved) };
-    marks = record {
-      white_there = st.marks.white_there;
-      grey_there = st.marks.grey_there;
-      marked = st.marks.marked;
-      unmoved = st.marks.unmoved;
-    };
-    runs = record { blocks = left.blocks; reservations = left.reservations; covered = left.covered };
-  }
+  none_reserved =
+      image_reserved (setting_at_rest s objects points memories layout) (memory_in s) (memory_in e) addresses no_colours
+      (black_cells [] no_colours) (map doomed points) (map without_buffer memories) st (record {
+        placed =
+            placed_unreserved (setting_at_rest s objects points memories layout) addresses st.placed (map doomed points)
+            (map without_buffer memories) none.not_live;
+        runs = record { blocks = left.blocks; reservations = left.reservations; covered = left.covered };
+        kept_same = λ n. refl;
+        grey_same = λ n. refl;
+        long = refl;
+        cells = λ i l r n c x cell. absurd (none.not_live i r x.reserved);
+        written = λ n. inl refl;
+        clear = λ i l r n x. absurd (none.not_live i r x.reserved);
+      })
 
   -- nor once marks and condemned bits are ended
   pub rest_again : Stands (setting_at_rest (collected e) objects (map doomed points) (map without_buffer memories) layout)

@@ -5,7 +5,8 @@ use Rattle.std.specs.Prelude.{◌≢◌}
 use Rattle.std.specs.List.{AllByRecursion}
 use Rattle.mps_base.specs.Run.{Run, IsAscending, end_of, in_order, with_run}
 use Rattle.mps_base.proofs.Runs.{with_run_first, with_run_later}
-use Rattle.mps_image.proofs.InOrder.{BeginElsewhere, all_weaker}
+use Rattle.mps_image.proofs.InOrder.{BeginElsewhere}
+use Rattle.mps_laws.proofs.InOrder.{all_weaker}
 use Rattle.mps_image.proofs.OpenRuns.{all_from_in_order}
 use Rattle.mps_flip_laws.specs.Ended.{BeginApart}
 

@@ -14,6 +14,7 @@ use Rattle.mps_colours.specs.Colours.{Colours}
 use Rattle.mps_image.specs.Image.{CellSet, ImageStands, IsCellWord, MarksStand, Stands, no_colours}
 use Rattle.mps_image.specs.Memory.{Setting, Memory, Lies, all_cells, is_condemned_word, memory_in}
 use Rattle.mps_image.proofs.Bands.{holds_now}
+use Rattle.mps_image.proofs.Placed.{placed_otherwise, placed_unreserved, setting_otherwise}
 use Rattle.mps_image.proofs.Written.{holds_still}
 use Rattle.mps_nail_laws.specs.Flipped.{IsFlipped, setting_flipped_in}
 use Rattle.mps_nail_laws.specs.Nailed.{ArePinned, pinned_colours, words_of_areas}
@@ -55,20 +56,9 @@ module _ (s : Setting) (m : Memory) (g : SegsState) (addresses : List (Option Ad
   -- no more is asked than of live objects: those that are gone may refer to what is condemned
   unmarked_image : Stands after (memory_in g) addresses no_colours
   unmarked_image = record {
-    placed = record {
-      exists = st.placed.exists;
-      positive = st.placed.positive;
-      address = st.placed.address;
-      address_at_flip = st.placed.address;
-      within = st.placed.within;
-      apart = st.placed.apart;
-      home = st.placed.home;
-      whole = f.over;
-      reserved_positive = λ point r live. absurd (f.doomed point r live);
-      reserved_within = λ point i r n l. absurd (f.doomed point r l.reserved);
-      reserved_alone = λ a b i j r q n l l'. absurd (f.doomed a r l.reserved);
-      reserved_apart = λ id point i j o r n l l'. f.doomed point r l'.reserved;
-    };
+    placed = placed_unreserved (setting_otherwise s s.layout addresses condemned (λ id. true) (is_condemned_word g)) addresses
+        (placed_otherwise s addresses st.placed s.layout addresses condemned (λ id. true) (is_condemned_word g) st.placed.address f.over)
+        points memories f.doomed;
     words = record {
       long = ap length f.words ∙ st.words.long;
       cells = λ id i o n c read l cell.

@@ -13,7 +13,7 @@ use Rattle.mps_model.specs.Graph.{size_of}
 use Rattle.mps_model.specs.World.{extent, extents_of, is_word_in}
 use Rattle.mps_image.specs.Memory.{Setting, Memory}
 use Rattle.mps_image.specs.Image.{LieApart, RunsStand}
-use Rattle.mps_reclaim_laws.proofs.BlockRuns.{IsExtent, run_of_object, run_there, extents_ascend}
+use Rattle.mps_image.proofs.BlockRuns.{IsExtent, run_of_object, run_there, extents_ascend}
 use Rattle.mps_nail_laws.specs.Nailed.{LiesInBytes, IsBlockWithWord, IsBlockOver}
 
 -- ---- bytes and words
