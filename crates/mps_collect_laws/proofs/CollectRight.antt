@@ -29,7 +29,7 @@ use Rattle.mps_trace.specs.Trace.{TraceState, Traced, traced}
 use Rattle.mps_trace.specs.Unit.{EndsWithin}
 use Rattle.mps_trace.specs.declared.running.Running.{Running}
 use Rattle.mps_nail_laws.specs.Nailed.{AreWordsShown, words_of_areas}
-use Rattle.mps_unit_laws.specs.Laws.{HasSegmentsOf, AreScansDone, AreLastUnitsDone}
+use Rattle.mps_unit_laws.specs.Laws.{HasSegmentsOf, AreScansDone, AreLastTracedUnitsDone}
 use Rattle.mps_unit_laws.proofs.Rows.{the_end_is_done}
 use Rattle.mps_begin_laws.specs.Before.{StandsBefore}
 use Rattle.mps_begin_laws.specs.Begun.{AreRootsHeld, IsActDone, ACollectionBegins, ACollectionOfNothingEnds, IsOverAtOnce}
@@ -96,7 +96,7 @@ module _ {F : Type 0} (layout : F → Layout) (begins : ACollectionBegins F) (no
       abbrev y : Collecting
       y = act.after
 
-      last : AreLastUnitsDone b y (suc ends.count) z
+      last : AreLastTracedUnitsDone b y (suc ends.count) z
       last =
           the_end_is_done layout t.formats t.chains w.addresses b z run y (most_moves h.segs.grains) (scans t.formats t.chains w.addresses)
           act.stands ends

@@ -12,7 +12,7 @@ use Rattle.mps_buffer.specs.declared.point.Point.{Point}
 use Rattle.mps_buffer.specs.Points.{point_at, run_of_held}
 use Rattle.mps_format.specs.Layout.{Layout}
 use Rattle.mps_image.proofs.Extents.{all_extents, all_reserved}
-use Rattle.mps_image.proofs.InOrder.{all_append}
+use Rattle.mps_laws.proofs.InOrder.{all_append}
 use Rattle.mps_image.specs.Memory.{LiesReserved, live_reservation}
 use Rattle.mps_model.specs.Graph as graph
 use Rattle.mps_model.specs.Graph.{Object, Reservation, entry_at, is_live_reservation, size_of}

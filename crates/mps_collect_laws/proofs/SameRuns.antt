@@ -4,9 +4,9 @@ use Rattle.std.proofs.lemmas.Bool.{cases_lt}
 use Rattle.std.specs.List.{AllByRecursion}
 use Rattle.mps_base.specs.Run.{Run, in_order, with_run}
 use Rattle.mps_base.proofs.Runs.{contains_cases, with_run_first, with_run_later}
-use Rattle.mps_image.proofs.InOrder.{all_put, all_weaker}
+use Rattle.mps_image.proofs.BlockRuns.{contained_in_order}
+use Rattle.mps_laws.proofs.InOrder.{all_put, all_weaker}
 use Rattle.mps_flip_laws.specs.Ended.{BeginApart}
-use Rattle.mps_refinement.proofs.AtHand.{there_in_order}
 
 abbrev from_of : Run → ℕ
 from_of r = r.from
@@ -94,5 +94,5 @@ pub in_order_same : (rs qs : List Run) → BeginApart [] rs → BeginApart [] qs
     → AllByRecursion (Contains rs) qs → in_order rs ≡ in_order qs
 in_order_same rs qs apart others in_qs in_rs =
     ascending_same (in_order rs) (in_order qs) (in_order_ascend rs apart) (in_order_ascend qs others)
-    (all_in_order (Contains (in_order qs)) rs (all_weaker (Contains qs) (Contains (in_order qs)) rs (λ r. there_in_order qs r) in_qs))
-    (all_in_order (Contains (in_order rs)) qs (all_weaker (Contains rs) (Contains (in_order rs)) qs (λ r. there_in_order rs r) in_rs))
+    (all_in_order (Contains (in_order qs)) rs (all_weaker (Contains qs) (Contains (in_order qs)) rs (λ r. contained_in_order qs r) in_qs))
+    (all_in_order (Contains (in_order rs)) qs (all_weaker (Contains rs) (Contains (in_order rs)) qs (λ r. contained_in_order rs r) in_rs))

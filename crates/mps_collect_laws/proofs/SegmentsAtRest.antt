@@ -19,7 +19,7 @@ use Rattle.mps_laws.proofs.Occupancy.{OfBlock, OfReservation, occupancy_of, run_
 use Rattle.mps_laws.proofs.Segments.{AreAligned, IsAmong, found_segment}
 use Rattle.mps_trace_laws.specs.Tracing.{AreSegmentsOf, AreHeld, AreCoveredInOrder, AreReservationsHeld}
 use Rattle.mps_trace_laws.specs.Housed.{AreHoused, HasNoWeakMark}
-use Rattle.mps_reclaim_laws.proofs.BlockRuns.{extents_ascend}
+use Rattle.mps_image.proofs.BlockRuns.{extents_ascend}
 use Rattle.mps_begin_laws.specs.Before.{AreSegmentsAtRest}
 use Rattle.mps_outcome.specs.State.{HeapState}
 use Rattle.mps_refinement.specs.StandsFor.{AreParts, IsReached, Past}

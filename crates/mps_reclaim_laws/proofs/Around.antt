@@ -12,7 +12,7 @@ use Rattle.mps_model.specs.Graph.{Object, Reservation, entry_at}
 use Rattle.mps_model.specs.Checked.{head_of_body}
 use Rattle.mps_colours.specs.Colours.{Colours}
 use Rattle.mps_image.specs.Memory.{Setting, Memory, Lies, LiesReserved}
-use Rattle.mps_image.specs.Image.{CellSet, ImageStands, IsCellWord, IsFixed}
+use Rattle.mps_image.specs.Image.{CellSet, ImageStands, IsCellWord, IsFixedWord}
 use Rattle.mps_reclaim_laws.proofs.LostRuns.{contains_none}
 
 pub image_around : (s : Setting) (m : Memory) (words : List ℕ) (addresses : List (Option Address)) (k : Colours) (done : CellSet)
@@ -32,9 +32,10 @@ image_around s m words addresses k done none long same reserved st = record {
   };
   fixed = record {
     cells = λ id i o n c d l cell.
-        subst (λ w. IsFixed s.condemned addresses k (head_of_body o.body) c w) (sym (same id i o n l)) (st.fixed.cells id i o n c d l cell);
+        subst (λ w. IsFixedWord s.condemned addresses k (head_of_body o.body) c w) (sym (same id i o n l))
+        (st.fixed.cells id i o n c d l cell);
     reserved = λ point i r n c l cell.
-        subst (λ w. IsFixed s.condemned addresses k r.head c w) (sym (reserved point i r n l)) (st.fixed.reserved point i r n c l cell);
+        subst (λ w. IsFixedWord s.condemned addresses k r.head c w) (sym (reserved point i r n l)) (st.fixed.reserved point i r n c l cell);
   };
   marks = st.marks;
   runs = record { blocks = st.runs.blocks; reservations = st.runs.reservations; covered = st.runs.covered };

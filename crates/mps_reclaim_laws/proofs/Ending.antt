@@ -1,7 +1,6 @@
 -- The last reclaim ends the collection: nothing white is left, and the arena stands at rest.
-use Rattle.std.proofs.Common.{◌≡◌, ◌∙◌, ℕ, Bool, false, not, refl, sym, ap, List, length, replicate, Option, Some, None, inl, inr, arith}
-use Rattle.std.proofs.lemmas.Bool.{cases_lt, false≢true}
-use Rattle.std.proofs.lemmas.List.{length-replicate, get_or-replicate, get_or_past}
+use Rattle.std.proofs.Common.{◌≡◌, ◌∙◌, ℕ, false, not, refl, sym, ap, List, length, replicate, Option, Some, None}
+use Rattle.std.proofs.lemmas.Bool.{false≢true}
 use Rattle.std.specs.Prelude.{option_map, ◌||◌, ◌&&◌}
 use Rattle.mps_base.specs.Address.{Address, Id, Word, word_of, address_of_word, grain_of}
 use Rattle.mps_base.specs.Segment.{Segment, segment_over}
@@ -14,20 +13,13 @@ use Rattle.mps_model.specs.World.{PointMemory}
 use Rattle.mps_colours.specs.Colours.{Colours, is_white, AreAllScanned}
 use Rattle.mps_image.specs.Memory.{memory_in, is_condemned_word, setting_at_rest}
 use Rattle.mps_image.specs.Image.{Stands, MarksStand, no_colours}
+use Rattle.mps_image.proofs.ArenaLaws.{clear_bit}
 use Rattle.mps_image.proofs.Bands.{collection_ends}
 use Rattle.mps_reclaim_laws.specs.Left.{setting_freeing_in}
 
-none_set : (count n : ℕ) → bit (replicate count false) n ≡ false
-unfolding bit
-none_set count n =
-    elim (cases_lt n count) [
-      | inl within ↦ get_or-replicate count n false false within
-      | inr past ↦ get_or_past (replicate count false) n false (omega (arith, past, length-replicate {A = Bool} count false))
-    ]
-
 none_over : (count : ℕ) (o : Option ℕ) → bit_of (replicate count false) o ≡ false
 none_over count None = refl
-none_over count (Some n) = none_set count n
+none_over count (Some n) = clear_bit count n
 
 module _ (g : SegsState) (objects : List Object) (points : List (Option Point)) (memories : List PointMemory) (layout : ℕ → Layout)
     (condemned : List Id) (k : Colours) (addresses : List (Option Address)) (scanned : AreAllScanned k)
@@ -38,12 +30,12 @@ module _ (g : SegsState) (objects : List Object) (points : List (Option Point)) 
       none_over (length g.condemned) (option_map (λ (t : Segment). grain_of t.base) (segment_over g.segments (address_of_word n)))
 
   no_kept : (n : Word) → (memory_in (collected g)).kept n ≡ false
-  no_kept n = none_set (length g.marks.kept) n
+  no_kept n = clear_bit (length g.marks.kept) n
 
   no_grey : (n : Word) → (memory_in (collected g)).grey n ≡ false
   no_grey n =
-      ap (λ b. b || bit (replicate (length g.marks.kept) false) n) (none_set (length g.marks.kept) n)
-      ∙ none_set (length g.marks.kept) n
+      ap (λ b. b || bit (replicate (length g.marks.kept) false) n) (clear_bit (length g.marks.kept) n)
+      ∙ clear_bit (length g.marks.kept) n
 
   marks_ended : MarksStand (setting_at_rest (collected g) objects points memories layout) (memory_in (collected g)).kept
       (memory_in (collected g)).grey addresses no_colours

@@ -20,7 +20,8 @@ use Rattle.mps_image.proofs.SegmentWords.{over_word}
 use Rattle.mps_reclaim_laws.specs.Freed.{addresses_of, IsCondemnedSegment, IsWhiteIn, AreWhiteFreed}
 use Rattle.mps_reclaim_laws.specs.Laws.{LostBlocksAreWhite}
 use Rattle.mps_reclaim_laws.proofs.LostRuns.{IsLostRun, lost_is, is_lost_there, lost_ascend, run_at, address_there}
-use Rattle.mps_reclaim_laws.proofs.BlockRuns.{run_of_object, run_there, extents_ascend, aligned_in, positive_in, over_inside, segment_bounds}
+use Rattle.mps_image.proofs.BlockRuns.{run_of_object, run_there, extents_ascend}
+use Rattle.mps_reclaim_laws.proofs.SegmentBounds.{aligned_in, positive_in, over_inside, segment_bounds}
 
 module _ (s : Setting) (g : SegsState) (addresses : List (Option Address)) (k : Colours) (done : CellSet) (t : Segment)
     (st : ImageStands s (memory_in g) addresses k done) (c : IsCondemnedSegment s g t) where

@@ -23,7 +23,7 @@ use Rattle.mps_image.proofs.SegmentMarks.{removing_clears}
 use Rattle.mps_reclaim_laws.specs.Freed.{addresses_of, addresses_without, AreWhiteUnread, IsCondemnedSegment}
 use Rattle.mps_reclaim_laws.specs.Laws.{LostBlocksAreFreed, FreesAreTheModels}
 use Rattle.mps_reclaim_laws.proofs.LostRuns.{address_there, lost_is}
-use Rattle.mps_reclaim_laws.proofs.BlockRuns.{run_of_object}
+use Rattle.mps_image.proofs.BlockRuns.{run_of_object}
 use Rattle.mps_reclaim_laws.proofs.Without.{without_none, without_more, without_one, frees_lead, frees_appended}
 use Rattle.mps_reclaim_laws.proofs.Freed.{white_freed, lost_is_white}
 

@@ -11,7 +11,7 @@ use Rattle.mps_base.proofs.Runs.{IsAscending-lower}
 use Rattle.mps_colours.proofs.GivingBack.{find-filter_found}
 use Rattle.mps_image.specs.SegmentWords.{AreSegmentsInOrder}
 use Rattle.mps_image.proofs.SegmentWords.{over_word}
-use Rattle.mps_reclaim_laws.proofs.BlockRuns.{segment_cases, contains_no_segment, aligned_in}
+use Rattle.mps_reclaim_laws.proofs.SegmentBounds.{segment_cases, contains_no_segment, aligned_in}
 
 -- a held segment has a grain
 pub some_grains : (low high : ℕ) (ss : List Segment) (t : Segment) → IsAscending low high (map grains_of_segment ss) → Contains ss t

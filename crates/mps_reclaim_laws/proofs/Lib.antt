@@ -1,5 +1,5 @@
 pub mod LostRuns
-pub mod BlockRuns
+pub mod SegmentBounds
 pub mod Freed
 pub mod Without
 pub mod FreedImage

@@ -22,7 +22,7 @@ use Rattle.mps_reclaim_laws.specs.Freed.{addresses_of, IsCondemnedSegment, AreWh
 use Rattle.mps_reclaim_laws.specs.Left.{setting_freeing_in}
 use Rattle.mps_reclaim_laws.specs.Units.{FreesFor}
 use Rattle.mps_reclaim_laws.specs.Laws.{TheNextIsReclaimed}
-use Rattle.mps_reclaim_laws.proofs.BlockRuns.{aligned_in, positive_in}
+use Rattle.mps_reclaim_laws.proofs.SegmentBounds.{aligned_in, positive_in}
 use Rattle.mps_reclaim_laws.proofs.Freed.{white_freed}
 use Rattle.mps_reclaim_laws.proofs.HeldSegments.{same_base, found_held, found_at}
 

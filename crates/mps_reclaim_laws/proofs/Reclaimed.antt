@@ -2,7 +2,7 @@
 use Rattle.std.proofs.Common.{◌≡◌, ◌∙◌, ℕ, ◌+◌, ◌<◌, ◌≤◌, Bool, true, false, not, refl, sym, ap, subst, List, [], ◌∷◌, ◌++◌, Option, Some, Contains, inl, inr, arith}
 use Rattle.std.proofs.lemmas.Bool.{cases_eq, ne_eqb, false≢true}
 use Rattle.std.proofs.lemmas.Option.{none-some, same_Some}
-use Rattle.std.specs.Prelude.{slice_get, slice_index, option_map, ◌==◌, IsTrue}
+use Rattle.std.specs.Prelude.{slice_get, slice_index, option_map, ◌==◌}
 use Rattle.mps_base.specs.Address.{Address, Id, Word, word_of, address_of_word, grain_of}
 use Rattle.mps_base.specs.Run.{Run, runs_within}
 use Rattle.mps_base.specs.Segment.{Segment, segment_over, end_of_segment, without_segment}
@@ -25,7 +25,7 @@ use Rattle.mps_trace_laws.specs.Housed.{AreHoused}
 use Rattle.mps_reclaim_laws.specs.Left.{IsUnreserved, setting_freeing_in, StandsFreeing, IsReclaimShown}
 use Rattle.mps_reclaim_laws.specs.Laws.{AReclaimKeepsTheImage}
 use Rattle.mps_reclaim_laws.proofs.Around.{image_around, among_within, covered_by, contains_left}
-use Rattle.mps_reclaim_laws.proofs.BlockRuns.{extent_there, run_there, contained_in_order}
+use Rattle.mps_image.proofs.BlockRuns.{extent_there, run_there, contained_in_order}
 use Rattle.mps_reclaim_laws.proofs.FreedImage.{lost_blocks_are_freed}
 use Rattle.mps_reclaim_laws.proofs.HeldSegments.{over, over_base, same_base, beside, over_left, held_filtered, order_left}
 use Rattle.mps_reclaim_laws.proofs.LostRuns.{contains_none}

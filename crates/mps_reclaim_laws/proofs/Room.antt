@@ -12,7 +12,8 @@ use Rattle.mps_amc.specs.Reclaiming.{lost_between}
 use Rattle.mps_trace.specs.Condemned.{AreAscending}
 use Rattle.mps_reclaim_laws.specs.Left.{setting_freeing_in}
 use Rattle.mps_reclaim_laws.specs.Laws.{TheNextCanBeReclaimed, SegmentsAreInOrder}
-use Rattle.mps_reclaim_laws.proofs.BlockRuns.{extents_ascend, aligned_in, segment_cases, contains_no_segment}
+use Rattle.mps_image.proofs.BlockRuns.{extents_ascend}
+use Rattle.mps_reclaim_laws.proofs.SegmentBounds.{aligned_in, segment_cases, contains_no_segment}
 use Rattle.mps_reclaim_laws.proofs.HeldSegments.{over_base}
 use Rattle.mps_reclaim_laws.proofs.LostRuns.{lost_among, first_or_not}
 

@@ -41,7 +41,7 @@ use Rattle.mps_reclaim_laws.specs.Freed.{addresses_of, addresses_without}
 use Rattle.mps_reclaim_laws.specs.Left.{IsUnreserved, StandsFreeing, IsReclaimShown, setting_freeing_in}
 use Rattle.mps_reclaim_laws.specs.Units.{FreesFor, GoesOnSo, IsUnitReclaimed, EndsSo}
 use Rattle.mps_reclaim_laws.specs.Laws.{TheMovesAreTheModels, AReclaimIsAUnit, TheLastReclaimEnds}
-use Rattle.mps_reclaim_laws.proofs.BlockRuns.{aligned_in}
+use Rattle.mps_reclaim_laws.proofs.SegmentBounds.{aligned_in}
 use Rattle.mps_reclaim_laws.proofs.Emptied.{none_begins, one_begins}
 use Rattle.mps_reclaim_laws.proofs.FreedImage.{frees_are_the_models, lost_blocks_are_freed}
 use Rattle.mps_reclaim_laws.proofs.HeldSegments.{over_base, was_held}

@@ -18,7 +18,7 @@ use Rattle.mps_seg.specs.Segs.{SegsState}
 use Rattle.mps_trace.specs.Scan.{IsDrained}
 use Rattle.mps_trace.specs.Trace.{Traced}
 use Rattle.mps_trace_laws.specs.Tracing.{AreHeld}
-use Rattle.mps_reclaim_laws.proofs.BlockRuns.{segment_cases, contains_no_segment}
+use Rattle.mps_reclaim_laws.proofs.SegmentBounds.{segment_cases, contains_no_segment}
 use Rattle.mps_reclaim_laws.proofs.LastBand.{the_last_band_begins}
 use Rattle.mps_unit_laws.specs.Standing.{StandsTracing, StandsReclaiming, tracing, reclaiming, AreInArena}
 use Rattle.mps_unit_laws.specs.Laws.{TheLastBandIsEntered}

@@ -22,7 +22,8 @@ use Rattle.mps_trace.specs.Reclaim.{CanReclaimAt}
 use Rattle.mps_trace.specs.Trace.{TraceState, traced}
 use Rattle.mps_trace.specs.Unit.{CanReclaimNext, HasRoomToEnd}
 use Rattle.mps_trace.specs.declared.running.Running.{Running as RunningState}
-use Rattle.mps_reclaim_laws.proofs.BlockRuns.{extents_ascend, aligned_in, segment_cases, contains_no_segment}
+use Rattle.mps_image.proofs.BlockRuns.{extents_ascend}
+use Rattle.mps_reclaim_laws.proofs.SegmentBounds.{aligned_in, segment_cases, contains_no_segment}
 use Rattle.mps_reclaim_laws.proofs.HeldSegments.{over_base}
 use Rattle.mps_reclaim_laws.proofs.LastBand.{one_is_left}
 use Rattle.mps_reclaim_laws.proofs.Next.{next_reclaimed}
@@ -76,19 +77,25 @@ module _ (g : SegsState) (from : Address) where
     ];
   })
 
-  -- with a first one that is
-  taken : (t : Segment) (ss : List Segment) → from ≤ t.base → bit g.condemned (grain_of t.base) ≡ true
-      → NoneAmong ss ⊎ IsLeast ss → IsLeast (t ∷ ss)
-  taken t ss above is (inl none) = record {
+  -- a first one is the least where none of the others is below it
+  first_is_least : (t : Segment) (ss : List Segment) → from ≤ t.base → bit g.condemned (grain_of t.base) ≡ true
+      → ((u : Segment) → Contains ss u → from ≤ u.base → u.base < t.base → bit g.condemned (grain_of u.base) ≡ false)
+      → IsLeast (t ∷ ss)
+  first_is_least t ss above is others = record {
     segment = t;
     listed = here t ss;
     above = above;
     condemned = is;
     first = λ u held up below. elim (segment_cases ss u t held) [
       | inl same ↦ let e = ap (λ (v : Segment). v.base) same in absurd (omega (arith, e, below))
-      | inr rest ↦ none u rest up
+      | inr rest ↦ others u rest up below
     ];
   }
+
+  -- with a first one that is
+  taken : (t : Segment) (ss : List Segment) → from ≤ t.base → bit g.condemned (grain_of t.base) ≡ true
+      → NoneAmong ss ⊎ IsLeast ss → IsLeast (t ∷ ss)
+  taken t ss above is (inl none) = first_is_least t ss above is (λ u rest up below. none u rest up)
   taken t ss above is (inr least) =
       elim (cases_lt least.segment.base t.base) [
         | inl lower ↦ record {
@@ -101,16 +108,7 @@ module _ (g : SegsState) (from : Address) where
             | inr rest ↦ least.first u rest up below
           ];
         }
-        | inr up_to ↦ record {
-          segment = t;
-          listed = here t ss;
-          above = above;
-          condemned = is;
-          first = λ u held up below. elim (segment_cases ss u t held) [
-            | inl same ↦ let e = ap (λ (v : Segment). v.base) same in absurd (omega (arith, e, below))
-            | inr rest ↦ least.first u rest up (omega (arith, below, up_to))
-          ];
-        }
+        | inr up_to ↦ first_is_least t ss above is (λ u rest up below. least.first u rest up (omega (arith, below, up_to)))
       ]
 
   least_among : (ss : List Segment) → NoneAmong ss ⊎ IsLeast ss

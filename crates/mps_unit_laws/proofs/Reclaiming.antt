@@ -35,7 +35,7 @@ use Rattle.mps_reclaim_laws.specs.Freed.{addresses_of}
 use Rattle.mps_reclaim_laws.specs.Left.{IsUnreserved}
 use Rattle.mps_reclaim_laws.specs.Units.{FreesFor, GoesOnSo}
 use Rattle.mps_unit_laws.specs.Standing.{StandsReclaiming, UnitStands, IsMoving, reclaiming}
-use Rattle.mps_unit_laws.specs.Laws.{HasSegmentsOf, IsUnitDone, AReclaimIsDone, TheLastUnitIsDone}
+use Rattle.mps_unit_laws.specs.Laws.{HasSegmentsOf, IsTracedUnitDone, AReclaimIsDone, TheLastUnitIsDone}
 use Rattle.mps_trace_laws.specs.Tracing.{moves_left}
 use Rattle.mps_unit_laws.proofs.Entering.{the_last_band_is_entered}
 use Rattle.mps_unit_laws.proofs.RoomLeft.{moves_left_after, spare_after}
@@ -210,7 +210,7 @@ module _ {F : Type 0} (layout : F → Layout) (formats : List (Option F)) (of : 
       band = reclaiming reclaiming_on;
     }
 
-    pub done : IsUnitDone layout formats of at_flip x y z (reclaimed_at base run)
+    pub done : IsTracedUnitDone layout formats of at_flip x y z (reclaimed_at base run)
     done = record {
       moves = reclaim_by y t.base freed;
       after = reclaimed y t.base freed on.collection;

@@ -15,22 +15,23 @@ use Rattle.mps_trace.specs.Trace.{Traced}
 use Rattle.mps_trace.specs.Unit.{UnitTo, scans, reclaims, UnitsTo, begins, goes_on}
 use Rattle.mps_trace.specs.declared.running.Running.{Running as RunningState}
 use Rattle.mps_unit_laws.specs.Standing.{UnitStands}
-use Rattle.mps_unit_laws.specs.Laws.{HasSegmentsOf, AreScansDone, IsUnitDone, AreUnitsDone, UnitsAreDone, TheEndIsDone, UnitsRunOut}
+use Rattle.mps_unit_laws.specs.Laws.{HasSegmentsOf, AreScansDone, IsTracedUnitDone, AreTracedUnitsDone, UnitsAreDone, TheEndIsDone, TracedUnitsRunOut}
 use Rattle.mps_unit_laws.proofs.Reclaiming.{a_reclaim_is_done, the_last_unit_is_done}
 
 module _ {F : Type 0} (layout : F → Layout) (formats : List (Option F)) (of : ChainsState) (at_flip : List (Option Address))
     (scanning : AreScansDone layout formats of at_flip) where
   -- one unit
   pub unit_done : (x z : Traced) (run run' : RunningState) (y : Collecting) → UnitStands layout formats of at_flip x run y
-      → UnitTo layout formats of x run z run' → IsUnitDone layout formats of at_flip x y z run'
+      → UnitTo layout formats of x run z run' → IsTracedUnitDone layout formats of at_flip x y z run'
   unit_done x z run _ y stands (scans one) = scanning x z run y stands one
   unit_done x z run run' y stands (reclaims base left next other is) =
-      subst (λ r. IsUnitDone layout formats of at_flip x y z r) (sym is)
+      subst (λ r. IsTracedUnitDone layout formats of at_flip x y z r) (sym is)
       (a_reclaim_is_done layout formats of at_flip x z run y base left stands next other)
 
   one_more : (x v z : Traced) (run' run'' : RunningState) (y : Collecting) (count : ℕ)
-      → (before : AreUnitsDone layout formats of at_flip x y count v run') → IsUnitDone layout formats of at_flip v before.after z run''
-      → AreUnitsDone layout formats of at_flip x y (count + 1) z run''
+      → (before : AreTracedUnitsDone layout formats of at_flip x y count v run')
+      → IsTracedUnitDone layout formats of at_flip v before.after z run''
+      → AreTracedUnitsDone layout formats of at_flip x y (count + 1) z run''
   one_more x v z run' run'' y count before unit = record {
     moves = before.moves ++ unit.moves;
     after = unit.after;
@@ -42,7 +43,7 @@ module _ {F : Type 0} (layout : F → Layout) (formats : List (Option F)) (of : 
 
   pub row_done : (x : Traced) (run : RunningState) (y : Collecting) → UnitStands layout formats of at_flip x run y
       → (z : Traced) (run' : RunningState) (count : ℕ) → UnitsTo layout formats of x run count z run'
-      → AreUnitsDone layout formats of at_flip x y count z run'
+      → AreTracedUnitsDone layout formats of at_flip x y count z run'
   row_done x run y stands _ _ _ begins = record {
     moves = [];
     after = y;
@@ -75,7 +76,7 @@ the_end_is_done layout formats of at_flip x z run y most scanning stands ends =
       trail = last.trail ∙ ap (λ ms. ms ++ last.moves) before.trail ∙ append_assoc x.moves.moves before.moves last.moves;
     }
 
-pub units_run_out : {F : Type 0} → UnitsRunOut F
+pub units_run_out : {F : Type 0} → TracedUnitsRunOut F
 units_run_out layout formats of at_flip x z run run' y count scanning stands units =
     let row = row_done layout formats of at_flip scanning x run y stands z run' count units in
     let shown = units_done y row.after count row.moves stands.running row.units in

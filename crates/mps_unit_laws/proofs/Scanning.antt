@@ -40,7 +40,7 @@ use Rattle.mps_reclaim_laws.specs.Left.{IsUnreserved}
 use Rattle.mps_reclaim_laws.proofs.HeldSegments.{found_at, found_held, same_base}
 use Rattle.mps_unit_laws.proofs.Entering.{held_in_order}
 use Rattle.mps_unit_laws.specs.Standing.{AreCondemnedUnreserved, StandsTracing, UnitStands, IsMoving, tracing, reclaiming}
-use Rattle.mps_unit_laws.specs.Laws.{ScansAreDone, ScansAreReady, IsUnitDone}
+use Rattle.mps_unit_laws.specs.Laws.{ScansAreDone, ScansAreReady, IsTracedUnitDone}
 
 -- ---- what fixes leave of a world
 
@@ -233,7 +233,7 @@ module _ {F : Type 0} (layout : F → Layout) (formats : List (Option F)) (of : 
         (subst (λ g. IsUnreserved g.points scan.after.world.point_memories t) (sym stays.graph)
         (subst (λ ms. IsUnreserved y.world.graph.points ms t) (sym stays.memories) (stands.unreserved t one.1 bit_then)))
 
-    pub scan_done : IsUnitDone layout formats of at_flip x y z run
+    pub scan_done : IsTracedUnitDone layout formats of at_flip x y z run
     scan_done = record {
       moves = scan.moves;
       after = scanned scan.after g.id;

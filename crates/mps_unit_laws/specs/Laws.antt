@@ -25,7 +25,7 @@ abbrev pub HasSegmentsOf : SegsState → World → Type 0
 HasSegmentsOf s w = AreSegmentsOf s w.grains w.limit w.segments
 
 -- a unit of the abstract collector, which tells the same moves and after which the state stands for it
-pub record IsUnitDone {F : Type 0} (layout : F → Layout) (formats : List (Option F)) (of : ChainsState)
+pub record IsTracedUnitDone {F : Type 0} (layout : F → Layout) (formats : List (Option F)) (of : ChainsState)
     (at_flip : List (Option Address)) (x : Traced) (y : Collecting) (z : Traced) (run' : RunningState) : Type 0 where
   pub moves : List Move
   pub after : Collecting
@@ -34,7 +34,7 @@ pub record IsUnitDone {F : Type 0} (layout : F → Layout) (formats : List (Opti
   pub trail : z.moves.moves ≡ x.moves.moves ++ moves
 
 -- its last unit, which tells the same moves and after which the segments stand for a world at rest
-pub record IsLastUnitDone (x : Traced) (y : Collecting) (z : Traced) : Type 0 where
+pub record IsLastTracedUnitDone (x : Traced) (y : Collecting) (z : Traced) : Type 0 where
   pub moves : List Move
   pub last : IsLastUnit y moves
   pub ended : (world_after_moves y.world moves).collection ≡ None
@@ -54,14 +54,14 @@ AReclaimIsDone F =
     (layout : F → Layout) (formats : List (Option F)) (of : ChainsState) (at_flip : List (Option Address)) (x z : Traced)
     (run : RunningState) (y : Collecting) (base left : Addr) → UnitStands layout formats of at_flip x run y
     → ReclaimsNext layout formats x run base z → IsNextCondemned x.segs (base.0 + 1) left.0
-    → IsUnitDone layout formats of at_flip x y z (reclaimed_at base run)
+    → IsTracedUnitDone layout formats of at_flip x y z (reclaimed_at base run)
 
 -- the last unit is the abstract collector's
 abbrev pub TheLastUnitIsDone : (F : Type 0) → Type 0
 TheLastUnitIsDone F =
     (layout : F → Layout) (formats : List (Option F)) (of : ChainsState) (at_flip : List (Option Address)) (x z : Traced)
     (run : RunningState) (y : Collecting) → UnitStands layout formats of at_flip x run y → LastUnitTo layout formats x run z
-    → IsLastUnitDone x y z
+    → IsLastTracedUnitDone x y z
 
 -- ---- rows of units
 
@@ -69,10 +69,10 @@ TheLastUnitIsDone F =
 abbrev pub AreScansDone : {F : Type 0} → (F → Layout) → List (Option F) → ChainsState → List (Option Address) → Type 0
 AreScansDone layout formats of at_flip =
     (x z : Traced) (run : RunningState) (y : Collecting) → UnitStands layout formats of at_flip x run y
-    → ScansOne layout formats of x z → IsUnitDone layout formats of at_flip x y z run
+    → ScansOne layout formats of x z → IsTracedUnitDone layout formats of at_flip x y z run
 
 -- n units of the abstract collector, which tell the same moves and after which the state stands for it
-pub record AreUnitsDone {F : Type 0} (layout : F → Layout) (formats : List (Option F)) (of : ChainsState)
+pub record AreTracedUnitsDone {F : Type 0} (layout : F → Layout) (formats : List (Option F)) (of : ChainsState)
     (at_flip : List (Option Address)) (x : Traced) (y : Collecting) (count : ℕ) (z : Traced) (run' : RunningState) : Type 0 where
   pub moves : List Move
   pub after : Collecting
@@ -81,7 +81,7 @@ pub record AreUnitsDone {F : Type 0} (layout : F → Layout) (formats : List (Op
   pub trail : z.moves.moves ≡ x.moves.moves ++ moves
 
 -- n units, in the last of which it ends, after which the segments stand for a world at rest
-pub record AreLastUnitsDone (x : Traced) (y : Collecting) (count : ℕ) (z : Traced) : Type 0 where
+pub record AreLastTracedUnitsDone (x : Traced) (y : Collecting) (count : ℕ) (z : Traced) : Type 0 where
   pub moves : List Move
   pub units : Ends y count moves
   pub ended : (world_after_moves y.world moves).collection ≡ None
@@ -95,7 +95,7 @@ UnitsAreDone F =
     (layout : F → Layout) (formats : List (Option F)) (of : ChainsState) (at_flip : List (Option Address)) (x z : Traced)
     (run run' : RunningState) (y : Collecting) (count : ℕ) → AreScansDone layout formats of at_flip
     → UnitStands layout formats of at_flip x run y → UnitsTo layout formats of x run count z run'
-    → AreUnitsDone layout formats of at_flip x y count z run'
+    → AreTracedUnitsDone layout formats of at_flip x y count z run'
 
 -- and where the collection ends the abstract one does
 abbrev pub TheEndIsDone : (F : Type 0) → Type 0
@@ -103,11 +103,11 @@ TheEndIsDone F =
     (layout : F → Layout) (formats : List (Option F)) (of : ChainsState) (at_flip : List (Option Address)) (x z : Traced)
     (run : RunningState) (y : Collecting) (most : ℕ) → AreScansDone layout formats of at_flip
     → UnitStands layout formats of at_flip x run y → (ends : EndsWithin layout formats of x run most z)
-    → AreLastUnitsDone x y (suc ends.count) z
+    → AreLastTracedUnitsDone x y (suc ends.count) z
 
 -- a collection doesn't go on after as many units as the abstract collector has left
-abbrev pub UnitsRunOut : (F : Type 0) → Type 0
-UnitsRunOut F =
+abbrev pub TracedUnitsRunOut : (F : Type 0) → Type 0
+TracedUnitsRunOut F =
     (layout : F → Layout) (formats : List (Option F)) (of : ChainsState) (at_flip : List (Option Address)) (x z : Traced)
     (run run' : RunningState) (y : Collecting) (count : ℕ) → AreScansDone layout formats of at_flip
     → UnitStands layout formats of at_flip x run y → UnitsTo layout formats of x run count z run' → count < units_left y

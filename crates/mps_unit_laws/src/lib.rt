@@ -2,7 +2,7 @@
 //! Each function does nothing; what it shows is its contract.
 #![tactic(auto)]
 
-ghost use Rattle.mps_unit_laws.specs.Laws.{TheLastBandIsEntered, AReclaimIsDone, TheLastUnitIsDone, ScansAreDone, ScansAreReady, UnitsAreDone, TheEndIsDone, UnitsRunOut, AUnitIsReady, UnitsAreReady};
+ghost use Rattle.mps_unit_laws.specs.Laws.{TheLastBandIsEntered, AReclaimIsDone, TheLastUnitIsDone, ScansAreDone, ScansAreReady, UnitsAreDone, TheEndIsDone, TracedUnitsRunOut, AUnitIsReady, UnitsAreReady};
 
 /// Where nothing is grey in words nothing is grey of the abstract collector, and the last band begins.
 pub fn the_last_band_is_entered<F>()
@@ -41,7 +41,7 @@ pub fn the_end_is_done<F>()
 
 /// A collection goes on only after fewer units than the abstract collector has left.
 pub fn units_run_out<F>()
-    ensures { UnitsRunOut F }
+    ensures { TracedUnitsRunOut F }
 {}
 
 /// While the state stands a unit can be done.
