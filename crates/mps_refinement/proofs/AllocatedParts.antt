@@ -16,7 +16,7 @@ use Rattle.mps_format.specs.Layout.{Layout}
 use Rattle.mps_image.specs.ArenaLaws.{AreSegmentsKept, setting_with_segments}
 use Rattle.mps_image.specs.AtRest.{StandsAtRest}
 use Rattle.mps_image.specs.Changes.{AreFree, AreHome, IsAllocated}
-use Rattle.mps_image.specs.Image.{IsFixed, Stands, black_cells, no_colours}
+use Rattle.mps_image.specs.Image.{IsFixedWord, Stands, black_cells, no_colours}
 use Rattle.mps_image.specs.Memory.{Lies, Memory, Setting, is_condemned_word, memory_in, pool_layout, pool_over_word, setting_at_rest, words_of_arena}
 use Rattle.mps_image.specs.SegmentWords.{AreSegmentsInOrder}
 use Rattle.mps_image.proofs.ArenaLaws.{segments_change}
@@ -306,7 +306,7 @@ module _ {F : Type 0} (layout : F → Layout) (past : Past) (h : HeapState F) (w
             let low : i < words = (let x = slice_get_within
             (replicate words 0) i number.0 number.1 in let l = length-replicate {A = ℕ} words 0 in
             omega (arith, x, l)) in
-            subst (λ (x : Cell). IsFixed [] addresses_after no_colours 0 x
+            subst (λ (x : Cell). IsFixedWord [] addresses_after no_colours 0 x
             (slice_index (cleared_words h.segs.words (word_of at) words) (word_of at + i))) number.2 (record {
               holds = cleared_word h.segs.words (word_of at) words fits i low ∙ sym (all_zero words i number.0 number.1);
               not_white = λ t x. absurd (none-some t x);

@@ -29,7 +29,7 @@ use Rattle.mps_model.specs.Placement.{ForAlloc, placement_of}
 use Rattle.mps_model.specs.Effect.{holding, segment_of_move, world_after_moves}
 use Rattle.mps_model.specs.History.{alloc_at, moves_of_alloc, unless_refused, with_client_remembered}
 use Rattle.mps_refinement.specs.RightStep.{step_of}
-use Rattle.mps_refinement.proofs.RestingSteps.{moving_step}
+use Rattle.mps_refinement.proofs.RestingSteps.{done_step}
 
 abbrev ok : Answer
 ok = Replied reply.Ok
@@ -129,12 +129,4 @@ module _ (w : World) (rest : w.collection ≡ None) (sound : IsSound w) (lengths
   pub made_rightly : (line : ℕ)
       → quiet.IsRight w (step_of line (call.Alloc pool words place) moves_made ok) (with_client_remembered world_made)
   made_rightly line =
-      moving_step w line (call.Alloc pool words place) moves_made ok (done world_made) (record {
-        legal = tt;
-        due = due;
-        comes = comes;
-        answers = refl;
-        marked = tt;
-        supported = refl;
-        sound = sound_made;
-      })
+      done_step w world_made line (call.Alloc pool words place) moves_made tt due comes tt sound_made

@@ -1,6 +1,6 @@
 -- The parts of a heap still stand for those of a world after blocks were changed in both: the segments, what objects there are and
 -- where they lie, and the places of tables of blocks.
-use Rattle.std.proofs.Common.{◌≡◌, ◌∙◌, ℕ, ◌+◌, ◌<◌, sym, ap, List, map, length, Option, arith}
+use Rattle.std.proofs.Common.{◌≡◌, ◌∙◌, ℕ, ◌+◌, refl, sym, ap, List, map, length, Option, arith}
 use Rattle.std.specs.Prelude.{sum_by, count_by, is_some}
 use Rattle.mps_base.specs.Address.{Address}
 use Rattle.mps_base.specs.Segment.{Segment}
@@ -9,27 +9,18 @@ use Rattle.mps_image.specs.AtRest.{StandsAtRest}
 use Rattle.mps_model.specs.Graph.{Object, Slots}
 use Rattle.mps_model.specs.Making.{length_of}
 use Rattle.mps_model.specs.World.{World}
-use Rattle.mps_names.specs.declared.names.Thing.{Thing}
-use Rattle.mps_names.specs.declared.names.Thing.TheVariants as thing
 use Rattle.mps_root.specs.State.{kept}
 use Rattle.mps_seg.specs.Segs.{SegsState}
 use Rattle.mps_outcome.specs.State.{HeapState}
 use Rattle.mps_refinement.specs.Numbering.{AreNumbered}
-use Rattle.mps_refinement.specs.StandsFor.{Past, AreParts, AreSlots, AreWords, IsArenaAtRest, IsThere, address_of_id, address_of_target}
+use Rattle.mps_refinement.specs.StandsFor.{Past, AreParts, AreSlots, AreWords, IsArenaAtRest, address_of_id, address_of_target}
+use Rattle.mps_refinement.proofs.Named.{named_alike}
+use Rattle.mps_refinement.proofs.PartsByKind.{parts_of_kinds, points_of, pools_of, states_of}
 
 module _ {F : Type 0} (h : HeapState F) (segs : SegsState) (blocks : List (List ℕ)) where
   -- the state with these segments and places
   abbrev pub with_blocks : HeapState F
   with_blocks = record h { segs = segs; roots = record h.roots { blocks = blocks } }
-
-  still_there : length blocks ≡ length h.roots.blocks → (t : Thing) → IsThere h t → IsThere with_blocks t
-  still_there same (thing.Chain number) there = there
-  still_there same (thing.Pool number) there = there
-  still_there same (thing.Table key) there = there
-  still_there same (thing.Area key) there = there
-  still_there same (thing.Blocks number) there = let low : number < length h.roots.blocks = there in omega (arith, low, same)
-  still_there same (thing.Point key) there = there
-  still_there same (thing.Dependency number) there = there
 
 -- the world with these objects at these addresses, places and segments
 abbrev pub world_with_blocks : World → List Object → List (Option Address) → List Slots → List Segment → World
@@ -57,37 +48,22 @@ pub blocks_changed : {F : Type 0} (layout : F → Layout) (past : Past) (h : Hea
     (blocks : List (List ℕ)) (objects : List Object) (addresses : List (Option Address)) (places : List Slots) (segments : List Segment)
     → AreParts layout past h w → AreBlocks past h w segs blocks objects addresses places segments
     → AreParts layout past (with_blocks h segs blocks) (world_with_blocks w objects addresses places segments)
-blocks_changed layout past h w segs blocks objects addresses places segments parts are = record {
-  grains = are.grains ∙ parts.grains;
-  limit = are.limit ∙ parts.limit;
-  segments = are.segments_are;
-  image = are.image;
-  resting = are.resting;
-  tables = are.tables;
-  ordered = parts.ordered;
-  areas = are.areas;
-  blocks = are.blocks_are;
-  roots_counted =
-      parts.roots_counted ∙ ap (λ n. count_by is_some w.graph.tables + count_by is_some w.graph.areas + n) (sym are.count);
-  slots_counted =
-      parts.slots_counted ∙ ap (λ n. sum_by length_of w.graph.tables + sum_by length_of w.graph.areas + n) (sym are.counted);
-  points = parts.points;
-  points_counted = parts.points_counted;
-  registered = are.registered;
-  messages = are.messages;
-  flips = parts.flips;
-  point_flips = parts.point_flips;
-  dependencies = parts.dependencies;
-  lawful = parts.lawful;
-  pools = parts.pools;
-  sizes = parts.sizes;
-  chains = parts.chains;
-  names = record {
-    named = parts.names.named;
-    there = λ name t e. still_there h segs blocks are.there t (parts.names.there name t e);
-    unique = parts.names.unique;
-    once = parts.names.once;
-  };
-  state = parts.state;
-  at_rest = parts.at_rest;
-}
+blocks_changed layout past h w segs blocks objects addresses places segments parts are =
+    parts_of_kinds (are.grains ∙ parts.grains, are.limit ∙ parts.limit, are.segments_are) (are.image, are.resting) (
+      are.tables,
+      parts.ordered,
+      are.areas,
+      are.blocks_are,
+      parts.roots_counted ∙ ap (λ n. count_by is_some w.graph.tables + count_by is_some w.graph.areas + n) (sym are.count),
+      parts.slots_counted ∙ ap (λ n. sum_by length_of w.graph.tables + sum_by length_of w.graph.areas + n) (sym are.counted),
+    )
+    (points_of parts) (are.registered, are.messages) parts.dependencies (pools_of parts)
+    (named_alike h (with_blocks h segs blocks) past w.graph.names parts.names (λ name. refl) (record {
+      pools = λ n low. low;
+      tables = λ key some. some;
+      areas = λ key some. some;
+      blocks = λ n low. let same = are.there in omega (arith, low, same);
+      points = λ key some. some;
+      dependencies = λ n low. low;
+    }))
+    (states_of parts)

@@ -1,20 +1,18 @@
 -- The runs of blocks against live objects: the run that begins at an object's address has its words, and where no collection runs these
 -- are its image. So borrowed words are those of the model.
-use Rattle.std.proofs.Common.{◌≡◌, ◌∙◌, ℕ, zero, suc, ◌+◌, Bool, true, refl, sym, ap, subst, List, [], ◌∷◌, length, map, Option, Some, None, Contains, inl, inr, arith, is_some}
+use Rattle.std.proofs.Common.{◌≡◌, ◌∙◌, ℕ, ◌+◌, Bool, true, refl, sym, ap, subst, List, [], length, map, Option, Some, None, Contains, inl, inr, is_some}
 use Rattle.std.proofs.lemmas.Bool.{cases_eq}
 use Rattle.std.proofs.lemmas.Option.{none-some, same_Some, slice_get-map}
 use Rattle.std.specs.Prelude.{slice_get, slice_range, option_map}
-use Rattle.std.specs.List.{AllByRecursion}
 use Rattle.std.specs.Option.{option_map_or}
 use Rattle.mps_base.specs.Address.{Address, Id, word_of}
-use Rattle.mps_base.specs.Run.{Run, in_order, with_run}
-use Rattle.mps_base.proofs.Runs.{contains_cases, contains_first, contains_later}
-use Rattle.mps_extents.proofs.ApartRuns.{contains_put}
-use Rattle.mps_extents.proofs.ContainedRuns.{contains_put_other}
+use Rattle.mps_base.specs.Run.{Run, in_order}
 use Rattle.mps_image.specs.AtRest.{AreTargetsLive, HoldsImages, StandsAtRest}
 use Rattle.mps_image.specs.Image.{LieApart}
 use Rattle.mps_image.specs.Memory.{Setting, all_cells}
 use Rattle.mps_image.proofs.AtRest.{resting_arena_holds_images}
+use Rattle.mps_image.proofs.BlockRuns as runs
+use Rattle.mps_image.proofs.BlockRuns.{all_contained}
 use Rattle.mps_image.proofs.Extents.{all_extents}
 use Rattle.mps_image.proofs.Marked.{begins_apart}
 use Rattle.mps_laws.proofs.ApartRuns.{all_in_order}
@@ -29,37 +27,6 @@ use Rattle.mps_model.specs.World.{World, extent, extents_of, is_live, words_of}
 use Rattle.mps_seg.specs.Segs.{SegsState}
 use Rattle.mps_refinement.proofs.Found.{mapped_some, some_there}
 
--- ---- lists of runs
-
-all_contained : (P : Run → Type 0) (rs : List Run) (r : Run) → AllByRecursion P rs → Contains rs r → P r
-all_contained P [] r all (k, within, is) = absurd (omega arith)
-all_contained P (s ∷ rs) r all there =
-    elim (contains_cases rs r s there) [
-      | inl same ↦ subst P same all.0
-      | inr later ↦ all_contained P rs r all.1 later
-    ]
-
-contained_in_order : (rs : List Run) (r : Run) → Contains rs r → Contains (in_order rs) r
-contained_in_order [] r there = there
-contained_in_order (s ∷ rs) r there =
-    elim (contains_cases rs r s there) [
-      | inl same ↦ subst (λ (x : Run). Contains (with_run s (in_order rs)) x) same (contains_put s (in_order rs))
-      | inr later ↦ contains_put_other s r (in_order rs) (contained_in_order rs r later)
-    ]
-
-extent_there : (objects : List Object) (addresses : List (Option Address)) (id : Id) (at : Address) (o : Object)
-    → entry_at addresses id ≡ Some at → slice_get objects id ≡ Some o → Contains (extents_of objects addresses) (extent at (size_of o))
-extent_there [] addresses id at o e x = absurd (none-some o x)
-extent_there (q ∷ os) [] id at o e x = absurd (none-some at e)
-extent_there (q ∷ os) (None ∷ ps) zero at o e x = absurd (none-some at e)
-extent_there (q ∷ os) (None ∷ ps) (suc id) at o e x = extent_there os ps id at o e x
-extent_there (q ∷ os) (Some p ∷ ps) zero at o e x =
-    subst (λ a. Contains (extent p (size_of q) ∷ extents_of os ps) (extent a (size_of o))) (same_Some p at e)
-    (subst (λ (y : Object). Contains (extent p (size_of q) ∷ extents_of os ps) (extent p (size_of y))) (same_Some q o x)
-    (contains_first (extents_of os ps) (extent p (size_of q))))
-extent_there (q ∷ os) (Some p ∷ ps) (suc id) at o e x =
-    contains_later (extents_of os ps) (extent at (size_of o)) (extent p (size_of q)) (extent_there os ps id at o e x)
-
 -- ---- the run of a block
 
 module _ (s : Setting) (addresses : List (Option Address)) (placed : LieApart s addresses) (g : SegsState)
@@ -68,8 +35,7 @@ module _ (s : Setting) (addresses : List (Option Address)) (placed : LieApart s 
   -- it is one of the runs of blocks
   pub run_there : Contains g.blocks (extent at (size_of o))
   run_there =
-      subst (λ rs. Contains rs (extent at (size_of o))) (sym blocks)
-      (contained_in_order (extents_of s.objects addresses) (extent at (size_of o)) (extent_there s.objects addresses id at o there object))
+      subst (λ rs. Contains rs (extent at (size_of o))) (sym blocks) (runs.run_there s.objects addresses id at o there object)
 
   -- and no other begins there
   pub run_is : (n : ℕ) → Contains g.blocks (record { from = word_of at; count = n }) → n ≡ size_of o

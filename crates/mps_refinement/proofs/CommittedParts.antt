@@ -1,5 +1,5 @@
 -- After a live reservation became a block the parts of a heap stand for those of the world with the new object.
-use Rattle.std.proofs.Common.{◌≡◌, ◌∙◌, ℕ, ◌+◌, ◌*◌, ◌/◌, ◌%◌, ◌<◌, ◌≤◌, Bool, true, false, refl, sym, ap, subst, List, [], ◌∷◌, ◌++◌, length, map, Option, Some, None, Contains, inl, inr, arith}
+use Rattle.std.proofs.Common.{◌≡◌, ◌∙◌, ℕ, ◌+◌, ◌*◌, ◌%◌, ◌<◌, ◌≤◌, true, false, refl, sym, ap, subst, List, [], ◌∷◌, ◌++◌, length, map, Option, Some, None, Contains, inl, inr, arith}
 use Rattle.std.proofs.lemmas.Bool.{and_parts, cases_eq}
 use Rattle.std.proofs.lemmas.Option.{none-some, same_Some}
 use Rattle.std.specs.Prelude.{◌&&◌, not, slice_get, slice_set, if◌then◌else◌}
@@ -20,6 +20,7 @@ use Rattle.mps_image.specs.Memory.{Memory, Setting, live_reservation, memory_in,
 use Rattle.mps_image.specs.SegmentWords.{AreSegmentsInOrder}
 use Rattle.mps_image.proofs.ClientLaws.{block_is_committed, committed_cells_are_fixed}
 use Rattle.mps_image.proofs.SegmentWords.{segments_are_home}
+use Rattle.mps_image.proofs.BlockRuns.{contained_in_order}
 use Rattle.mps_laws.proofs.Covered.{covered-shapes, covered_ascending}
 use Rattle.mps_laws.proofs.LegalMoves.{HasLayout}
 use Rattle.mps_laws.proofs.Lookups.{entry_is_there}
@@ -28,19 +29,22 @@ use Rattle.mps_laws.proofs.Segments.{AreAligned, IsAmong, among_aligned}
 use Rattle.mps_model.specs.Checked.{Numbered}
 use Rattle.mps_model.specs.Allocating as model
 use Rattle.mps_model.specs.Graph as graph
-use Rattle.mps_model.specs.Graph.{Automatic, Cell, Object, Reservation, entry_at, with_last}
+use Rattle.mps_model.specs.Graph.{Object, Reservation, entry_at, with_last}
 use Rattle.mps_model.specs.Making.{is_weak_rank}
-use Rattle.mps_model.specs.World.{World, PointMemory, covered, extent, extents_of, is_copying_pool, is_live, reserved_extents}
+use Rattle.mps_model.specs.World.{World, covered, extent, extents_of, is_copying_pool, is_live, reserved_extents}
 use Rattle.mps_outcome.specs.State.{HeapState}
 use Rattle.mps_refinement.specs.StandsFor.{AreParts, NoneHeld, IsArenaAtRest, IsHeld, IsPoint, Past}
-use Rattle.mps_refinement.proofs.AtHand.{extent_there, there_after, there_in_order}
+use Rattle.mps_refinement.proofs.AtHand.{extent_there, there_after}
 use Rattle.mps_refinement.proofs.Counts.{reservation_written_points}
 use Rattle.mps_refinement.proofs.Known.{IsKnown}
 use Rattle.mps_refinement.proofs.ObjectMore.{areas_still, blocks_still, ids_still, tables_still}
-use Rattle.mps_refinement.proofs.PointWritten.{other_point, points_there, resting_points, things_there, written_point}
+use Rattle.mps_refinement.proofs.PartsByKind.{parts_of_kinds, arena_of, pools_of, states_of}
+use Rattle.mps_refinement.proofs.Named.{named_alike}
+use Rattle.mps_refinement.proofs.PointWritten.{other_point, points_stay, points_there, reservation_fits, resting_points, written_point}
+use Rattle.mps_refinement.specs.Numbering.{AreNumbered}
 use Rattle.mps_refinement.proofs.Numbering.{numbered_written}
 use Rattle.mps_refinement.proofs.Ready.{live_is}
-use Rattle.mps_refinement.proofs.ReservedImage.{none_condemned, reservation_covers}
+use Rattle.mps_refinement.proofs.ReservedImage.{none_condemned}
 
 -- ---- segments
 
@@ -142,7 +146,7 @@ module _ {F : Type 0} (layout : F → Layout) (past : Past) (h : HeapState F) (w
   covered_there =
       subst (λ (x : Run). Contains h.segs.covered x) run_is
       (subst (λ (rs : List Run). Contains rs (extent at size)) (sym parts.image.runs.covered)
-      (there_in_order (extents_of w.graph.objects w.addresses ++ reserved_extents w.graph.points w.point_memories) (extent at size)
+      (contained_in_order (extents_of w.graph.objects w.addresses ++ reserved_extents w.graph.points w.point_memories) (extent at size)
       (there_after (extents_of w.graph.objects w.addresses) (reserved_extents w.graph.points w.point_memories) (extent at size)
       (extent_there w.graph.points w.point_memories n.number n.value r fit.memory there open_there live fit.has))))
 
@@ -206,15 +210,9 @@ module _ {F : Type 0} (layout : F → Layout) (past : Past) (h : HeapState F) (w
       ])
 
   fit_closed : IsPoint (length w.flips) (is_copying_pool w) w.point_memories (past.point_number key) (closed p) entry_closed
-  fit_closed = record {
-    pool = fit.pool;
-    rank = fit.rank;
-    copying = fit.copying;
-    memory = fit.memory;
-    has = ap (slice_get w.point_memories) (sym number) ∙ fit.has;
-    buffer = fit.buffer;
-    reservation = NoneHeld;
-  }
+  fit_closed =
+      reservation_fits (length w.flips) (is_copying_pool w) w.point_memories n.number (past.point_number key) p n.value None None fit number
+      NoneHeld
 
   registered_live : Rattle.mps_laws.proofs.HeldIds.All (is_live w) w.graph.registered
   registered_live = weaker w.graph.registered known.formed.registered
@@ -226,45 +224,31 @@ module _ {F : Type 0} (layout : F → Layout) (past : Past) (h : HeapState F) (w
           (λ id both. (and_parts (is_live w id) (Rattle.mps_model.specs.World.object_is Rattle.mps_model.specs.Graph.is_automatic w id)
           both).0) ids all
 
+  points_made : AreNumbered (IsPoint (length w.flips) (is_copying_pool w) w.point_memories) past.point_number
+      (point_at (with_point h.points key (Some (closed p)))) points_closed
+  points_made =
+      subst (λ j. AreNumbered (IsPoint (length w.flips) (is_copying_pool w) w.point_memories) past.point_number
+      (point_at (with_point h.points key (Some (closed p)))) (slice_set w.graph.points j (Some entry_closed))) (sym number)
+      (numbered_written (IsPoint (length w.flips) (is_copying_pool w) w.point_memories) past.point_number (point_at h.points)
+      (point_at (with_point h.points key (Some (closed p)))) w.graph.points parts.points key
+      (λ other apart. other_point h.points key other (Some (closed p)) apart) p (closed p) entry_closed at_key
+      (written_point h.points key p (Some (closed p)) at_key) fit_closed)
+
   pub made_parts : AreParts layout past heap_made world_made
-  made_parts = record {
-    grains = parts.grains;
-    limit = parts.limit;
-    segments = parts.segments;
-    image = image_made;
-    resting = resting_made;
-    tables = tables_still w.addresses at w.graph.tables known.held.slots parts.tables;
-    ordered = parts.ordered;
-    areas = areas_still w.addresses at w.graph.areas known.held.holds parts.areas;
-    blocks = parts.blocks ∙ sym (blocks_still w.addresses at w.graph.blocks known.live.blocks);
-    roots_counted = parts.roots_counted;
-    slots_counted = parts.slots_counted;
-    points = subst (λ j. Rattle.mps_refinement.specs.Numbering.AreNumbered
-        (IsPoint (length w.flips) (is_copying_pool w) w.point_memories) past.point_number
-        (point_at (with_point h.points key (Some (closed p)))) (slice_set w.graph.points j (Some entry_closed))) (sym number)
-        (numbered_written (IsPoint (length w.flips) (is_copying_pool w) w.point_memories) past.point_number (point_at h.points)
-        (point_at (with_point h.points key (Some (closed p)))) w.graph.points parts.points key
-        (λ other apart. other_point h.points key other (Some (closed p)) apart) p (closed p) entry_closed at_key
-        (written_point h.points key p (Some (closed p)) at_key) fit_closed);
-    points_counted =
-        parts.points_counted ∙ sym (reservation_written_points w.graph n None there);
-    registered = parts.registered ∙ sym (ids_still w.addresses at w.graph.registered registered_live);
-    messages = parts.messages ∙ sym (ids_still w.addresses at w.graph.messages known.held.messages);
-    flips = parts.flips;
-    point_flips = parts.point_flips;
-    dependencies = parts.dependencies;
-    lawful = parts.lawful;
-    pools = parts.pools;
-    sizes = parts.sizes;
-    chains = parts.chains;
-    names = record {
-      named = parts.names.named;
-      there = λ name t e.
-          things_there layout past h w parts (with_block h.segs held) (with_point h.points key (Some (closed p)))
-          (points_there h.points key p (closed p) at_key) t (parts.names.there name t e);
-      unique = parts.names.unique;
-      once = parts.names.once;
-    };
-    state = parts.state;
-    at_rest = parts.at_rest;
-  }
+  made_parts =
+      parts_of_kinds (arena_of parts) (image_made, resting_made) (
+        tables_still w.addresses at w.graph.tables known.held.slots parts.tables,
+        parts.ordered,
+        areas_still w.addresses at w.graph.areas known.held.holds parts.areas,
+        parts.blocks ∙ sym (blocks_still w.addresses at w.graph.blocks known.live.blocks),
+        parts.roots_counted,
+        parts.slots_counted,
+      )
+      (points_made, parts.points_counted ∙ sym (reservation_written_points w.graph n None there)) (
+        parts.registered ∙ sym (ids_still w.addresses at w.graph.registered registered_live),
+        parts.messages ∙ sym (ids_still w.addresses at w.graph.messages known.held.messages),
+      )
+      parts.dependencies (pools_of parts)
+      (named_alike h heap_made past w.graph.names parts.names (λ name. refl) (points_stay layout past h w parts (with_block h.segs held)
+      (with_point h.points key (Some (closed p))) (points_there h.points key p (closed p) at_key)))
+      (states_of parts)

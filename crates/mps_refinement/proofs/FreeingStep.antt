@@ -11,10 +11,10 @@ use Rattle.mps_base.specs.declared.moves.Move.{Move}
 use Rattle.mps_base.specs.declared.moves.Move.TheVariants as moves
 use Rattle.mps_base.specs.declared.names.Slot.{Slot}
 use Rattle.mps_laws.proofs.Finding.{id_at-there}
-use Rattle.mps_laws.proofs.HeldIds.{All, all-append}
+use Rattle.mps_laws.proofs.HeldIds.{All, all-append, held_again}
 use Rattle.mps_laws.proofs.QuietSteps as quiet
 use Rattle.mps_laws.proofs.QuietSteps.{IsSound}
-use Rattle.mps_laws.proofs.SoundChanges.{gone_sound, held_again, sound_again}
+use Rattle.mps_laws.proofs.SoundChanges.{gone_sound, sound_again}
 use Rattle.mps_laws.proofs.SoundEffects.{place_sound}
 use Rattle.mps_laws.proofs.SoundGraph.{IsSoundGraph, auto}
 use Rattle.mps_model.proofs.AtRest.{with_collection-none}
@@ -32,7 +32,7 @@ use Rattle.mps_model.specs.History.{free_of, give_back_empty, moves_of_free, unl
 use Rattle.mps_refinement.specs.RightStep.{step_of}
 use Rattle.mps_refinement.proofs.PlacedOnce.{ArePlacedOnce, IsIn, written_cases}
 use Rattle.mps_refinement.proofs.PlacesByActs.{places_of}
-use Rattle.mps_refinement.proofs.RestingSteps.{moving_step}
+use Rattle.mps_refinement.proofs.RestingSteps.{done_step}
 use Rattle.mps_refinement.proofs.StillHeld.{held_others, target_others}
 use Rattle.mps_base.specs.declared.refusal.Refusal.TheVariants as refusal
 
@@ -131,12 +131,4 @@ module _ (w : World) (rest : w.collection ≡ None) (graph : IsSoundGraph w) (so
   pub freed_rightly : (line : ℕ)
       → quiet.IsRight w (step_of line (call.Free place) moves_freed ok) (with_client_remembered world_freed)
   freed_rightly line =
-      moving_step w line (call.Free place) moves_freed ok (done world_freed) (record {
-        legal = tt;
-        due = due;
-        comes = comes;
-        answers = refl;
-        marked = tt;
-        supported = refl;
-        sound = sound_freed;
-      })
+      done_step w world_freed line (call.Free place) moves_freed tt due comes tt sound_freed

@@ -11,6 +11,7 @@ pub mod Cells
 pub mod Lookups
 pub mod LiveObjects
 pub mod EntryWritten
+pub mod PartsByKind
 pub mod PartsWritten
 pub mod Readings
 pub mod Slots

@@ -144,7 +144,7 @@ pub record IsReferenceOf (w : World) (n : Numbered Object) (k : ℕ) (found : Ce
   pub value : found.value ≡ address_of_target w.addresses target + tag
 
 -- the word of a reference, where no collection runs
-reference_word : (addresses : List (Option Address)) (head word tag : ℕ) (target : Option Id)
+pub reference_word : (addresses : List (Option Address)) (head word tag : ℕ) (target : Option Id)
     → IsCellWord addresses [] head (ReferenceCell target tag) word → word ≡ address_of_target addresses target + tag
 reference_word addresses head word tag None e = omega (arith, e)
 reference_word addresses head word tag (Some id) r =

@@ -1,16 +1,15 @@
 -- A new heap stands for the world that `arena` leaves in the empty one, whatever the formats, where all are lawful.
-use Rattle.std.proofs.Common.{◌+◌, ◌*◌, ◌≤◌, Bool, false, ◌≡◌, ◌∙◌, ℕ, refl, sym, ap, List, [], ◌∷◌, Option, None, inl, inr, replicate, get_or, arith}
+use Rattle.std.proofs.Common.{◌+◌, ◌*◌, ◌≤◌, ◌≡◌, ◌∙◌, ℕ, refl, sym, ap, List, [], ◌∷◌, Option, None, inl, inr, replicate, get_or, arith}
 use Rattle.std.proofs.lemmas.Bool.{cases_lt}
 use Rattle.std.proofs.lemmas.List.{get_or-replicate, get_or_past, length-replicate}
 use Rattle.std.proofs.lemmas.Option.{none-some}
 use Rattle.std.specs.Prelude.{option_map}
 use Rattle.mps_base.specs.Address.{max_grains, words_of_grain}
-use Rattle.mps_bits.specs.Table.{bit}
 use Rattle.mps_buffer.specs.Points.{max_points, no_points, point_at}
 use Rattle.mps_buffer.specs.declared.point.Point.{Point}
 use Rattle.mps_format.specs.Layout.{Layout, IsLawful}
 use Rattle.mps_image.specs.Memory.{pool_layout}
-use Rattle.mps_image.proofs.ArenaLaws.{new_arena_stands}
+use Rattle.mps_image.proofs.ArenaLaws.{clear_bit, new_arena_stands}
 use Rattle.mps_laws.proofs.QuietSteps.{IsRight as IsRightStep, accepted_step}
 use Rattle.mps_ld.specs.Flips.{none_yet}
 use Rattle.mps_model.specs.declared.call.Call.TheVariants as call
@@ -24,15 +23,6 @@ use Rattle.mps_refinement.specs.Numbering.{AreNumbered}
 use Rattle.mps_refinement.specs.RightStep.{IsRightIn}
 use Rattle.mps_refinement.specs.StandsFor.{AreParts, Past, numbered_thing}
 use Rattle.mps_refinement.proofs.RestingActs.{resting_sound}
-
--- no bit of a row of clear ones is set
-none_set : (count n : ℕ) → bit (replicate count false) n ≡ false
-unfolding bit
-none_set count n =
-    elim (cases_lt n count) [
-      | inl within ↦ get_or-replicate count n false false within
-      | inr past ↦ get_or_past (replicate count false) n false (omega (arith, past, length-replicate {A = Bool} count false))
-    ]
 
 -- nothing is kept under any key of a row of nothing
 abbrev nothing : (A : Type 0) → (count : ℕ) → List (Option A)
@@ -74,8 +64,8 @@ module _ {F : Type 0} (layout : F → Layout) (formats : ℕ → Layout) (lawful
     image = new_arena_stands grains limit (pool_layout world_then);
     resting = record {
       at_most = at_most;
-      not_condemned = λ grain. none_set (grains + 1) grain;
-      not_kept = λ n. none_set (words_of_grain * (grains + 1)) n;
+      not_condemned = λ grain. clear_bit (grains + 1) grain;
+      not_kept = λ n. clear_bit (words_of_grain * (grains + 1)) n;
       within = λ key p held is. absurd (none-some p (sym (no_point key) ∙ is));
       aligned = λ key p held is. absurd (none-some p (sym (no_point key) ∙ is));
     };

@@ -8,13 +8,12 @@ use Rattle.mps_base.specs.declared.names.Slot.{Slot}
 use Rattle.mps_format.specs.Layout.{Layout, IsLawful}
 use Rattle.mps_image.proofs.CellChanged.{target_changed}
 use Rattle.mps_image.proofs.ClientLaws.{cell_of_an_object_is_written}
-use Rattle.mps_image.specs.Image.{IsCellWord, IsFixed, no_colours}
+use Rattle.mps_image.specs.Image.{IsCellWord, IsFixedWord, no_colours}
 use Rattle.mps_image.specs.Memory.{Lies, memory_in, setting_at_rest, pool_layout}
 use Rattle.mps_laws.proofs.Same.{Same, fits, same_then}
 use Rattle.mps_laws.proofs.SoundGraph.{PassesOrNull}
 use Rattle.mps_model.specs.declared.call.Call.TheVariants as call
 use Rattle.mps_model.specs.declared.reply.Reply.TheVariants as reply
-use Rattle.mps_model.specs.Answer.{Answer, Replied}
 use Rattle.mps_model.specs.Allocating.{with_slot}
 use Rattle.mps_model.specs.Checked as model
 use Rattle.mps_model.specs.Checked.{Act, Checked, Found, Numbered, ◌>>=◌, ◌>>◌, cells_of_body, reference_at, with_graph}
@@ -61,7 +60,7 @@ module _ {F : Type 0} (layout : F → Layout) (past : Past) (h : HeapState F) (w
   -- the words stand for the objects, where a cell and its word are written
   pub cell_written : (k word value : ℕ) (new : Cell) (change : List Cell → List Cell)
       → Lies w.graph.objects w.addresses n.number k n.value word → change is.cells ≡ slice_set is.cells k new
-      → IsFixed [] w.addresses no_colours b.head new value
+      → IsFixedWord [] w.addresses no_colours b.head new value
       → AreParts layout past (with_word h word value) (with_graph w (graph_with_cells w.graph n.number change))
   cell_written k word value new change lies changes fixed =
       words_written layout past h w parts (slice_set h.segs.words word value) (graph_with_cells w.graph n.number change).objects

@@ -20,6 +20,7 @@ use Rattle.mps_outcome.specs.declared.pool.Pool.{Pool}
 use Rattle.mps_refinement.specs.Numbering.{AreNumbered, AreOrdered}
 use Rattle.mps_refinement.specs.StandsFor.{AreNamed, AreParts, ArePools, AreSlots, AreWords, IsPoint, Past, StandsFor, address_of_target, kept_of, state_of, IsArenaAtRest}
 use Rattle.mps_refinement.proofs.Named.{ThingsStay, named_alike}
+use Rattle.mps_refinement.proofs.PartsByKind.{parts_of_kinds, arena_of, finals_of, image_of, points_of, pools_of, roots_of, states_of}
 
 -- where the things are those of another state, all stay
 pub all_stay : {F : Type 0} (h after : HeapState F) → after.pools ≡ h.pools → after.roots ≡ h.roots → after.points ≡ h.points
@@ -64,33 +65,10 @@ module _ {F : Type 0} (layout : F → Layout) (past : Past) (h : HeapState F) (w
       → AreOtherRoots table_number area_number roots roots_live slots_live names tables areas blocks named
       → AreParts layout (past_of_roots table_number area_number) (state_of_roots roots roots_live slots_live names)
       (world_of_roots tables areas blocks named)
-  roots_changed table_number area_number roots roots_live slots_live names tables areas blocks named are = record {
-    grains = parts.grains;
-    limit = parts.limit;
-    segments = parts.segments;
-    image = parts.image;
-    resting = parts.resting;
-    tables = are.tables_are;
-    ordered = are.ordered;
-    areas = are.areas_are;
-    blocks = are.blocks_are;
-    roots_counted = are.roots_counted;
-    slots_counted = are.slots_counted;
-    points = parts.points;
-    points_counted = parts.points_counted;
-    registered = parts.registered;
-    messages = parts.messages;
-    flips = parts.flips;
-    point_flips = parts.point_flips;
-    dependencies = parts.dependencies;
-    lawful = parts.lawful;
-    pools = parts.pools;
-    sizes = parts.sizes;
-    chains = parts.chains;
-    names = are.names_are;
-    state = parts.state;
-    at_rest = parts.at_rest;
-  }
+  roots_changed table_number area_number roots roots_live slots_live names tables areas blocks named are =
+      parts_of_kinds (arena_of parts) (image_of parts)
+      (are.tables_are, are.ordered, are.areas_are, are.blocks_are, are.roots_counted, are.slots_counted) (points_of parts)
+      (finals_of parts) parts.dependencies (pools_of parts) are.names_are (states_of parts)
 
   -- ---- points
 
@@ -115,33 +93,9 @@ module _ {F : Type 0} (layout : F → Layout) (past : Past) (h : HeapState F) (w
       → AreOtherPoints point_number points points_live names numbered memories named
       → AreParts layout (record past { point_number = point_number }) (state_of_points points points_live names)
       (world_of_points numbered memories named)
-  points_changed point_number points points_live names numbered memories named are = record {
-    grains = parts.grains;
-    limit = parts.limit;
-    segments = parts.segments;
-    image = are.image_stands;
-    resting = are.resting_still;
-    tables = parts.tables;
-    ordered = parts.ordered;
-    areas = parts.areas;
-    blocks = parts.blocks;
-    roots_counted = parts.roots_counted;
-    slots_counted = parts.slots_counted;
-    points = are.points_are;
-    points_counted = are.points_counted;
-    registered = parts.registered;
-    messages = parts.messages;
-    flips = parts.flips;
-    point_flips = parts.point_flips;
-    dependencies = parts.dependencies;
-    lawful = parts.lawful;
-    pools = parts.pools;
-    sizes = parts.sizes;
-    chains = parts.chains;
-    names = are.names_are;
-    state = parts.state;
-    at_rest = parts.at_rest;
-  }
+  points_changed point_number points points_live names numbered memories named are =
+      parts_of_kinds (arena_of parts) (are.image_stands, are.resting_still) (roots_of parts) (are.points_are, are.points_counted)
+      (finals_of parts) parts.dependencies (pools_of parts) are.names_are (states_of parts)
 
   -- ---- pools
 
@@ -163,33 +117,9 @@ module _ {F : Type 0} (layout : F → Layout) (past : Past) (h : HeapState F) (w
   pub pools_changed : (pools : List (Pool F)) (sizes : List ℕ) (names : NamesState) (numbered : List world.Pool)
       (named : List NamedThing) → AreOtherPools pools sizes names numbered named
       → AreParts layout past (state_of_pools pools sizes names) (world_of_pools numbered named)
-  pools_changed pools sizes names numbered named are = record {
-    grains = parts.grains;
-    limit = parts.limit;
-    segments = parts.segments;
-    image = are.image_stands;
-    resting = parts.resting;
-    tables = parts.tables;
-    ordered = parts.ordered;
-    areas = parts.areas;
-    blocks = parts.blocks;
-    roots_counted = parts.roots_counted;
-    slots_counted = parts.slots_counted;
-    points = are.points_are;
-    points_counted = parts.points_counted;
-    registered = parts.registered;
-    messages = parts.messages;
-    flips = parts.flips;
-    point_flips = parts.point_flips;
-    dependencies = parts.dependencies;
-    lawful = parts.lawful;
-    pools = are.pools_are;
-    sizes = are.sizes_are;
-    chains = parts.chains;
-    names = are.names_are;
-    state = parts.state;
-    at_rest = parts.at_rest;
-  }
+  pools_changed pools sizes names numbered named are =
+      parts_of_kinds (arena_of parts) (are.image_stands, parts.resting) (roots_of parts) (are.points_are, parts.points_counted)
+      (finals_of parts) parts.dependencies (parts.lawful, are.pools_are, are.sizes_are, parts.chains) are.names_are (states_of parts)
 
   -- ---- dependencies
 
@@ -202,33 +132,9 @@ module _ {F : Type 0} (layout : F → Layout) (past : Past) (h : HeapState F) (w
   pub dependencies_changed : (states : List LdState) (names : NamesState) (dependencies : List Dependency) (named : List NamedThing)
       → states ≡ map kept_of dependencies → AreNamed past (state_of_dependencies states names) named
       → AreParts layout past (state_of_dependencies states names) (world_of_dependencies dependencies named)
-  dependencies_changed states names dependencies named are names_are = record {
-    grains = parts.grains;
-    limit = parts.limit;
-    segments = parts.segments;
-    image = parts.image;
-    resting = parts.resting;
-    tables = parts.tables;
-    ordered = parts.ordered;
-    areas = parts.areas;
-    blocks = parts.blocks;
-    roots_counted = parts.roots_counted;
-    slots_counted = parts.slots_counted;
-    points = parts.points;
-    points_counted = parts.points_counted;
-    registered = parts.registered;
-    messages = parts.messages;
-    flips = parts.flips;
-    point_flips = parts.point_flips;
-    dependencies = are;
-    lawful = parts.lawful;
-    pools = parts.pools;
-    sizes = parts.sizes;
-    chains = parts.chains;
-    names = names_are;
-    state = parts.state;
-    at_rest = parts.at_rest;
-  }
+  dependencies_changed states names dependencies named are names_are =
+      parts_of_kinds (arena_of parts) (image_of parts) (roots_of parts) (points_of parts) (finals_of parts) are (pools_of parts) names_are
+      (states_of parts)
 
   -- ---- the arena's limit and state, and names in another order
 
@@ -238,33 +144,10 @@ module _ {F : Type 0} (layout : F → Layout) (past : Past) (h : HeapState F) (w
       (record w { limit = limit; state = state })
   arena_changed limit arena state names is same =
       let after = record h { segs = record h.segs { limit = limit }; arena = arena; names = names } in
-      record {
-        grains = parts.grains;
-        limit = refl;
-        segments = parts.segments;
-        image = parts.image;
-        resting = parts.resting;
-        tables = parts.tables;
-        ordered = parts.ordered;
-        areas = parts.areas;
-        blocks = parts.blocks;
-        roots_counted = parts.roots_counted;
-        slots_counted = parts.slots_counted;
-        points = parts.points;
-        points_counted = parts.points_counted;
-        registered = parts.registered;
-        messages = parts.messages;
-        flips = parts.flips;
-        point_flips = parts.point_flips;
-        dependencies = parts.dependencies;
-        lawful = parts.lawful;
-        pools = parts.pools;
-        sizes = parts.sizes;
-        chains = parts.chains;
-        names = named_alike h after past w.graph.names parts.names same (all_stay h after refl refl refl refl);
-        state = is;
-        at_rest = parts.at_rest;
-      }
+      parts_of_kinds (parts.grains, refl, parts.segments) (image_of parts) (roots_of parts) (points_of parts) (finals_of parts)
+      parts.dependencies (pools_of parts)
+      (named_alike h after past w.graph.names parts.names same (all_stay h after refl refl refl refl))
+      (parts.flips, parts.point_flips, is, parts.at_rest)
 
   -- what stands for the world stands for it with other names of the same meaning
   pub untouched_parts : (names : NamesState) → IsSameMap h.names names → AreParts layout past (record h { names = names }) w

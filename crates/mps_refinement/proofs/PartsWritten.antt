@@ -26,6 +26,7 @@ use Rattle.mps_refinement.proofs.Counts.{slot_written_roots, slot_written_slots,
 use Rattle.mps_refinement.proofs.EntryWritten.{entry_written, kept_still}
 use Rattle.mps_refinement.proofs.Named.{ThingsStay, named_alike}
 use Rattle.mps_refinement.proofs.Ordering.{still_ordered}
+use Rattle.mps_refinement.proofs.PartsByKind.{parts_of_kinds, arena_of, finals_of, image_of, points_of, pools_of, roots_of, states_of}
 use Rattle.mps_refinement.proofs.PartsMade.{all_stay}
 use Rattle.mps_refinement.proofs.Lookups.{IsSlotEntry, IsWordEntry}
 
@@ -47,139 +48,55 @@ module _ {F : Type 0} (layout : F → Layout) (past : Past) (h : HeapState F) (w
       → AreRoots roots tables areas blocks
       → AreParts layout past (record h { roots = roots })
       (with_graph w (record w.graph { tables = tables; areas = areas; blocks = blocks }))
-  roots_written roots tables areas blocks are = record {
-    grains = parts.grains;
-    limit = parts.limit;
-    segments = parts.segments;
-    image = parts.image;
-    resting = parts.resting;
-    tables = are.tables_are;
-    ordered = are.ordered;
-    areas = are.areas_are;
-    blocks = are.blocks_are;
-    roots_counted = parts.roots_counted ∙ sym are.roots_counted;
-    slots_counted = parts.slots_counted ∙ sym are.slots_counted;
-    points = parts.points;
-    points_counted = parts.points_counted;
-    registered = parts.registered;
-    messages = parts.messages;
-    flips = parts.flips;
-    point_flips = parts.point_flips;
-    dependencies = parts.dependencies;
-    lawful = parts.lawful;
-    pools = parts.pools;
-    sizes = parts.sizes;
-    chains = parts.chains;
-    names = named_alike h (record h { roots = roots }) past w.graph.names parts.names (λ name. refl) are.stay;
-    state = parts.state;
-    at_rest = parts.at_rest;
-  }
+  roots_written roots tables areas blocks are =
+      parts_of_kinds (arena_of parts) (image_of parts) (
+        are.tables_are,
+        are.ordered,
+        are.areas_are,
+        are.blocks_are,
+        parts.roots_counted ∙ sym are.roots_counted,
+        parts.slots_counted ∙ sym are.slots_counted,
+      )
+      (points_of parts) (finals_of parts) parts.dependencies (pools_of parts)
+      (named_alike h (record h { roots = roots }) past w.graph.names parts.names (λ name. refl) are.stay) (states_of parts)
 
   -- other words, and other objects where they lie
   pub words_written : (words : List ℕ) (objects : List Object)
       → StandsAtRest (record h.segs { words = words }) (with_graph w (record w.graph { objects = objects }))
       → AreParts layout past (with_words h words) (with_graph w (record w.graph { objects = objects }))
-  words_written words objects image = record {
-    grains = parts.grains;
-    limit = parts.limit;
-    segments = parts.segments;
-    image = image;
-    resting = parts.resting;
-    tables = parts.tables;
-    ordered = parts.ordered;
-    areas = parts.areas;
-    blocks = parts.blocks;
-    roots_counted = parts.roots_counted;
-    slots_counted = parts.slots_counted;
-    points = parts.points;
-    points_counted = parts.points_counted;
-    registered = parts.registered;
-    messages = parts.messages;
-    flips = parts.flips;
-    point_flips = parts.point_flips;
-    dependencies = parts.dependencies;
-    lawful = parts.lawful;
-    pools = parts.pools;
-    sizes = parts.sizes;
-    chains = parts.chains;
-    names = named_alike h (with_words h words) past w.graph.names parts.names (λ name. refl)
-        (all_stay h (with_words h words) refl refl refl refl);
-    state = parts.state;
-    at_rest = parts.at_rest;
-  }
+  words_written words objects image =
+      parts_of_kinds (arena_of parts) (image, parts.resting) (roots_of parts) (points_of parts) (finals_of parts) parts.dependencies
+      (pools_of parts)
+      (named_alike h (with_words h words) past w.graph.names parts.names (λ name. refl)
+      (all_stay h (with_words h words) refl refl refl refl))
+      (states_of parts)
 
   -- other registrations and messages
   pub finals_written : (finals : FinalsState) (registered messages : List Id)
       → finals.registered ≡ map (address_of_id w.addresses) registered
       → finals.messages ≡ map (address_of_id w.addresses) messages
       → AreParts layout past (with_finals h finals) (with_graph w (record w.graph { registered = registered; messages = messages }))
-  finals_written finals registered messages are waiting = record {
-    grains = parts.grains;
-    limit = parts.limit;
-    segments = parts.segments;
-    image = parts.image;
-    resting = parts.resting;
-    tables = parts.tables;
-    ordered = parts.ordered;
-    areas = parts.areas;
-    blocks = parts.blocks;
-    roots_counted = parts.roots_counted;
-    slots_counted = parts.slots_counted;
-    points = parts.points;
-    points_counted = parts.points_counted;
-    registered = are;
-    messages = waiting;
-    flips = parts.flips;
-    point_flips = parts.point_flips;
-    dependencies = parts.dependencies;
-    lawful = parts.lawful;
-    pools = parts.pools;
-    sizes = parts.sizes;
-    chains = parts.chains;
-    names = named_alike h (with_finals h finals) past w.graph.names parts.names (λ name. refl)
-        (all_stay h (with_finals h finals) refl refl refl refl);
-    state = parts.state;
-    at_rest = parts.at_rest;
-  }
+  finals_written finals registered messages are waiting =
+      parts_of_kinds (arena_of parts) (image_of parts) (roots_of parts) (points_of parts) (are, waiting) parts.dependencies (pools_of parts)
+      (named_alike h (with_finals h finals) past w.graph.names parts.names (λ name. refl)
+      (all_stay h (with_finals h finals) refl refl refl refl))
+      (states_of parts)
 
   -- other epochs and zones of the dependencies
   pub dependencies_written : (states : List LdState) (dependencies : List Dependency) → states ≡ map kept_of dependencies
       → length states ≡ length h.dependencies
       → AreParts layout past (record h { dependencies = states }) (record w { dependencies = dependencies })
-  dependencies_written states dependencies are count = record {
-    grains = parts.grains;
-    limit = parts.limit;
-    segments = parts.segments;
-    image = parts.image;
-    resting = parts.resting;
-    tables = parts.tables;
-    ordered = parts.ordered;
-    areas = parts.areas;
-    blocks = parts.blocks;
-    roots_counted = parts.roots_counted;
-    slots_counted = parts.slots_counted;
-    points = parts.points;
-    points_counted = parts.points_counted;
-    registered = parts.registered;
-    messages = parts.messages;
-    flips = parts.flips;
-    point_flips = parts.point_flips;
-    dependencies = are;
-    lawful = parts.lawful;
-    pools = parts.pools;
-    sizes = parts.sizes;
-    chains = parts.chains;
-    names = named_alike h (record h { dependencies = states }) past w.graph.names parts.names (λ name. refl) (record {
-      pools = λ n low. low;
-      tables = λ key some. some;
-      areas = λ key some. some;
-      blocks = λ n low. low;
-      points = λ key some. some;
-      dependencies = λ n low. omega (arith, low, count);
-    });
-    state = parts.state;
-    at_rest = parts.at_rest;
-  }
+  dependencies_written states dependencies are count =
+      parts_of_kinds (arena_of parts) (image_of parts) (roots_of parts) (points_of parts) (finals_of parts) are (pools_of parts)
+      (named_alike h (record h { dependencies = states }) past w.graph.names parts.names (λ name. refl) (record {
+        pools = λ n low. low;
+        tables = λ key some. some;
+        areas = λ key some. some;
+        blocks = λ n low. low;
+        points = λ key some. some;
+        dependencies = λ n low. omega (arith, low, count);
+      }))
+      (states_of parts)
 
   -- ---- a slot, a word of an area
 

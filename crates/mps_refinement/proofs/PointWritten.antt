@@ -15,15 +15,15 @@ use Rattle.mps_model.specs.Graph.{entry_at}
 use Rattle.mps_model.specs.Making.{live_points}
 use Rattle.mps_model.specs.World as world
 use Rattle.mps_model.specs.World.{World, PointMemory}
-use Rattle.mps_names.specs.declared.names.Thing.{Thing}
-use Rattle.mps_names.specs.declared.names.Thing.TheVariants as thing
 use Rattle.mps_seg.specs.Segs.{SegsState}
 use Rattle.mps_laws.proofs.Entries.{entry_at-written}
 use Rattle.mps_laws.proofs.Lookups.{entry_at-set_other}
 use Rattle.mps_outcome.specs.State.{HeapState}
 use Rattle.mps_refinement.specs.Numbering.{AreNumbered, IsKept}
-use Rattle.mps_refinement.specs.StandsFor.{AreParts, IsArenaAtRest, IsPoint, IsThere, Past}
+use Rattle.mps_refinement.specs.StandsFor.{AreHeldAlike, AreParts, IsArenaAtRest, IsPoint, Past}
+use Rattle.mps_refinement.proofs.Named.{ThingsStay, named_alike}
 use Rattle.mps_refinement.proofs.Numbering.{kept_other, kept_within, kept_written}
+use Rattle.mps_refinement.proofs.PartsByKind.{parts_of_kinds, finals_of, pools_of, roots_of}
 
 -- ---- points
 
@@ -44,6 +44,21 @@ points_there s key p new there other some =
           ap is_some (ap (point_at (with_point s key (Some new))) same ∙ written_point s key p (Some new) there)
       | inr apart ↦ ap is_some (other_point s key other (Some new) apart) ∙ some
     ]
+
+-- a point whose reservation alone is another stands for the model's with the other's
+pub reservation_fits : (flips : ℕ) (copying : ℕ → Bool) (memories : List PointMemory) (n number : ℕ) (p : Point) (q : graph.Point)
+    (held : Option Held) (r : Option graph.Reservation) (fit : IsPoint flips copying memories n p q) → n ≡ number
+    → AreHeldAlike flips fit.memory.reserved_at held r
+    → IsPoint flips copying memories number (record p { reservation = held }) (record q { reservation = r })
+reservation_fits flips copying memories n number p q held r fit same alike = record {
+  pool = fit.pool;
+  rank = fit.rank;
+  copying = fit.copying;
+  memory = fit.memory;
+  has = ap (slice_get memories) (sym same) ∙ fit.has;
+  buffer = fit.buffer;
+  reservation = alike;
+}
 
 module _ (flips : ℕ) (copying : ℕ → Bool) (memories after : List PointMemory) (numbers : ℕ → ℕ) (s : PointsState)
     (points : List (Option graph.Point)) (are : AreNumbered (IsPoint flips copying memories) numbers (point_at s) points)
@@ -156,15 +171,16 @@ module _ {F : Type 0} (layout : F → Layout) (past : Past) (h : HeapState F) (w
   points_world points segments memories =
       record w { graph = record w.graph { points = points }; segments = segments; point_memories = memories }
 
-  pub things_there : (segs : SegsState) (points : PointsState) → ((key : ℕ) → IsSome (point_at h.points key) → IsSome (point_at points key))
-      → (t : Thing) → IsThere h t → IsThere (points_heap segs points) t
-  things_there segs points still (thing.Chain number) there = there
-  things_there segs points still (thing.Pool number) there = there
-  things_there segs points still (thing.Table key) there = there
-  things_there segs points still (thing.Area key) there = there
-  things_there segs points still (thing.Blocks number) there = there
-  things_there segs points still (thing.Point key) there = still key there
-  things_there segs points still (thing.Dependency number) there = there
+  pub points_stay : (segs : SegsState) (points : PointsState) → ((key : ℕ) → IsSome (point_at h.points key) → IsSome (point_at points key))
+      → ThingsStay h (points_heap segs points)
+  points_stay segs points still = record {
+    pools = λ n low. low;
+    tables = λ key some. some;
+    areas = λ key some. some;
+    blocks = λ n low. low;
+    points = still;
+    dependencies = λ n low. low;
+  }
 
   -- other segments and words, and other points
   pub record ArePointsAnew (segs : SegsState) (points : PointsState) (entries : List (Option graph.Point)) (segments : List Segment)
@@ -182,35 +198,8 @@ module _ {F : Type 0} (layout : F → Layout) (past : Past) (h : HeapState F) (w
   pub points_anew : (segs : SegsState) (points : PointsState) (entries : List (Option graph.Point)) (segments : List Segment)
       (memories : List PointMemory) → ArePointsAnew segs points entries segments memories
       → AreParts layout past (points_heap segs points) (points_world entries segments memories)
-  points_anew segs points entries segments memories anew = record {
-    grains = anew.grains ∙ parts.grains;
-    limit = anew.limit ∙ parts.limit;
-    segments = anew.segments_are;
-    image = anew.image;
-    resting = anew.resting;
-    tables = parts.tables;
-    ordered = parts.ordered;
-    areas = parts.areas;
-    blocks = parts.blocks;
-    roots_counted = parts.roots_counted;
-    slots_counted = parts.slots_counted;
-    points = anew.are;
-    points_counted = parts.points_counted ∙ sym anew.counted;
-    registered = parts.registered;
-    messages = parts.messages;
-    flips = parts.flips;
-    point_flips = anew.flips ∙ parts.point_flips;
-    dependencies = parts.dependencies;
-    lawful = parts.lawful;
-    pools = parts.pools;
-    sizes = parts.sizes;
-    chains = parts.chains;
-    names = record {
-      named = parts.names.named;
-      there = λ name t e. things_there segs points anew.there t (parts.names.there name t e);
-      unique = parts.names.unique;
-      once = parts.names.once;
-    };
-    state = parts.state;
-    at_rest = parts.at_rest;
-  }
+  points_anew segs points entries segments memories anew =
+      parts_of_kinds (anew.grains ∙ parts.grains, anew.limit ∙ parts.limit, anew.segments_are) (anew.image, anew.resting)
+      (roots_of parts) (anew.are, parts.points_counted ∙ sym anew.counted) (finals_of parts) parts.dependencies (pools_of parts)
+      (named_alike h (points_heap segs points) past w.graph.names parts.names (λ name. refl) (points_stay segs points anew.there))
+      (parts.flips, anew.flips ∙ parts.point_flips, parts.state, parts.at_rest)

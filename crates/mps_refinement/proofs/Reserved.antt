@@ -3,7 +3,7 @@ use Rattle.std.proofs.Common.{◌≡◌, ◌∙◌, ℕ, zero, suc, ◌+◌, ◌
 use Rattle.std.proofs.lemmas.Bool.{and_from, eq-eqb, le-leb}
 use Rattle.std.proofs.lemmas.List.{length-map}
 use Rattle.std.proofs.lemmas.Option.{none-some}
-use Rattle.std.specs.Prelude.{◌==◌, nat_le, map, slice_get, slice_set, if◌then◌else◌}
+use Rattle.std.specs.Prelude.{◌==◌, map, slice_get, slice_set, if◌then◌else◌}
 use Rattle.std.specs.Option.{option_map_or}
 use Rattle.mps_base.specs.Address.{Address, word_of, address_of_word, address_of_grain, grains_needed}
 use Rattle.mps_base.specs.Placement.{Placement, Place, NewSegment}
@@ -16,7 +16,7 @@ use Rattle.mps_model.specs.declared.reply.Reply.TheVariants as reply
 use Rattle.mps_model.specs.Answer.{Answer, Replied, refused}
 use Rattle.mps_model.specs.Graph.{Point, Reservation, entry_at, targets_of_cells}
 use Rattle.mps_model.specs.World.{World, PointMemory, covered, is_copying_pool, is_live}
-use Rattle.mps_model.specs.Checked.{Act, Checked, ◌>>=◌, ◌>>◌, done, as_point, number_named, point_named}
+use Rattle.mps_model.specs.Checked.{Checked, ◌>>=◌, ◌>>◌, done, as_point, number_named, point_named}
 use Rattle.mps_model.specs.Allocating.{Reserving, act_reserve, check_reserve, refuse_without_place, address_of_placement, with_reservation, with_reserved, without_front, buffer_after}
 use Rattle.mps_model.specs.Placement.{ForReserve, placement_of, placement_at_point, placement_at_front, placement_in_gaps, new_segment_for, buffer_of}
 use Rattle.mps_model.specs.Effect.{holding, segment_of_move}
@@ -28,10 +28,10 @@ use Rattle.mps_laws.proofs.HeldIds.{All}
 use Rattle.mps_laws.proofs.Holding.{IsFresh, need_of_placement, own_buffer}
 use Rattle.mps_laws.proofs.LegalMoves.{HasLayout, fresh_segment}
 use Rattle.mps_laws.proofs.Lookups.{there_is, entry_within}
-use Rattle.mps_laws.proofs.ManualSteps.{new_in_gaps}
 use Rattle.mps_laws.proofs.Occupancy.{occupancy_of, shape_of_point}
 use Rattle.mps_laws.proofs.QuietSteps as quiet
 use Rattle.mps_laws.proofs.QuietSteps.{IsSound}
+use Rattle.mps_laws.proofs.ReserveSteps.{new_for}
 use Rattle.mps_laws.proofs.SoundChanges.{sound_again}
 use Rattle.mps_laws.proofs.SoundEffects.{reservation_sound}
 use Rattle.mps_refinement.proofs.OwnGap.{gap_of_new, gap_of_fresh}
@@ -43,24 +43,7 @@ written_twice [] n x y = refl
 written_twice (z ∷ xs) zero x y = refl
 written_twice (z ∷ xs) (suc n) x y = ap (λ rest. z ∷ rest) (written_twice xs n x y)
 
--- where nothing that is held serves, a segment fits in the free grains
-new_for : (v : World) (n : ℕ) (p : Point) (words grain grains : ℕ) → placement_at_point v n p words ≡ NewSegment grain grains
-    → new_segment_for v words ≡ NewSegment grain grains
-new_for v n p words grain grains e =
-    elim (is_copying_pool v p.pool) as (λ b. (if b then placement_at_front v (buffer_of v n) words
-    else placement_in_gaps v (gaps_of (covered v) v.segments p.pool p.rank) words) ≡ NewSegment grain grains
-    → new_segment_for v words ≡ NewSegment grain grains) [
-      | true ↦
-          (λ f. elim (nat_le words (buffer_of v n).count) as (λ b.
-          (if b then Place (buffer_of v n).from else new_segment_for v words) ≡ NewSegment grain grains
-          → new_segment_for v words ≡ NewSegment grain grains) [
-            | true ↦ (λ h. absurd (cc))
-            | false ↦ (λ h. h)
-          ] f)
-      | false ↦ (λ f. new_in_gaps v (gaps_of (covered v) v.segments p.pool p.rank) words grain grains f)
-    ] e
-
--- and no gap fits
+-- where nothing that is held serves no gap fits
 no_gap : (v : World) (free : List Run) (words grain grains : ℕ) → placement_in_gaps v free words ≡ NewSegment grain grains
     → lowest_fitting words free ≡ None
 no_gap v free words grain grains e = of_one (lowest_fitting words free) e

@@ -10,7 +10,7 @@ use Rattle.mps_base.specs.Segment.{Segment, segment_over, words_of_segment}
 use Rattle.mps_bits.specs.Table.{bit}
 use Rattle.mps_format.specs.Layout.{Layout}
 use Rattle.mps_image.specs.Changes.{AreFree}
-use Rattle.mps_image.specs.Image.{IsFixed, no_colours}
+use Rattle.mps_image.specs.Image.{IsFixedWord, no_colours}
 use Rattle.mps_image.specs.Memory.{Lies, LiesReserved, Setting, is_condemned_word, live_reservation, words_of_arena}
 use Rattle.mps_model.specs.Graph.{Cell, HeadCell, NumberCell, ReferenceCell, Object, Point, Reservation, entry_at, is_live_reservation, new_cells, new_cells_from, size_of}
 use Rattle.mps_model.specs.World.{World, PointMemory, extent}
@@ -198,22 +198,22 @@ none_condemned s clear n = of_grain (Rattle.mps_seg.specs.Collecting.first_grain
 
 -- a word of a new block is its head, or 0
 pub new_cell_is_fixed : (addresses : List (Option Address)) (f : Layout) (head l : ℕ) (c : Cell) (word : ℕ)
-    → slice_get (new_cells f head) l ≡ Some c → (l ≡ 0 → word ≡ head) → (0 < l → word ≡ 0) → IsFixed [] addresses no_colours head c word
+    → slice_get (new_cells f head) l ≡ Some c → (l ≡ 0 → word ≡ head) → (0 < l → word ≡ 0) → IsFixedWord [] addresses no_colours head c word
 new_cell_is_fixed addresses f head zero c word e first later =
     let same : HeadCell ≡ c = same_Some HeadCell c e in
-    subst (λ (x : Cell). IsFixed [] addresses no_colours head x word) same
+    subst (λ (x : Cell). IsFixedWord [] addresses no_colours head x word) same
     (record { holds = first refl; not_white = λ t h. absurd (none-some t h) })
 new_cell_is_fixed addresses f head (suc l) c word e first later = later_cell 1 (f.size head - 1) l e (later (omega arith))
   where
-    of_kind : (b : Bool) → word ≡ 0 → IsFixed [] addresses no_colours head (if b then ReferenceCell None 0 else NumberCell 0) word
+    of_kind : (b : Bool) → word ≡ 0 → IsFixedWord [] addresses no_colours head (if b then ReferenceCell None 0 else NumberCell 0) word
     of_kind true zero_word = record { holds = zero_word; not_white = λ t h. absurd (none-some t h) }
     of_kind false zero_word = record { holds = zero_word; not_white = λ t h. absurd (none-some t h) }
 
     later_cell : (k count j : ℕ) → slice_get (new_cells_from f head k count) j ≡ Some c → word ≡ 0
-        → IsFixed [] addresses no_colours head c word
+        → IsFixedWord [] addresses no_colours head c word
     later_cell k zero j is zero_word = absurd (none-some c is)
     later_cell k (suc count) zero is zero_word =
         let same : (if f.is_reference head k then ReferenceCell None 0 else NumberCell 0) ≡ c =
         same_Some (if f.is_reference head k then ReferenceCell None 0 else NumberCell 0) c is in
-        subst (λ (x : Cell). IsFixed [] addresses no_colours head x word) same (of_kind (f.is_reference head k) zero_word)
+        subst (λ (x : Cell). IsFixedWord [] addresses no_colours head x word) same (of_kind (f.is_reference head k) zero_word)
     later_cell k (suc count) (suc j) is zero_word = later_cell (k + 1) count j is zero_word

@@ -9,6 +9,7 @@ use Rattle.mps_base.specs.declared.names.Slot.{Slot}
 use Rattle.mps_base.specs.declared.refusal.Refusal.TheVariants as refusal
 use Rattle.mps_buffer.specs.declared.point.Held.{Held}
 use Rattle.mps_format.specs.Layout.{Layout}
+use Rattle.mps_image.specs.Image.{IsFixedWord, no_colours}
 use Rattle.mps_laws.proofs.Same.{Same, fits, same_then, same_required}
 use Rattle.mps_laws.proofs.SoundGraph.{IsSoundGraph, PassesOrNull}
 use Rattle.mps_model.specs.declared.call.Call.TheVariants as call
@@ -16,15 +17,14 @@ use Rattle.mps_model.specs.Allocating as model
 use Rattle.mps_model.specs.Answer.{Answer}
 use Rattle.mps_model.specs.Checked.{Checked, Numbered, ◌>>=◌, ◌>>◌, done, number_at, reference_at, with_graph}
 use Rattle.mps_model.specs.Graph as graph
-use Rattle.mps_model.specs.Graph.{Cell, NumberCell, ReferenceCell, Reservation, entry_at, retargeted, with_target_cell}
+use Rattle.mps_model.specs.Graph.{Cell, NumberCell, ReferenceCell, Reservation, retargeted, with_target_cell}
 use Rattle.mps_model.specs.World.{World, is_live}
 use Rattle.mps_outcome.specs.Allocating.{block_held, number_initialised, reference_initialised, with_reserved_word}
-use Rattle.mps_outcome.specs.Coming.{Comes, Outcome}
+use Rattle.mps_outcome.specs.Coming.{Comes}
 use Rattle.mps_outcome.specs.Coming as coming
 use Rattle.mps_outcome.specs.Finding.{number_cell_at, reference_cell_at}
 use Rattle.mps_outcome.specs.declared.found.Block.{Block}
 use Rattle.mps_outcome.specs.declared.found.CellFound.{CellFound}
-use Rattle.mps_outcome.specs.declared.found.Entry.{Entry}
 use Rattle.mps_outcome.specs.declared.found.Kept.{Kept}
 use Rattle.mps_outcome.specs.Finding as ours
 use Rattle.mps_outcome.specs.Objects.{with_word}
@@ -36,11 +36,11 @@ use Rattle.mps_refinement.proofs.Cells.{IsReference, IsTargetAddress, number_cel
 use Rattle.mps_refinement.proofs.Found.{same_drop}
 use Rattle.mps_refinement.proofs.HeldCells.{block_of_held, held_cells, held_is_block, held_lawful, held_same, held_words}
 use Rattle.mps_refinement.proofs.Known.{known}
-use Rattle.mps_refinement.proofs.LiveObjects.{slot_passes}
+use Rattle.mps_refinement.proofs.LiveObjects.{reference_word, slot_passes}
 use Rattle.mps_refinement.proofs.Lookups.{IsPointFound, point_same, slot_same}
 use Rattle.mps_refinement.proofs.ReachedGraph.{reached_graph}
 use Rattle.mps_refinement.proofs.Steps.{HasParts, Leads, quiet_is_right}
-use Rattle.mps_refinement.proofs.WrittenReservation.{cell_is_fixed, number_is_fixed, reference_is_fixed, reference_word, reservation_parts, target_address, target_lives}
+use Rattle.mps_refinement.proofs.WrittenReservation.{cell_is_fixed, number_is_fixed, reference_is_fixed, reservation_parts, target_address, target_lives}
 
 -- an `init` says `ok`
 abbrev says : Unit {0} → Answer
@@ -53,7 +53,7 @@ module _ {F : Type 0} (layout : F → Layout) (past : Past) (h : HeapState F) (w
   -- a cell and its word are written, and nothing where a flip ended the reservation
   pub written_or_not : (i : ℕ) (new : Cell) (cells : List Cell) (word value : ℕ) → cells ≡ slice_set r.cells i new → i < length r.cells
       → word ≡ word_of held.at.0 + i
-      → (r.is_doomed ≡ false → Rattle.mps_image.specs.Image.IsFixed [] w.addresses Rattle.mps_image.specs.Image.no_colours r.head new value)
+      → (r.is_doomed ≡ false → IsFixedWord [] w.addresses no_colours r.head new value)
       → Leads layout says (record { answer = tt; state = with_reserved_word layout h held word value })
       (record { answer = Rattle.mps_refinement.proofs.Reserved.ok; world = model.with_reserved_cells w n r cells })
   written_or_not i new cells word value cells_are within word_is fixed =
@@ -145,7 +145,7 @@ module _ {F : Type 0} (layout : F → Layout) (past : Past) (h : HeapState F) (w
           (λ live. reference_is_fixed w.addresses r.head at.tag (ours.retargeted (layout block.format) cell.value from) target
           (new_word live) live_target)
         where
-          fixed : r.is_doomed ≡ false → Rattle.mps_image.specs.Image.IsFixed [] w.addresses Rattle.mps_image.specs.Image.no_colours r.head
+          fixed : r.is_doomed ≡ false → IsFixedWord [] w.addresses no_colours r.head
               (ReferenceCell old at.tag) (slice_index h.segs.words (word_of held.at.0 + i))
           fixed live =
               cell_is_fixed layout past h w parts k.key n found.number k.value found.kept found.has found.fit held r reserved open_there is

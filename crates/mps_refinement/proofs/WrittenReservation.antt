@@ -9,7 +9,7 @@ use Rattle.mps_buffer.specs.declared.point.Point.{Point}
 use Rattle.mps_buffer.specs.Points.{point_at}
 use Rattle.mps_format.specs.Layout.{Layout}
 use Rattle.mps_image.specs.AtRest.{StandsAtRest}
-use Rattle.mps_image.specs.Image.{IsCellWord, IsFixed, no_colours}
+use Rattle.mps_image.specs.Image.{IsCellWord, IsFixedWord, no_colours}
 use Rattle.mps_image.specs.Memory.{live_reservation, memory_in, pool_layout, setting_at_rest}
 use Rattle.mps_image.proofs.ClientLaws.{reservation_is_written}
 use Rattle.mps_laws.proofs.Lookups.{entry_is_there, length-slice_set}
@@ -26,19 +26,20 @@ use Rattle.mps_refinement.proofs.Cells.{IsTargetAddress}
 use Rattle.mps_refinement.proofs.Counts.{reservation_written_points}
 use Rattle.mps_refinement.proofs.Found.{some_there}
 use Rattle.mps_refinement.proofs.Numbering.{numbered_written}
-use Rattle.mps_refinement.proofs.PointWritten.{points_anew}
+use Rattle.mps_refinement.proofs.PointWritten.{points_anew, reservation_fits}
 use Rattle.mps_refinement.proofs.Ready.{live_is}
 
 -- ---- what is written
 
 -- a number is fixed
-pub number_is_fixed : (addresses : List (Option Address)) (head value : ℕ) → IsFixed [] addresses no_colours head (NumberCell value) value
+pub number_is_fixed : (addresses : List (Option Address)) (head value : ℕ) → IsFixedWord [] addresses no_colours head
+    (NumberCell value) value
 number_is_fixed addresses head value = record { holds = refl; not_white = λ t e. absurd (none-some t e) }
 
 -- and so is a reference to null or to what is live
 pub reference_is_fixed : (addresses : List (Option Address)) (head tag word : ℕ) (target : Option Id)
     → word ≡ address_of_target addresses target + tag
-    → PassesOrNull (λ id. is_some (entry_at addresses id)) target → IsFixed [] addresses no_colours head (ReferenceCell target tag) word
+    → PassesOrNull (λ id. is_some (entry_at addresses id)) target → IsFixedWord [] addresses no_colours head (ReferenceCell target tag) word
 reference_is_fixed addresses head tag word None is live = record { holds = omega (arith, is); not_white = λ t e. absurd (none-some t e) }
 reference_is_fixed addresses head tag word (Some id) is live =
     let at = some_there (entry_at addresses id) live in
@@ -50,16 +51,6 @@ reference_is_fixed addresses head tag word (Some id) is live =
       };
       not_white = λ t e. refl;
     }
-
--- the word of a reference, where no collection runs
-pub reference_word : (addresses : List (Option Address)) (head word tag : ℕ) (target : Option Id)
-    → IsCellWord addresses [] head (ReferenceCell target tag) word → word ≡ address_of_target addresses target + tag
-reference_word addresses head word tag None e = omega (arith, e)
-reference_word addresses head word tag (Some id) r =
-    elim r.means [
-      | inl e ↦ r.is ∙ ap (λ o. option_map_or (λ at. at) o 0 + tag) (sym e)
-      | inr e ↦ absurd (none-some r.address e)
-    ]
 
 -- what a reference refers to is null, or live
 pub target_lives : (w : World) (head word tag : ℕ) (target : Option Id)
@@ -92,7 +83,7 @@ module _ {F : Type 0} (layout : F → Layout) (past : Past) (h : HeapState F) (w
 
     -- a cell of it holds the address that its target has now
     pub cell_is_fixed : (k : ℕ) (c : Cell) → k < length r.cells → slice_get r.cells k ≡ Some c
-        → IsFixed [] w.addresses no_colours r.head c (slice_index h.segs.words (word_of held.at.0 + k))
+        → IsFixedWord [] w.addresses no_colours r.head c (slice_index h.segs.words (word_of held.at.0 + k))
     cell_is_fixed k c lt e =
         let at = is.at in
         parts.image.fixed.reserved n.number k r (word_of held.at.0 + k) c
@@ -106,7 +97,7 @@ module _ {F : Type 0} (layout : F → Layout) (past : Past) (h : HeapState F) (w
 
     module _ (k : ℕ) (new : Cell) (cells : List Cell) (word value : ℕ) (cells_are : cells ≡ slice_set r.cells k new)
         (within : k < length r.cells)
-        (word_is : word ≡ word_of held.at.0 + k) (fixed : IsFixed [] w.addresses no_colours r.head new value) where
+        (word_is : word ≡ word_of held.at.0 + k) (fixed : IsFixedWord [] w.addresses no_colours r.head new value) where
       abbrev written : Reservation
       written = record r { cells = cells }
 
@@ -129,21 +120,15 @@ module _ {F : Type 0} (layout : F → Layout) (past : Past) (h : HeapState F) (w
       same_length = ap length cells_are ∙ length-slice_set r.cells k new
 
       fit_written : IsPoint (length w.flips) (is_copying_pool w) w.point_memories (past.point_number key) p entry_written
-      fit_written = record {
-        pool = fit.pool;
-        rank = fit.rank;
-        copying = fit.copying;
-        memory = fit.memory;
-        has = ap (slice_get w.point_memories) (sym number) ∙ fit.has;
-        buffer = fit.buffer;
-        reservation =
-            subst (λ o. AreHeldAlike (length w.flips) fit.memory.reserved_at o (Some written)) (sym reserved) (BothHeld (record {
-              at = is.at;
-              head = is.head;
-              words = is.words ∙ sym same_length;
-              doomed = is.doomed;
-            }));
-      }
+      fit_written =
+          reservation_fits (length w.flips) (is_copying_pool w) w.point_memories n.number (past.point_number key) p n.value p.reservation
+          (Some written) fit number
+          (subst (λ o. AreHeldAlike (length w.flips) fit.memory.reserved_at o (Some written)) (sym reserved) (BothHeld (record {
+            at = is.at;
+            head = is.head;
+            words = is.words ∙ sym same_length;
+            doomed = is.doomed;
+          })))
 
       pub reservation_parts : AreParts layout past (with_word h word value) (with_graph w (model.with_reservation w.graph n (Some written)))
       reservation_parts =
