@@ -1,5 +1,7 @@
 // A name as the key of a map.
-ghost use Rattle.std.specs.Prelude.{[], ◌∷◌};
+ghost use Rattle.std.specs.Prelude.{◌≡◌, [], ◌∷◌, length};
+ghost use Rattle.std.specs.Int.{w64, from_le_bytes, to_le_bytes};
+ghost use Rattle.std.specs.Str.{bytes_eq};
 ghost use Rattle.std.proofs.Common.{rules};
 ghost use Rattle.std.specs.Cmp.Rules.{comparing, hashing};
 ghost use Rattle.mps_base.specs.Name.{same_name};
@@ -28,7 +30,7 @@ impl PartialEq for Key {
     ghost laws = { Prim.search (comparing, rules) };
 
     fn eq(&self, other: &Key) -> bool {
-        self.name == other.name
+        is_same_name(&self.name, &other.name)
     }
 }
 
@@ -44,4 +46,33 @@ impl Hash for Key {
     fn hash<H: Hasher>(&self, state: &mut H) {
         state.write(&self.name.bytes);
     }
+}
+
+/// Whether two names are the same. Their bytes are compared as two numbers.
+#[inline(always)]
+fn is_same_name(these: &Name, those: &Name) -> bool
+    ensures { result ≡ same_name these.now those.now }
+{
+    these.len == those.len && are_same(&these.bytes, &those.bytes)
+}
+
+/// Whether the bytes of two names are the same.
+#[inline(always)]
+fn are_same(these: &[u8; 16], those: &[u8; 16]) -> bool
+    ensures { result ≡ bytes_eq these.now those.now }
+{
+    number_of(&these[..8]) == number_of(&those[..8])
+        && number_of(&these[8..]) == number_of(&those[8..])
+}
+
+/// Eight bytes as a number, the lowest first.
+#[inline(always)]
+fn number_of(bytes: &[u8]) -> u64
+    requires { length bytes.now ≡ 8 }
+    ensures value { result ≡ from_le_bytes w64 bytes.now }
+    ensures bytes { to_le_bytes w64 result ≡ bytes.now }
+{
+    u64::from_le_bytes([
+        bytes[0], bytes[1], bytes[2], bytes[3], bytes[4], bytes[5], bytes[6], bytes[7],
+    ])
 }
