@@ -1,5 +1,5 @@
 -- What the answer of a machine guarantees, in each of the worlds for which it stood, and in each line.
-use Rattle.std.specs.Prelude.{◌≡◌, ◌↔◌, ℕ, List, IsTrue}
+use Rattle.std.specs.Prelude.{◌≡◌, ◌↔◌, ◌<◌, ◌^◌, ℕ, List, length, IsTrue}
 use Rattle.mps_base.specs.declared.moves.Move.{Move}
 use Rattle.mps_model.specs.declared.call.Call.{Call}
 use Rattle.mps_model.specs.declared.reply.Reply.{Reply}
@@ -23,10 +23,14 @@ abbrev pub StandsAfter : (stood stands : World → Type 0) → Call → List Mov
 StandsAfter stood stands call moves answer =
     (w : World) (line : ℕ) → stood w → stands (world_after w (step_in line call moves answer))
 
--- the reply is `unsupported` exactly where that is said of the call
+-- fewer flips came than 2^32. A run asks for no call in a world of more: it has fewer lines, and a line flips at most once
+abbrev pub HasFewFlips : World → Type 0
+HasFewFlips w = length w.flips < 2 ^ 32
+
+-- the reply is `unsupported` exactly where that is said of the call, in a world of few flips
 abbrev pub IsUnsupportedExactly : Built → (stood : World → Type 0) → Call → Reply → Type 0
 IsUnsupportedExactly built stood call given =
-    (w : World) → stood w → (given ≡ reply.Unsupported) ↔ IsTrue (built.is_unsupported w call)
+    (w : World) → stood w → HasFewFlips w → (given ≡ reply.Unsupported) ↔ IsTrue (built.is_unsupported w call)
 
 -- the machine stands for what it stood for
 abbrev pub StandsStill : (stood stands : World → Type 0) → Type 0

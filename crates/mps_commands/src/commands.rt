@@ -38,6 +38,7 @@ pub trait Commands {
         // The machine then stands for the world after that step.
         ensures stands { IfOk result (λ reply. StandsAfter (stands_for self.old) (stands_for self.new) call.now (moves self.new)
             (answer_of (words self.new) reply)) }
+        // In a world of fewer than 2^32 flips the reply is `unsupported` exactly where that is said of the call.
         ensures unsupported { IfOk result (λ reply. IsUnsupportedExactly built (stands_for self.old) call.now reply) }
         ensures unchanged { OnErr result (StandsStill (stands_for self.old) (stands_for self.new)) }
         ensures memory { OnErr result (IsTrue (built.takes_memory call.now)) };
