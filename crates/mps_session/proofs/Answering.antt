@@ -14,6 +14,7 @@ use Rattle.mps_model.specs.declared.call.Call.{Call}
 use Rattle.mps_model.specs.declared.call.Call.TheVariants as call
 use Rattle.mps_model.specs.declared.reply.Reply.{Reply}
 use Rattle.mps_model.specs.declared.reply.Reply.TheVariants as reply
+use Rattle.mps_outcome.specs.Collecting.{can_collect}
 use Rattle.mps_outcome.specs.State.{HeapState}
 use Rattle.mps_heap.specs.Answers.{says_words}
 use Rattle.mps_refinement.specs.Answering.{answer_to}
@@ -119,6 +120,13 @@ module _ (old h after : HeapState AnyFormat) (c : Call) {E : Type 0} (r : Result
 
   pub still_last : h ≡ old → OnErr r (HeapStandsStill h after) → OnErr r (HeapStandsStill old after)
   still_last same still = subst (λ (x : HeapState AnyFormat). OnErr r (HeapStandsStill x after)) same still
+
+-- a call of a heap that others left as it was
+pub answered_still : (old h after : HeapState AnyFormat) (c : Call) {E : Type 0} (r : Result Reply E) → h ≡ old → (moves : List Move)
+    → IfOk r (λ given. AnswersRightly (is_answered (can_collect h) c) h c moves given after)
+    → IfOk r (λ given. AnswersRightly (is_answered (can_collect old) c) old c moves given after)
+answered_still old h after c r same moves =
+    subst (λ (x : HeapState AnyFormat). IfOk r (λ given. AnswersRightly (is_answered (can_collect x) c) x c moves given after)) same
 
 pub memory_last : (c : Call) {E : Type 0} (r : Result Reply E) → OnErr r (makes_thing c ≡ true) → OnErr r (call_takes_memory c ≡ true)
 memory_last c (Ok given) makes = makes

@@ -1,9 +1,12 @@
--- A heap can collect everything where the world can for which it stands.
-use Rattle.std.proofs.Common.{◌≡◌, ◌∙◌, ℕ, suc, Bool, refl, sym, ap, List, [], ◌∷◌, length, map, Some, arith}
+-- A heap can collect everything where the world can for which it stands, if few flips came there.
+use Rattle.std.proofs.Common.{◌≡◌, ◌∙◌, ◌<◌, ℕ, suc, Bool, true, refl, sym, ap, List, [], ◌∷◌, length, map, Some, arith}
+use Rattle.std.proofs.Math.Bool.{and-true}
+use Rattle.std.proofs.lemmas.Bool.{lt-ltb}
 use Rattle.std.proofs.lemmas.Option.{same_Some}
-use Rattle.std.specs.Prelude.{◌&&◌, nat_lt, slice_get}
+use Rattle.std.specs.Prelude.{◌&&◌, ◌^◌, nat_lt, slice_get}
 use Rattle.std.specs.List.{list_all}
 use Rattle.mps_base.specs.declared.names.Kind.TheVariants as kind
+use Rattle.mps_commands.specs.RightAnswer.{HasFewFlips}
 use Rattle.mps_format.specs.Layout.{Layout}
 use Rattle.mps_model.specs.World as world
 use Rattle.mps_model.specs.World.{World}
@@ -39,13 +42,13 @@ module _ {F : Type 0} where
   moved_alike (pool.OneSize words) = refl
   moved_alike pool.AnySize = refl
 
-  pub collects_alike : (layout : F → Layout) (h : HeapState F) (w : World) → StandsFor layout h w → can_collect h ≡ can_collect_world w
-  collects_alike layout h w st =
+  pub collects_alike : (layout : F → Layout) (h : HeapState F) (w : World) → StandsFor layout h w → HasFewFlips w
+      → can_collect h ≡ can_collect_world w
+  collects_alike layout h w st few =
       ap (λ b. b && is_empty h.finals.registered && nat_lt h.points.flips most_flips) pools
       ∙ ap (λ b. list_all (λ (p : world.Pool). is_moved_or_manual_kind p.kind) w.pools && b && nat_lt h.points.flips most_flips) registered
-      ∙ ap
-      (λ n. list_all (λ (p : world.Pool). is_moved_or_manual_kind p.kind) w.pools && is_empty w.graph.registered && nat_lt n most_flips)
-      st.parts.point_flips
+      ∙ ap (λ b. list_all (λ (p : world.Pool). is_moved_or_manual_kind p.kind) w.pools && is_empty w.graph.registered && b) counted
+      ∙ and-true (list_all (λ (p : world.Pool). is_moved_or_manual_kind p.kind) w.pools && is_empty w.graph.registered)
     where
       pools : list_all is_moved_or_manual h.pools ≡ list_all (λ (p : world.Pool). is_moved_or_manual_kind p.kind) w.pools
       pools = all_alike is_moved_or_manual (λ (p : world.Pool). is_moved_or_manual_kind p.kind) h.pools w.pools st.parts.pools.count
@@ -56,6 +59,13 @@ module _ {F : Type 0} where
             moved_alike p
                 ∙ ap is_moved_or_manual_kind (sym (kinds_alike layout w.formats p there.0 there.2)),
           ))
+
+      -- the heap counts more flips than came
+      counted : nat_lt h.points.flips most_flips ≡ true
+      counted =
+          let flips : h.points.flips ≡ length w.flips = st.parts.point_flips in
+          let below : length w.flips < 2 ^ 32 = few in
+          lt-ltb h.points.flips most_flips (omega (arith, flips, below))
 
       registered : is_empty h.finals.registered ≡ is_empty w.graph.registered
       registered = ap is_empty st.parts.registered ∙ empty_alike (address_of_id w.addresses) w.graph.registered

@@ -5,7 +5,7 @@ use Rattle.std.specs.Prelude.{Bool, ◌&&◌, ◌||◌, if◌then◌else◌}
 use Rattle.mps_model.specs.declared.call.Call.{Call}
 use Rattle.mps_model.specs.declared.call.Call.TheVariants as call
 use Rattle.mps_session.specs.Built.{call_takes_memory, is_answered}
-use Rattle.mps_session.specs.Groups.{is_collection, is_on_areas, is_on_arena, is_on_words, makes_thing, may_move, reads_words, writes_words}
+use Rattle.mps_session.specs.Groups.{is_collection, is_frequent, is_on_areas, is_on_arena, makes_thing, may_move, reads_words, writes_words}
 
 and_true : (b : Bool) → (b && true) ≡ b
 and_true true = refl
@@ -13,7 +13,7 @@ and_true false = refl
 
 pub in_a_group : (collects : Bool) (c : Call)
     → is_answered collects c
-    ≡ (if is_collection c then collects else (may_move c || is_on_words c || is_on_areas c || is_on_arena c || makes_thing c))
+    ≡ (if is_collection c then collects else (is_frequent c || is_on_areas c || is_on_arena c || makes_thing c))
 in_a_group collects (call.Arena grains limit) = refl
 in_a_group collects (call.Limit limit) = refl
 in_a_group collects call.Committed = refl
@@ -73,16 +73,20 @@ not_collection call.Collect other = absurd (other refl)
 not_collection _ other = refl
 
 -- a call of no other group makes a thing, or isn't answered
-pub left_over : (collects : Bool) (c : Call) → (c ≡ call.Collect → ⊥) → false ≡ may_move c → false ≡ is_on_words c → false ≡ is_on_areas c
+pub left_over : (collects : Bool) (c : Call) → (c ≡ call.Collect → ⊥) → is_frequent c ≡ false → false ≡ is_on_areas c
     → false ≡ is_on_arena c → is_answered collects c ≡ makes_thing c
-left_over collects c other moves words areas arena =
+left_over collects c other frequent areas arena =
     in_a_group collects c
-    ∙ ap (λ b. if b then collects else (may_move c || is_on_words c || is_on_areas c || is_on_arena c || makes_thing c))
-    (not_collection c other)
-    ∙ ap (λ b. b || is_on_words c || is_on_areas c || is_on_arena c || makes_thing c) (sym moves)
-    ∙ ap (λ b. false || b || is_on_areas c || is_on_arena c || makes_thing c) (sym words)
-    ∙ ap (λ b. false || false || b || is_on_arena c || makes_thing c) (sym areas)
-    ∙ ap (λ b. false || false || false || b || makes_thing c) (sym arena)
+    ∙ ap (λ b. if b then collects else (is_frequent c || is_on_areas c || is_on_arena c || makes_thing c)) (not_collection c other)
+    ∙ ap (λ b. b || is_on_areas c || is_on_arena c || makes_thing c) frequent
+    ∙ ap (λ b. false || b || is_on_arena c || makes_thing c) (sym areas)
+    ∙ ap (λ b. false || false || b || makes_thing c) (sym arena)
+
+-- a call of none of three groups
+pub seldom : (c : Call) → false ≡ reads_words c → false ≡ may_move c → false ≡ writes_words c → is_frequent c ≡ false
+seldom c reads moves writes =
+    ap (λ b. b || may_move c || writes_words c) (sym reads) ∙ ap (λ b. false || b || writes_words c) (sym moves)
+    ∙ ap (λ b. false || false || b) (sym writes)
 
 -- what makes a thing takes memory
 pub making_takes_memory : (c : Call) → makes_thing c ≡ true → call_takes_memory c ≡ true
@@ -96,22 +100,3 @@ making_takes_memory (call.Point point pool rank) one = refl
 making_takes_memory (call.Dependency dependency) one = refl
 making_takes_memory (call.Arena grains limit) one = refl
 making_takes_memory _ one = absurd (false≢true one)
-
--- a call on words reads or writes
-pub it_reads : (c : Call) → true ≡ reads_words c → true ≡ is_on_words c
-it_reads (call.Number slot cell) one = refl
-it_reads (call.Same slot other) one = refl
-it_reads (call.Null slot) one = refl
-it_reads (call.Head slot) one = refl
-it_reads (call.Address slot) one = refl
-it_reads (call.Load place word) one = refl
-it_reads _ one = absurd (false≢true (sym one))
-
-pub reads_or_writes : (c : Call) → false ≡ reads_words c → writes_words c ≡ is_on_words c
-reads_or_writes (call.Number slot cell) one = absurd (false≢true one)
-reads_or_writes (call.Same slot other) one = absurd (false≢true one)
-reads_or_writes (call.Null slot) one = absurd (false≢true one)
-reads_or_writes (call.Head slot) one = absurd (false≢true one)
-reads_or_writes (call.Address slot) one = absurd (false≢true one)
-reads_or_writes (call.Load place word) one = absurd (false≢true one)
-reads_or_writes _ one = refl

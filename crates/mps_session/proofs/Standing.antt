@@ -3,7 +3,7 @@ use Rattle.std.proofs.Common.{◌≡◌, ◌∙◌, ◌<◌, ℕ, Bool, true, fa
 use Rattle.std.proofs.lemmas.Bool.{and_parts, false≢true, lt-ltb}
 use Rattle.std.specs.Prelude.{◌↔◌, IfOk, if◌then◌else◌, nat_eq, not}
 use Rattle.mps_base.specs.declared.moves.Move.{Move}
-use Rattle.mps_commands.specs.RightAnswer.{step_in}
+use Rattle.mps_commands.specs.RightAnswer.{step_in, HasFewFlips}
 use Rattle.mps_format.specs.AnyFormat.{any_layout}
 use Rattle.mps_format.specs.Any.{front_number, mapped_number, numbered_layout}
 use Rattle.mps_format.specs.Front.{front_layout}
@@ -126,8 +126,8 @@ module _ (h after : HeapState AnyFormat) (c : Call) (moves : List Move) (given :
       (record { legal = refl; stands = subst (λ k. HeapStands k w) (sym same) st })
 
   pub answers_exactly : AnswersRightly (is_answered (can_collect h) c) h c moves given after → (w : World) → HeapStands h w
-      → IsExact w c given
-  answers_exactly answers w st = of_answer answers
+      → HasFewFlips w → IsExact w c given
+  answers_exactly answers w st few = of_answer answers
     where
       one_of : Bool
       one_of = is_answered (can_collect h) c
@@ -135,7 +135,7 @@ module _ (h after : HeapState AnyFormat) (c : Call) (moves : List Move) (given :
       made : is_unsupported_call w c ≡ not one_of
       made =
           ap (λ b. if b then not (is_answered (can_collect_world w) c) else not (is_arena c)) (lt-ltb 0 w.grains st.arena)
-          ∙ ap (λ collects. not (is_answered collects c)) (sym (collects_alike any_layout h w st.heap))
+          ∙ ap (λ collects. not (is_answered collects c)) (sym (collects_alike any_layout h w st.heap few))
 
       of_answer : AnswersRightly one_of h c moves given after → IsExact w c given
       of_answer (Answered one a) = (λ e. absurd (a.supported e), λ t. absurd (false≢true (sym (ap not one) ∙ sym made ∙ t)))

@@ -1,5 +1,5 @@
 -- What is built, and what takes memory.
-use Rattle.std.specs.Prelude.{◌≡◌, ◌∷◌, [], length, Bool, true, false, ◌&&◌, ◌||◌, nat_lt, not, if◌then◌else◌, None, refl}
+use Rattle.std.specs.Prelude.{◌≡◌, ◌∷◌, [], Bool, true, false, ◌&&◌, ◌||◌, nat_lt, not, if◌then◌else◌, None, refl}
 use Rattle.std.specs.List.{list_all}
 use Rattle.mps_base.specs.declared.names.Kind.TheVariants as kind
 use Rattle.mps_model.specs.declared.call.Call.{Call}
@@ -8,17 +8,15 @@ use Rattle.mps_model.specs.FirstCall.{is_arena}
 use Rattle.mps_model.specs.Graph.{empty_graph}
 use Rattle.mps_model.specs.World.{World, Pool, PoolKind, Collected, is_automatic_kind, is_copying_kind, empty_world}
 use Rattle.mps_commands.specs.Built.{Built}
-use Rattle.mps_outcome.specs.Collecting.{is_empty, most_flips}
+use Rattle.mps_outcome.specs.Collecting.{is_empty}
 
 -- whether a collection moves the blocks of pools of a kind, or leaves them alone
 abbrev pub is_moved_or_manual_kind : PoolKind → Bool
 is_moved_or_manual_kind of = not (is_automatic_kind of) || is_copying_kind of
 
--- whether everything can be collected in a world: each automatic pool moves its blocks, nothing is registered, and fewer flips came than a
--- heap counts
+-- whether everything can be collected in a world: each automatic pool moves its blocks, and nothing is registered
 abbrev pub can_collect_world : World → Bool
-can_collect_world w =
-    list_all (λ (p : Pool). is_moved_or_manual_kind p.kind) w.pools && is_empty w.graph.registered && nat_lt (length w.flips) most_flips
+can_collect_world w = list_all (λ (p : Pool). is_moved_or_manual_kind p.kind) w.pools && is_empty w.graph.registered
 
 -- whether the form of a call is built: all but chains of generations and what begins or drives a collection by steps; a collection of
 -- everything is where it can be done

@@ -1,5 +1,5 @@
 -- The calls that a heap answers, in groups.
-use Rattle.std.specs.Prelude.{Bool, true, false}
+use Rattle.std.specs.Prelude.{Bool, true, false, ◌||◌}
 use Rattle.mps_model.specs.declared.call.Call.{Call}
 use Rattle.mps_model.specs.declared.call.Call.TheVariants as call
 
@@ -15,24 +15,6 @@ may_move (call.Commit point target) = true
 may_move (call.Alloc pool words place) = true
 may_move (call.Free place) = true
 may_move _ = false
-
--- a call on slots, or on the words of objects, reservations and manual blocks
-abbrev pub is_on_words : Call → Bool
-is_on_words (call.Get target source cell) = true
-is_on_words (call.Put target cell source) = true
-is_on_words (call.Number slot cell) = true
-is_on_words (call.SetNumber slot cell value) = true
-is_on_words (call.Copy target source) = true
-is_on_words (call.Clear slot) = true
-is_on_words (call.Same slot other) = true
-is_on_words (call.Null slot) = true
-is_on_words (call.Head slot) = true
-is_on_words (call.Address slot) = true
-is_on_words (call.InitNumber point cell value) = true
-is_on_words (call.InitReference point cell source) = true
-is_on_words (call.Load place word) = true
-is_on_words (call.Store place word value) = true
-is_on_words _ = false
 
 -- a call that reads a slot, or a word of an object or a manual block
 abbrev pub reads_words : Call → Bool
@@ -55,6 +37,10 @@ writes_words (call.InitNumber point cell value) = true
 writes_words (call.InitReference point cell source) = true
 writes_words (call.Store place word value) = true
 writes_words _ = false
+
+-- a call of the groups that a script has most of
+abbrev pub is_frequent : Call → Bool
+is_frequent c = reads_words c || may_move c || writes_words c
 
 -- a call on an area, a registration, a message or a dependency
 abbrev pub is_on_areas : Call → Bool

@@ -1,13 +1,14 @@
 // Answers the calls on the heap of an arena.
-ghost use Rattle.std.specs.Prelude.{◌≡◌, ◌≤◌, IfOk, OnErr, IsTrue, []};
+ghost use Rattle.std.specs.Prelude.{◌≡◌, ◌≤◌, IfOk, OnErr, IsTrue, false, []};
 ghost use Rattle.mps_commands.specs.Range.{IsInRange};
 ghost use Rattle.mps_outcome.specs.Collecting.{can_collect};
 ghost use Rattle.mps_refinement.specs.RightMoving.{KeepsRoom};
 ghost use Rattle.mps_session.specs.Built.{is_answered, call_takes_memory};
+ghost use Rattle.mps_session.specs.Groups.{is_frequent};
 ghost use Rattle.mps_session.specs.Standing.{AnswersRightly, HeapStandsStill};
 ghost use Rattle.mps_trace.specs.Collect.{most_moves};
 
-use crate::{areas, arena, collecting, making, moving, objects};
+use crate::{areas, arena, collecting, making, moving, reading, writing};
 use mps_base::Trail;
 use mps_format::AnyFormat;
 use mps_heap::Heap;
@@ -29,14 +30,38 @@ pub fn answer(
     ensures memory { OnErr result (IsTrue (call_takes_memory call.now)) }
     ensures room { KeepsRoom trail.old trail.new }
 {
-    if let Call::Collect = *call {
-        return Ok(collecting::collect(heap, trail));
+    if let Some(reply) = reading::answer(heap, call) {
+        return Ok(reply);
     }
     if let Some(reply) = moving::answer(heap, trail, call) {
         return Ok(reply);
     }
-    if let Some(reply) = objects::answer(heap, call) {
+    if let Some(reply) = writing::answer(heap, call) {
         return Ok(reply);
+    }
+    answer_seldom(heap, trail, call)
+}
+
+/// Answers a call that is none of those of which a script has most, and appends its moves to the empty trail. An `Err` says that memory
+/// is out. It stands by itself, so that the others don't make room for what it calls.
+#[inline(never)]
+fn answer_seldom(
+    heap: &mut Heap<AnyFormat>,
+    trail: &mut Trail,
+    call: &Call,
+) -> Result<Reply, AllocError>
+    requires range { IsInRange call.now }
+    requires seldom { is_frequent call.now ≡ false }
+    requires empty { trail.old.moves ≡ [] }
+    requires fits { most_moves heap.old.segs.grains ≤ trail.old.spare }
+    ensures right { IfOk result (λ reply.
+        AnswersRightly (is_answered (can_collect heap.old) call.now) heap.old call.now trail.new.moves reply heap.new) }
+    ensures unchanged { OnErr result (HeapStandsStill heap.old heap.new) }
+    ensures memory { OnErr result (IsTrue (call_takes_memory call.now)) }
+    ensures room { KeepsRoom trail.old trail.new }
+{
+    if let Call::Collect = *call {
+        return Ok(collecting::collect(heap, trail));
     }
     if let Some(reply) = areas::answer(heap, call) {
         return Ok(reply);

@@ -8,11 +8,11 @@ mod collecting;
 mod made;
 mod making;
 mod moving;
-mod objects;
 mod reading;
 mod replies;
 mod session;
 #[cfg(test)]
 mod tests;
+mod writing;
 
 pub use session::Session;

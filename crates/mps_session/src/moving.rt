@@ -11,13 +11,14 @@ use mps_heap::Heap;
 use mps_model::{Call, Reply};
 
 /// Answers a call that may make moves, which it appends to the empty trail; `None` where it is another.
+#[inline(never)]
 pub fn answer(heap: &mut Heap<AnyFormat>, trail: &mut Trail, call: &Call) -> Option<Reply>
     requires empty { trail.old.moves ≡ [] }
     requires fits { 1 < trail.old.spare }
     ensures right { IfSome result (λ reply. IsAnswered heap.old call.now trail.new.moves reply heap.new) }
     ensures which { is_some result ≡ may_move call.now }
     ensures unchanged { IfNone result (heap.new ≡ heap.old) }
-    ensures unmoved { IfNone result (trail.new.moves ≡ []) }
+    ensures unmoved { IfNone result (trail.new ≡ trail.old) }
     ensures room { KeepsRoom trail.old trail.new }
 {
     match *call {

@@ -1,23 +1,19 @@
-use Rattle.std.proofs.Common.{◌∙◌}
-use Rattle.mps_outcome.specs.Collecting.{can_collect}
-use Rattle.mps_session.proofs.Answering.{answered_last, memory_last, still_last}
-use Rattle.mps_session.proofs.Groups.{left_over}
+use Rattle.std.proofs.Common.{◌∙◌, subst}
+use Rattle.mps_base.specs.Trail.{Moves}
+use Rattle.mps_refinement.specs.RightMoving.{KeepsRoom}
+use Rattle.mps_session.proofs.Answering.{answered_still, still_last}
 use Rattle.mps_session.proofs.calls.answer.Goals as goal
 
 pub returns : goal.returns
 returns c =
     let h = c.args.heap.now in
-    let call = c.args.call.now in
-    let same =
-    c.in_default-answer-4.ensures.unchanged ∙ c.in_default-answer-3.ensures.unchanged ∙ c.in_default-answer-2.ensures.unchanged
-    ∙ c.in_default-answer.ensures.unchanged in
-    let made =
-    left_over (can_collect h) call c.in_default.not-Collect c.in_default-answer.ensures.which c.in_default-answer-2.ensures.which
-    c.in_default-answer-3.ensures.which c.in_default-answer-4.ensures.which in
+    let same = c.in_default-answer-2.ensures.unchanged ∙ c.in_default-answer.ensures.unchanged in
     record {
-      right = answered_last h c.answer-4.new.heap c.answer-5.new.heap call c.answer-5.result c.answer.new.trail.moves (can_collect h) same
-          made c.in_default-answer.ensures.unmoved c.answer-5.ensures.right;
-      unchanged = still_last h c.answer-4.new.heap c.answer-5.new.heap call c.answer-5.result same c.answer-5.ensures.unchanged;
-      memory = memory_last call c.answer-5.result c.answer-5.ensures.memory;
-      room = c.answer.ensures.room;
+      right = answered_still h c.answer-3.new.heap c.answer_seldom.new.heap c.args.call.now c.answer_seldom.result same
+          c.answer_seldom.new.trail.moves c.answer_seldom.ensures.right;
+      unchanged = still_last h c.answer-3.new.heap c.answer_seldom.new.heap c.args.call.now c.answer_seldom.result same
+          c.answer_seldom.ensures.unchanged;
+      memory = c.answer_seldom.ensures.memory;
+      room = subst (λ (m : Moves). KeepsRoom m c.answer_seldom.new.trail) c.in_default-answer.ensures.unmoved
+          c.answer_seldom.ensures.room;
     }

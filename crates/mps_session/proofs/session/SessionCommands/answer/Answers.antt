@@ -12,9 +12,9 @@ returns-in-Some-clause-stands c =
 
 pub returns-in-Some-clause-unsupported : goal.returns-in-Some-clause-unsupported
 returns-in-Some-clause-unsupported c =
-    ok_then c.answer.result c.answer.ensures.right (λ given answers w stood.
+    ok_then c.answer.result c.answer.ensures.right (λ given answers w stood few.
     answers_exactly c.in-Some.made.heap c.answer.new.self.heap c.args.call.now c.answer.new.self.trail.moves given answers w
-    (subst (λ o. SessionStands o w) c.in-Some.is stood))
+    (subst (λ o. SessionStands o w) c.in-Some.is stood) few)
 
 pub returns-clause-legal : goal.returns-clause-legal
 returns-clause-legal c =
@@ -28,5 +28,5 @@ returns-clause-stands c =
 
 pub returns-clause-unsupported : goal.returns-clause-unsupported
 returns-clause-unsupported c =
-    ok_then c.begin.result c.begin.ensures.right (λ given begins w stood.
+    ok_then c.begin.result c.begin.ensures.right (λ given begins w stood few.
     begins_exactly c.args.call.now given c.begin.new.self.made begins w (subst (λ o. SessionStands o w) c.in_default.is stood))

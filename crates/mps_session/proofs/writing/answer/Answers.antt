@@ -1,5 +1,5 @@
 use Rattle.mps_session.proofs.Answering.{answered}
-use Rattle.mps_session.proofs.objects.write.Goals as goal
+use Rattle.mps_session.proofs.writing.answer.Goals as goal
 
 pub returns-in-Get-clause-right : goal.returns-in-Get-clause-right
 returns-in-Get-clause-right c = answered c.in-Get.is c.done.ensures c.get.ensures.right

@@ -1,29 +1,16 @@
-// Answers the calls on slots, and on the words of objects, reservations and manual blocks.
+// Answers the calls that write a slot, or a word of an object, a reservation or a manual block.
 ghost use Rattle.std.specs.Prelude.{◌≡◌, IfNone, IfSome, is_some, []};
-ghost use Rattle.mps_session.specs.Groups.{is_on_words, writes_words};
+ghost use Rattle.mps_session.specs.Groups.{writes_words};
 ghost use Rattle.mps_session.specs.Standing.{IsAnswered};
 
-use crate::reading;
 use crate::replies::done;
 use mps_format::AnyFormat;
 use mps_heap::Heap;
 use mps_model::{Call, Reply};
 
-/// Answers a call on slots or words; `None` where it is another.
-pub fn answer(heap: &mut Heap<AnyFormat>, call: &Call) -> Option<Reply>
-    ensures right { IfSome result (λ reply. IsAnswered heap.old call.now [] reply heap.new) }
-    ensures which { is_some result ≡ is_on_words call.now }
-    ensures unchanged { IfNone result (heap.new ≡ heap.old) }
-{
-    if let Some(reply) = reading::answer(heap, call) {
-        return Some(reply);
-    }
-    write(heap, call)
-}
-
 /// Answers a call that writes a slot or a word; `None` where it is another.
 #[inline(never)]
-fn write(heap: &mut Heap<AnyFormat>, call: &Call) -> Option<Reply>
+pub fn answer(heap: &mut Heap<AnyFormat>, call: &Call) -> Option<Reply>
     ensures right { IfSome result (λ reply. IsAnswered heap.old call.now [] reply heap.new) }
     ensures which { is_some result ≡ writes_words call.now }
     ensures unchanged { IfNone result (heap.new ≡ heap.old) }
