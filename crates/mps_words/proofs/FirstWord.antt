@@ -1,9 +1,11 @@
 -- The first word of a line, and the words after it.
-use Rattle.std.proofs.Common.{◌≡◌, ℕ, ◌+◌, ◌-◌, ◌<◌, Bool, true, false, not, List, [], ◌∷◌, length, take, drop, filter, refl, sym, ◌∙◌, ap, arith}
-use Rattle.std.specs.List.{slice_split, onto_first, position_or_len}
+use Rattle.std.proofs.Common.{◌≡◌, ℕ, ◌+◌, ◌-◌, ◌<◌, ◌≤◌, nat_lt, cond, Bool, true, false, not, Option, Some, None, List, [], ◌∷◌, length, take, drop, filter, refl, sym, ◌∙◌, ap, arith}
+use Rattle.std.specs.List.{position, slice_split, onto_first, position_or_len}
 use Rattle.std.proofs.lemmas.List.Splits.{slice_split-cons_yes, slice_split-cons_no}
+use Rattle.std.proofs.lemmas.Bool.Decides.{nat_tests}
 use Rattle.std.proofs.lemmas.Grind.{common_steps}
-use Rattle.mps_words.specs.Word.{words, is_space, is_nonempty}
+use Rattle.std.proofs.lemmas.List.Sums.{prefix_len-le-length}
+use Rattle.mps_words.specs.Word.{words, is_space, is_nonempty, only_word}
 
 -- how long the word at the front is
 abbrev pub until : List ℕ → ℕ
@@ -95,3 +97,32 @@ first_word (x ∷ xs) l = first_word_at x xs (is_space x) refl l (first_word xs)
 -- a slice from n on
 pub rest_is_all : (n : ℕ) (xs : List ℕ) → take (length xs - n) (drop n xs) ≡ drop n xs
 rest_is_all n xs = grind (arith, common_steps)
+
+-- ---- whether a word begins somewhere
+
+-- where the first word begins, where there is one
+abbrev begins_at : List ℕ → Option ℕ
+begins_at xs = position (λ b. not (is_space b)) xs
+
+blank_by : (xs : List ℕ) (t : Bool) → nat_lt (spaces xs) (length xs) ≡ t → None ≡ cond t (Some (spaces xs)) None → words xs ≡ []
+blank_by xs true e none = absurd (let clash : None ≡ Some (spaces xs) = none in cc)
+blank_by xs false e none =
+    let most : spaces xs ≤ length xs = prefix_len-le-length (λ b. not (not (is_space b))) xs in
+    no_words xs (grind (arith, nat_tests))
+
+begun_by : (xs : List ℕ) (at : ℕ) (t : Bool) → nat_lt (spaces xs) (length xs) ≡ t → Some at ≡ cond t (Some (spaces xs)) None
+    → spaces xs < length xs
+begun_by xs at true e some = grind (arith, nat_tests)
+begun_by xs at false e some = absurd (let clash : Some at ≡ None = some in cc)
+
+-- a word after which none begins is the only one
+pub only_one : (xs word rest : List ℕ) → words xs ≡ word ∷ words rest → None ≡ begins_at rest → only_word (words xs) ≡ Some word
+only_one xs word rest first none =
+    ap only_word (first ∙ ap (λ (ws : List (List ℕ)). word ∷ ws) (blank_by rest (nat_lt (spaces rest) (length rest)) refl none))
+
+-- one after which another begins isn't
+pub not_only_one : (xs word rest : List ℕ) (at : ℕ) → words xs ≡ word ∷ words rest → Some at ≡ begins_at rest
+    → only_word (words xs) ≡ None
+not_only_one xs word rest at first some =
+    ap only_word (first ∙ ap (λ (ws : List (List ℕ)). word ∷ ws)
+    (first_word rest (begun_by rest at (nat_lt (spaces rest) (length rest)) refl some)))

@@ -1,2 +1,4 @@
 pub mod FirstWord
 pub mod Heads
+pub mod NameBytes
+pub mod OneDigit

@@ -1,4 +1,5 @@
-// Words that follow one another, each in its form.
+// Words that follow one another, each in its form. All is inlined, so that what is read isn't copied before it stands in its
+// call.
 ghost use Rattle.std.specs.Prelude.{◌≡◌};
 ghost use Rattle.mps_numerals.specs.Decimal.{decimal_number as decimal_of};
 ghost use Rattle.mps_words.specs.Word.{words};
@@ -7,12 +8,12 @@ ghost use Rattle.mps_words.specs.Number.{number_of};
 ghost use Rattle.mps_words.specs.Name.{name_of, slot_of};
 
 use crate::names::{name_of, slot_of};
-use crate::number::number_of;
+use crate::number::{decimal_of, number_of};
 use crate::words::{next_word, only_word};
 use mps_base::{Name, Slot};
-use mps_numerals::decimal_number;
 
 /// A name.
+#[inline(always)]
 pub fn name(arguments: &[u8]) -> Option<Name>
     ensures { result ≡ single name_of (words arguments.now) }
 {
@@ -20,6 +21,7 @@ pub fn name(arguments: &[u8]) -> Option<Name>
 }
 
 /// A slot.
+#[inline(always)]
 pub fn slot(arguments: &[u8]) -> Option<Slot>
     ensures { result ≡ single slot_of (words arguments.now) }
 {
@@ -27,13 +29,15 @@ pub fn slot(arguments: &[u8]) -> Option<Slot>
 }
 
 /// A decimal number.
+#[inline(always)]
 pub fn decimal(arguments: &[u8]) -> Option<u64>
     ensures { result ≡ single decimal_of (words arguments.now) }
 {
-    decimal_number(only_word(arguments)?)
+    decimal_of(only_word(arguments)?)
 }
 
 /// A number in either form.
+#[inline(always)]
 pub fn value(arguments: &[u8]) -> Option<u64>
     ensures { result ≡ single number_of (words arguments.now) }
 {
@@ -41,6 +45,7 @@ pub fn value(arguments: &[u8]) -> Option<u64>
 }
 
 /// Two names.
+#[inline(always)]
 pub fn name_name(arguments: &[u8]) -> Option<(Name, Name)>
     ensures { result ≡ pair name_of name_of (words arguments.now) }
 {
@@ -49,6 +54,7 @@ pub fn name_name(arguments: &[u8]) -> Option<(Name, Name)>
 }
 
 /// A name and a slot.
+#[inline(always)]
 pub fn name_slot(arguments: &[u8]) -> Option<(Name, Slot)>
     ensures { result ≡ pair name_of slot_of (words arguments.now) }
 {
@@ -57,6 +63,7 @@ pub fn name_slot(arguments: &[u8]) -> Option<(Name, Slot)>
 }
 
 /// A name and a decimal number.
+#[inline(always)]
 pub fn name_decimal(arguments: &[u8]) -> Option<(Name, u64)>
     ensures { result ≡ pair name_of decimal_of (words arguments.now) }
 {
@@ -65,6 +72,7 @@ pub fn name_decimal(arguments: &[u8]) -> Option<(Name, u64)>
 }
 
 /// Two slots.
+#[inline(always)]
 pub fn slot_slot(arguments: &[u8]) -> Option<(Slot, Slot)>
     ensures { result ≡ pair slot_of slot_of (words arguments.now) }
 {
@@ -73,6 +81,7 @@ pub fn slot_slot(arguments: &[u8]) -> Option<(Slot, Slot)>
 }
 
 /// A slot and a decimal number.
+#[inline(always)]
 pub fn slot_decimal(arguments: &[u8]) -> Option<(Slot, u64)>
     ensures { result ≡ pair slot_of decimal_of (words arguments.now) }
 {
@@ -81,6 +90,7 @@ pub fn slot_decimal(arguments: &[u8]) -> Option<(Slot, u64)>
 }
 
 /// A slot and a number in either form.
+#[inline(always)]
 pub fn slot_value(arguments: &[u8]) -> Option<(Slot, u64)>
     ensures { result ≡ pair slot_of number_of (words arguments.now) }
 {
@@ -89,22 +99,25 @@ pub fn slot_value(arguments: &[u8]) -> Option<(Slot, u64)>
 }
 
 /// A decimal number and a slot.
+#[inline(always)]
 pub fn decimal_slot(arguments: &[u8]) -> Option<(u64, Slot)>
     ensures { result ≡ pair decimal_of slot_of (words arguments.now) }
 {
     let (word, rest) = next_word(arguments)?;
-    Some((decimal_number(word)?, slot(rest)?))
+    Some((decimal_of(word)?, slot(rest)?))
 }
 
 /// A decimal number, and a number in either form.
+#[inline(always)]
 pub fn decimal_value(arguments: &[u8]) -> Option<(u64, u64)>
     ensures { result ≡ pair decimal_of number_of (words arguments.now) }
 {
     let (word, rest) = next_word(arguments)?;
-    Some((decimal_number(word)?, value(rest)?))
+    Some((decimal_of(word)?, value(rest)?))
 }
 
 /// A name, a decimal number and a slot.
+#[inline(always)]
 pub fn name_decimal_slot(arguments: &[u8]) -> Option<(Name, (u64, Slot))>
     ensures { result ≡ onto name_of (pair decimal_of slot_of) (words arguments.now) }
 {
@@ -113,6 +126,7 @@ pub fn name_decimal_slot(arguments: &[u8]) -> Option<(Name, (u64, Slot))>
 }
 
 /// A slot, a decimal number, and a number in either form.
+#[inline(always)]
 pub fn slot_decimal_value(arguments: &[u8]) -> Option<(Slot, (u64, u64))>
     ensures { result ≡ onto slot_of (pair decimal_of number_of) (words arguments.now) }
 {
@@ -121,6 +135,7 @@ pub fn slot_decimal_value(arguments: &[u8]) -> Option<(Slot, (u64, u64))>
 }
 
 /// A slot, a decimal number and a slot.
+#[inline(always)]
 pub fn slot_decimal_slot(arguments: &[u8]) -> Option<(Slot, (u64, Slot))>
     ensures { result ≡ onto slot_of (pair decimal_of slot_of) (words arguments.now) }
 {
@@ -129,6 +144,7 @@ pub fn slot_decimal_slot(arguments: &[u8]) -> Option<(Slot, (u64, Slot))>
 }
 
 /// Two slots and a decimal number.
+#[inline(always)]
 pub fn slot_slot_decimal(arguments: &[u8]) -> Option<(Slot, (Slot, u64))>
     ensures { result ≡ onto slot_of (pair slot_of decimal_of) (words arguments.now) }
 {

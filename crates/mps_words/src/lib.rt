@@ -14,5 +14,5 @@ pub use arguments::{
 };
 pub use head::head_of;
 pub use names::{name_of, slot_of};
-pub use number::{number_of, number_within, prefixed_hexadecimal};
+pub use number::{decimal_of, number_of, number_within, prefixed_hexadecimal};
 pub use words::{MAX_LINE_BYTES, is_word, next_word, only_word};

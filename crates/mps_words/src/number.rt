@@ -1,8 +1,20 @@
 // Numbers as words.
 ghost use Rattle.std.specs.Prelude.{◌≡◌};
+ghost use Rattle.mps_numerals.specs.Decimal.{decimal_number as decimal_of};
 ghost use Rattle.mps_words.specs.Number.{prefixed_hexadecimal, number_of, number_within};
 
 use mps_numerals::{decimal_number, hexadecimal_number};
+
+/// A decimal number. Most have one digit, which needs no loop.
+#[inline(always)]
+pub fn decimal_of(word: &[u8]) -> Option<u64>
+    ensures { result ≡ decimal_of word.now }
+{
+    match word {
+        [digit @ b'0'..=b'9'] => Some(u64::from(*digit - b'0')),
+        _ => decimal_number(word),
+    }
+}
 
 /// A hexadecimal number, after `0x`.
 pub fn prefixed_hexadecimal(word: &[u8]) -> Option<u64>

@@ -10,6 +10,7 @@ use mps_base::length_before;
 pub const MAX_LINE_BYTES: usize = 4096;
 
 /// The index of the first byte of a word, where there is one.
+#[inline(always)]
 fn start_of_word(bytes: &[u8]) -> Option<usize>
     ensures index { result ≡ position (λ byte. not (is_space byte)) bytes.now }
     ensures in_bounds { IfSome result (λ index. index < length bytes.now) }
@@ -18,6 +19,7 @@ fn start_of_word(bytes: &[u8]) -> Option<usize>
 }
 
 /// How many spaces stand before the first word.
+#[inline(always)]
 fn length_of_spaces(bytes: &[u8]) -> usize
     ensures length { result ≡ position_or_len (λ byte. not (is_space byte)) bytes.now }
     ensures at_most { result ≤ length bytes.now }
@@ -26,6 +28,7 @@ fn length_of_spaces(bytes: &[u8]) -> usize
 }
 
 /// What stands before and after the first such byte, where there is one.
+#[inline(always)]
 pub fn cut(byte: u8, word: &[u8]) -> Option<(&[u8], &[u8])>
     ensures { MatchOption result (cut_at byte word.now ≡ None) (λ p. cut_at byte word.now ≡ Some (p.0.now, p.1.now)) }
 {
@@ -37,6 +40,7 @@ pub fn cut(byte: u8, word: &[u8]) -> Option<(&[u8], &[u8])>
 }
 
 /// The first word, and what stands after it; none where there are spaces alone.
+#[inline(always)]
 pub fn next_word(bytes: &[u8]) -> Option<(&[u8], &[u8])>
     ensures { MatchOption result (words bytes.now ≡ []) (λ p. words bytes.now ≡ p.0.now ∷ words p.1.now) }
 {
@@ -66,11 +70,12 @@ pub fn is_word(word: &[u8], text: &[u8]) -> bool
 }
 
 /// The one word, where there is one and no other.
+#[inline(always)]
 pub fn only_word(bytes: &[u8]) -> Option<&[u8]>
     ensures { MatchOption result (only_word (words bytes.now) ≡ None) (λ word. only_word (words bytes.now) ≡ Some word.now) }
 {
     let (word, rest) = next_word(bytes)?;
-    match next_word(rest) {
+    match start_of_word(rest) {
         None => Some(word),
         Some(_) => None,
     }
