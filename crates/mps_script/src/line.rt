@@ -1,5 +1,6 @@
 // The call of a line.
 ghost use Rattle.std.specs.Prelude.{◌≡◌};
+ghost use Rattle.mps_script.specs.Filled.{found};
 ghost use Rattle.mps_script.specs.Line.{begins_comment, call_of_line};
 
 use crate::commands::command_call;
@@ -20,22 +21,22 @@ fn is_comment(word: &[u8]) -> bool
     }
 }
 
-/// The call of a line, which has no line feed; none where it is empty, of spaces alone or a comment.
-pub fn call_of(line: &[u8]) -> Result<Option<Call>, BadLine>
-    ensures { result ≡ call_of_line line.now }
+/// Writes the call of a line, which has no line feed, and returns true; false where the line has no call: where it is empty,
+/// of spaces alone or a comment.
+pub fn call_of(line: &[u8], into: &mut Call) -> Result<bool, BadLine>
+    ensures { found result into.new ≡ call_of_line line.now }
 {
     if line.len() > MAX_LINE_BYTES {
         return Err(BadLine);
     }
     let Some((word, arguments)) = next_word(line) else {
-        return Ok(None);
+        return Ok(false);
     };
     if is_comment(word) {
-        return Ok(None);
+        return Ok(false);
     }
-    let mut call = Call::Committed;
-    match command_call(word, arguments, &mut call) {
+    match command_call(word, arguments, into) {
         None => Err(BadLine),
-        Some(()) => Ok(Some(call)),
+        Some(()) => Ok(true),
     }
 }

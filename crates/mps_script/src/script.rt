@@ -1,6 +1,7 @@
 // The call of the next line of a script.
 ghost use Rattle.std.specs.Prelude.{◌≡◌};
 ghost use Rattle.mps_model.specs.FirstCall.{is_arena};
+ghost use Rattle.mps_script.specs.Filled.{found};
 ghost use Rattle.mps_script.specs.Line.{call_of_line};
 ghost use Rattle.mps_script.specs.Script.{has_turn, in_turn};
 
@@ -15,16 +16,16 @@ fn has_turn(has_arena: bool, call: &Call) -> bool
     is_arena != has_arena
 }
 
-/// The call of the next line of a script. Before it a line had a call, and so made the arena, or none had. A first command
-/// other than `arena`, and a second `arena`, are bad.
-pub fn next_call(has_arena: bool, line: &[u8]) -> Result<Option<Call>, BadLine>
-    ensures { result ≡ in_turn has_arena (call_of_line line.now) }
+/// Writes the call of the next line of a script, and returns true; false where the line has no call. Before it a line had a
+/// call, and so made the arena, or none had. A first command other than `arena`, and a second `arena`, are bad.
+pub fn next_call(has_arena: bool, line: &[u8], into: &mut Call) -> Result<bool, BadLine>
+    ensures { found result into.new ≡ in_turn has_arena (call_of_line line.now) }
 {
-    let Some(call) = call_of(line)? else {
-        return Ok(None);
-    };
-    if !has_turn(has_arena, &call) {
+    if !call_of(line, into)? {
+        return Ok(false);
+    }
+    if !has_turn(has_arena, into) {
         return Err(BadLine);
     }
-    Ok(Some(call))
+    Ok(true)
 }
