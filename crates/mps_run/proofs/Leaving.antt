@@ -30,7 +30,7 @@ use Rattle.mps_run.specs.Leaving.{Part, Nothing, SomeRecords, SomeAnswer, IsPart
 use Rattle.mps_run.specs.Running.{IsBegun, IsPartOf, IsReason, LineStops}
 use Rattle.mps_run.specs.Script.{Line, answers_of, commands_of_call, commands_from, max_lines}
 use Rattle.mps_run.proofs.LineByLine.{first_line, commands_more, grammar_more}
-use Rattle.mps_run.proofs.SoFar.{SoFar, ReadUpTo, ReadSoFar, IsKnown, known_rest, unsupported-append}
+use Rattle.mps_run.proofs.SoFar.{SoFar, ReadUpTo, ReadSoFar, IsKnown, few_flips, known_rest, unsupported-append}
 
 -- ---- between two lines, where nothing more was printed or logged
 
@@ -152,7 +152,7 @@ module _ (built : Built) (stands : World → Type 0) (p : Progress) (old now mid
     legal = IsLegalFrom-append empty_world f.history (step ∷ []) f.come.run.legal
         (b.legal (world_after_history f.history) f.come.stands_for);
     unsupported = unsupported-append built empty_world f.history (step ∷ []) f.come.run.unsupported
-        (b.unsupported (world_after_history f.history) f.come.stands_for);
+        (b.unsupported (world_after_history f.history) f.come.stands_for (few_flips built stands p f.ran f.history f.come));
   }
 
   of_next : (later : List Line) (part : Part) → take 1 later ≡ line ∷ []

@@ -1,9 +1,9 @@
 -- A script line by line.
-use Rattle.std.proofs.Common.{◌≡◌, ℕ, ◌+◌, ◌<◌, ◌≤◌, Bool, true, false, List, [], ◌∷◌, ◌++◌, length, take, drop, refl, sym, ◌∙◌, ap, arith, append_assoc, append-nil}
+use Rattle.std.proofs.Common.{◌≡◌, ℕ, ◌+◌, ◌<◌, ◌≤◌, Bool, true, false, List, [], ◌∷◌, ◌++◌, length, take, drop, refl, sym, ◌∙◌, ap, arith, append_assoc, append-nil, length-append}
 use Rattle.std.specs.Prelude.{Option, Some, None, Result, Ok, Err, map}
 use Rattle.std.specs.List.{slice_split}
 use Rattle.std.proofs.lemmas.List.Splits.{slice_split-cons_yes, slice_split-cons_no}
-use Rattle.std.proofs.lemmas.List.{drop-drop, map-append}
+use Rattle.std.proofs.lemmas.List.{drop-drop, length-map, map-append}
 use Rattle.std.proofs.lemmas.Grind.{common_steps}
 use Rattle.mps_model.specs.declared.call.Call.{Call}
 use Rattle.mps_model.specs.Step.{Step, History}
@@ -116,6 +116,21 @@ calls_of_answered (s ∷ h) = ap (λ (cs : List Call). s.call ∷ cs) (calls_of_
 
 calls_known : (h : History) (ls : List (List ℕ)) → commands_of h ≡ commands_from 1 ls → calls_of_history h ≡ calls_of ls
 calls_known h ls e = sym (calls_of_answered h) ∙ (ap (map call_of_command) e ∙ calls_of_commands 1 ls)
+
+few_of_call : (line : ℕ) (r : Result (Option Call) BadLine) → length (commands_of_call line r) ≤ 1
+few_of_call line (Ok (Some c)) = omega arith
+few_of_call line (Ok None) = omega arith
+few_of_call line (Err bad) = omega arith
+
+few_commands : (line : ℕ) (ls : List (List ℕ)) → length (commands_from line ls) ≤ length ls
+few_commands line [] = omega arith
+few_commands line (l ∷ ls) =
+    let both = length-append (commands_of_call line (call_of_line l)) (commands_from (line + 1) ls) in
+    omega (arith, both, few_of_call line (call_of_line l), few_commands (line + 1) ls)
+
+-- a history that answers the commands of lines has no more steps than there are lines
+pub few_steps : (h : History) (ls : List (List ℕ)) → commands_of h ≡ commands_from 1 ls → length h ≤ length ls
+few_steps h ls e = omega (arith, length-map h command_of_step, ap length e, few_commands 1 ls)
 
 -- with one line more they are a script exactly where that line has its turn
 pub grammar_more : (h : History) (ran : List (List ℕ)) (line : List ℕ) → is_grammatical ran ≡ true → commands_of h ≡ commands_from 1 ran

@@ -10,8 +10,10 @@ use Rattle.mps_model.specs.History.{world_after, world_after_steps, world_after_
 use Rattle.mps_model.specs.Text.{line_of_answer}
 use Rattle.mps_model.proofs.Appending.{log_from-append, IsLegalFrom-append, world_after_steps-append}
 use Rattle.mps_format.specs.Any.{numbered_layout}
+use Rattle.mps_laws.proofs.Flipping.{no_more_than_steps}
 use Rattle.mps_laws.proofs.Replay.{log_replays}
 use Rattle.mps_commands.specs.Built.{Built}
+use Rattle.mps_commands.specs.RightAnswer.{HasFewFlips}
 use Rattle.mps_script.specs.Line.{lines_of, call_of_line}
 use Rattle.mps_script.specs.Script.{has_arena_after, is_good_after, is_some_call}
 use Rattle.mps_report.specs.Streams.{appended}
@@ -21,7 +23,7 @@ use Rattle.mps_lines.specs.declared.next.Next.TheVariants as next
 use Rattle.mps_run.specs.declared.progress.Progress.{Progress}
 use Rattle.mps_run.specs.Running.{LineRan, not_begun}
 use Rattle.mps_run.specs.Script.{Line, HasRun, AreUnsupportedWhereDue, answers_of, commands_of, commands_of_call, max_lines}
-use Rattle.mps_run.proofs.LineByLine.{first_line, calls_of_history, commands_more, grammar_more, arena_more}
+use Rattle.mps_run.proofs.LineByLine.{first_line, calls_of_history, commands_more, few_steps, grammar_more, arena_more}
 
 -- these lines were run, and this history answers their commands, wherever they came from: the machine stands for the world after
 -- it
@@ -67,6 +69,14 @@ at_start built stands p o is h = record {
   logged = appended_empty o.logged;
 }
 
+-- few flips came: no more than steps, and no more steps than lines
+pub few_flips : (built : Built) (stands : World → Type 0) (p : Progress) (ran : List Line) (history : History)
+    → HasCome built stands p ran history → HasFewFlips (world_after_history history)
+few_flips built stands p ran history c =
+    let flips : length (world_after_history history).flips ≤ length history = no_more_than_steps numbered_layout history c.run.legal in
+    let steps : length history ≤ length ran = few_steps history ran c.run.commands in
+    omega (arith, flips, steps, c.run.bounded)
+
 -- ---- one line more
 
 pub unsupported-append : (built : Built) (w : World) (h steps : History) → AreUnsupportedWhereDue built w h
@@ -96,7 +106,7 @@ module _ (built : Built) (stood stands_now : World → Type 0) (p q : Progress) 
         commands = commands_more history l.ran.steps ran line c.run.commands steps_answer;
         legal = legal;
         unsupported = unsupported-append built empty_world history l.ran.steps c.run.unsupported
-            (l.ran.answered.unsupported (world_after_history history) c.stands_for);
+            (l.ran.answered.unsupported (world_after_history history) c.stands_for (few_flips built stood p ran history c));
         replayed = log_replays numbered_layout (history ++ l.ran.steps) legal;
       }
 

@@ -80,7 +80,7 @@ module _ (built : Built) (stood stands_now : World → Type 0) (line : ℕ) (cal
   begun = record {
     answers = refl;
     legal = λ w s. (is.legal w line s, tt);
-    unsupported = λ w s. (unsupported_answer words given (built.is_unsupported w call) (is.unsupported w s), tt);
+    unsupported = λ w s few. (unsupported_answer words given (built.is_unsupported w call) (is.unsupported w s few), tt);
   }
 
   module _ (pools pools_after : ℕ) (old new : Outside) where
@@ -151,7 +151,7 @@ module _ (built : Built) (stood stands_now : World → Type 0) (p : Progress) (l
           answered = record {
             answers = sym (ap (commands_of_call (p.lines + 1)) e);
             legal = λ w s. tt;
-            unsupported = λ w s. tt;
+            unsupported = λ w s few. tt;
             stands = λ w s. s;
           };
           pools = omega arith;

@@ -8,6 +8,7 @@ use Rattle.mps_model.specs.Log.{log_from, pools_made}
 use Rattle.mps_model.specs.World.{World}
 use Rattle.mps_model.specs.History.{IsLegalFrom, world_after_steps}
 use Rattle.mps_commands.specs.Built.{Built}
+use Rattle.mps_commands.specs.RightAnswer.{HasFewFlips}
 use Rattle.mps_script.specs.Line.{call_of_line}
 use Rattle.mps_script.specs.Script.{is_good_after, has_arena_after}
 use Rattle.mps_report.specs.Streams.{appended}
@@ -24,11 +25,11 @@ abbrev pub not_begun : Progress
 not_begun = record { lines = 0; has_arena = false; pools = 0 }
 
 -- the machine made steps that answer these commands, in each world for which it stood: they are legal, `unsupported` where that
--- is due, and the machine stands for the world after them
+-- is due if few flips came, and the machine stands for the world after them
 pub record HasAnswered (built : Built) (stood stands_now : World → Type 0) (commands : List ScriptCommand) (steps : History) : Type 0 where
   pub answers : commands_of steps ≡ commands
   pub legal : (w : World) → stood w → IsLegalFrom w steps
-  pub unsupported : (w : World) → stood w → AreUnsupportedWhereDue built w steps
+  pub unsupported : (w : World) → stood w → HasFewFlips w → AreUnsupportedWhereDue built w steps
   pub stands : (w : World) → stood w → stands_now (world_after_steps w steps)
 
 -- steps were made that answer these commands; what was logged is their records, and what was printed the answer line of each
@@ -56,7 +57,7 @@ pub record LineRan (built : Built) (stood stands_now : World → Type 0) (before
 pub record IsBegun (built : Built) (stood : World → Type 0) (commands : List ScriptCommand) (step : Step) : Type 0 where
   pub answers : command_of_step step ∷ [] ≡ commands
   pub legal : (w : World) → stood w → IsLegalFrom w (step ∷ [])
-  pub unsupported : (w : World) → stood w → AreUnsupportedWhereDue built w (step ∷ [])
+  pub unsupported : (w : World) → stood w → HasFewFlips w → AreUnsupportedWhereDue built w (step ∷ [])
 
 -- the part is one of these commands
 abbrev pub IsPartOf : Built → (stood : World → Type 0) → List ScriptCommand → Part → Type 0

@@ -15,6 +15,7 @@ use crate::step::run_line;
 use mps_commands::Commands;
 use mps_desk::Desk;
 use mps_lines::{Lines, Next};
+use mps_model::Call;
 use mps_report::Stop;
 
 /// Runs the lines, and then has written what waits. A fault of that comes before the end of the lines, and is the ending.
@@ -119,6 +120,8 @@ fn run_lines<D: Desk, C: Commands>(
         → Leaves C.built result [] script (D.outside desk.old) (D.outside desk.new) }
 {
     let mut progress = Progress::new();
+    // One place for the call of each line, so that none is copied.
+    let mut call = Call::Committed;
     loop {
         let next = match next_line(desk, lines) {
             Ok(next) => next,
@@ -136,7 +139,7 @@ fn run_lines<D: Desk, C: Commands>(
         if progress.lines == u32::MAX {
             return Err(Stop::TooLong);
         }
-        match run_line(desk, commands, &mut progress, lines.line()) {
+        match run_line(desk, commands, &mut progress, lines.line(), &mut call) {
             Ok(()) => {}
             Err(stop) => return Err(stop),
         }

@@ -56,6 +56,7 @@ fn log_moves<D: Desk>(desk: &mut D, line: u32, moves: &[Move]) -> Result<(), Fai
 }
 
 /// Writes the record of a move.
+#[inline(never)]
 fn log_move<D: Desk>(desk: &mut D, line: u32, moved: &Move) -> Result<(), Failed>
     ensures logged { OnOk result (Logs (D.outside desk.old) (D.outside desk.new) (record_bytes (record_of moved.now line))) }
     ensures failed { OnErr result (LogsPart (D.outside desk.old) (D.outside desk.new) (record_bytes (record_of moved.now line))) }
@@ -133,8 +134,30 @@ fn log_command<D: Desk>(
     }
 }
 
-/// Writes the record of an accepted command, where it has one. A new pool's number is that of the pools before it.
+/// Writes the record of an accepted command, where it has one. Few have: what writes theirs isn't inlined, as its places for
+/// fields would be cleared for each command.
 fn log_accepted<D: Desk>(desk: &mut D, line: u32, pools: u64, call: &Call) -> Result<(), Failed>
+    ensures logged { OnOk result (Logs (D.outside desk.old) (D.outside desk.new)
+        (records_bytes (records_of_accepted pools call.now line))) }
+    ensures failed { OnErr result (LogsPart (D.outside desk.old) (D.outside desk.new)
+        (records_bytes (records_of_accepted pools call.now line))) }
+{
+    match *call {
+        Call::Arena { .. }
+        | Call::Limit { .. }
+        | Call::Pool { .. }
+        | Call::PoolOnChain { .. }
+        | Call::PoolMfs { .. }
+        | Call::PoolMvff { .. } => log_made(desk, line, pools, call),
+        _ => Ok(()),
+    }
+}
+
+/// Writes the record of an accepted command that makes a pool or the arena, or sets its limit; of another command nothing. A new
+/// pool's number is that of the pools before it.
+#[cold]
+#[inline(never)]
+fn log_made<D: Desk>(desk: &mut D, line: u32, pools: u64, call: &Call) -> Result<(), Failed>
     ensures logged { OnOk result (Logs (D.outside desk.old) (D.outside desk.new)
         (records_bytes (records_of_accepted pools call.now line))) }
     ensures failed { OnErr result (LogsPart (D.outside desk.old) (D.outside desk.new)

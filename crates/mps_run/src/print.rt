@@ -40,7 +40,9 @@ fn words_at(words: &[u64], at: Addr, count: u32) -> &[u64]
     &rest[..(count as usize).min(rest.len())]
 }
 
-/// Prints the line of words.
+/// Prints the line of words. It isn't inlined, as `print` has no words as a rule.
+#[cold]
+#[inline(never)]
 fn print_words<D: Desk>(desk: &mut D, words: &[u64]) -> Result<(), Failed>
     ensures printed { OnOk result (Prints (D.outside desk.old) (D.outside desk.new) (line_of_answer (Dumped words.now))) }
     ensures failed { OnErr result (PrintsPart (D.outside desk.old) (D.outside desk.new) (line_of_answer (Dumped words.now))) }

@@ -21,12 +21,13 @@ use mps_model::{Call, Reply};
 use mps_report::Stop;
 use mps_script::next_call;
 
-/// Runs the line after those that were run, wherever it comes from.
+/// Runs the line after those that were run, wherever it comes from. `call` is where its call is written.
 pub fn run_line<D: Desk, C: Commands>(
     desk: &mut D,
     commands: &mut C,
     progress: &mut Progress,
     bytes: &[u8],
+    call: &mut Call,
 ) -> Result<(), Stop<BadScriptLine>>
     requires bounded { progress.old.lines < 4294967295 }
     requires pools { progress.old.pools ≤ progress.old.lines }
@@ -41,15 +42,15 @@ pub fn run_line<D: Desk, C: Commands>(
     ensures runs { RunsOn (D.outside desk.old) (D.outside desk.new) }
 {
     let line = progress.lines + 1;
-    match next_call(progress.has_arena, bytes) {
-        Ok(None) => {
+    match next_call(progress.has_arena, bytes, call) {
+        Ok(false) => {
             progress.lines = line;
             Ok(())
         }
-        Ok(Some(call)) => {
+        Ok(true) => {
             progress.lines = line;
             progress.has_arena = true;
-            run_call(desk, commands, line, &mut progress.pools, &call)
+            run_call(desk, commands, line, &mut progress.pools, call)
         }
         Err(_) => Err(Stop::Bad(BadScriptLine { line })),
     }

@@ -1,4 +1,7 @@
-use Rattle.std.proofs.Common.{◌≡◌, Ok, Some, None}
+use Rattle.std.proofs.Common.{◌≡◌, ◌∙◌, ap, sym, Bool, Option, Some, None, Result, Ok}
+use Rattle.mps_model.specs.declared.call.Call.{Call}
+use Rattle.mps_script.specs.declared.line.BadLine.{BadLine}
+use Rattle.mps_script.specs.Filled.{found}
 use Rattle.mps_script.specs.Line.{call_of_line}
 use Rattle.mps_script.specs.Script.{in_turn}
 use Rattle.mps_script.proofs.Scripts.{turn_taken}
@@ -7,32 +10,42 @@ use Rattle.mps_run.proofs.InRange.{call_in_range}
 use Rattle.mps_run.proofs.Steps.{empty_line, line_ran, line_stops}
 use Rattle.mps_run.proofs.step.run_line.Goals as goal
 
+-- what a line has, by what was returned of it and the call that was written
+read_as : {returned : Result Bool BadLine} {own has_call : Bool} (call : Call) {line : Result (Option Call) BadLine}
+    → found returned call ≡ line → returned ≡ Ok own → own ≡ has_call → line ≡ found (Ok has_call) call
+read_as {returned} {own} {has_call} call {line} reads is test =
+    sym reads ∙ ap (λ (r : Result Bool BadLine). found r call) is ∙ ap (λ (b : Bool). found (Ok b) call) test
+
 pub run_call-requires-clause-range : goal.run_call-requires-clause-range
 run_call-requires-clause-range g c =
-    call_in_range c.args.bytes.now c.in-Ok-Some.call
-    (turn_taken c.args.progress.now.has_arena (call_of_line c.args.bytes.now) (Some c.in-Ok-Some.call) (cc))
+    call_in_range c.args.bytes.now c.next_call.new.into
+    (turn_taken c.args.progress.now.has_arena (call_of_line c.args.bytes.now) (Some c.next_call.new.into)
+    (read_as c.next_call.new.into c.next_call.ensures c.in-Ok-true.is c.in-Ok-true.field-0-test))
 
-pub returns-in-Ok-None-clause-ran : goal.returns-in-Ok-None-clause-ran
-returns-in-Ok-None-clause-ran g c =
-    let turn : in_turn c.args.progress.now.has_arena (call_of_line c.args.bytes.now) ≡ Ok None = cc in
+pub returns-in-Ok-false-clause-ran : goal.returns-in-Ok-false-clause-ran
+returns-in-Ok-false-clause-ran g c =
+    let turn : in_turn c.args.progress.now.has_arena (call_of_line c.args.bytes.now) ≡ Ok None =
+    read_as c.next_call.new.into c.next_call.ensures c.in-Ok-false.is c.in-Ok-false.field-0-test in
     empty_line g.C.Commands.built (g.C.Commands.stands_for c.args.commands.now) (g.C.Commands.stands_for c.args.commands.now)
     c.args.progress.now c.args.bytes.now (g.D.Desk.outside c.args.desk.now) (g.D.Desk.outside c.args.desk.now) turn
 
-pub returns-in-Ok-None-clause-takes : goal.returns-in-Ok-None-clause-takes
-returns-in-Ok-None-clause-takes g c = takes_self (g.D.Desk.outside c.args.desk.now)
+pub returns-in-Ok-false-clause-takes : goal.returns-in-Ok-false-clause-takes
+returns-in-Ok-false-clause-takes g c = takes_self (g.D.Desk.outside c.args.desk.now)
 
-pub returns-in-Ok-Some-clause-ran : goal.returns-in-Ok-Some-clause-ran
-returns-in-Ok-Some-clause-ran g c =
-    let turn : in_turn c.args.progress.now.has_arena (call_of_line c.args.bytes.now) ≡ Ok (Some c.in-Ok-Some.call) = cc in
+pub returns-in-Ok-true-clause-ran : goal.returns-in-Ok-true-clause-ran
+returns-in-Ok-true-clause-ran g c =
+    let turn : in_turn c.args.progress.now.has_arena (call_of_line c.args.bytes.now) ≡ Ok (Some c.next_call.new.into) =
+    read_as c.next_call.new.into c.next_call.ensures c.in-Ok-true.is c.in-Ok-true.field-0-test in
     line_ran g.C.Commands.built (g.C.Commands.stands_for c.args.commands.now) (g.C.Commands.stands_for c.run_call.new.commands)
-    c.args.progress.now c.args.bytes.now (g.D.Desk.outside c.args.desk.now) (g.D.Desk.outside c.run_call.new.desk) c.in-Ok-Some.call
+    c.args.progress.now c.args.bytes.now (g.D.Desk.outside c.args.desk.now) (g.D.Desk.outside c.run_call.new.desk) c.next_call.new.into
     c.run_call.new.pools c.run_call.result turn c.run_call.ensures.ran
 
-pub returns-in-Ok-Some-clause-stops : goal.returns-in-Ok-Some-clause-stops
-returns-in-Ok-Some-clause-stops g c =
-    let turn : in_turn c.args.progress.now.has_arena (call_of_line c.args.bytes.now) ≡ Ok (Some c.in-Ok-Some.call) = cc in
+pub returns-in-Ok-true-clause-stops : goal.returns-in-Ok-true-clause-stops
+returns-in-Ok-true-clause-stops g c =
+    let turn : in_turn c.args.progress.now.has_arena (call_of_line c.args.bytes.now) ≡ Ok (Some c.next_call.new.into) =
+    read_as c.next_call.new.into c.next_call.ensures c.in-Ok-true.is c.in-Ok-true.field-0-test in
     line_stops g.C.Commands.built (g.C.Commands.stands_for c.args.commands.now) (g.C.Commands.stands_for c.run_call.new.commands)
-    c.args.progress.now c.args.bytes.now (g.D.Desk.outside c.args.desk.now) (g.D.Desk.outside c.run_call.new.desk) c.in-Ok-Some.call
+    c.args.progress.now c.args.bytes.now (g.D.Desk.outside c.args.desk.now) (g.D.Desk.outside c.run_call.new.desk) c.next_call.new.into
     c.run_call.result turn c.run_call.ensures.stops
 
 pub returns-in-Err-clause-takes : goal.returns-in-Err-clause-takes
