@@ -24,7 +24,7 @@ use Rattle.mps_report.proofs.Appended.{appended_empty, appended_both}
 use Rattle.mps_log_reader.proofs.PutOut.{put_same, put_more}
 use Rattle.mps_log_reader.proofs.Records.{none_yet, all_and_one, flat_one}
 use Rattle.mps_cnv.specs.Portable.{line_of_kinds}
-use Rattle.mps_cnv.specs.Converting.{PendingGives, NextGives, PutsLines, AllGive}
+use Rattle.mps_cnv.specs.Converting.{PendingConverts, NextConverts, PutsLines, AllGive}
 
 -- ---- one record
 
@@ -32,8 +32,8 @@ use Rattle.mps_cnv.specs.Converting.{PendingGives, NextGives, PutsLines, AllGive
 pub next_gives : (version : Version) (kinds offset : ℕ) (a b c : Outside) (x y : Buffered) (p q r : List ℕ) (size : Option ℕ)
     → IsAtEnd a x → ReadsMore a b x y → (y.ended ≡ false → y.failed ≡ false → 40 ≤ length y.pending) → FlushedPrefix b c p q
     → c.input ≡ b.input
-    → PendingGives version kinds offset y q r (Ok size)
-    → NextGives version kinds offset (left_of a x) (left_of c (record y { pending = drop (unwrap_or size 0) y.pending })) (put_out a p)
+    → PendingConverts version kinds offset y q r (Ok size)
+    → NextConverts version kinds offset (left_of a x) (left_of c (record y { pending = drop (unwrap_or size 0) y.pending })) (put_out a p)
     (put_out c r) (Ok size)
 next_gives version kinds offset a b c x y p q r None at_end reads enough kept same gives =
     let left : left_of b y ≡ left_of a x = left_same a b x y reads in
@@ -62,8 +62,8 @@ next_gives version kinds offset a b c x y p q r (Some size) at_end reads enough 
 pub next_stops : (version : Version) (kinds offset : ℕ) (a b c : Outside) (x y : Buffered) (left_after : Option (List ℕ)) (p q r : List ℕ)
     (why : Stop BadLog)
     → IsAtEnd a x → ReadsMore a b x y → FlushedPrefix b c p q
-    → PendingGives version kinds offset y q r (Err why)
-    → NextGives version kinds offset (left_of a x) left_after (put_out a p) (put_out c r) (Err why)
+    → PendingConverts version kinds offset y q r (Err why)
+    → NextConverts version kinds offset (left_of a x) left_after (put_out a p) (put_out c r) (Err why)
 next_stops version kinds offset a b c x y left_after p q r (stop.Bad (bad_log.Record at fault)) at_end reads kept gives =
     let left : left_of b y ≡ left_of a x = left_same a b x y reads in
     let put : put_out c q ≡ put_out b p = put_same b c p q kept in
@@ -78,7 +78,7 @@ next_stops version kinds offset a b c x y left_after p q r why at_end reads kept
 
 pub room_fails : (version : Version) (kinds offset : ℕ) (left left_after before after : Option (List ℕ))
     (result : Result (Unit {0}) (Stop BadLog)) (why : Stop BadLog)
-    → result ≡ Err stop.WriteFailed → result ≡ Err why → NextGives version kinds offset left left_after before after (Err why)
+    → result ≡ Err stop.WriteFailed → result ≡ Err why → NextConverts version kinds offset left left_after before after (Err why)
 room_fails version kinds offset left left_after before after result why e f =
     let g : why ≡ stop.WriteFailed = cc in
     rw g tt
@@ -105,7 +105,7 @@ at_start version kinds left before = record {
 
 pub one_more : (version : Version) (kinds count offset size : ℕ) (left left_after left_then before after put : Option (List ℕ))
     → SoFar version kinds count offset left left_after before after
-    → NextGives version kinds offset left_after left_then after put (Ok (Some size))
+    → NextConverts version kinds offset left_after left_then after put (Ok (Some size))
     → SoFar version kinds (count + 1) (offset + size) left left_then before put
 one_more version kinds count offset size left left_after left_then before after put s n =
     let bytes : records_bytes (s.records ++ n.read ∷ []) ≡ records_bytes s.records ++ record_bytes n.read =
@@ -148,7 +148,7 @@ known_prefix version kinds count offset left left_after before after bytes le s 
 
 module _ (version : Version) (kinds count offset : ℕ) (left left_after before after : Option (List ℕ)) (bytes : List ℕ) where
   pub all_read : (left_then put : Option (List ℕ)) → count < max_records → SoFar version kinds count offset left left_after before after
-      → NextGives version kinds offset left_after left_then after put (Ok None) → left ≡ Some bytes
+      → NextConverts version kinds offset left_after left_then after put (Ok None) → left ≡ Some bytes
       → AllGive version kinds bytes before put (Ok tt)
   all_read left_then put few s n e =
       let p = known_prefix version kinds count offset left left_after before after bytes (omega (arith, few)) s e in
@@ -160,7 +160,7 @@ module _ (version : Version) (kinds count offset : ℕ) (left left_after before 
 
   pub all_stop : (left_then put : Option (List ℕ)) (why : Stop BadLog) → count < max_records
       → SoFar version kinds count offset left left_after before after
-      → NextGives version kinds offset left_after left_then after put (Err why) → left ≡ Some bytes
+      → NextConverts version kinds offset left_after left_then after put (Err why) → left ≡ Some bytes
       → AllGive version kinds bytes before put (Err why)
   all_stop left_then put (stop.Bad (bad_log.Record at fault)) few s n e =
       let p = known_prefix version kinds count offset left left_after before after bytes (omega (arith, few)) s e in

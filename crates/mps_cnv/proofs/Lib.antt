@@ -1,4 +1,5 @@
 pub mod Converting
+pub mod Skipping
 pub mod ReadFault
 pub mod WriteFault
 pub mod WholeReading

@@ -25,29 +25,29 @@ pub record ConvertsOne (version : Version) (kinds size : ℕ) (left left_after b
   pub put : PutsOut before after (line_of_kinds version kinds read)
 
 -- what the record that is pending gave
-abbrev pub PendingGives : Version → (kinds offset : ℕ) → Buffered → (before after : List ℕ) → Result (Option ℕ) (Stop BadLog) → Type 0
-PendingGives version kinds offset b before after (Ok (Some size)) =
+abbrev pub PendingConverts : Version → (kinds offset : ℕ) → Buffered → (before after : List ℕ) → Result (Option ℕ) (Stop BadLog) → Type 0
+PendingConverts version kinds offset b before after (Ok (Some size)) =
     (r : Record) × IsRecord version r × (size ≡ length (record_bytes r)) × (b.pending ≡ record_bytes r ++ drop size b.pending)
     × (after ≡ before ++ line_of_kinds version kinds r)
-PendingGives version kinds offset b before after (Ok None) =
+PendingConverts version kinds offset b before after (Ok None) =
     (first_of version b.ended b.pending ≡ Ok None) × (b.failed ≡ false) × (after ≡ before)
-PendingGives version kinds offset b before after (Err (stop.Bad (bad_log.Record at fault))) =
+PendingConverts version kinds offset b before after (Err (stop.Bad (bad_log.Record at fault))) =
     (at ≡ offset) × (first_of version b.ended b.pending ≡ Err fault) × (after ≡ before)
-PendingGives version kinds offset b before after (Err stop.ReadFailed) = Unit {0}
-PendingGives version kinds offset b before after result = ⊥
+PendingConverts version kinds offset b before after (Err stop.ReadFailed) = Unit {0}
+PendingConverts version kinds offset b before after result = ⊥
 
 -- what the next record gave, of what was left
-abbrev pub NextGives : Version → (kinds offset : ℕ) → (left left_after before after : Option (List ℕ)) → Result (Option ℕ) (Stop BadLog)
+abbrev pub NextConverts : Version → (kinds offset : ℕ) → (left left_after before after : Option (List ℕ)) → Result (Option ℕ) (Stop BadLog)
     → Type 0
-NextGives version kinds offset left left_after before after (Ok (Some size)) =
+NextConverts version kinds offset left left_after before after (Ok (Some size)) =
     ConvertsOne version kinds size left left_after before after
-NextGives version kinds offset left left_after before after (Ok None) =
+NextConverts version kinds offset left left_after before after (Ok None) =
     IfSome left (λ bytes. bytes ≡ []) × (after ≡ before)
-NextGives version kinds offset left left_after before after (Err (stop.Bad (bad_log.Record at fault))) =
+NextConverts version kinds offset left left_after before after (Err (stop.Bad (bad_log.Record at fault))) =
     (at ≡ offset) × IfSome left (λ bytes. first_of version true bytes ≡ Err fault) × (after ≡ before)
-NextGives version kinds offset left left_after before after (Err stop.ReadFailed) = Unit {0}
-NextGives version kinds offset left left_after before after (Err stop.WriteFailed) = Unit {0}
-NextGives version kinds offset left left_after before after result = ⊥
+NextConverts version kinds offset left left_after before after (Err stop.ReadFailed) = Unit {0}
+NextConverts version kinds offset left left_after before after (Err stop.WriteFailed) = Unit {0}
+NextConverts version kinds offset left left_after before after result = ⊥
 
 -- the lines of these records were put out
 abbrev pub PutsLines : {version : Version} {bytes : List ℕ} → (kinds : ℕ) → RecordsPrefix version bytes → (before after : Option (List ℕ))

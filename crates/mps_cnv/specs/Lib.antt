@@ -1,3 +1,4 @@
 pub mod Portable
 pub mod Converted
 pub mod Converting
+pub mod Skipping

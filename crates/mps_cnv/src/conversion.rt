@@ -15,12 +15,14 @@ ghost use Rattle.mps_report.specs.Reports.{ReportsStatus};
 ghost use Rattle.mps_log_reader.specs.Ending.{is_input_verdict, IsUnopened};
 ghost use Rattle.mps_log_reader.specs.Opening.{OpensNothing};
 ghost use Rattle.mps_cnv.specs.Converted.{ConvertedWith, HasConverted, IsCutRecord, ConvertsUntilReadFault, ConvertsUntilWriteFault, IsUnique};
-ghost use Rattle.mps_cnv.specs.Converting.{ConvertsPart, ConvertsFront, PendingGives, NextGives, AllGive};
+ghost use Rattle.mps_cnv.specs.Converting.{ConvertsPart, ConvertsFront, PendingConverts, NextConverts, AllGive};
 ghost use Rattle.mps_event.specs.KindSet.{bits_of};
 ghost use Rattle.mps_report.specs.Reports.{report_of};
 ghost use Rattle.mps_report.specs.Streams.{LeavesLogAlone, Reports};
 ghost use Rattle.mps_log_reader.specs.BadLog.{text_of_bad_log};
 
+use crate::unwanted::{most_to_skip, skip_unwanted};
+use bitflags::Flags;
 use mps_desk::Desk;
 use mps_event::{Event, Kinds, RecordRef, Version, first};
 use mps_log_reader::{
@@ -123,12 +125,18 @@ fn convert_records<D: Desk>(
     ensures all { (bytes : List ℕ) → left_of (D.outside desk.old) input.old ≡ Some bytes
         → AllGive version (bits_of kinds) bytes (put_out (D.outside desk.old) output.old) (put_out (D.outside desk.new) output.new) result }
 {
+    let all = kinds.is_all();
+    let mut count: u32 = 0;
     let mut offset: u64 = 8;
-    for _ in 0..u32::MAX {
+    while count < u32::MAX {
         match convert_next(version, kinds, input, offset, output, desk)? {
             None => return Ok(()),
             Some(size) => offset += size as u64,
         }
+        count += 1;
+        let skipped = skip_unwanted(version, kinds, most_to_skip(all, count), input);
+        count += skipped.count;
+        offset += skipped.size as u64;
     }
     after_the_last(input, desk)
 }
@@ -145,7 +153,7 @@ fn convert_next<D: Desk>(
     requires { IsAtEnd (D.outside desk.old) input.old }
     ensures works { WorksOnInput (D.outside desk.old) (D.outside desk.new) input.old input.new result }
     ensures size { IfOk result (λ o. IfSome o (λ size. size ≤ 40)) }
-    ensures gives { NextGives version (bits_of kinds) offset (left_of (D.outside desk.old) input.old)
+    ensures gives { NextConverts version (bits_of kinds) offset (left_of (D.outside desk.old) input.old)
         (left_of (D.outside desk.new) input.new)
         (put_out (D.outside desk.old) output.old) (put_out (D.outside desk.new) output.new) result }
     ensures broken { result ≡ Err Stop.ReadFailed → ((bytes : List ℕ) → left_of (D.outside desk.old) input.old ≡ Some bytes
@@ -179,7 +187,7 @@ fn convert_record(
     ensures broken { result ≡ Err Stop.ReadFailed → (first_of version input.now.ended input.now.pending ≡ Ok None)
         × (output.new ≡ output.old) }
     ensures whole { result ≡ Ok None → input.now.failed ≡ false }
-    ensures gives { PendingGives version (bits_of kinds) offset input.now output.old output.new result }
+    ensures gives { PendingConverts version (bits_of kinds) offset input.now output.old output.new result }
 {
     match first(input.pending(), input.has_ended(), version) {
         Err(fault) => Err(Stop::Bad(BadLog::Record { offset, fault })),

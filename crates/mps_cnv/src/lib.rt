@@ -2,5 +2,6 @@
 #![tactic(auto)]
 
 mod conversion;
+mod unwanted;
 
 pub use conversion::cnv;

@@ -5,7 +5,7 @@ use Rattle.mps_log_reader.specs.Input.{Buffered}
 use Rattle.mps_event.specs.KindSet.{bits_of}
 use Rattle.mps_log_reader.specs.Left.{left_of}
 use Rattle.mps_log_reader.specs.PutOut.{put_out}
-use Rattle.mps_cnv.specs.Converting.{NextGives}
+use Rattle.mps_cnv.specs.Converting.{NextConverts}
 use Rattle.mps_log_reader.proofs.PartPut.{grows_by, puts_part}
 use Rattle.mps_log_reader.proofs.Stops.{handed_on}
 use Rattle.mps_cnv.proofs.ReadFault.{next_breaks}
@@ -26,7 +26,7 @@ pub returns-clause-gives : goal.returns-clause-gives
 returns-clause-gives g c =
     let after : c.take.new.self ≡ record c.fill.new.self { pending = drop (unwrap_or c.in_ok-size.size 0) c.fill.new.self.pending } =
     c.take.ensures ∙ ap (λ (n : ℕ). record c.fill.new.self { pending = drop n c.fill.new.self.pending }) c.unwrap_or.ensures in
-    subst (λ (b : Buffered). NextGives c.args.version (bits_of c.args.kinds) c.args.offset
+    subst (λ (b : Buffered). NextConverts c.args.version (bits_of c.args.kinds) c.args.offset
     (left_of (g.D.Desk.outside c.args.desk.now) c.args.input.now) (left_of (g.D.Desk.outside c.make_room.new.desk) b)
     (put_out (g.D.Desk.outside c.args.desk.now) c.args.output.now)
     (put_out (g.D.Desk.outside c.make_room.new.desk) c.convert_record.new.output) (Ok c.in_ok-size.size))
