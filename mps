@@ -38,16 +38,23 @@ read_libraries() {
   done <"$home/crates.txt"
 }
 
-# Finds all that the program stands on, and of each how long the longest chain of crates from it up to the program is.
+# How many lines of code a crate has, which tells about how long its proof takes.
+lines_of() {
+  find "$home/crates/$1/src" -name '*.rt' -exec cat {} + | wc -l
+}
+
+# Finds all that the program stands on, and of each how many lines the longest chain of crates has that stand on it.
 find_chains() {
-  local name library waiting=(mps_cli)
+  local name library length waiting=(mps_cli)
   chain[mps_cli]=0
   while [ "${#waiting[@]}" -gt 0 ]; do
     name=${waiting[-1]}
     unset 'waiting[-1]'
+    if [ -z "${lines[$name]}" ]; then lines[$name]=$(lines_of "$name"); fi
+    length=$((chain[$name] + lines[$name]))
     for library in ${libraries[$name]}; do
-      if [ "${chain[$library]:-0}" -le "${chain[$name]}" ]; then
-        chain[$library]=$((chain[$name] + 1))
+      if [ "${chain[$library]:-0}" -lt "$length" ]; then
+        chain[$library]=$length
         waiting+=("$library")
       fi
     done
@@ -80,9 +87,12 @@ stands() {
   done
 }
 
+# Begins the proof of a crate, with as many jobs as are said.
 start() {
   state[$1]=running
-  (cd "$home/crates/$1" && rt lib >"$work/$1.log" 2>&1 </dev/null; echo $? >"$work/$1.end") &
+  jobs_of[$1]=$2
+  idle=$((idle - $2))
+  (cd "$home/crates/$1" && rt lib --jobs "$2" >"$work/$1.log" 2>&1 </dev/null; echo $? >"$work/$1.end") &
 }
 
 # Takes note of the crates whose proofs have ended.
@@ -91,7 +101,7 @@ note_ended() {
   for name in "${!state[@]}"; do
     if [ "${state[$name]}" != running ] || [ ! -s "$work/$name.end" ]; then continue; fi
     state[$name]=proved
-    running=$((running - 1))
+    idle=$((idle + jobs_of[$name]))
     left=$((left - 1))
     if [ "$(cat "$work/$name.end")" != 0 ]; then
       cat "$work/$name.log" >&2
@@ -101,30 +111,44 @@ note_ended() {
   done
 }
 
+# Begins the proofs of crates whose libraries are proved. The first one, which has the longest chain above it, gets half of the
+# processors; the others one each, or what is idle where there is no other.
+start_ready() {
+  local name ready=()
+  for name in $order; do
+    if [ "${state[$name]}" = waiting ] && stands "$name"; then ready+=("$name"); fi
+  done
+  if [ "$idle" -le 0 ] || [ "${#ready[@]}" -eq 0 ]; then return; fi
+  if [ "${#ready[@]}" -eq 1 ]; then
+    start "${ready[0]}" "$idle"
+    return
+  fi
+  start "${ready[0]}" $(((most + 1) / 2))
+  for name in "${ready[@]:1}"; do
+    if [ "$idle" -gt 0 ]; then start "$name" 1; fi
+  done
+}
+
 prove_libraries() {
-  local name running=0 most order
-  most=$(proofs_at_once)
+  local name order
   read_libraries
   find_chains
   order=$(longest_first)
   for name in $order; do state[$name]=waiting; done
   left=$((${#state[@]} + 1))
-  echo "mps: proving $left crates, up to $most at a time" >&2
+  echo "mps: proving $left crates, up to $idle at a time" >&2
   while [ "$left" -gt 1 ]; do
-    for name in $order; do
-      if [ "$running" -lt "$most" ] && [ "${state[$name]}" = waiting ] && stands "$name"; then
-        start "$name"
-        running=$((running + 1))
-      fi
-    done
+    start_ready
     wait -n
     note_ended
   done
 }
 
 build() {
-  local output
-  declare -A state libraries chain
+  local output most idle
+  declare -A state libraries lines chain jobs_of
+  most=$(proofs_at_once)
+  idle=$most
   work=$(mktemp -d)
   trap 'rm -rf "$work"' EXIT
   trap 'end_proofs; exit 130' INT TERM
@@ -132,7 +156,7 @@ build() {
   prove_libraries
   set +m
   # Without words the new program answers its usage, which tells that it was built.
-  output=$(cd "$crate" && rt run 2>&1 </dev/null)
+  output=$(cd "$crate" && rt run --jobs "$most" 2>&1 </dev/null)
   if ! grep -q '^mps: usage:' <<<"$output"; then
     echo "$output" >&2
     give_up "the program was not built"
