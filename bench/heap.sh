@@ -7,7 +7,8 @@ home=$(cd "$(dirname "$0")/.." && pwd)
 folder=$(mktemp -d)
 cd "$folder" || exit 1
 mkdir crates
-crates="base bits free numerals arena extents marks seg format model buffer manual final ld names root outcome state laws colours image refinement heap"
+crates="base bits free numerals arena extents marks seg format model buffer manual amc trace gen final ld names root outcome pools cells state
+    laws colours image trace_laws slot_laws reclaim_laws nail_laws flip_laws unit_laws begin_laws refinement collect_laws heap"
 for crate in $crates; do
     mkdir "crates/mps_$crate"
     for part in src specs proofs; do

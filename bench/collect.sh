@@ -1,0 +1,196 @@
+#!/bin/sh
+# Measures how long a collection takes that moves everything, by a runtime that holds the heap itself, with no script and no log: rings and
+# lists of 1,000, 10,000 and 100,000 objects of 3 words with one reference. A ring is collected in the order of its making, and a list
+# against it. Room for the moves is taken before the clock runs. Each is collected three times, and the shortest of these is told.
+# It makes a program over a copy of the crates, proves it, and runs it.
+home=$(cd "$(dirname "$0")/.." && pwd)
+folder=$(mktemp -d)
+cd "$folder" || exit 1
+mkdir crates
+crates="base bits free numerals arena extents marks seg format model buffer manual amc trace gen final ld names root outcome pools cells state
+    laws colours image trace_laws slot_laws reclaim_laws nail_laws flip_laws unit_laws begin_laws refinement collect_laws heap"
+for crate in $crates; do
+    mkdir "crates/mps_$crate"
+    for part in src specs proofs; do
+        [ -d "$home/crates/mps_$crate/$part" ] && cp -r "$home/crates/mps_$crate/$part" "crates/mps_$crate/$part"
+    done
+    grep "^mps_$crate:" "$home/crates.txt" >> crates.txt
+done
+echo 'collect_times: mps_base mps_format mps_heap' >> crates.txt
+program=crates/collect_times
+mkdir -p $program/src
+cat > $program/src/main.rt <<'P'
+// How long a collection takes.
+#![tactic(auto)]
+
+use mps_base::{Kind, Name, Rank, Refusal, Slot, Trail};
+use mps_format::Front;
+use mps_heap::Heap;
+use std::alloc::{AllocError, Global};
+use std::io;
+use std::marker::Model;
+use std::time::Instant;
+
+/// The head of an object of 3 words, the first of which after the head is a reference.
+const HEAD: u64 = 0x1_0000_0301;
+
+/// How often each heap is collected.
+const TIMES: u64 = 3;
+
+fn named(letter: u8) -> Name {
+    Name { len: 1, bytes: [letter, 0, 0, 0, 0, 0, 0, 0, 0, 0, 0, 0, 0, 0, 0, 0] }
+}
+
+fn slot(index: u64) -> Slot {
+    Slot { name: named(b't'), index }
+}
+
+/// A trail with room for the moves of any call but a collection, once it is emptied.
+#[derive(Drop)]
+struct Moves {
+    trail: Trail,
+}
+
+impl Model for Moves {
+    ghost use Rattle.std.specs.Prelude.{ℕ, ◌+◌, ◌≤◌, length};
+
+    ghost Value = { ℕ };
+
+    ghost view = { λ m. m.trail.spare + length m.trail.moves };
+
+    ghost invariant = { λ m. 2 ≤ m.trail.spare + length m.trail.moves };
+}
+
+impl Moves {
+    fn new(alloc: Global) -> Result<Moves, AllocError> {
+        Ok(Moves { trail: Trail::new(alloc, 2)? })
+    }
+
+    fn reserve(&mut self, heap: &mut Heap<Front>) -> Result<(), Refusal> {
+        self.trail.clear();
+        heap.reserve(&mut self.trail, named(b'x'), HEAD)
+    }
+
+    fn commit(&mut self, heap: &mut Heap<Front>, into: Slot) -> Result<(), Refusal> {
+        self.trail.clear();
+        let _ = heap.commit(&mut self.trail, named(b'x'), into)?;
+        Ok(())
+    }
+
+    /// Makes an object that refers to nothing.
+    fn object(&mut self, heap: &mut Heap<Front>, into: Slot) -> Result<(), Refusal> {
+        self.reserve(heap)?;
+        self.commit(heap, into)
+    }
+
+    /// Puts an object before the list that begins in the first slot.
+    fn cons(&mut self, heap: &mut Heap<Front>) -> Result<(), Refusal> {
+        self.reserve(heap)?;
+        heap.init_ref(named(b'x'), 1, slot(0))?;
+        self.commit(heap, slot(0))
+    }
+
+    /// Makes an object to which the last of the ring refers, in the second slot, and which is the last from then on.
+    fn append(&mut self, heap: &mut Heap<Front>) -> Result<(), Refusal> {
+        self.object(heap, slot(2))?;
+        heap.put(slot(1), 1, slot(2))?;
+        heap.copy(slot(1), slot(2))
+    }
+}
+
+fn make(heap: &mut Heap<Front>) -> Result<(), Refusal> {
+    heap.pool(named(b'p'), Kind::Amc, Front)?;
+    heap.table(named(b't'), 4)?;
+    heap.point(named(b'x'), named(b'p'), Rank::Exact)
+}
+
+fn ring(heap: &mut Heap<Front>, moves: &mut Moves, count: u64) -> Result<(), Refusal> {
+    make(heap)?;
+    moves.object(heap, slot(0))?;
+    heap.copy(slot(1), slot(0))?;
+    for _ in 1..count {
+        moves.append(heap)?;
+    }
+    heap.put(slot(1), 1, slot(0))?;
+    heap.clear(slot(1))?;
+    heap.clear(slot(2))
+}
+
+fn list(heap: &mut Heap<Front>, moves: &mut Moves, count: u64) -> Result<(), Refusal> {
+    make(heap)?;
+    for _ in 0..count {
+        moves.cons(heap)?;
+    }
+    Ok(())
+}
+
+/// How long one collection takes, in nanoseconds; None where the heap can't collect.
+fn collect(rt: &HostRuntime, heap: &mut Heap<Front>) -> io::Result<Option<u128>> {
+    if !heap.can_collect() {
+        return Ok(None);
+    }
+    let mut trail = Trail::new(rt.alloc(), heap.most_moves())?;
+    let began = Instant::now(rt)?;
+    heap.collect(&mut trail);
+    let took = began.elapsed(rt)?.as_nanos();
+    Ok(Some(took))
+}
+
+/// The shortest of some collections.
+fn shortest(rt: &HostRuntime, heap: &mut Heap<Front>) -> io::Result<Option<u128>> {
+    let mut least = None;
+    for _ in 0..TIMES {
+        let Some(took) = collect(rt, heap)? else {
+            return Ok(None);
+        };
+        least = match least {
+            Some(before) if before < took => Some(before),
+            _ => Some(took),
+        };
+    }
+    Ok(least)
+}
+
+/// Collects a heap of `count` objects, and tells how long one object took.
+fn show(rt: &HostRuntime, what: &str, heap: &mut Heap<Front>, count: u64) -> io::Result<()> {
+    let Some(took) = shortest(rt, heap)? else {
+        return println!(rt; "refused");
+    };
+    let count = u128::from(count.max(1));
+    println!(rt; "{what} of {count}: {}.{} ns an object", took / count, 10 * (took % count) / count)
+}
+
+fn time_ring(rt: &HostRuntime, moves: &mut Moves, count: u64) -> io::Result<()> {
+    let mut heap = Heap::<Front>::new(rt.alloc(), 2048, 2048)?;
+    let done = if ring(&mut heap, moves, count).is_ok() {
+        show(rt, "ring", &mut heap, count)
+    } else {
+        println!(rt; "refused")
+    };
+    heap.finish();
+    done
+}
+
+fn time_list(rt: &HostRuntime, moves: &mut Moves, count: u64) -> io::Result<()> {
+    let mut heap = Heap::<Front>::new(rt.alloc(), 2048, 2048)?;
+    let done = if list(&mut heap, moves, count).is_ok() {
+        show(rt, "list", &mut heap, count)
+    } else {
+        println!(rt; "refused")
+    };
+    heap.finish();
+    done
+}
+
+fn main(rt: HostRuntime) -> io::Result<()> {
+    let mut moves = Moves::new(rt.alloc())?;
+    time_ring(&rt, &mut moves, 1_000)?;
+    time_ring(&rt, &mut moves, 10_000)?;
+    time_ring(&rt, &mut moves, 100_000)?;
+    time_list(&rt, &mut moves, 1_000)?;
+    time_list(&rt, &mut moves, 10_000)?;
+    time_list(&rt, &mut moves, 100_000)
+}
+P
+(cd $program && rt run)
+cd / && rm -r "$folder"
