@@ -8,10 +8,39 @@ use mps_format::AnyFormat;
 use mps_heap::Heap;
 use mps_model::{Call, Reply};
 
-/// Answers a call that reads a slot or a word; `None` where it is another. It stands by itself, as what a function enters with is
-/// room for all its calls, and scripts read more than they do anything else.
-#[inline(never)]
+/// Whether a call reads a slot, or a word of an object or a manual block.
+#[inline(always)]
+fn reads_words(call: &Call) -> bool
+    ensures { result ≡ reads_words call.now }
+{
+    matches!(
+        call,
+        Call::Number { .. }
+            | Call::Same { .. }
+            | Call::Null { .. }
+            | Call::Head { .. }
+            | Call::Address { .. }
+            | Call::Load { .. }
+    )
+}
+
+/// Answers a call that reads a slot or a word; `None` where it is another, which costs that call one test.
+#[inline(always)]
 pub fn answer(heap: &Heap<AnyFormat>, call: &Call) -> Option<Reply>
+    ensures right { IfSome result (λ reply. IsAnswered heap.now call.now [] reply heap.now) }
+    ensures which { is_some result ≡ reads_words call.now }
+{
+    if reads_words(call) {
+        read(heap, call)
+    } else {
+        None
+    }
+}
+
+/// Answers a call that reads; `None` where it is another. It stands by itself, as what a function enters with is room for all its calls,
+/// and scripts read more than they do anything else.
+#[inline(never)]
+fn read(heap: &Heap<AnyFormat>, call: &Call) -> Option<Reply>
     ensures right { IfSome result (λ reply. IsAnswered heap.now call.now [] reply heap.now) }
     ensures which { is_some result ≡ reads_words call.now }
 {
