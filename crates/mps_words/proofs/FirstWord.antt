@@ -20,10 +20,10 @@ abbrev rest_parts : List ℕ → List (List ℕ)
 rest_parts [] = []
 rest_parts (y ∷ ys) = slice_split is_space ys
 
-until_yes : (x : ℕ) (xs : List ℕ) → is_space x ≡ true → until (x ∷ xs) ≡ 0
+pub until_yes : (x : ℕ) (xs : List ℕ) → is_space x ≡ true → until (x ∷ xs) ≡ 0
 until_yes x xs h = rw h
 
-until_no : (x : ℕ) (xs : List ℕ) → is_space x ≡ false → until (x ∷ xs) ≡ 1 + until xs
+pub until_no : (x : ℕ) (xs : List ℕ) → is_space x ≡ false → until (x ∷ xs) ≡ 1 + until xs
 until_no x xs h = rw h
 
 spaces_yes : (x : ℕ) (xs : List ℕ) → is_space x ≡ true → spaces (x ∷ xs) ≡ 1 + spaces xs
@@ -32,10 +32,10 @@ spaces_yes x xs h = rw h
 spaces_no : (x : ℕ) (xs : List ℕ) → is_space x ≡ false → spaces (x ∷ xs) ≡ 0
 spaces_no x xs h = rw h
 
-take_more : (x n : ℕ) (xs : List ℕ) → take (1 + n) (x ∷ xs) ≡ x ∷ take n xs
+pub take_more : (x n : ℕ) (xs : List ℕ) → take (1 + n) (x ∷ xs) ≡ x ∷ take n xs
 take_more x n xs = grind (arith, common_steps)
 
-drop_more : (x n : ℕ) (xs : List ℕ) → drop (1 + n) (x ∷ xs) ≡ drop n xs
+pub drop_more : (x n : ℕ) (xs : List ℕ) → drop (1 + n) (x ∷ xs) ≡ drop n xs
 drop_more x n xs = grind (arith, common_steps)
 
 skips_space : (x : ℕ) (xs : List ℕ) → is_space x ≡ true → words (x ∷ xs) ≡ words xs

@@ -1,4 +1,6 @@
 pub mod FirstWord
+pub mod Headed
 pub mod Heads
 pub mod NameBytes
 pub mod OneDigit
+pub mod FirstSlot

@@ -1,7 +1,6 @@
 -- The bytes of a name, gathered as numbers of 64 bits, the first of them lowest.
-use Rattle.std.proofs.Common.{◌≡◌, ℕ, zero, suc, ◌+◌, ◌-◌, ◌*◌, ◌/◌, ◌%◌, ◌^◌, ◌<◌, ◌≤◌, List, [], ◌∷◌, ◌++◌, length, take, drop, replicate, get_or, refl, sym, ap, ◌∙◌, arith}
+use Rattle.std.proofs.Common.{◌≡◌, ℕ, zero, suc, ◌+◌, ◌-◌, ◌*◌, ◌/◌, ◌%◌, ◌^◌, ◌<◌, ◌≤◌, List, [], ◌∷◌, ◌++◌, length, drop, replicate, get_or, refl, ap, ◌∙◌, arith}
 use Rattle.std.proofs.Math.Nat.{div-div-eq-div-mul, pow-succ'}
-use Rattle.std.proofs.lemmas.Grind.{common_steps}
 use Rattle.std.proofs.lemmas.List.{get_or-drop, length-drop}
 use Rattle.std.specs.Int.{byte_at, bytes_low_first}
 use Rattle.mps_words.specs.Gathered.{gathered}
@@ -43,42 +42,13 @@ zeros zero = refl
 zeros (suc k) = one_more k 0 0 (omega arith) ∙ ap (λ (bytes : List ℕ). 0 ∷ bytes) (zeros k)
 
 -- the bytes of the number of some bytes are they, and zeros after them
-bytes_of_gathered : (k : ℕ) (bytes : List ℕ) → length bytes ≤ k → IsBytes bytes
+pub bytes_of_gathered : (k : ℕ) (bytes : List ℕ) → length bytes ≤ k → IsBytes bytes
     → bytes_low_first 0 k (gathered bytes) ≡ bytes ++ drop (length bytes) (replicate k 0)
 bytes_of_gathered k [] le fits = zeros k
 bytes_of_gathered zero (byte ∷ bytes) le fits = absurd (omega arith)
 bytes_of_gathered (suc k) (byte ∷ bytes) le fits =
     one_more k byte (gathered bytes) (fits 0)
     ∙ ap (λ (later : List ℕ). byte ∷ later) (bytes_of_gathered k bytes (omega arith) (λ i. fits (suc i)))
-
--- the same of two parts, each gathered by itself
-bytes_of_parts : (k : ℕ) (bytes : List ℕ) → length bytes ≤ k + 8 → IsBytes bytes
-    → bytes_low_first 0 k (gathered (take k bytes)) ++ bytes_low_first 0 8 (gathered (drop k bytes))
-    ≡ bytes ++ drop (length bytes) (replicate k 0 ++ replicate 8 0)
-bytes_of_parts zero bytes le fits = bytes_of_gathered 8 bytes le fits
-bytes_of_parts (suc k) [] le fits = ap (λ (front : List ℕ). front ++ replicate 8 0) (zeros (suc k))
-bytes_of_parts (suc k) (byte ∷ bytes) le fits =
-    ap (λ (front : List ℕ). front ++ bytes_low_first 0 8 (gathered (drop k bytes))) (one_more k byte (gathered (take k bytes)) (fits 0))
-    ∙ ap (λ (later : List ℕ). byte ∷ later) (bytes_of_parts k bytes (omega arith) (λ i. fits (suc i)))
-
--- a short word, and a long one in two parts
-pub short_word : (bytes : List ℕ) (low : ℕ) → length bytes ≤ 8 → IsBytes bytes → low ≡ gathered bytes
-    → bytes_low_first 0 8 low ++ bytes_low_first 0 8 0 ≡ bytes ++ drop (length bytes) (replicate 16 0)
-short_word bytes low le fits is =
-    let front : take 8 bytes ≡ bytes = grind (arith, common_steps) in
-    let none : drop 8 bytes ≡ [] = grind (arith, common_steps) in
-    let both = bytes_of_parts 8 bytes (omega arith) fits in
-    ap (λ (n : ℕ). bytes_low_first 0 8 n ++ bytes_low_first 0 8 0) (is ∙ ap gathered (sym front))
-    ∙ ap (λ (n : ℕ). bytes_low_first 0 8 (gathered (take 8 bytes)) ++ bytes_low_first 0 8 n) (ap gathered (sym none))
-    ∙ both
-
-pub long_word : (bytes : List ℕ) (low high : ℕ) → length bytes ≤ 16 → IsBytes bytes → low ≡ gathered (take 8 bytes)
-    → high ≡ gathered (drop 8 bytes)
-    → bytes_low_first 0 8 low ++ bytes_low_first 0 8 high ≡ bytes ++ drop (length bytes) (replicate 16 0)
-long_word bytes low high le fits is_low is_high =
-    ap (λ (n : ℕ). bytes_low_first 0 8 n ++ bytes_low_first 0 8 high) is_low
-    ∙ ap (λ (n : ℕ). bytes_low_first 0 8 (gathered (take 8 bytes)) ++ bytes_low_first 0 8 n) is_high
-    ∙ bytes_of_parts 8 bytes (omega arith) fits
 
 IsBytes-drop : (n : ℕ) (bytes : List ℕ) → IsBytes bytes → IsBytes (drop n bytes)
 IsBytes-drop n bytes h i = rw get_or-drop (h (n + i))

@@ -6,10 +6,17 @@ use Rattle.mps_base.specs.declared.names.Slot.{Slot}
 use Rattle.mps_words.specs.Word.{cut_at}
 use Rattle.mps_numerals.specs.Decimal.{decimal_number}
 
+-- the name of these bytes
+abbrev pub name_from : List ℕ → Name
+name_from bytes = record { len = length bytes; bytes = bytes ++ drop (length bytes) (replicate max_name_bytes 0) }
+
 -- the name that a word writes
 abbrev pub name_of : List ℕ → Option Name
-name_of word =
-    if is_name word then Some (record { len = length word; bytes = word ++ drop (length word) (replicate max_name_bytes 0) }) else None
+name_of word = if is_name word then Some (name_from word) else None
+
+-- the slot of the bytes of its name and an index
+abbrev pub slot_from : List ℕ → ℕ → Slot
+slot_from name index = record { name = name_from name; index = index }
 
 -- the slot that a word writes: a name, a dot and a decimal number
 abbrev pub slot_of : List ℕ → Option Slot

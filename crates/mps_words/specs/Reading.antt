@@ -24,6 +24,11 @@ named_in (row ∷ rows) word = if bytes_eq word row.0 then Some row.1 else named
 abbrev pub single : {A : Type 0} → (List ℕ → Option A) → List (List ℕ) → Option A
 single read ws = option_and_then read (only_word ws)
 
+-- what the first word writes, and the words after it
+abbrev pub headed : {A : Type 0} → (List ℕ → Option A) → List (List ℕ) → Option (A × List (List ℕ))
+headed read [] = None
+headed read (word ∷ ws) = option_map (λ x. (x, ws)) (read word)
+
 -- what a word writes, and what the words after it write
 abbrev pub onto : {A B : Type 0} → (List ℕ → Option A) → (List (List ℕ) → Option B) → List (List ℕ) → Option (A × B)
 onto read rest [] = None
@@ -43,6 +48,9 @@ two_numbers_in_order = refl
 
 pub one_word_is_too_few : pair decimal_number decimal_number (codes "1" ∷ []) ≡ None
 one_word_is_too_few = refl
+
+pub the_first_of_two : headed decimal_number (codes "1" ∷ codes "x" ∷ []) ≡ Some (1, codes "x" ∷ [])
+the_first_of_two = refl
 
 pub three_are_too_many : pair decimal_number decimal_number (codes "1" ∷ codes "2" ∷ codes "3" ∷ []) ≡ None
 three_are_too_many = refl

@@ -1,5 +1,5 @@
 -- The words of a line: what stands between its spaces. No other byte is white space.
-use Rattle.std.specs.Prelude.{ℕ, ◌≡◌, ◌==◌, nat_lt, length, if◌then◌else◌, Bool, true, false, filter, codes, Option, Some, None, List, [], ◌∷◌, refl}
+use Rattle.std.specs.Prelude.{ℕ, ◌≡◌, ◌==◌, nat_lt, length, if◌then◌else◌, Bool, true, false, filter, codes, Option, Some, None, List, [], ◌∷◌, take, drop, refl}
 use Rattle.std.specs.List.{slice_split, position_or_len, before_first, after_first}
 
 -- the byte is a space
@@ -21,6 +21,13 @@ is_nonempty (b ∷ bs) = true
 abbrev pub words : List ℕ → List (List ℕ)
 words line = filter is_nonempty (slice_split is_space line)
 
+-- the word at the beginning of a text, and what stands after it
+abbrev pub word_at : List ℕ → List ℕ
+word_at text = take (position_or_len is_space text) text
+
+abbrev pub after_word : List ℕ → List ℕ
+after_word text = drop (position_or_len is_space text) text
+
 -- the one word, where there is one and no other
 abbrev pub only_word : List (List ℕ) → Option (List ℕ)
 only_word [] = None
@@ -29,6 +36,12 @@ only_word (a ∷ _ ∷ _) = None
 
 pub spaces_around_and_between : words (codes "  num  t.0 2 ") ≡ codes "num" ∷ codes "t.0" ∷ codes "2" ∷ []
 spaces_around_and_between = refl
+
+pub no_word_stands_at_a_space : word_at (codes " t.0") ≡ []
+no_word_stands_at_a_space = refl
+
+pub what_stands_after_a_word : after_word (codes "t.0 2") ≡ codes " 2"
+what_stands_after_a_word = refl
 
 pub cut_at_the_first_dot : cut_at 46 (codes "t.1.2") ≡ Some (codes "t", codes "1.2")
 cut_at_the_first_dot = refl

@@ -7,8 +7,9 @@ ghost use Rattle.mps_words.specs.Reading.{single, pair, onto};
 ghost use Rattle.mps_words.specs.Number.{number_of};
 ghost use Rattle.mps_words.specs.Name.{name_of, slot_of};
 
-use crate::names::{name_of, slot_of};
+use crate::names::name_of;
 use crate::number::{decimal_of, number_of};
+use crate::slots::{next_slot, slot_from};
 use crate::words::{next_word, only_word};
 use mps_base::{Name, Slot};
 
@@ -25,7 +26,11 @@ pub fn name(arguments: &[u8]) -> Option<Name>
 pub fn slot(arguments: &[u8]) -> Option<Slot>
     ensures { result ≡ single slot_of (words arguments.now) }
 {
-    slot_of(only_word(arguments)?)
+    let (name, index, rest) = next_slot(arguments)?;
+    match next_word(rest) {
+        None => Some(slot_from(name, index)),
+        Some(_) => None,
+    }
 }
 
 /// A decimal number.
@@ -76,8 +81,9 @@ pub fn name_decimal(arguments: &[u8]) -> Option<(Name, u64)>
 pub fn slot_slot(arguments: &[u8]) -> Option<(Slot, Slot)>
     ensures { result ≡ pair slot_of slot_of (words arguments.now) }
 {
-    let (word, rest) = next_word(arguments)?;
-    Some((slot_of(word)?, slot(rest)?))
+    let (name, index, rest) = next_slot(arguments)?;
+    let second = slot(rest)?;
+    Some((slot_from(name, index), second))
 }
 
 /// A slot and a decimal number.
@@ -85,8 +91,9 @@ pub fn slot_slot(arguments: &[u8]) -> Option<(Slot, Slot)>
 pub fn slot_decimal(arguments: &[u8]) -> Option<(Slot, u64)>
     ensures { result ≡ pair slot_of decimal_of (words arguments.now) }
 {
-    let (word, rest) = next_word(arguments)?;
-    Some((slot_of(word)?, decimal(rest)?))
+    let (name, index, rest) = next_slot(arguments)?;
+    let others = decimal(rest)?;
+    Some((slot_from(name, index), others))
 }
 
 /// A slot and a number in either form.
@@ -94,8 +101,9 @@ pub fn slot_decimal(arguments: &[u8]) -> Option<(Slot, u64)>
 pub fn slot_value(arguments: &[u8]) -> Option<(Slot, u64)>
     ensures { result ≡ pair slot_of number_of (words arguments.now) }
 {
-    let (word, rest) = next_word(arguments)?;
-    Some((slot_of(word)?, value(rest)?))
+    let (name, index, rest) = next_slot(arguments)?;
+    let others = value(rest)?;
+    Some((slot_from(name, index), others))
 }
 
 /// A decimal number and a slot.
@@ -130,8 +138,9 @@ pub fn name_decimal_slot(arguments: &[u8]) -> Option<(Name, (u64, Slot))>
 pub fn slot_decimal_value(arguments: &[u8]) -> Option<(Slot, (u64, u64))>
     ensures { result ≡ onto slot_of (pair decimal_of number_of) (words arguments.now) }
 {
-    let (word, rest) = next_word(arguments)?;
-    Some((slot_of(word)?, decimal_value(rest)?))
+    let (name, index, rest) = next_slot(arguments)?;
+    let others = decimal_value(rest)?;
+    Some((slot_from(name, index), others))
 }
 
 /// A slot, a decimal number and a slot.
@@ -139,8 +148,9 @@ pub fn slot_decimal_value(arguments: &[u8]) -> Option<(Slot, (u64, u64))>
 pub fn slot_decimal_slot(arguments: &[u8]) -> Option<(Slot, (u64, Slot))>
     ensures { result ≡ onto slot_of (pair decimal_of slot_of) (words arguments.now) }
 {
-    let (word, rest) = next_word(arguments)?;
-    Some((slot_of(word)?, decimal_slot(rest)?))
+    let (name, index, rest) = next_slot(arguments)?;
+    let others = decimal_slot(rest)?;
+    Some((slot_from(name, index), others))
 }
 
 /// Two slots and a decimal number.
@@ -148,6 +158,7 @@ pub fn slot_decimal_slot(arguments: &[u8]) -> Option<(Slot, (u64, Slot))>
 pub fn slot_slot_decimal(arguments: &[u8]) -> Option<(Slot, (Slot, u64))>
     ensures { result ≡ onto slot_of (pair slot_of decimal_of) (words arguments.now) }
 {
-    let (word, rest) = next_word(arguments)?;
-    Some((slot_of(word)?, slot_decimal(rest)?))
+    let (name, index, rest) = next_slot(arguments)?;
+    let others = slot_decimal(rest)?;
+    Some((slot_from(name, index), others))
 }

@@ -5,6 +5,7 @@ mod arguments;
 mod head;
 mod names;
 mod number;
+mod slots;
 mod words;
 
 pub use arguments::{
@@ -13,6 +14,6 @@ pub use arguments::{
     slot_slot_decimal, slot_value, value,
 };
 pub use head::head_of;
-pub use names::{name_of, slot_of};
+pub use names::name_of;
 pub use number::{decimal_of, number_of, number_within, prefixed_hexadecimal};
 pub use words::{MAX_LINE_BYTES, is_word, next_word, only_word};

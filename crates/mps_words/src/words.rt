@@ -2,7 +2,7 @@
 ghost use Rattle.std.specs.Prelude.{◌≡◌, ◌==◌, ◌∷◌, ◌<◌, ◌≤◌, [], length, not, position, IfSome, Some, None, MatchOption};
 ghost use Rattle.std.specs.List.{position_or_len};
 ghost use Rattle.std.specs.Str.{bytes_eq};
-ghost use Rattle.mps_words.specs.Word.{words, is_space, cut_at, only_word};
+ghost use Rattle.mps_words.specs.Word.{words, is_space, only_word};
 
 use mps_base::length_before;
 
@@ -20,23 +20,11 @@ fn start_of_word(bytes: &[u8]) -> Option<usize>
 
 /// How many spaces stand before the first word.
 #[inline(always)]
-fn length_of_spaces(bytes: &[u8]) -> usize
+pub fn length_of_spaces(bytes: &[u8]) -> usize
     ensures length { result ≡ position_or_len (λ byte. not (is_space byte)) bytes.now }
     ensures at_most { result ≤ length bytes.now }
 {
     start_of_word(bytes).unwrap_or(bytes.len())
-}
-
-/// What stands before and after the first such byte, where there is one.
-#[inline(always)]
-pub fn cut(byte: u8, word: &[u8]) -> Option<(&[u8], &[u8])>
-    ensures { MatchOption result (cut_at byte word.now ≡ None) (λ p. cut_at byte word.now ≡ Some (p.0.now, p.1.now)) }
-{
-    let at = length_before(byte, word);
-    if at == word.len() {
-        return None;
-    }
-    Some((&word[..at], &word[at + 1..]))
 }
 
 /// The first word, and what stands after it; none where there are spaces alone.
