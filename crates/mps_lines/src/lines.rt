@@ -4,7 +4,7 @@ ghost use Rattle.mps_desk.specs.Desk.{HasRisen, OnlyReads};
 ghost use Rattle.mps_lines.specs.Buffer.{nothing_read, length_of_line, rest_of_script, HeldGives, TakesIn, KeepsUnread, ComesNextOf, IsLast};
 
 use crate::next::Next;
-use mps_base::length_before;
+use memchr::memchr;
 use mps_desk::{Desk, Failed};
 use mps_words::MAX_LINE_BYTES;
 use std::alloc::{AllocError, Global};
@@ -38,6 +38,15 @@ impl Model for Lines {
 
     ghost invariant = { λ l. (vec_len l.bytes ≡ 65536) × (l.line_start ≤ l.line_end) × (l.line_end ≤ 65536)
         × (l.start ≤ l.end) × (l.end ≤ 65536) };
+}
+
+/// How many bytes stand before the first line feed: all where there is none.
+#[inline(always)]
+fn length_of_line(bytes: &[u8]) -> usize
+    ensures length { result ≡ length_of_line bytes.now }
+    ensures at_most { result ≤ length bytes.now }
+{
+    memchr(b'\n', bytes).unwrap_or(bytes.len())
 }
 
 impl Lines {
@@ -83,10 +92,11 @@ impl Lines {
     }
 
     /// The next line, where it waits whole, or more bytes than a line may have.
+    #[inline(always)]
     pub fn next_held(&mut self) -> Option<Next>
         ensures { HeldGives self.old self.new result }
     {
-        let length = length_before(b'\n', &self.bytes[self.start..self.end]);
+        let length = length_of_line(&self.bytes[self.start..self.end]);
         if length > MAX_LINE_BYTES {
             return Some(Next::TooLong);
         }

@@ -8,11 +8,11 @@ pub returns : goal.returns
 returns c =
     let w : bytes_between c.self.inside.start c.self.inside.end c.self.inside.bytes.items ≡ c.args.self.now.waiting =
     ap (λ v. v.waiting) c.self.view_is in
-    let n : c.length_before-length.result ≡ length_of_line c.args.self.now.waiting = grind (arith, common_steps) in
-    let in_part : c.self.inside.start + (c.length_before-length.result + 1) ≤ c.self.inside.end = grind (arith, common_steps) in (
+    let n : c.length_of_line-length.result ≡ length_of_line c.args.self.now.waiting = grind (arith, common_steps) in
+    let in_part : c.self.inside.start + (c.length_of_line-length.result + 1) ≤ c.self.inside.end = grind (arith, common_steps) in (
       grind (arith, common_steps),
-      rw (← n, ← w) (between_prefix c.self.inside.start c.self.inside.end c.length_before-length.result c.self.inside.bytes.items
+      rw (← n, ← w) (between_prefix c.self.inside.start c.self.inside.end c.length_of_line-length.result c.self.inside.bytes.items
           (omega arith)),
       rw (← n, ← w) (between_rest c.self.inside.start c.self.inside.end
-          (c.length_before-length.result + 1) _ c.self.inside.bytes.items in_part (omega arith)),
+          (c.length_of_line-length.result + 1) _ c.self.inside.bytes.items in_part (omega arith)),
     )
