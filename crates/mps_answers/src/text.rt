@@ -106,6 +106,20 @@ fn put_three_spaced(out: &mut [u8], at: usize, first: u32, second: u32, third: u
     put_two_spaced(out, at, second, third)
 }
 
+/// A number at the start of the buffer. One of a single digit needs no count of its digits.
+#[inline(always)]
+fn put_number(out: &mut [u8], n: u64) -> usize
+    requires { 20 ≤ length out.old }
+    ensures at_most { result ≤ 20 }
+    ensures text { take result out.new ≡ decimal n }
+{
+    if n < 10 {
+        out[0] = b'0' + n as u8;
+        return 1;
+    }
+    put_decimal(n, out, 0)
+}
+
 /// The answer of a reply, without its line feed.
 fn put_plain(out: &mut [u8], reply: &Reply) -> usize
     requires { 64 ≤ length out.old }
@@ -115,7 +129,7 @@ fn put_plain(out: &mut [u8], reply: &Reply) -> usize
     match *reply {
         Reply::Ok => put(b"ok", out, 0),
         Reply::Flipped => put(b"flipped", out, 0),
-        Reply::Number(n) => put_decimal(n, out, 0),
+        Reply::Number(n) => put_number(out, n),
         Reply::Word(n) => put_word(out, 0, n),
         Reply::Yes => put(b"yes", out, 0),
         Reply::No => put(b"no", out, 0),
