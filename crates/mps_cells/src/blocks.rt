@@ -49,6 +49,7 @@ pub fn takes_head<F: Format>(pool: Pool<F>, format: F, head: u64) -> bool
 }
 
 /// The number of the pool of the segment that is held over an address.
+#[inline(always)]
 pub fn pool_of_segment(segs: &Segs, at: u64) -> Option<u32>
     ensures { result ≡ option_map (λ s. s.pool) (segment_over segs.now.segments at) }
 {

@@ -54,6 +54,7 @@ fn word_of_cell(at: u64, k: u64) -> usize
 }
 
 /// Cell `k` of a block.
+#[inline(always)]
 fn cell_at<F: Format>(words: &[u64], b: &Block<F>, k: u64) -> Result<CellFound, Refusal>
     requires { IsTrue ((F.layout b.now.format).is_valid b.now.head) }
     ensures value { result ≡ cell_at F.layout words.now b.now k }
@@ -70,6 +71,7 @@ fn cell_at<F: Format>(words: &[u64], b: &Block<F>, k: u64) -> Result<CellFound, 
 }
 
 /// Cell `k` of a block, where it is a number.
+#[inline(always)]
 pub fn number_cell_at<F: Format>(words: &[u64], b: &Block<F>, k: u64) -> Result<CellFound, Refusal>
     requires { IsTrue ((F.layout b.now.format).is_valid b.now.head) }
     ensures { result ≡ number_cell_at F.layout words.now b.now k }

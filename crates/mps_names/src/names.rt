@@ -56,6 +56,7 @@ impl Names {
     }
 
     /// What a name stands for.
+    #[inline(always)]
     pub fn get(&self, name: Name) -> Option<Thing>
         ensures { result ≡ thing_named self.now name }
     {

@@ -15,6 +15,7 @@ use mps_outcome::Committed;
 impl<F: Format> Heap<F> {
     /// Reserves a block with this head at a point. Its numbers are 0 and its references null. Refuses `BadHead` where the pool takes no
     /// such block, `Open` where the point has an open reservation, and `CommitLimit` and `NoRun` where there is no room.
+    #[inline(always)]
     pub fn reserve(&mut self, trail: &mut Trail, x: Name, head: u64) -> Result<(), Refusal>
         requires fits { 0 < trail.old.spare }
         ensures right { IsRightMoving F.layout self.old (call.Reserve x head) trail.old.moves trail.new.moves
@@ -40,6 +41,7 @@ impl<F: Format> Heap<F> {
 
     /// The open reservation of a point becomes an object, to which a slot then refers; or a flip came since, and the slot stays. Refuses
     /// `NotOpen`.
+    #[inline(always)]
     pub fn commit(&mut self, trail: &mut Trail, x: Name, target: Slot) -> Result<Committed, Refusal>
         requires fits { 0 < trail.old.spare }
         ensures right { IsRightMoving F.layout self.old (call.Commit x target) trail.old.moves trail.new.moves

@@ -28,6 +28,7 @@ impl<F: Format> Heap<F> {
     }
 
     /// Whether two slots are both null or hold the same object.
+    #[inline(always)]
     pub fn same(&self, slot: Slot, other: Slot) -> Result<bool, Refusal>
         ensures right { IsRight F.layout self.now (call.Same slot other) [] (answer_to says_bool result) self.now }
     {
@@ -35,6 +36,7 @@ impl<F: Format> Heap<F> {
     }
 
     /// Whether a slot is null.
+    #[inline(always)]
     pub fn is_null(&self, slot: Slot) -> Result<bool, Refusal>
         ensures right { IsRight F.layout self.now (call.Null slot) [] (answer_to says_bool result) self.now }
     {
@@ -42,6 +44,7 @@ impl<F: Format> Heap<F> {
     }
 
     /// The head of the object in a slot. Refuses `NullRef` where the slot is null.
+    #[inline(always)]
     pub fn head(&self, slot: Slot) -> Result<u64, Refusal>
         ensures right { IsRight F.layout self.now (call.Head slot) [] (answer_to says_head result) self.now }
     {
@@ -49,6 +52,7 @@ impl<F: Format> Heap<F> {
     }
 
     /// The address of the object in a slot. The object stays there until the next flip.
+    #[inline(always)]
     pub fn addr(&self, slot: Slot) -> Result<Addr, Refusal>
         ensures right { IsRight F.layout self.now (call.Address slot) [] (answer_to says_address result) self.now }
     {
@@ -57,6 +61,7 @@ impl<F: Format> Heap<F> {
 
     /// The number in a cell of the object in a slot. Refuses `NullRef`, `BadIndex` past the last cell, and `NotANumber` where the cell is a
     /// reference or the head.
+    #[inline(always)]
     pub fn num(&self, slot: Slot, cell: u64) -> Result<u64, Refusal>
         ensures right { IsRight F.layout self.now (call.Number slot cell) [] (answer_to says_number result) self.now }
     {

@@ -1,6 +1,4 @@
 // The calls by which a client allocates objects.
-#![tactic(auto)]
-
 ghost use Rattle.std.specs.Prelude.{◌≡◌, ◌<◌, ◌≤◌, Some, IsTrue, IfOk};
 ghost use Rattle.mps_base.specs.Address.{max_block_words};
 ghost use Rattle.mps_buffer.specs.Tokens.{IsClosedAt};
@@ -20,6 +18,7 @@ use mps_pools::format_of_pool;
 
 impl<F: Format> State<F> {
     /// The point at which a block is to be reserved, and the size of the block.
+    #[inline(always)]
     fn check_reserve(&self, name: Name, head: u64) -> Result<Reserving, Refusal>
         ensures value { result ≡ check_reserve F.layout self.now name head }
         ensures closed { IfOk result (λ r. IsClosedAt self.now.points r.point.key r.point.value) }
@@ -45,6 +44,7 @@ impl<F: Format> State<F> {
 
     /// Reserves a block with this head at a point. Refuses `BadHead` where the pool takes no such block, `Open` where the point has an
     /// open reservation, and `CommitLimit` and `NoRun` where there is no room.
+    #[inline(always)]
     pub fn reserve(&mut self, trail: &mut Trail, name: Name, head: u64) -> Result<(), Refusal>
         requires ready { IsReady self.old }
         requires fits { 0 < trail.old.spare }
@@ -114,6 +114,7 @@ impl<F: Format> State<F> {
 
     /// The reservation of a point becomes an object, to which a slot refers from now on; where a flip came since the reserve, it is given
     /// up and the slot stays.
+    #[inline(always)]
     pub fn commit(
         &mut self,
         trail: &mut Trail,

@@ -1,6 +1,4 @@
 // The calls on areas.
-#![tactic(auto)]
-
 ghost use Rattle.std.specs.Prelude.{◌≡◌};
 ghost use Rattle.mps_root.specs.State.{HasItem};
 ghost use Rattle.mps_outcome.specs.Coming.{Comes};

@@ -1,6 +1,4 @@
 // The calls on the arena.
-#![tactic(auto)]
-
 ghost use Rattle.std.specs.Prelude.{◌≡◌, length, false, MatchResult};
 ghost use Rattle.mps_base.specs.Run.{total};
 ghost use Rattle.mps_outcome.specs.declared.pool.ArenaState.TheVariants as arena;

@@ -1,6 +1,4 @@
 // A collection of everything.
-#![tactic(auto)]
-
 ghost use Rattle.std.specs.Prelude.{◌≡◌, ◌^◌, ◌<◌, IsTrue};
 ghost use Rattle.mps_buffer.specs.Points.{WereMadeBefore};
 ghost use Rattle.mps_outcome.specs.Collecting.{can_collect, CanCollectAll, IsCollected};

@@ -1,6 +1,4 @@
 // The calls on dependencies.
-#![tactic(auto)]
-
 ghost use Rattle.std.specs.Prelude.{◌≡◌, ℕ, List};
 ghost use Rattle.mps_ld.specs.Flips.{AreFlips};
 ghost use Rattle.mps_outcome.specs.Coming.{Comes};

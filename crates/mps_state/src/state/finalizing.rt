@@ -1,6 +1,4 @@
 // The calls on registrations and messages.
-#![tactic(auto)]
-
 ghost use Rattle.mps_outcome.specs.Coming.{Comes};
 ghost use Rattle.mps_outcome.specs.Finalizing.{message_taken, registered, unregistered};
 

@@ -1,6 +1,5 @@
-// What a call finds by its words.
-#![tactic(auto)]
-
+// What a call finds by its words. What frequent calls find is inlined, so that a name is read where it stands in its call and isn't
+// copied on the way.
 ghost use Rattle.std.specs.Prelude.{◌≡◌, ◌<◌, Some, IsTrue, IfOk};
 ghost use Rattle.mps_buffer.specs.Points.{point_at};
 ghost use Rattle.mps_root.specs.State.{HasItem, HasPlace};
@@ -32,6 +31,7 @@ impl<F: Format> State<F> {
     }
 
     /// The point that has a name.
+    #[inline(always)]
     pub(crate) fn point_named(&self, name: Name) -> Result<Kept<Point>, Refusal>
         ensures value { result ≡ point_named self.now name }
         ensures there { IfOk result (λ p. point_at self.now.points p.key ≡ Some p.value) }
@@ -46,6 +46,7 @@ impl<F: Format> State<F> {
     }
 
     /// A slot of a table.
+    #[inline(always)]
     pub(crate) fn slot_in(&self, slot: Slot) -> Result<Entry<u64>, Refusal>
         ensures value { result ≡ slot_in self.now slot }
         ensures fits { IfOk result (λ e. HasItem self.now.roots.tables e.key e.index) }
@@ -101,6 +102,7 @@ impl<F: Format> State<F> {
     }
 
     /// The pool of the segment that is held over an address.
+    #[inline(always)]
     pub(crate) fn pool_over(&self, at: u64) -> Option<Pool<F>>
         ensures { result ≡ pool_over self.now at }
     {
@@ -109,6 +111,7 @@ impl<F: Format> State<F> {
     }
 
     /// The format of the objects in the segment that is held over an address.
+    #[inline(always)]
     fn format_over(&self, at: u64) -> Option<F>
         ensures { result ≡ format_over self.now at }
     {
@@ -117,6 +120,7 @@ impl<F: Format> State<F> {
     }
 
     /// The object at an address that stands in a slot.
+    #[inline(always)]
     pub(crate) fn object_at(&self, address: u64) -> Result<Block<F>, Refusal>
         ensures value { result ≡ object_at F.layout self.now address }
         ensures valid { IfOk result (λ b. IsTrue ((F.layout b.format).is_valid b.head)) }
@@ -142,6 +146,7 @@ impl<F: Format> State<F> {
     }
 
     /// The object that a slot refers to.
+    #[inline(always)]
     pub(crate) fn object_in(&self, slot: Slot) -> Result<Block<F>, Refusal>
         ensures value { result ≡ object_in F.layout self.now slot }
         ensures valid { IfOk result (λ b. IsTrue ((F.layout b.format).is_valid b.head)) }

@@ -1,6 +1,4 @@
 // The words of manual blocks and of leaf objects are borrowed.
-#![tactic(auto)]
-
 ghost use Rattle.std.specs.Prelude.{◌≡◌, ◌%◌, ℕ, IfOk, MatchResult, Contains};
 ghost use Rattle.std.specs.Fn.{FnOnceReturnsAtMut};
 ghost use Rattle.mps_base.specs.Address.{word_of, bytes_of_word};

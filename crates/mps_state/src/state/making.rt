@@ -1,6 +1,4 @@
 // The calls that make and drop things.
-#![tactic(auto)]
-
 ghost use Rattle.std.specs.Prelude.{◌≡◌, ◌+◌, ◌<◌, ◌≤◌, None, Some, length, option_map, OnOk, IfErr};
 ghost use Rattle.std.specs.Option.{option_map_or};
 ghost use Rattle.mps_names.specs.State.{thing_named, Updates};

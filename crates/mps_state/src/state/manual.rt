@@ -1,6 +1,4 @@
 // The calls on manual blocks.
-#![tactic(auto)]
-
 ghost use Rattle.std.specs.Prelude.{◌≡◌, ◌<◌, ℕ, IfOk, Contains};
 ghost use Rattle.mps_base.specs.Address.{word_of};
 ghost use Rattle.mps_root.specs.State.{HasPlace};

@@ -1,6 +1,4 @@
 // The calls on slots and objects.
-#![tactic(auto)]
-
 ghost use Rattle.std.specs.Prelude.{◌≡◌};
 ghost use Rattle.mps_root.specs.State.{HasItem};
 ghost use Rattle.mps_outcome.specs.Coming.{Comes};
@@ -41,6 +39,7 @@ impl<F: Format> State<F> {
     }
 
     /// Whether two slots hold the same.
+    #[inline(always)]
     pub fn same(&self, slot: Slot, other: Slot) -> Result<bool, Refusal>
         ensures { result ≡ are_same self.now slot other }
     {
@@ -50,6 +49,7 @@ impl<F: Format> State<F> {
     }
 
     /// Whether a slot is null.
+    #[inline(always)]
     pub fn is_null(&self, slot: Slot) -> Result<bool, Refusal>
         ensures { result ≡ is_null self.now slot }
     {
@@ -58,6 +58,7 @@ impl<F: Format> State<F> {
     }
 
     /// The head of the object in a slot. Refuses `NullRef` where the slot is null.
+    #[inline(always)]
     pub fn head(&self, slot: Slot) -> Result<u64, Refusal>
         ensures { result ≡ head_in F.layout self.now slot }
     {
@@ -66,6 +67,7 @@ impl<F: Format> State<F> {
     }
 
     /// The address of the object in a slot.
+    #[inline(always)]
     pub fn addr(&self, slot: Slot) -> Result<u64, Refusal>
         ensures { result ≡ address_in F.layout self.now slot }
     {
@@ -75,6 +77,7 @@ impl<F: Format> State<F> {
 
     /// The number in cell `k` of the object in a slot. Refuses `BadIndex` past the last cell, and `NotANumber` where the cell is a
     /// reference or the head.
+    #[inline(always)]
     pub fn num(&self, slot: Slot, k: u64) -> Result<u64, Refusal>
         ensures { result ≡ number_in F.layout self.now slot k }
     {
