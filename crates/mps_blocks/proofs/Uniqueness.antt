@@ -25,7 +25,7 @@ use Rattle.mps_log_reader.proofs.TwoReadings.{Extends, split, no_record, one_of,
 use Rattle.mps_blocks.specs.Replayed.{State, at_the_start, replayed_after, replayed_from, replayed}
 use Rattle.mps_blocks.specs.Listing.{listing}
 use Rattle.mps_blocks.specs.Ending.{IsBadReplay, StopsAt, Replays}
-use Rattle.mps_blocks.specs.Listed.{Lists, ListedWith, IsUnique}
+use Rattle.mps_blocks.specs.Listed.{Lists, ListedWith, IsUniqueList}
 
 abbrev Ending : Type 0
 Ending = Result (Unit {0}) (Stop BadReplay)
@@ -245,7 +245,7 @@ one_of_each bytes e f t u (inl a) (inr b) = absurd (has_header a.replay.prefix b
 one_of_each bytes e f t u (inr a) (inl b) = absurd (has_header b.replay.prefix a.none)
 one_of_each bytes e f t u (inr a) (inr b) = record { ending = a.is ∙ sym b.is; text = a.shown ∙ sym b.shown }
 
-pub unique : (bytes : List ℕ) (status : ℕ) (old new : Outside) → ListedWith bytes status old new → IsUnique bytes status old new
+pub unique : (bytes : List ℕ) (status : ℕ) (old new : Outside) → ListedWith bytes status old new → IsUniqueList bytes status old new
 unique bytes status old new h ending text lists =
     let same = one_of_each bytes h.ending ending h.text text (either bytes h.ending h.text h.lists) (either bytes ending text lists) in
     subst (λ (e : Ending). ProgramEnds text_of_bad_replay e text status old new) same.ending

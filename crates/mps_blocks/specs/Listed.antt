@@ -28,8 +28,8 @@ pub record ListedWith (bytes : List ℕ) (status : ℕ) (old new : Outside) : Ty
   pub ends : ProgramEnds text_of_bad_replay ending text status old new
 
 -- in whatever way the replay of these bytes ends, the program ends so
-abbrev pub IsUnique : (bytes : List ℕ) → (status : ℕ) → (old new : Outside) → Type 0
-IsUnique bytes status old new =
+abbrev pub IsUniqueList : (bytes : List ℕ) → (status : ℕ) → (old new : Outside) → Type 0
+IsUniqueList bytes status old new =
     (ending : Result (Unit {0}) (Stop BadReplay)) (text : List ℕ) → Lists bytes ending text
     → ProgramEnds text_of_bad_replay ending text status old new
 

@@ -11,7 +11,7 @@ ghost use Rattle.mps_blocks.specs.BadReplay.{text_of_bad_replay};
 ghost use Rattle.mps_log_reader.specs.Ending.{is_input_verdict, IsUnopened};
 ghost use Rattle.mps_report.specs.Streams.{LeavesLogAlone};
 ghost use Rattle.mps_blocks.specs.Replayed.{at_the_start};
-ghost use Rattle.mps_blocks.specs.Listed.{ListedWith, IsUnique, ListsPart, HasListed, IsSilent};
+ghost use Rattle.mps_blocks.specs.Listed.{ListedWith, IsUniqueList, ListsPart, HasListed, IsSilent};
 ghost use Rattle.mps_blocks.specs.Replaying.{PendingReplays, NextReplays, AllReplay, HasReplayed};
 
 use crate::bad_replay::BadReplay;
@@ -37,7 +37,7 @@ pub fn blocks<D: Desk>(alloc: Global, log: &str, desk: &mut D) -> u8
         → ListedWith bytes result (D.outside desk.old) (D.outside desk.new) }
     // And nothing else: a whole log gives 0 and its live blocks, one that is damaged 6 at its first bad place.
     ensures unique { is_input_verdict result ≡ true → (bytes : List ℕ) → (D.outside desk.old).text log.now ≡ Some bytes
-        → IsUnique bytes result (D.outside desk.old) (D.outside desk.new) }
+        → IsUniqueList bytes result (D.outside desk.old) (D.outside desk.new) }
     // Nothing is printed before all was read and replayed.
     ensures silent { result ≢ 0 → result ≢ 4 → (D.outside desk.new).printed ≡ (D.outside desk.old).printed }
     // Where a write failed, a prefix of the list was printed.

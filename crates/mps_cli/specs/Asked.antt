@@ -10,10 +10,10 @@ use Rattle.mps_log_reader.specs.Causes.{AsksWith, StatusIsJustified}
 use Rattle.mps_log_reader.specs.Ending.{IsUnopened, is_input_verdict}
 use Rattle.mps_log_reader.specs.Opening.{OpensNothing}
 use Rattle.mps_blocks.specs.BadReplay.{text_of_bad_replay}
-use Rattle.mps_blocks.specs.Listed.{ListedWith, IsUnique as IsUniqueList, ListsPart}
+use Rattle.mps_blocks.specs.Listed.{ListedWith, IsUniqueList, ListsPart}
 use Rattle.mps_txt.specs.BadTextLine.{text_of_bad_line as text_of_bad_text_line}
-use Rattle.mps_txt.specs.Text.{ReadWith, IsCutShort as IsCutShortText, IsUnique as IsUniqueReading}
-use Rattle.mps_cnv.specs.Converted.{ConvertedWith, ConvertsUntilReadFault, ConvertsUntilWriteFault, IsUnique as IsUniqueConversion}
+use Rattle.mps_txt.specs.Text.{ReadWith, IsCutShort as IsCutShortText, IsUniqueReading}
+use Rattle.mps_cnv.specs.Converted.{ConvertedWith, ConvertsUntilReadFault, ConvertsUntilWriteFault, IsUniqueConversion}
 use Rattle.mps_workload.specs.Ending.{FailsWithin}
 use Rattle.mps_workload.specs.Script.{script as generated_script}
 use Rattle.mps_args.specs.Meaning.{Meaning, Runs, Converts, Reads, Lists, Generates}

@@ -17,7 +17,7 @@ use Rattle.mps_report.proofs.Appended.{appended_empty}
 use Rattle.mps_log_reader.proofs.Stops.{other_than_verdict}
 use Rattle.mps_log_reader.proofs.TwoReadings.{same_reading}
 use Rattle.mps_cnv.specs.Portable.{portable}
-use Rattle.mps_cnv.specs.Converted.{text_of_prefix, Converts, HasConverted, ConvertedWith, IsUnique}
+use Rattle.mps_cnv.specs.Converted.{text_of_prefix, Converts, HasConverted, ConvertedWith, IsUniqueConversion}
 
 abbrev Ending : Type 0
 Ending = Result (Unit {0}) (Stop BadLog)
@@ -39,7 +39,7 @@ module _ (kinds : ℕ) (bytes : List ℕ) (status : ℕ) where
 
   unique_of : (ending : Ending) (old new : Outside) → status ≡ status_of_ending ending → Converts kinds bytes ending old new
       → HasReportedEnding text_of_bad_log ending old new
-      → IsUnique kinds bytes status old new
+      → IsUniqueConversion kinds bytes status old new
   unique_of ending old new is c reported = record {
     with_header = ends_so ending old new is c reported;
     without_header = λ none. absurd (has_header c.prefix none);
@@ -47,7 +47,7 @@ module _ (kinds : ℕ) (bytes : List ℕ) (status : ℕ) where
 
   unique_ending : (ending : Ending) (old new : Outside) → is_input_verdict status ≡ true → status ≡ status_of_ending ending
       → HasConverted kinds bytes ending old new
-      → HasReportedEnding text_of_bad_log ending old new → IsUnique kinds bytes status old new
+      → HasReportedEnding text_of_bad_log ending old new → IsUniqueConversion kinds bytes status old new
   unique_ending (Err (stop.Bad bad_log.Header)) old new verdict is h reported = record {
     with_header = λ prefix ending e. absurd (has_header prefix h.0);
     without_header = λ none. record { status_is = is; printed = h.1 ∙ appended_empty old.printed; reported = reported };
@@ -58,5 +58,5 @@ module _ (kinds : ℕ) (bytes : List ℕ) (status : ℕ) where
   unique_ending ending old new verdict is h reported = unique_of ending old new is h reported
 
   pub unique : (old new : Outside) → is_input_verdict status ≡ true → ConvertedWith kinds bytes status old new
-      → IsUnique kinds bytes status old new
+      → IsUniqueConversion kinds bytes status old new
   unique old new verdict w = unique_ending w.ending old new verdict w.status_is w.converted w.reported

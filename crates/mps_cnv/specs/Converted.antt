@@ -73,7 +73,7 @@ pub record ConvertedWith (kinds : ℕ) (bytes : List ℕ) (status : ℕ) (old ne
 
 -- In whatever way the reading of the bytes ends, the program ends so, and prints the text of just these records; where they
 -- begin with no header, it prints nothing.
-pub record IsUnique (kinds : ℕ) (bytes : List ℕ) (status : ℕ) (old new : Outside) : Type 0 where
+pub record IsUniqueConversion (kinds : ℕ) (bytes : List ℕ) (status : ℕ) (old new : Outside) : Type 0 where
   pub with_header : (prefix : LogPrefix bytes) (ending : Result (Unit {0}) (Stop BadLog)) → LogEnds prefix ending
       → ProgramEnds text_of_bad_log ending (text_of_prefix kinds prefix) status old new
   pub without_header : HasNoHeader bytes → ProgramEnds text_of_bad_log (Err (stop.Bad bad_log.Header)) [] status old new

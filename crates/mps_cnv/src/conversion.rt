@@ -14,7 +14,7 @@ ghost use Rattle.mps_log_reader.specs.PutOut.{put_out, Grows, PutsPart};
 ghost use Rattle.mps_report.specs.Reports.{ReportsStatus};
 ghost use Rattle.mps_log_reader.specs.Ending.{is_input_verdict, IsUnopened};
 ghost use Rattle.mps_log_reader.specs.Opening.{OpensNothing};
-ghost use Rattle.mps_cnv.specs.Converted.{ConvertedWith, HasConverted, IsCutRecord, ConvertsUntilReadFault, ConvertsUntilWriteFault, IsUnique};
+ghost use Rattle.mps_cnv.specs.Converted.{ConvertedWith, HasConverted, IsCutRecord, ConvertsUntilReadFault, ConvertsUntilWriteFault, IsUniqueConversion};
 ghost use Rattle.mps_cnv.specs.Converting.{ConvertsPart, ConvertsFront, PendingConverts, NextConverts, AllGive};
 ghost use Rattle.mps_event.specs.KindSet.{bits_of};
 ghost use Rattle.mps_report.specs.Reports.{report_of};
@@ -57,7 +57,7 @@ pub fn cnv<D: Desk>(alloc: Global, log: &str, kinds: Kinds, desk: &mut D) -> u8
         → ConvertsUntilWriteFault (bits_of kinds) bytes (D.outside desk.old) (D.outside desk.new) }
     // And nothing else: a whole log gives 0 and all of its text, one with a bad record gives 6 and the text before it.
     ensures unique { is_input_verdict result ≡ true → (bytes : List ℕ) → (D.outside desk.old).text log.now ≡ Some bytes
-        → IsUnique (bits_of kinds) bytes result (D.outside desk.old) (D.outside desk.new) }
+        → IsUniqueConversion (bits_of kinds) bytes result (D.outside desk.old) (D.outside desk.new) }
 {
     let ending = convert(alloc, log, kinds, desk);
     report_ending(ending, desk)

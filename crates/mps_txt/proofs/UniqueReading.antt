@@ -22,7 +22,7 @@ use Rattle.mps_txt.specs.declared.bad_text_line.BadTextLine.{BadTextLine}
 use Rattle.mps_txt.specs.BadTextLine.{bad_line, text_of_bad_line}
 use Rattle.mps_txt.specs.Line.{record_text}
 use Rattle.mps_txt.specs.Labels.{Naming, no_names, after_record, after_records}
-use Rattle.mps_txt.specs.Text.{readable_text, max_lines, max_record_lines, Ending, BeginsWith, HasNoFirstLine, FindsNoFirstLine, TextEndsAt, TextEndsWith, Reads, HasRead, ReadWith, IsUnique}
+use Rattle.mps_txt.specs.Text.{readable_text, max_lines, max_record_lines, Ending, BeginsWith, HasNoFirstLine, FindsNoFirstLine, TextEndsAt, TextEndsWith, Reads, HasRead, ReadWith, IsUniqueReading}
 use Rattle.mps_txt.proofs.SplitAtByte.{one_split}
 use Rattle.mps_txt.proofs.Spelling.{record_text_lacks, one_text}
 use Rattle.mps_txt.proofs.LinesSoFar.{naming_is}
@@ -246,7 +246,7 @@ begins_with_one version records named rest bytes b none = none version (flat_map
 
 module _ (bytes : List ℕ) (status : ℕ) (old new : Outside) where
   unique_of : (ending : Ending) → status ≡ status_of_ending ending → HasReportedEnding text_of_bad_line ending old new
-      → Reads bytes ending old new → IsUnique bytes status old new
+      → Reads bytes ending old new → IsUniqueReading bytes status old new
   unique_of ending is reported c = record {
     with_first_line = λ version records other h.
         let mine : TextEndsWith c.version c.records ending bytes =
@@ -263,7 +263,7 @@ module _ (bytes : List ℕ) (status : ℕ) (old new : Outside) where
   }
 
   unique_without : (bad : BadTextLine) → status ≡ 6 → HasReportedEnding {T = Unit {0}} text_of_bad_line (Err (stop.Bad bad)) old new
-      → FindsNoFirstLine bytes bad old new → IsUnique bytes status old new
+      → FindsNoFirstLine bytes bad old new → IsUniqueReading bytes status old new
   unique_without bad is reported h = record {
     with_first_line = λ version records ending e. absurd (begins_with_one version records e.named e.rest bytes e.begins h.none);
     without_first_line = λ none. record {
@@ -276,7 +276,7 @@ module _ (bytes : List ℕ) (status : ℕ) (old new : Outside) where
 
   unique_ending : is_input_verdict status ≡ true → (ending : Ending) → status ≡ status_of_ending ending
       → HasReportedEnding text_of_bad_line ending old new → HasRead bytes ending old new
-      → IsUnique bytes status old new
+      → IsUniqueReading bytes status old new
   unique_ending verdict (Ok value) is reported h = unique_of (Ok value) is reported h
   unique_ending verdict (Err (stop.Bad bad)) is reported (inl h) = unique_without bad is reported h
   unique_ending verdict (Err (stop.Bad bad)) is reported (inr h) = unique_of (Err (stop.Bad bad)) is reported h
@@ -286,5 +286,5 @@ module _ (bytes : List ℕ) (status : ℕ) (old new : Outside) where
   unique_ending verdict (Err stop.OutOfMemory) is reported h = absurd (other_than_verdict status 8 is verdict refl)
   unique_ending verdict (Err stop.LogFailed) is reported h = absurd h
 
-  pub unique_reading : is_input_verdict status ≡ true → ReadWith bytes status old new → IsUnique bytes status old new
+  pub unique_reading : is_input_verdict status ≡ true → ReadWith bytes status old new → IsUniqueReading bytes status old new
   unique_reading verdict c = unique_ending verdict c.ending c.status_is c.reported c.read

@@ -172,7 +172,7 @@ pub record TextEndsWith (version : Version) (records : List Record) (ending : En
   pub ends_at : TextEndsAt version named ending (length records) rest
 
 -- in whatever way the bytes end, the program prints and reports just that; without a first line it prints nothing
-pub record IsUnique (bytes : List ℕ) (status : ℕ) (old new : Outside) : Type 0 where
+pub record IsUniqueReading (bytes : List ℕ) (status : ℕ) (old new : Outside) : Type 0 where
   pub with_first_line : (version : Version) (records : List Record) (ending : Ending) → TextEndsWith version records ending bytes
       → ProgramEnds text_of_bad_line ending (readable_text version records) status old new
   pub without_first_line : HasNoFirstLine bytes → ProgramEnds text_of_bad_line (Err (stop.Bad (bad_line 1))) [] status old new

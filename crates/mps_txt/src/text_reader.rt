@@ -16,7 +16,7 @@ ghost use Rattle.mps_txt.specs.BadTextLine.{bad_line, text_of_bad_line};
 ghost use Rattle.mps_txt.specs.Labels.{no_names, after_record, record_takes_memory};
 ghost use Rattle.mps_txt.specs.Line.{Spells};
 ghost use Rattle.mps_txt.specs.PendingLine.{IsPendingLine, HasNoLine, PutsLine};
-ghost use Rattle.mps_txt.specs.Text.{HasRead, ReadWith, IsCutShort, IsUnique};
+ghost use Rattle.mps_txt.specs.Text.{HasRead, ReadWith, IsCutShort, IsUniqueReading};
 ghost use Rattle.mps_txt.specs.TextSteps.{progress, PendingGives, NextGives, AllGives, ShowsPart, first_text, FindsVersion, TakesFirstLine, OpensText, OpensWholeLine};
 
 use crate::bad_text_line::BadTextLine;
@@ -48,7 +48,7 @@ pub fn txt<D: Desk>(alloc: Global, text: &str, desk: &mut D) -> u8
     // And nothing else, where the status is of the text alone: a whole text gives 0 and all of its readable text, one with
     // a wrong line gives 6, the number of that line and the readable text before it.
     ensures unique { is_input_verdict result ≡ true → (bytes : List ℕ) → (D.outside desk.old).text text.now ≡ Some bytes
-        → IsUnique bytes result (D.outside desk.old) (D.outside desk.new) }
+        → IsUniqueReading bytes result (D.outside desk.old) (D.outside desk.new) }
     // Where a write failed, a prefix of the readable text of the first lines was printed.
     ensures cut { result ≡ 4 → (bytes : List ℕ) → (D.outside desk.old).text text.now ≡ Some bytes
         → IsCutShort bytes (D.outside desk.old) (D.outside desk.new) }
