@@ -89,11 +89,12 @@ stands() {
   done
 }
 
-# Begins the proof of a crate, with as many jobs and as nice as is said.
+# Begins the proof of a crate, with as many jobs as are said.
 start() {
   state[$1]=running
-  running=$((running + 1))
-  (cd "$home/crates/$1" && nice -n "$3" rt lib --jobs "$2" >"$work/$1.log" 2>&1 </dev/null; echo $? >"$work/$1.end") &
+  jobs_of[$1]=$2
+  idle=$((idle - $2))
+  (cd "$home/crates/$1" && rt lib --jobs "$2" >"$work/$1.log" 2>&1 </dev/null; echo $? >"$work/$1.end") &
 }
 
 # Takes note of the crates whose proofs have ended.
@@ -102,7 +103,7 @@ note_ended() {
   for name in "${!state[@]}"; do
     if [ "${state[$name]}" != running ] || [ ! -s "$work/$name.end" ]; then continue; fi
     state[$name]=proved
-    running=$((running - 1))
+    idle=$((idle + jobs_of[$name]))
     left=$((left - 1))
     if [ "$(cat "$work/$name.end")" != 0 ]; then
       cat "$work/$name.log" >&2
@@ -112,20 +113,21 @@ note_ended() {
   done
 }
 
-# Begins the proofs of crates whose libraries are proved, as many at a time as may be. The first in the order, for which the longest
-# chain of crates waits, gets all processors; the others get what it leaves idle.
+# Begins the proofs of crates whose libraries are proved. The first one, which has the longest chain above it, gets half of the
+# processors; the others one each, or what is idle where there is no other.
 start_ready() {
-  local name first=
+  local name ready=()
   for name in $order; do
-    if [ "${state[$name]}" = proved ]; then continue; fi
-    if [ -z "$first" ]; then first=$name; fi
-    if [ "$running" -ge "$most" ]; then return; fi
-    if [ "${state[$name]}" != waiting ] || ! stands "$name"; then continue; fi
-    if [ "$name" = "$first" ]; then
-      start "$name" "$most" 0
-    else
-      start "$name" 1 10
-    fi
+    if [ "${state[$name]}" = waiting ] && stands "$name"; then ready+=("$name"); fi
+  done
+  if [ "$idle" -le 0 ] || [ "${#ready[@]}" -eq 0 ]; then return; fi
+  if [ "${#ready[@]}" -eq 1 ]; then
+    start "${ready[0]}" "$idle"
+    return
+  fi
+  start "${ready[0]}" $(((most + 1) / 2))
+  for name in "${ready[@]:1}"; do
+    if [ "$idle" -gt 0 ]; then start "$name" 1; fi
   done
 }
 
@@ -136,7 +138,7 @@ prove_libraries() {
   order=$(longest_first)
   for name in $order; do state[$name]=waiting; done
   left=$((${#state[@]} + 1))
-  echo "mps: proving $left crates, up to $most at a time" >&2
+  echo "mps: proving $left crates, up to $idle at a time" >&2
   while [ "$left" -gt 1 ]; do
     start_ready
     wait -n
@@ -145,9 +147,10 @@ prove_libraries() {
 }
 
 build() {
-  local output most running=0
-  declare -A state libraries lines chain
+  local output most idle
+  declare -A state libraries lines chain jobs_of
   most=$(proofs_at_once)
+  idle=$most
   work=$(mktemp -d)
   trap 'rm -rf "$work"' EXIT
   trap 'end_proofs; exit 130' INT TERM
