@@ -54,6 +54,7 @@ impl OpenPoints {
     }
 
     /// The point under a key, if there is one.
+    #[inline(always)]
     pub fn get(&self, key: u32) -> Option<Point>
         ensures { result ≡ point_at self.now key }
     {
@@ -61,6 +62,7 @@ impl OpenPoints {
     }
 
     /// How many flips there were.
+    #[inline(always)]
     pub fn flips(&self) -> u64
         ensures { result ≡ self.now.flips }
     {

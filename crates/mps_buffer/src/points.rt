@@ -55,6 +55,7 @@ impl Points {
     }
 
     /// The point under a key, if there is one.
+    #[inline(always)]
     pub fn get(&self, key: u32) -> Option<Point>
         ensures { result ≡ point_at self.now key }
     {
@@ -66,6 +67,7 @@ impl Points {
     }
 
     /// How many flips there were.
+    #[inline(always)]
     pub fn flips(&self) -> u64
         ensures { result ≡ self.now.flips }
     {

@@ -42,6 +42,7 @@ pub fn is_block_over(segs: &Segs, byte: u64, at: u64) -> bool
 }
 
 /// Whether a pool takes blocks with this head, in its format.
+#[inline(always)]
 pub fn takes_head<F: Format>(pool: Pool<F>, format: F, head: u64) -> bool
     ensures { result ≡ takes_head F.layout pool format head }
 {

@@ -13,6 +13,7 @@ use mps_outcome::{Block, CellFound};
 use mps_seg::Segs;
 
 /// Whether cell `k` of a block with this head is a reference.
+#[inline(always)]
 fn is_reference<F: Format>(format: &F, head: u64, k: u32) -> bool
     requires { IsTrue ((F.layout format.now).is_valid head) }
     ensures { result ≡ (F.layout format.now).is_reference head k }
@@ -24,6 +25,7 @@ fn is_reference<F: Format>(format: &F, head: u64, k: u32) -> bool
 }
 
 /// Whether a block with this head has a reference.
+#[inline(always)]
 pub fn any_references<F: Format>(format: &F, head: u64) -> bool
     requires { IsTrue ((F.layout format.now).is_valid head) }
     ensures { result ≡ has_references (F.layout format.now) head }
@@ -46,6 +48,7 @@ pub fn with_target<F: Format>(format: &F, word: u64, to: u64) -> u64
 }
 
 /// The number of the word of cell `k` of a block at an address.
+#[inline(always)]
 fn word_of_cell(at: u64, k: u64) -> usize
     requires { k < 2 ^ 32 }
     ensures { result ≡ word_of at + k }

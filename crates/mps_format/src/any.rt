@@ -51,6 +51,7 @@ impl Format for AnyFormat {
 
     ghost layout = { any_layout };
 
+    #[inline(always)]
     fn accepts(&self, head: u64) -> bool {
         match self {
             AnyFormat::Front(f) => f.accepts(head),
@@ -59,6 +60,7 @@ impl Format for AnyFormat {
         }
     }
 
+    #[inline(always)]
     fn words(&self, head: u64) -> u32 {
         match self {
             AnyFormat::Front(f) => f.words(head),
@@ -75,6 +77,7 @@ impl Format for AnyFormat {
         }
     }
 
+    #[inline(always)]
     fn ref_from(&self, head: u64, from: u32) -> Option<u32> {
         match self {
             AnyFormat::Front(f) => f.ref_from(head, from),

@@ -16,11 +16,13 @@ impl Format for Front {
 
     ghost layout = { λ _. front_layout };
 
+    #[inline(always)]
     fn accepts(&self, head: u64) -> bool {
         let size = size_of_head(head);
         tag_of_head(head) == FRONT && 2 <= size && size <= MAX_WORDS && extra_of_head(head) < size
     }
 
+    #[inline(always)]
     fn words(&self, head: u64) -> u32 {
         size_of_head(head)
     }
@@ -29,6 +31,7 @@ impl Format for Front {
         size_of_head(mem[0])
     }
 
+    #[inline(always)]
     fn ref_from(&self, head: u64, from: u32) -> Option<u32> {
         let first = from.max(1);
         if first <= extra_of_head(head) {

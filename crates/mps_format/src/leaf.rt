@@ -16,11 +16,13 @@ impl Format for Leaf {
 
     ghost layout = { λ _. leaf_layout };
 
+    #[inline(always)]
     fn accepts(&self, head: u64) -> bool {
         let size = size_of_head(head);
         tag_of_head(head) == LEAF && 2 <= size && size <= MAX_WORDS && extra_of_head(head) == 0
     }
 
+    #[inline(always)]
     fn words(&self, head: u64) -> u32 {
         size_of_head(head)
     }
@@ -29,6 +31,7 @@ impl Format for Leaf {
         size_of_head(mem[0])
     }
 
+    #[inline(always)]
     fn ref_from(&self, _head: u64, _from: u32) -> Option<u32> {
         None
     }

@@ -43,6 +43,7 @@ impl Format for Mapped {
 
     ghost layout = { λ _. mapped_layout };
 
+    #[inline(always)]
     fn accepts(&self, head: u64) -> bool {
         let size = size_of_head(head);
         let mask = extra_of_head(head);
@@ -53,6 +54,7 @@ impl Format for Mapped {
             && fits_bits(mask, size)
     }
 
+    #[inline(always)]
     fn words(&self, head: u64) -> u32 {
         size_of_head(head)
     }
@@ -61,6 +63,7 @@ impl Format for Mapped {
         size_of_head(mem[0])
     }
 
+    #[inline(always)]
     fn ref_from(&self, head: u64, from: u32) -> Option<u32> {
         first_set_bit(extra_of_head(head), from)
     }

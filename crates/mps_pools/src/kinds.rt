@@ -11,6 +11,7 @@ use mps_format::Format;
 use mps_outcome::Pool;
 
 /// The format of the objects of a pool, where it is automatic.
+#[inline(always)]
 pub fn format_of_pool<F: Format>(pool: Pool<F>) -> Option<F>
     ensures { result ≡ format_of_pool pool }
 {
@@ -47,6 +48,7 @@ pub fn is_copying<F: Format>(pool: Pool<F>) -> bool
 }
 
 /// Whether the objects of a pool have no references.
+#[inline(always)]
 pub fn is_leaf<F: Format>(pool: Pool<F>) -> bool
     ensures { result ≡ is_leaf_pool pool }
 {

@@ -67,6 +67,7 @@ impl<F: Format> Pools<F> {
     }
 
     /// The pool with a number, where there is one.
+    #[inline(always)]
     pub fn get(&self, number: u32) -> Option<Pool<F>>
         ensures { result ≡ slice_get self.now.pools number }
     {

@@ -115,6 +115,7 @@ impl Roots {
     }
 
     /// The slots of a table, where there is one under this key.
+    #[inline(always)]
     pub fn slots(&self, key: usize) -> Option<&[u64]>
         ensures { MatchOption result (kept self.now.tables key ≡ None) (λ slots. kept self.now.tables key ≡ Some slots.now) }
     {

@@ -181,6 +181,7 @@ impl Segs {
     }
 
     /// The base of the segment in which an address lies.
+    #[inline(always)]
     pub fn segment_of(&self, at: Addr) -> Option<Addr>
         ensures { result ≡ option_map base_address (segment_over self.now.segments at.0) }
     {

@@ -37,6 +37,7 @@ impl Segs {
     }
 
     /// What is known of the segment at `base`.
+    #[inline(always)]
     pub fn segment(&self, base: Addr) -> SegmentInfo
         requires { (s : Segment) × Contains self.now.segments s × (s.base ≡ base.0) }
         ensures { (s : Segment) → Contains self.now.segments s → s.base ≡ base.0 → result ≡ info_of self.now s }

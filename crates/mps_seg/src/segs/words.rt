@@ -12,6 +12,7 @@ use mps_base::Addr;
 
 impl Segs {
     /// All words of the arena, by their address divided by 8.
+    #[inline(always)]
     pub fn words(&self) -> &[u64]
         ensures { result.now ≡ self.now.words }
     {
