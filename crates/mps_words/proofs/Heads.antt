@@ -1,6 +1,7 @@
 -- A head is read from just the text that is written for it.
-use Rattle.std.proofs.Common.{◌≡◌, ℕ, ◌+◌, ◌^◌, ◌<◌, ◌==◌, nat_lt, Bool, true, false, cond, if◌then◌else◌, Option, Some, None, option_and_then, IfSome, List, [], ◌∷◌, ◌++◌, length, take, drop, decimal, refl, ap, ◌∙◌, sym, subst, ◌⊎◌, inl, inr, arith}
+use Rattle.std.proofs.Common.{◌≡◌, ℕ, ◌+◌, ◌-◌, ◌≤◌, get_or, ◌^◌, ◌<◌, ◌==◌, nat_lt, Bool, true, false, cond, if◌then◌else◌, Option, Some, None, option_and_then, IfSome, List, [], ◌∷◌, ◌++◌, length, take, drop, decimal, refl, ap, ◌∙◌, sym, subst, ◌⊎◌, inl, inr, arith}
 use Rattle.std.specs.List.{position_or_len}
+use Rattle.std.proofs.lemmas.Bool.Decides.{nat_tests}
 use Rattle.std.proofs.lemmas.Grind.{common_steps}
 use Rattle.mps_format.specs.declared.head.Head.{Head}
 use Rattle.mps_format.specs.declared.head.Head.TheVariants.{Front, Mapped, Leaf}
@@ -13,6 +14,7 @@ use Rattle.mps_format.proofs.Heads.{word_of-head_of_word, head_text-head_of_word
 use Rattle.mps_format.proofs.Colons.{has_colon, cut_at_colon, joined_at_colon}
 use Rattle.mps_words.specs.Word.{cut_at}
 use Rattle.mps_numerals.specs.Decimal.{decimal_number}
+use Rattle.mps_words.proofs.OneDigit.{of_digit}
 use Rattle.mps_words.specs.Head.{two_numbers, head_after, head_in, head_of}
 use Rattle.mps_numerals.proofs.Decimals.{read_was_written, written_is_read}
 
@@ -57,15 +59,15 @@ pair_written text r e =
     let second = some_of _ (decimal_number cut.0.1) r first.2 in
     let at : ℕ = position_or_len is_colon text in
     let there = there_cut text (nat_lt at (length text)) at cut.0 cut.1 in
-    let front = read_was_written cut.0.0 first.0 first.1 in
+    let prefix = read_was_written cut.0.0 first.0 first.1 in
     let back = read_was_written cut.0.1 second.0 second.1 in
     let same : (first.0, second.0) ≡ r = cc in
-    let before : take at text ≡ decimal first.0 = ap (λ (x : List ℕ × List ℕ). x.0) there.1 ∙ front.0 in
+    let before : take at text ≡ decimal first.0 = ap (λ (x : List ℕ × List ℕ). x.0) there.1 ∙ prefix.0 in
     let after : drop (at + 1) text ≡ decimal second.0 = ap (λ (x : List ℕ × List ℕ). x.1) there.1 ∙ back.0 in
     let whole : text ≡ decimal first.0 ++ 58 ∷ decimal second.0
     = joined_at_colon text at there.0 ∙ ap (λ (t : List ℕ). t ++ 58 ∷ drop (at + 1) text) before
     ∙ ap (λ (t : List ℕ). decimal first.0 ++ 58 ∷ t) after in
-    subst (λ (s : ℕ × ℕ). (text ≡ decimal s.0 ++ 58 ∷ decimal s.1) × (s.0 < 2 ^ 64) × (s.1 < 2 ^ 64)) same (whole, front.1, back.1)
+    subst (λ (s : ℕ × ℕ). (text ≡ decimal s.0 ++ 58 ∷ decimal s.1) × (s.0 < 2 ^ 64) × (s.1 < 2 ^ 64)) same (whole, prefix.1, back.1)
 
 -- ---- heads
 abbrev IsRead : List ℕ → Head → Type 0
@@ -165,3 +167,25 @@ head_text_read word head small e =
     ap head_of (head_text-head_of_word word head e)
     ∙ ap (λ (o : Option Head). option_and_then (λ (h : Head). Some (word_of h)) o) (head_read head (head_fits word head small e))
     ∙ ap Some (word_of-head_of_word word head e)
+
+-- ---- a front head with numbers of one digit
+
+no_colon : (digit : ℕ) → digit ≤ 57 → (digit == 58) ≡ false
+no_colon digit most = grind (arith, nat_tests)
+
+digits_of_front : (size references : ℕ) → 48 ≤ size → size ≤ 57 → 48 ≤ references → references ≤ 57
+    → Some (Front (size - 48) (references - 48)) ≡ head_in (102 ∷ 58 ∷ size ∷ 58 ∷ references ∷ [])
+digits_of_front size references least most least' most' =
+    rw (no_colon size most, of_digit size least most, of_digit references least' most') refl
+
+pub short_front : (text : List ℕ) → length text ≡ 5 → get_or text 0 0 ≡ 102 → get_or text 1 0 ≡ 58 → get_or text 3 0 ≡ 58
+    → 48 ≤ get_or text 2 0 → get_or text 2 0 ≤ 57 → 48 ≤ get_or text 4 0 → get_or text 4 0 ≤ 57
+    → Some (Front (get_or text 2 0 - 48) (get_or text 4 0 - 48)) ≡ head_in text
+short_front (a ∷ b ∷ c ∷ d ∷ e ∷ []) five first second fourth least most least' most' =
+    rw (first, second, fourth) (digits_of_front c e least most least' most')
+short_front [] five first second fourth least most least' most' = absurd (omega arith)
+short_front (a ∷ []) five first second fourth least most least' most' = absurd (omega arith)
+short_front (a ∷ b ∷ []) five first second fourth least most least' most' = absurd (omega arith)
+short_front (a ∷ b ∷ c ∷ []) five first second fourth least most least' most' = absurd (omega arith)
+short_front (a ∷ b ∷ c ∷ d ∷ []) five first second fourth least most least' most' = absurd (omega arith)
+short_front (a ∷ b ∷ c ∷ d ∷ e ∷ f ∷ fs) five first second fourth least most least' most' = absurd (omega arith)

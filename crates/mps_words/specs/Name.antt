@@ -1,10 +1,15 @@
 -- Names and slots as words.
-use Rattle.std.specs.Prelude.{ℕ, ◌≡◌, if◌then◌else◌, codes, Option, Some, None, option_and_then, List, ◌++◌, length, drop, replicate, refl}
-use Rattle.mps_base.specs.Name.{is_name, max_name_bytes}
+use Rattle.std.specs.Prelude.{ℕ, ◌≡◌, if◌then◌else◌, codes, Option, Some, None, option_and_then, List, ◌++◌, not, length, drop, replicate, refl}
+use Rattle.std.specs.List.{position_or_len}
+use Rattle.mps_base.specs.Name.{is_name, is_name_byte, max_name_bytes}
 use Rattle.mps_base.specs.declared.names.Name.{Name}
 use Rattle.mps_base.specs.declared.names.Slot.{Slot}
 use Rattle.mps_words.specs.Word.{cut_at}
 use Rattle.mps_numerals.specs.Decimal.{decimal_number}
+
+-- what stands after the bytes at the beginning of a text that may stand in a name
+abbrev pub after_name : List ℕ → List ℕ
+after_name text = drop (position_or_len (λ b. not (is_name_byte b)) text) text
 
 -- the name of these bytes
 abbrev pub name_from : List ℕ → Name
@@ -25,6 +30,9 @@ slot_of word =
     option_and_then (λ n. option_and_then (λ i. Some (record { name = n; index = i })) (decimal_number p.1))
     (name_of p.0))
     (cut_at 46 word)
+
+pub what_stands_after_a_name : after_name (codes "t_1.0 2") ≡ codes ".0 2"
+what_stands_after_a_name = refl
 
 pub a_name : name_of (codes "t_1") ≡ Some (record { len = 3; bytes = codes "t_1" ++ replicate 13 0 })
 a_name = refl

@@ -7,10 +7,10 @@ ghost use Rattle.mps_words.specs.Reading.{single, pair, onto};
 ghost use Rattle.mps_words.specs.Number.{number_of};
 ghost use Rattle.mps_words.specs.Name.{name_of, slot_of};
 
-use crate::names::name_of;
-use crate::number::{decimal_of, number_of};
+use crate::names::{name_from, next_name};
+use crate::number::{next_decimal, next_value};
 use crate::slots::{next_slot, slot_from};
-use crate::words::{next_word, only_word};
+use crate::words::is_blank;
 use mps_base::{Name, Slot};
 
 /// A name.
@@ -18,7 +18,12 @@ use mps_base::{Name, Slot};
 pub fn name(arguments: &[u8]) -> Option<Name>
     ensures { result ≡ single name_of (words arguments.now) }
 {
-    name_of(only_word(arguments)?)
+    let (word, rest) = next_name(arguments)?;
+    if is_blank(rest) {
+        Some(name_from(word))
+    } else {
+        None
+    }
 }
 
 /// A slot.
@@ -27,9 +32,10 @@ pub fn slot(arguments: &[u8]) -> Option<Slot>
     ensures { result ≡ single slot_of (words arguments.now) }
 {
     let (name, index, rest) = next_slot(arguments)?;
-    match next_word(rest) {
-        None => Some(slot_from(name, index)),
-        Some(_) => None,
+    if is_blank(rest) {
+        Some(slot_from(name, index))
+    } else {
+        None
     }
 }
 
@@ -38,7 +44,8 @@ pub fn slot(arguments: &[u8]) -> Option<Slot>
 pub fn decimal(arguments: &[u8]) -> Option<u64>
     ensures { result ≡ single decimal_of (words arguments.now) }
 {
-    decimal_of(only_word(arguments)?)
+    let (number, rest) = next_decimal(arguments)?;
+    if is_blank(rest) { Some(number) } else { None }
 }
 
 /// A number in either form.
@@ -46,7 +53,8 @@ pub fn decimal(arguments: &[u8]) -> Option<u64>
 pub fn value(arguments: &[u8]) -> Option<u64>
     ensures { result ≡ single number_of (words arguments.now) }
 {
-    number_of(only_word(arguments)?)
+    let (number, rest) = next_value(arguments)?;
+    if is_blank(rest) { Some(number) } else { None }
 }
 
 /// Two names.
@@ -54,8 +62,9 @@ pub fn value(arguments: &[u8]) -> Option<u64>
 pub fn name_name(arguments: &[u8]) -> Option<(Name, Name)>
     ensures { result ≡ pair name_of name_of (words arguments.now) }
 {
-    let (word, rest) = next_word(arguments)?;
-    Some((name_of(word)?, name(rest)?))
+    let (word, rest) = next_name(arguments)?;
+    let others = name(rest)?;
+    Some((name_from(word), others))
 }
 
 /// A name and a slot.
@@ -63,8 +72,9 @@ pub fn name_name(arguments: &[u8]) -> Option<(Name, Name)>
 pub fn name_slot(arguments: &[u8]) -> Option<(Name, Slot)>
     ensures { result ≡ pair name_of slot_of (words arguments.now) }
 {
-    let (word, rest) = next_word(arguments)?;
-    Some((name_of(word)?, slot(rest)?))
+    let (word, rest) = next_name(arguments)?;
+    let others = slot(rest)?;
+    Some((name_from(word), others))
 }
 
 /// A name and a decimal number.
@@ -72,8 +82,9 @@ pub fn name_slot(arguments: &[u8]) -> Option<(Name, Slot)>
 pub fn name_decimal(arguments: &[u8]) -> Option<(Name, u64)>
     ensures { result ≡ pair name_of decimal_of (words arguments.now) }
 {
-    let (word, rest) = next_word(arguments)?;
-    Some((name_of(word)?, decimal(rest)?))
+    let (word, rest) = next_name(arguments)?;
+    let others = decimal(rest)?;
+    Some((name_from(word), others))
 }
 
 /// Two slots.
@@ -82,8 +93,8 @@ pub fn slot_slot(arguments: &[u8]) -> Option<(Slot, Slot)>
     ensures { result ≡ pair slot_of slot_of (words arguments.now) }
 {
     let (name, index, rest) = next_slot(arguments)?;
-    let second = slot(rest)?;
-    Some((slot_from(name, index), second))
+    let others = slot(rest)?;
+    Some((slot_from(name, index), others))
 }
 
 /// A slot and a decimal number.
@@ -111,8 +122,9 @@ pub fn slot_value(arguments: &[u8]) -> Option<(Slot, u64)>
 pub fn decimal_slot(arguments: &[u8]) -> Option<(u64, Slot)>
     ensures { result ≡ pair decimal_of slot_of (words arguments.now) }
 {
-    let (word, rest) = next_word(arguments)?;
-    Some((decimal_of(word)?, slot(rest)?))
+    let (number, rest) = next_decimal(arguments)?;
+    let others = slot(rest)?;
+    Some((number, others))
 }
 
 /// A decimal number, and a number in either form.
@@ -120,8 +132,9 @@ pub fn decimal_slot(arguments: &[u8]) -> Option<(u64, Slot)>
 pub fn decimal_value(arguments: &[u8]) -> Option<(u64, u64)>
     ensures { result ≡ pair decimal_of number_of (words arguments.now) }
 {
-    let (word, rest) = next_word(arguments)?;
-    Some((decimal_of(word)?, value(rest)?))
+    let (number, rest) = next_decimal(arguments)?;
+    let others = value(rest)?;
+    Some((number, others))
 }
 
 /// A name, a decimal number and a slot.
@@ -129,8 +142,9 @@ pub fn decimal_value(arguments: &[u8]) -> Option<(u64, u64)>
 pub fn name_decimal_slot(arguments: &[u8]) -> Option<(Name, (u64, Slot))>
     ensures { result ≡ onto name_of (pair decimal_of slot_of) (words arguments.now) }
 {
-    let (word, rest) = next_word(arguments)?;
-    Some((name_of(word)?, decimal_slot(rest)?))
+    let (word, rest) = next_name(arguments)?;
+    let others = decimal_slot(rest)?;
+    Some((name_from(word), others))
 }
 
 /// A slot, a decimal number, and a number in either form.

@@ -1,13 +1,74 @@
-// Names as words.
-ghost use Rattle.std.specs.Prelude.{◌≡◌, ◌≤◌, ◌++◌, length, drop, replicate};
+// Names, as words and at the beginning of a line.
+ghost use Rattle.std.specs.Prelude.{◌≡◌, ◌≤◌, None, Some, length, IfSome, MatchOption};
 ghost use Rattle.std.specs.Int.{bytes_low_first};
+ghost use Rattle.mps_base.specs.Name.{is_name_byte};
 ghost use Rattle.mps_words.specs.Gathered.{gathered};
-ghost use Rattle.mps_words.specs.Name.{name_of};
+ghost use Rattle.mps_words.specs.Name.{after_name, name_from, name_of};
+ghost use Rattle.mps_words.specs.Reading.{headed};
+ghost use Rattle.mps_words.specs.Word.{words, word_at, after_word};
 
+use crate::words::after_spaces;
 use mps_base::{MAX_NAME_BYTES, Name, is_name};
 
 /// The bytes that are gathered in a number.
 const GATHERED_BYTES: usize = 8;
+
+/// Whether a byte may stand in a name.
+#[inline(always)]
+fn is_name_byte(byte: u8) -> bool
+    ensures { result ≡ is_name_byte byte }
+{
+    byte.is_ascii_lowercase() || byte.is_ascii_digit() || byte == b'_'
+}
+
+/// What stands after the bytes at the beginning that may stand in a name.
+#[inline(always)]
+pub fn after_name(bytes: &[u8]) -> &[u8]
+    ensures rest { result.now ≡ after_name bytes.now }
+    ensures at_most { length result.now ≤ length bytes.now }
+{
+    let mut rest = bytes;
+    while let [first, later @ ..] = rest {
+        if !is_name_byte(*first) {
+            return rest;
+        }
+        rest = later;
+    }
+    rest
+}
+
+/// The bytes of the word at the beginning, where it is a name, and what stands after it.
+#[inline(always)]
+fn name_at(line: &[u8]) -> Option<(&[u8], &[u8])>
+    ensures { MatchOption result (name_of (word_at line.now) ≡ None)
+        (λ p. (name_of (word_at line.now) ≡ Some (name_from p.0.now)) × (p.1.now ≡ after_word line.now)
+        × (length p.0.now ≤ 16)) }
+{
+    let [b'a'..=b'z', later @ ..] = line else {
+        return None;
+    };
+    let rest = after_name(later);
+    match rest {
+        [] | [b' ', ..] => {}
+        _ => return None,
+    }
+    let name = &line[..line.len() - rest.len()];
+    if name.len() > MAX_NAME_BYTES {
+        return None;
+    }
+    Some((name, rest))
+}
+
+/// The bytes of the first word, where it is a name, and what stands after it. The name is made of them where it is to stand, once the
+/// words after it are in their forms (`name_from`).
+#[inline(always)]
+pub fn next_name(bytes: &[u8]) -> Option<(&[u8], &[u8])>
+    ensures found { MatchOption result (headed name_of (words bytes.now) ≡ None)
+        (λ p. headed name_of (words bytes.now) ≡ Some (name_from p.0.now, words p.1.now)) }
+    ensures at_most { IfSome result (λ p. length p.0.now ≤ 16) }
+{
+    name_at(after_spaces(bytes))
+}
 
 /// The number whose bytes these are, the first lowest.
 #[inline(always)]
@@ -24,28 +85,42 @@ fn gathered(bytes: &[u8]) -> u64
     number
 }
 
-/// A word, and zeros after it. The bytes are one number first, as bytes that are stored one by one can't be loaded together soon.
+/// The number of the bytes of a word, the first lowest. Most names have one byte, which needs no loop.
 #[inline(always)]
-pub fn padded(word: &[u8]) -> [u8; MAX_NAME_BYTES]
+fn number_of(word: &[u8]) -> u128
     requires { length word.now ≤ 16 }
-    ensures { result ≡ word.now ++ drop (length word.now) (replicate 16 0) }
+    ensures { result ≡ gathered word.now }
 {
-    if word.len() > GATHERED_BYTES {
-        return padded_long(word);
+    match word {
+        [byte] => u128::from(*byte),
+        _ if word.len() > GATHERED_BYTES => long_number(word),
+        _ => u128::from(gathered(word)),
     }
-    u128::from(gathered(word)).to_le_bytes()
 }
 
 /// The same of a word of more than 8 bytes.
 #[cold]
 #[inline(never)]
-fn padded_long(word: &[u8]) -> [u8; MAX_NAME_BYTES]
-    requires { length word.now ≤ 16 }
-    ensures { result ≡ word.now ++ drop (length word.now) (replicate 16 0) }
+fn long_number(word: &[u8]) -> u128
+    requires longer { 8 ≤ length word.now }
+    requires at_most { length word.now ≤ 16 }
+    ensures { result ≡ gathered word.now }
 {
-    let mut bytes = [0u8; MAX_NAME_BYTES];
-    bytes[..word.len()].copy_from_slice(word);
-    bytes
+    let low = gathered(&word[..GATHERED_BYTES]);
+    let high = gathered(&word[GATHERED_BYTES..]);
+    u128::from(low) + u128::from(high) * 0x1_0000_0000_0000_0000
+}
+
+/// The name of its bytes. They are one number first, as bytes that are stored one by one can't be loaded together soon.
+#[inline(always)]
+pub fn name_from(name: &[u8]) -> Name
+    requires { length name.now ≤ 16 }
+    ensures { result ≡ name_from name.now }
+{
+    Name {
+        len: name.len() as u8,
+        bytes: number_of(name).to_le_bytes(),
+    }
 }
 
 /// The name that a word writes.
@@ -56,8 +131,5 @@ pub fn name_of(word: &[u8]) -> Option<Name>
     if !is_name(word) {
         return None;
     }
-    Some(Name {
-        len: word.len() as u8,
-        bytes: padded(word),
-    })
+    Some(name_from(word))
 }

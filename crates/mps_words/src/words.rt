@@ -1,30 +1,45 @@
-// The words of a line, one after another.
-ghost use Rattle.std.specs.Prelude.{◌≡◌, ◌==◌, ◌∷◌, ◌<◌, ◌≤◌, [], length, not, position, IfSome, Some, None, MatchOption};
-ghost use Rattle.std.specs.List.{position_or_len};
+// The words of a line, one after another. A line is read from the left: what is left of it is a slice that gets shorter.
+ghost use Rattle.std.specs.Prelude.{◌≡◌, ◌≤◌, ◌∷◌, [], true, false, length, Some, None, MatchOption};
 ghost use Rattle.std.specs.Str.{bytes_eq};
-ghost use Rattle.mps_words.specs.Word.{words, is_space, only_word};
-
-use mps_base::length_before;
+ghost use Rattle.mps_words.specs.Word.{words, word_at, after_spaces, after_word, is_none_left, only_word};
 
 /// The most bytes of a line of a script, without its line feed.
 pub const MAX_LINE_BYTES: usize = 4096;
 
-/// The index of the first byte of a word, where there is one.
+/// What stands after the spaces at the beginning.
 #[inline(always)]
-fn start_of_word(bytes: &[u8]) -> Option<usize>
-    ensures index { result ≡ position (λ byte. not (is_space byte)) bytes.now }
-    ensures in_bounds { IfSome result (λ index. index < length bytes.now) }
+pub fn after_spaces(bytes: &[u8]) -> &[u8]
+    ensures { result.now ≡ after_spaces bytes.now }
 {
-    bytes.iter().position(|byte| *byte != b' ')
+    let mut rest = bytes;
+    while let [b' ', later @ ..] = rest {
+        rest = later;
+    }
+    rest
 }
 
-/// How many spaces stand before the first word.
+/// What stands after the word at the beginning: all from the first space on.
 #[inline(always)]
-pub fn length_of_spaces(bytes: &[u8]) -> usize
-    ensures length { result ≡ position_or_len (λ byte. not (is_space byte)) bytes.now }
-    ensures at_most { result ≤ length bytes.now }
+pub fn after_word(bytes: &[u8]) -> &[u8]
+    ensures rest { result.now ≡ after_word bytes.now }
+    ensures at_most { length result.now ≤ length bytes.now }
 {
-    start_of_word(bytes).unwrap_or(bytes.len())
+    let mut rest = bytes;
+    while let [first, later @ ..] = rest {
+        if *first == b' ' {
+            return rest;
+        }
+        rest = later;
+    }
+    rest
+}
+
+/// Whether there are spaces alone.
+#[inline(always)]
+pub fn is_blank(bytes: &[u8]) -> bool
+    ensures { result ≡ is_none_left (words bytes.now) }
+{
+    after_spaces(bytes).is_empty()
 }
 
 /// The first word, and what stands after it; none where there are spaces alone.
@@ -32,13 +47,21 @@ pub fn length_of_spaces(bytes: &[u8]) -> usize
 pub fn next_word(bytes: &[u8]) -> Option<(&[u8], &[u8])>
     ensures { MatchOption result (words bytes.now ≡ []) (λ p. words bytes.now ≡ p.0.now ∷ words p.1.now) }
 {
-    let start = length_of_spaces(bytes);
-    if start == bytes.len() {
+    let line = after_spaces(bytes);
+    if line.is_empty() {
         return None;
     }
-    let line = &bytes[start..];
-    let end = length_before(b' ', line);
-    Some((&line[..end], &line[end..]))
+    let rest = after_word(line);
+    Some((&line[..line.len() - rest.len()], rest))
+}
+
+/// The one word, where there is one and no other.
+#[inline(always)]
+pub fn only_word(bytes: &[u8]) -> Option<&[u8]>
+    ensures { MatchOption result (only_word (words bytes.now) ≡ None) (λ word. only_word (words bytes.now) ≡ Some word.now) }
+{
+    let (word, rest) = next_word(bytes)?;
+    if is_blank(rest) { Some(word) } else { None }
 }
 
 /// The word is this text. It is compared byte by byte, as such a text is short.
@@ -57,14 +80,24 @@ pub fn is_word(word: &[u8], text: &[u8]) -> bool
     true
 }
 
-/// The one word, where there is one and no other.
+/// What stands after the word at the beginning, where that is this text, which has no space.
 #[inline(always)]
-pub fn only_word(bytes: &[u8]) -> Option<&[u8]>
-    ensures { MatchOption result (only_word (words bytes.now) ≡ None) (λ word. only_word (words bytes.now) ≡ Some word.now) }
+pub fn strip_word<'a>(line: &'a [u8], text: &[u8]) -> Option<&'a [u8]>
+    requires { word_at text.now ≡ text.now }
+    ensures { MatchOption result (bytes_eq (word_at line.now) text.now ≡ false)
+        (λ rest. (bytes_eq (word_at line.now) text.now ≡ true) × (rest.now ≡ after_word line.now)) }
 {
-    let (word, rest) = next_word(bytes)?;
-    match start_of_word(rest) {
-        None => Some(word),
-        Some(_) => None,
+    if line.len() < text.len() {
+        return None;
+    }
+    for index in 0..text.len() {
+        if line[index] != text[index] {
+            return None;
+        }
+    }
+    let rest = &line[text.len()..];
+    match rest {
+        [] | [b' ', ..] => Some(rest),
+        _ => None,
     }
 }
