@@ -1,3 +1,4 @@
 pub mod Capacities
 pub mod FirstLetters
 pub mod Scripts
+pub mod FirstOfLine

@@ -2,7 +2,7 @@
 ghost use Rattle.std.specs.Prelude.{◌≡◌};
 ghost use Rattle.mps_model.specs.declared.call.Call.TheVariants as call;
 ghost use Rattle.mps_numerals.specs.Decimal.{decimal_number};
-ghost use Rattle.mps_words.specs.Word.{words};
+ghost use Rattle.mps_words.specs.Word.{words, word_at, after_word};
 ghost use Rattle.mps_words.specs.Number.{prefixed_hexadecimal};
 ghost use Rattle.mps_words.specs.Name.{name_of, slot_of};
 ghost use Rattle.mps_words.specs.Reading.{named_in};
@@ -15,82 +15,88 @@ use crate::grains::grains_limit;
 use crate::roots::{name_length, name_name_rank};
 use crate::several::{alone, hexadecimal, init};
 use mps_model::Call;
-use mps_words::{is_word, name, name_decimal_slot, name_slot, slot, slot_slot, slot_slot_decimal};
+use mps_words::{
+    name, name_decimal_slot, name_slot, slot, slot_slot, slot_slot_decimal, strip_word,
+};
 
-/// The call of a command whose word begins with a letter `a` to `b`.
-pub fn call_of_a_to_b(word: &[u8], arguments: &[u8], into: &mut Call) -> Option<()>
-    ensures { filled result into.new ≡ call_in a_to_b_forms word.now (words arguments.now) }
+/// The call of a line at whose beginning stands a command word that begins with a letter `a` to `b`.
+#[inline(never)]
+pub fn call_of_a_to_b(line: &[u8], into: &mut Call) -> Option<()>
+    ensures { filled result into.new ≡ call_in a_to_b_forms (word_at line.now) (words (after_word line.now)) }
 {
-    if is_word(word, b"addr") {
+    if let Some(arguments) = strip_word(line, b"addr") {
         address(arguments, into)
-    } else if is_word(word, b"alloc") {
+    } else if let Some(arguments) = strip_word(line, b"alloc") {
         alloc(arguments, into)
-    } else if is_word(word, b"ap") {
+    } else if let Some(arguments) = strip_word(line, b"ap") {
         point(arguments, into)
-    } else if is_word(word, b"area") {
+    } else if let Some(arguments) = strip_word(line, b"area") {
         area(arguments, into)
-    } else if is_word(word, b"arena") {
+    } else if let Some(arguments) = strip_word(line, b"arena") {
         arena(arguments, into)
-    } else if is_word(word, b"blocks") {
+    } else if let Some(arguments) = strip_word(line, b"blocks") {
         blocks(arguments, into)
     } else {
         None
     }
 }
 
-/// The call of a command whose word begins with `c`.
-pub fn call_of_c(word: &[u8], arguments: &[u8], into: &mut Call) -> Option<()>
-    ensures { filled result into.new ≡ call_in c_forms word.now (words arguments.now) }
+/// The call of a line at whose beginning stands a command word that begins with `c`.
+#[inline(never)]
+pub fn call_of_c(line: &[u8], into: &mut Call) -> Option<()>
+    ensures { filled result into.new ≡ call_in c_forms (word_at line.now) (words (after_word line.now)) }
 {
-    if is_word(word, b"chain") {
+    if let Some(arguments) = strip_word(line, b"chain") {
         chain(arguments, into)
-    } else if is_word(word, b"clamp") {
+    } else if let Some(arguments) = strip_word(line, b"clamp") {
         clamp(arguments, into)
-    } else if is_word(word, b"clear") {
+    } else if let Some(arguments) = strip_word(line, b"clear") {
         clear(arguments, into)
-    } else if is_word(word, b"collect") {
+    } else if let Some(arguments) = strip_word(line, b"collect") {
         collect(arguments, into)
-    } else if is_word(word, b"commit") {
+    } else if let Some(arguments) = strip_word(line, b"commit") {
         commit(arguments, into)
-    } else if is_word(word, b"committed") {
+    } else if let Some(arguments) = strip_word(line, b"committed") {
         committed(arguments, into)
-    } else if is_word(word, b"copy") {
+    } else if let Some(arguments) = strip_word(line, b"copy") {
         copy(arguments, into)
     } else {
         None
     }
 }
 
-/// The call of a command whose word begins with a letter `d` to `f`.
-pub fn call_of_d_to_f(word: &[u8], arguments: &[u8], into: &mut Call) -> Option<()>
-    ensures { filled result into.new ≡ call_in d_to_f_forms word.now (words arguments.now) }
+/// The call of a line at whose beginning stands a command word that begins with a letter `d` to `f`.
+#[inline(never)]
+pub fn call_of_d_to_f(line: &[u8], into: &mut Call) -> Option<()>
+    ensures { filled result into.new ≡ call_in d_to_f_forms (word_at line.now) (words (after_word line.now)) }
 {
-    if is_word(word, b"definalize") {
+    if let Some(arguments) = strip_word(line, b"definalize") {
         definalize(arguments, into)
-    } else if is_word(word, b"dropap") {
+    } else if let Some(arguments) = strip_word(line, b"dropap") {
         drop_point(arguments, into)
-    } else if is_word(word, b"droproot") {
+    } else if let Some(arguments) = strip_word(line, b"droproot") {
         drop_root(arguments, into)
-    } else if is_word(word, b"dump") {
+    } else if let Some(arguments) = strip_word(line, b"dump") {
         dump(arguments, into)
-    } else if is_word(word, b"finalize") {
+    } else if let Some(arguments) = strip_word(line, b"finalize") {
         finalize(arguments, into)
-    } else if is_word(word, b"free") {
+    } else if let Some(arguments) = strip_word(line, b"free") {
         free(arguments, into)
     } else {
         None
     }
 }
 
-/// The call of a command whose word begins with a letter `g` to `k`.
-pub fn call_of_g_to_k(word: &[u8], arguments: &[u8], into: &mut Call) -> Option<()>
-    ensures { filled result into.new ≡ call_in g_to_k_forms word.now (words arguments.now) }
+/// The call of a line at whose beginning stands a command word that begins with a letter `g` to `k`.
+#[inline(never)]
+pub fn call_of_g_to_k(line: &[u8], into: &mut Call) -> Option<()>
+    ensures { filled result into.new ≡ call_in g_to_k_forms (word_at line.now) (words (after_word line.now)) }
 {
-    if is_word(word, b"get") {
+    if let Some(arguments) = strip_word(line, b"get") {
         get(arguments, into)
-    } else if is_word(word, b"head") {
+    } else if let Some(arguments) = strip_word(line, b"head") {
         head(arguments, into)
-    } else if is_word(word, b"init") {
+    } else if let Some(arguments) = strip_word(line, b"init") {
         init(arguments, into)
     } else {
         None
@@ -98,6 +104,7 @@ pub fn call_of_g_to_k(word: &[u8], arguments: &[u8], into: &mut Call) -> Option<
 }
 
 /// `addr S`.
+#[inline(always)]
 fn address(arguments: &[u8], into: &mut Call) -> Option<()>
     ensures { filled result into.new ≡ one slot_of call.Address (words arguments.now) }
 {
@@ -107,6 +114,7 @@ fn address(arguments: &[u8], into: &mut Call) -> Option<()>
 }
 
 /// `alloc P SIZE B.I`.
+#[inline(always)]
 fn alloc(arguments: &[u8], into: &mut Call) -> Option<()>
     ensures { filled result into.new ≡ three name_of decimal_number slot_of call.Alloc (words arguments.now) }
 {
@@ -179,6 +187,7 @@ fn collect(arguments: &[u8], into: &mut Call) -> Option<()>
 }
 
 /// `commit X SLOT`.
+#[inline(always)]
 fn commit(arguments: &[u8], into: &mut Call) -> Option<()>
     ensures { filled result into.new ≡ two name_of slot_of call.Commit (words arguments.now) }
 {
@@ -197,6 +206,7 @@ fn committed(arguments: &[u8], into: &mut Call) -> Option<()>
 }
 
 /// `copy DST SRC`.
+#[inline(always)]
 fn copy(arguments: &[u8], into: &mut Call) -> Option<()>
     ensures { filled result into.new ≡ two slot_of slot_of call.Copy (words arguments.now) }
 {
@@ -260,6 +270,7 @@ fn free(arguments: &[u8], into: &mut Call) -> Option<()>
 }
 
 /// `get DST SRC K`.
+#[inline(always)]
 fn get(arguments: &[u8], into: &mut Call) -> Option<()>
     ensures { filled result into.new ≡ three slot_of slot_of decimal_number call.Get (words arguments.now) }
 {

@@ -2,7 +2,7 @@
 ghost use Rattle.std.specs.Prelude.{◌≡◌};
 ghost use Rattle.mps_model.specs.declared.call.Call.TheVariants as call;
 ghost use Rattle.mps_numerals.specs.Decimal.{decimal_number};
-ghost use Rattle.mps_words.specs.Word.{words};
+ghost use Rattle.mps_words.specs.Word.{words, word_at, after_word};
 ghost use Rattle.mps_words.specs.Number.{number_of};
 ghost use Rattle.mps_words.specs.Name.{name_of, slot_of};
 ghost use Rattle.mps_words.specs.Head.{head_of};
@@ -16,92 +16,96 @@ use crate::roots::name_length;
 use crate::several::{alone, name_head, start};
 use mps_model::Call;
 use mps_words::{
-    decimal, is_word, name, name_name, name_slot, slot, slot_decimal, slot_decimal_slot,
-    slot_decimal_value, slot_slot, slot_value,
+    decimal, name, name_name, name_slot, slot, slot_decimal, slot_decimal_slot, slot_decimal_value,
+    slot_slot, slot_value, strip_word,
 };
 
-/// The call of a command whose word begins with `l`.
-pub fn call_of_l(word: &[u8], arguments: &[u8], into: &mut Call) -> Option<()>
-    ensures { filled result into.new ≡ call_in l_forms word.now (words arguments.now) }
+/// The call of a line at whose beginning stands a command word that begins with `l`.
+#[inline(never)]
+pub fn call_of_l(line: &[u8], into: &mut Call) -> Option<()>
+    ensures { filled result into.new ≡ call_in l_forms (word_at line.now) (words (after_word line.now)) }
 {
-    if is_word(word, b"ld") {
+    if let Some(arguments) = strip_word(line, b"ld") {
         dependency(arguments, into)
-    } else if is_word(word, b"ldadd") {
+    } else if let Some(arguments) = strip_word(line, b"ldadd") {
         dependency_add(arguments, into)
-    } else if is_word(word, b"ldmerge") {
+    } else if let Some(arguments) = strip_word(line, b"ldmerge") {
         dependency_merge(arguments, into)
-    } else if is_word(word, b"ldreset") {
+    } else if let Some(arguments) = strip_word(line, b"ldreset") {
         dependency_reset(arguments, into)
-    } else if is_word(word, b"ldstale") {
+    } else if let Some(arguments) = strip_word(line, b"ldstale") {
         dependency_stale(arguments, into)
-    } else if is_word(word, b"limit") {
+    } else if let Some(arguments) = strip_word(line, b"limit") {
         limit(arguments, into)
-    } else if is_word(word, b"live") {
+    } else if let Some(arguments) = strip_word(line, b"live") {
         live(arguments, into)
-    } else if is_word(word, b"load") {
+    } else if let Some(arguments) = strip_word(line, b"load") {
         load(arguments, into)
     } else {
         None
     }
 }
 
-/// The call of a command whose word begins with a letter `m` to `o`.
-pub fn call_of_m_to_o(word: &[u8], arguments: &[u8], into: &mut Call) -> Option<()>
-    ensures { filled result into.new ≡ call_in m_to_o_forms word.now (words arguments.now) }
+/// The call of a line at whose beginning stands a command word that begins with a letter `m` to `o`.
+#[inline(never)]
+pub fn call_of_m_to_o(line: &[u8], into: &mut Call) -> Option<()>
+    ensures { filled result into.new ≡ call_in m_to_o_forms (word_at line.now) (words (after_word line.now)) }
 {
-    if is_word(word, b"message") {
+    if let Some(arguments) = strip_word(line, b"message") {
         message(arguments, into)
-    } else if is_word(word, b"null") {
+    } else if let Some(arguments) = strip_word(line, b"null") {
         null(arguments, into)
-    } else if is_word(word, b"num") {
+    } else if let Some(arguments) = strip_word(line, b"num") {
         number(arguments, into)
     } else {
         None
     }
 }
 
-/// The call of a command whose word begins with a letter `p` to `r`.
-pub fn call_of_p_to_r(word: &[u8], arguments: &[u8], into: &mut Call) -> Option<()>
-    ensures { filled result into.new ≡ call_in p_to_r_forms word.now (words arguments.now) }
+/// The call of a line at whose beginning stands a command word that begins with a letter `p` to `r`.
+#[inline(never)]
+pub fn call_of_p_to_r(line: &[u8], into: &mut Call) -> Option<()>
+    ensures { filled result into.new ≡ call_in p_to_r_forms (word_at line.now) (words (after_word line.now)) }
 {
-    if is_word(word, b"park") {
+    if let Some(arguments) = strip_word(line, b"park") {
         park(arguments, into)
-    } else if is_word(word, b"peek") {
+    } else if let Some(arguments) = strip_word(line, b"peek") {
         peek(arguments, into)
-    } else if is_word(word, b"pin") {
+    } else if let Some(arguments) = strip_word(line, b"pin") {
         pin(arguments, into)
-    } else if is_word(word, b"poke") {
+    } else if let Some(arguments) = strip_word(line, b"poke") {
         poke(arguments, into)
-    } else if is_word(word, b"pool") {
+    } else if let Some(arguments) = strip_word(line, b"pool") {
         pool(arguments, into)
-    } else if is_word(word, b"put") {
+    } else if let Some(arguments) = strip_word(line, b"put") {
         put(arguments, into)
-    } else if is_word(word, b"release") {
+    } else if let Some(arguments) = strip_word(line, b"release") {
         release(arguments, into)
-    } else if is_word(word, b"reserve") {
+    } else if let Some(arguments) = strip_word(line, b"reserve") {
         reserve(arguments, into)
     } else {
         None
     }
 }
 
-/// The call of a command whose word begins with a letter `s` to `z`.
-pub fn call_of_s_to_z(word: &[u8], arguments: &[u8], into: &mut Call) -> Option<()>
-    ensures { filled result into.new ≡ call_in s_to_z_forms word.now (words arguments.now) }
+/// The call of a line at whose beginning stands a command word that begins with a letter `s` to `z`.
+#[inline(never)]
+pub fn call_of_s_to_z(line: &[u8], into: &mut Call) -> Option<()>
+    ensures { filled result into.new ≡ call_in s_to_z_forms (word_at line.now) (words (after_word line.now)) }
 {
-    if is_word(word, b"same") {
+    if let Some(arguments) = strip_word(line, b"same") {
         same(arguments, into)
-    } else if is_word(word, b"setnum") {
+    } else if let Some(arguments) = strip_word(line, b"setnum") {
         set_number(arguments, into)
-    } else if is_word(word, b"start") {
+    } else if let Some(arguments) = strip_word(line, b"start") {
         start(arguments, into)
-    } else if is_word(word, b"step") {
+    } else if let Some(arguments) = strip_word(line, b"step") {
         step(arguments, into)
-    } else if is_word(word, b"store") {
+    } else if let Some(arguments) = strip_word(line, b"store") {
         store(arguments, into)
-    } else if is_word(word, b"table") {
+    } else if let Some(arguments) = strip_word(line, b"table") {
         table(arguments, into)
-    } else if is_word(word, b"take") {
+    } else if let Some(arguments) = strip_word(line, b"take") {
         take(arguments, into)
     } else {
         None
@@ -172,6 +176,7 @@ fn live(arguments: &[u8], into: &mut Call) -> Option<()>
 }
 
 /// `load B.I K`.
+#[inline(always)]
 fn load(arguments: &[u8], into: &mut Call) -> Option<()>
     ensures { filled result into.new ≡ two slot_of decimal_number call.Load (words arguments.now) }
 {
@@ -190,6 +195,7 @@ fn message(arguments: &[u8], into: &mut Call) -> Option<()>
 }
 
 /// `null S`.
+#[inline(always)]
 fn null(arguments: &[u8], into: &mut Call) -> Option<()>
     ensures { filled result into.new ≡ one slot_of call.Null (words arguments.now) }
 {
@@ -199,6 +205,7 @@ fn null(arguments: &[u8], into: &mut Call) -> Option<()>
 }
 
 /// `num S K`.
+#[inline(always)]
 fn number(arguments: &[u8], into: &mut Call) -> Option<()>
     ensures { filled result into.new ≡ two slot_of decimal_number call.Number (words arguments.now) }
 {
@@ -244,6 +251,7 @@ fn poke(arguments: &[u8], into: &mut Call) -> Option<()>
 }
 
 /// `put DST K SRC`.
+#[inline(always)]
 fn put(arguments: &[u8], into: &mut Call) -> Option<()>
     ensures { filled result into.new ≡ three slot_of decimal_number slot_of call.Put (words arguments.now) }
 {
@@ -266,6 +274,7 @@ fn release(arguments: &[u8], into: &mut Call) -> Option<()>
 }
 
 /// `reserve X HEAD`.
+#[inline(always)]
 fn reserve(arguments: &[u8], into: &mut Call) -> Option<()>
     ensures { filled result into.new ≡ two name_of head_of call.Reserve (words arguments.now) }
 {
@@ -275,6 +284,7 @@ fn reserve(arguments: &[u8], into: &mut Call) -> Option<()>
 }
 
 /// `same S S2`.
+#[inline(always)]
 fn same(arguments: &[u8], into: &mut Call) -> Option<()>
     ensures { filled result into.new ≡ two slot_of slot_of call.Same (words arguments.now) }
 {
@@ -284,6 +294,7 @@ fn same(arguments: &[u8], into: &mut Call) -> Option<()>
 }
 
 /// `setnum S K VALUE`.
+#[inline(always)]
 fn set_number(arguments: &[u8], into: &mut Call) -> Option<()>
     ensures { filled result into.new ≡ three slot_of decimal_number number_of call.SetNumber (words arguments.now) }
 {
@@ -302,6 +313,7 @@ fn step(arguments: &[u8], into: &mut Call) -> Option<()>
 }
 
 /// `store B.I K VALUE`.
+#[inline(always)]
 fn store(arguments: &[u8], into: &mut Call) -> Option<()>
     ensures { filled result into.new ≡ three slot_of decimal_number number_of call.Store (words arguments.now) }
 {

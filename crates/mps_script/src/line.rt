@@ -5,17 +5,18 @@ ghost use Rattle.mps_script.specs.Line.{begins_comment, call_of_line};
 
 use crate::commands::command_call;
 use mps_model::Call;
-use mps_words::{MAX_LINE_BYTES, next_word};
+use mps_words::{MAX_LINE_BYTES, after_spaces};
 
 /// The line is in the form of no command, or has more than 4096 bytes.
 #[derive(Clone, Copy, Debug, PartialEq, Eq)]
 pub struct BadLine;
 
-/// The word begins a comment.
-fn is_comment(word: &[u8]) -> bool
-    ensures { result ≡ begins_comment word.now }
+/// What begins so is a comment.
+#[inline(always)]
+fn is_comment(line: &[u8]) -> bool
+    ensures { result ≡ begins_comment line.now }
 {
-    match word {
+    match line {
         [] => false,
         [first, ..] => *first == b'#',
     }
@@ -29,13 +30,14 @@ pub fn call_of(line: &[u8], into: &mut Call) -> Result<bool, BadLine>
     if line.len() > MAX_LINE_BYTES {
         return Err(BadLine);
     }
-    let Some((word, arguments)) = next_word(line) else {
-        return Ok(false);
-    };
-    if is_comment(word) {
+    let command = after_spaces(line);
+    if command.is_empty() {
         return Ok(false);
     }
-    match command_call(word, arguments, into) {
+    if is_comment(command) {
+        return Ok(false);
+    }
+    match command_call(command, into) {
         None => Err(BadLine),
         Some(()) => Ok(true),
     }

@@ -14,17 +14,16 @@ use mps_base::Name;
 use mps_model::Call;
 use mps_numerals::decimal_number;
 use mps_words::{
-    head_of, name_decimal, name_of, next_word, only_word, prefixed_hexadecimal, slot, value,
+    head_of, is_blank, name_decimal, name_from, name_of, next_name, next_word, only_word,
+    prefixed_hexadecimal, slot, value,
 };
 
 /// No word is left.
+#[inline(always)]
 pub fn alone(arguments: &[u8]) -> Option<()>
     ensures { (c : Call) → filled result c ≡ none c (words arguments.now) }
 {
-    match next_word(arguments) {
-        None => Some(()),
-        Some(_) => None,
-    }
+    if is_blank(arguments) { Some(()) } else { None }
 }
 
 /// A number in hexadecimal.
@@ -35,14 +34,17 @@ pub fn hexadecimal(arguments: &[u8]) -> Option<u64>
 }
 
 /// A name and a head.
+#[inline(always)]
 pub fn name_head(arguments: &[u8]) -> Option<(Name, u64)>
     ensures { result ≡ pair name_in head_in (words arguments.now) }
 {
-    let (word, rest) = next_word(arguments)?;
-    Some((name_of(word)?, head_of(only_word(rest)?)?))
+    let (word, rest) = next_name(arguments)?;
+    let head = head_of(only_word(rest)?)?;
+    Some((name_from(word), head))
 }
 
 /// `init X K VALUE` or `init X K SLOT`.
+#[inline(always)]
 pub fn init(arguments: &[u8], into: &mut Call) -> Option<()>
     ensures { filled result into.new ≡ init (words arguments.now) }
 {
