@@ -1,5 +1,5 @@
 // The answer line of a reply.
-ghost use Rattle.std.specs.Prelude.{◌≡◌, ◌+◌, ◌≤◌, ◌++◌, length, take, decimal, true};
+ghost use Rattle.std.specs.Prelude.{◌≡◌, ◌+◌, ◌<◌, ◌≤◌, ◌++◌, ◌∷◌, [], length, take, decimal, true};
 ghost use Rattle.mps_model.specs.Answer.{Replied};
 ghost use Rattle.mps_model.specs.Text.{word_text, and_number, refusal_text, reply_text, line_of_answer};
 ghost use Rattle.mps_answers.specs.Text.{is_printable};
@@ -106,18 +106,15 @@ fn put_three_spaced(out: &mut [u8], at: usize, first: u32, second: u32, third: u
     put_two_spaced(out, at, second, third)
 }
 
-/// A number at the start of the buffer. One of a single digit needs no count of its digits.
+/// The line of a number of one digit, put as one piece: bytes that are stored one by one can't be loaded together soon.
 #[inline(always)]
-fn put_number(out: &mut [u8], n: u64) -> usize
-    requires { 20 ≤ length out.old }
-    ensures at_most { result ≤ 20 }
-    ensures text { take result out.new ≡ decimal n }
+fn put_digit_line(out: &mut [u8], digit: u64) -> usize
+    requires digit { digit < 10 }
+    requires fits { 2 ≤ length out.old }
+    ensures at_most { result ≤ 2 }
+    ensures text { take result out.new ≡ decimal digit ++ 10 ∷ [] }
 {
-    if n < 10 {
-        out[0] = b'0' + n as u8;
-        return 1;
-    }
-    put_decimal(n, out, 0)
+    put(&[b'0' + digit as u8, b'\n'], out, 0)
 }
 
 /// The answer of a reply, without its line feed.
@@ -129,7 +126,7 @@ fn put_plain(out: &mut [u8], reply: &Reply) -> usize
     match *reply {
         Reply::Ok => put(b"ok", out, 0),
         Reply::Flipped => put(b"flipped", out, 0),
-        Reply::Number(n) => put_number(out, n),
+        Reply::Number(n) => put_decimal(n, out, 0),
         Reply::Word(n) => put_word(out, 0, n),
         Reply::Yes => put(b"yes", out, 0),
         Reply::No => put(b"no", out, 0),
@@ -160,6 +157,11 @@ pub fn put_text(out: &mut [u8], reply: &Reply) -> usize
     ensures at_most { result ≤ 64 }
     ensures text { take result out.new ≡ line_of_answer (Replied reply.now) }
 {
-    let at = put_plain(out, reply);
-    put(b"\n", out, at)
+    match *reply {
+        Reply::Number(n) if n < 10 => put_digit_line(out, n),
+        _ => {
+            let at = put_plain(out, reply);
+            put(b"\n", out, at)
+        }
+    }
 }
