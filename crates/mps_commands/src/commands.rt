@@ -1,5 +1,5 @@
 // A machine that answers the commands of a script.
-ghost use Rattle.std.specs.Prelude.{◌≡◌, ℕ, List, IfOk, OnErr, IsTrue};
+ghost use Rattle.std.specs.Prelude.{◌≡◌, ℕ, List, OnOk, OnErr, IsTrue};
 ghost use Rattle.mps_base.specs.declared.moves.Move.{Move};
 ghost use Rattle.mps_model.specs.Answer.{answer_of};
 ghost use Rattle.mps_model.specs.World.{World};
@@ -29,17 +29,18 @@ pub trait Commands {
     /// What is built, and what takes memory.
     ghost built: { Built };
 
-    /// Answers a call. An `Err` says that memory is out: then nothing was done.
-    fn answer(&mut self, call: &Call) -> Result<Reply, AllocError>
+    /// Answers a call, and writes the reply where it is to stand. An `Err` says that memory is out: then nothing was done, and what
+    /// stands there is left open.
+    fn answer(&mut self, call: &Call, reply: &mut Reply) -> Result<(), AllocError>
         requires { IsInRange call.now }
         // In each line the call with its moves and its answer is a legal step.
-        ensures legal { IfOk result (λ reply. IsLegalIn (stands_for self.old) call.now (moves self.new)
-            (answer_of (words self.new) reply)) }
+        ensures legal { OnOk result (IsLegalIn (stands_for self.old) call.now (moves self.new)
+            (answer_of (words self.new) reply.new)) }
         // The machine then stands for the world after that step.
-        ensures stands { IfOk result (λ reply. StandsAfter (stands_for self.old) (stands_for self.new) call.now (moves self.new)
-            (answer_of (words self.new) reply)) }
+        ensures stands { OnOk result (StandsAfter (stands_for self.old) (stands_for self.new) call.now (moves self.new)
+            (answer_of (words self.new) reply.new)) }
         // In a world of fewer than 2^32 flips the reply is `unsupported` exactly where that is said of the call.
-        ensures unsupported { IfOk result (λ reply. IsUnsupportedExactly built (stands_for self.old) call.now reply) }
+        ensures unsupported { OnOk result (IsUnsupportedExactly built (stands_for self.old) call.now reply.new) }
         ensures unchanged { OnErr result (StandsStill (stands_for self.old) (stands_for self.new)) }
         ensures memory { OnErr result (IsTrue (built.takes_memory call.now)) };
 

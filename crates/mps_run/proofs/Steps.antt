@@ -49,16 +49,6 @@ pub record IsRightAnswer (built : Built) (stood stands_now : World → Type 0) (
   pub stands : StandsAfter stood stands_now call moves (answer_of words given)
   pub unsupported : IsUnsupportedExactly built stood call given
 
--- the same of the moves and the words that it shows
-pub right_answer : {built : Built} {stood stands_now : World → Type 0} {call : Call} {moves shown : List Move}
-    {words seen : List ℕ} {given : Reply} → shown ≡ moves → seen ≡ words → IsLegalIn stood call moves (answer_of words given)
-    → StandsAfter stood stands_now call moves (answer_of words given) → IsUnsupportedExactly built stood call given
-    → IsRightAnswer built stood stands_now call shown seen given
-right_answer {built} {stood} {stands_now} {call} {moves} {shown} {words} {seen} {given} same_moves same_words legal stands unsupported =
-    subst (λ (ms : List Move). IsRightAnswer built stood stands_now call ms seen given) (sym same_moves)
-    (subst (λ (ws : List ℕ). IsRightAnswer built stood stands_now call moves ws given) (sym same_words)
-    (record { legal = legal; stands = stands; unsupported = unsupported }))
-
 module _ (built : Built) (stood stands_now : World → Type 0) (line : ℕ) (call : Call) (moves : List Move) (words : List ℕ) (given : Reply)
     (is : IsRightAnswer built stood stands_now call moves words given) where
   abbrev the_step : Step

@@ -15,7 +15,7 @@ use crate::step::run_line;
 use mps_commands::Commands;
 use mps_desk::Desk;
 use mps_lines::{Lines, Next};
-use mps_model::Call;
+use mps_model::{Call, Reply};
 use mps_report::Stop;
 
 /// Runs the lines, and then has written what waits. A fault of that comes before the end of the lines, and is the ending.
@@ -120,8 +120,9 @@ fn run_lines<D: Desk, C: Commands>(
         → Leaves C.built result [] script (D.outside desk.old) (D.outside desk.new) }
 {
     let mut progress = Progress::new();
-    // One place for the call of each line, so that none is copied.
+    // One place for the call of each line, and one for its reply, so that none is copied.
     let mut call = Call::Committed;
+    let mut reply = Reply::Ok;
     loop {
         let next = match next_line(desk, lines) {
             Ok(next) => next,
@@ -139,7 +140,14 @@ fn run_lines<D: Desk, C: Commands>(
         if progress.lines == u32::MAX {
             return Err(Stop::TooLong);
         }
-        match run_line(desk, commands, &mut progress, lines.line(), &mut call) {
+        match run_line(
+            desk,
+            commands,
+            &mut progress,
+            lines.line(),
+            &mut call,
+            &mut reply,
+        ) {
             Ok(()) => {}
             Err(stop) => return Err(stop),
         }

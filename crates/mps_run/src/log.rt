@@ -27,6 +27,7 @@ pub fn log_header<D: Desk>(desk: &mut D) -> Result<(), Failed>
 }
 
 /// Writes the records of a command: those of its moves, in order, then its own. `pools` were made before it.
+#[inline(always)]
 pub fn log_records<D: Desk>(
     desk: &mut D,
     line: u32,
@@ -45,6 +46,7 @@ pub fn log_records<D: Desk>(
 }
 
 /// Writes the records of moves, in order.
+#[inline(always)]
 fn log_moves<D: Desk>(desk: &mut D, line: u32, moves: &[Move]) -> Result<(), Failed>
     ensures logged { OnOk result (Logs (D.outside desk.old) (D.outside desk.new) (records_bytes (records_of moves.now line))) }
     ensures failed { OnErr result (LogsPart (D.outside desk.old) (D.outside desk.new) (records_bytes (records_of moves.now line))) }
@@ -116,6 +118,7 @@ fn log_block<D: Desk>(
 }
 
 /// Writes the record that a command has by its reply. `pools` were made before it.
+#[inline(always)]
 fn log_command<D: Desk>(
     desk: &mut D,
     line: u32,
@@ -136,6 +139,7 @@ fn log_command<D: Desk>(
 
 /// Writes the record of an accepted command, where it has one. Few have: what writes theirs isn't inlined, as its places for
 /// fields would be cleared for each command.
+#[inline(always)]
 fn log_accepted<D: Desk>(desk: &mut D, line: u32, pools: u64, call: &Call) -> Result<(), Failed>
     ensures logged { OnOk result (Logs (D.outside desk.old) (D.outside desk.new)
         (records_bytes (records_of_accepted pools call.now line))) }

@@ -10,6 +10,7 @@ ghost use Rattle.mps_run.specs.Pieces.{and_word};
 
 use mps_answers::{MAX_ANSWER_BYTES, put_text};
 use mps_base::Addr;
+use mps_commands::Commands;
 use mps_desk::{Desk, Failed};
 use mps_model::Reply;
 use mps_numerals::{put_hexadecimal, put_text as put};
@@ -18,13 +19,17 @@ use mps_report::print_all;
 /// Room for a space, `0x` and the digits of a word.
 const MAX_WORD_BYTES: usize = 19;
 
-/// Prints the answer line of a reply, as one piece; that of words word by word, from the words of the arena.
-pub fn print<D: Desk>(desk: &mut D, reply: &Reply, words: &[u64]) -> Result<(), Failed>
-    ensures printed { OnOk result (Prints (D.outside desk.old) (D.outside desk.new) (line_of_answer (answer_of words.now reply.now))) }
-    ensures failed { OnErr result (PrintsPart (D.outside desk.old) (D.outside desk.new) (line_of_answer (answer_of words.now reply.now))) }
+/// Prints the answer line of a reply, as one piece; that of words word by word, from the words of the arena, which are asked for only
+/// then.
+#[inline(always)]
+pub fn print<D: Desk, C: Commands>(desk: &mut D, reply: &Reply, commands: &C) -> Result<(), Failed>
+    ensures printed { OnOk result (Prints (D.outside desk.old) (D.outside desk.new)
+        (line_of_answer (answer_of (C.words commands.now) reply.now))) }
+    ensures failed { OnErr result (PrintsPart (D.outside desk.old) (D.outside desk.new)
+        (line_of_answer (answer_of (C.words commands.now) reply.now))) }
 {
     if let Reply::Words(at, count) = *reply {
-        return print_words(desk, words_at(words, at, count));
+        return print_words(desk, words_at(commands.words(), at, count));
     }
     let mut text = [0u8; MAX_ANSWER_BYTES];
     let length = put_text(&mut text, reply);

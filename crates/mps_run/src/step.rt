@@ -14,20 +14,22 @@ use crate::bad_script_line::BadScriptLine;
 use crate::log::log_records;
 use crate::print::print;
 use crate::progress::Progress;
-use mps_base::Move;
 use mps_commands::Commands;
 use mps_desk::Desk;
 use mps_model::{Call, Reply};
 use mps_report::Stop;
 use mps_script::next_call;
 
-/// Runs the line after those that were run, wherever it comes from. `call` is where its call is written.
+/// Runs the line after those that were run, wherever it comes from. `call` is where its call is written, and `reply` where the reply to
+/// it is.
+#[inline(always)]
 pub fn run_line<D: Desk, C: Commands>(
     desk: &mut D,
     commands: &mut C,
     progress: &mut Progress,
     bytes: &[u8],
     call: &mut Call,
+    reply: &mut Reply,
 ) -> Result<(), Stop<BadScriptLine>>
     requires bounded { progress.old.lines < 4294967295 }
     requires pools { progress.old.pools ≤ progress.old.lines }
@@ -50,19 +52,21 @@ pub fn run_line<D: Desk, C: Commands>(
         Ok(true) => {
             progress.lines = line;
             progress.has_arena = true;
-            run_call(desk, commands, line, &mut progress.pools, call)
+            run_call(desk, commands, line, &mut progress.pools, call, reply)
         }
         Err(_) => Err(Stop::Bad(BadScriptLine { line })),
     }
 }
 
-/// Runs one command. `pools` counts the pools that were made.
+/// Runs one command. `pools` counts the pools that were made, and `reply` is where the reply is written.
+#[inline(always)]
 fn run_call<D: Desk, C: Commands>(
     desk: &mut D,
     commands: &mut C,
     line: u32,
     pools: &mut u32,
     call: &Call,
+    reply: &mut Reply,
 ) -> Result<(), Stop<BadScriptLine>>
     requires range { IsInRange call.now }
     requires fits { pools.old < 4294967295 }
@@ -78,23 +82,16 @@ fn run_call<D: Desk, C: Commands>(
     ensures takes { LogTakes (D.outside desk.old) (D.outside desk.new) }
     ensures runs { RunsOn (D.outside desk.old) (D.outside desk.new) }
 {
-    let Ok(reply) = commands.answer(call) else {
+    let Ok(()) = commands.answer(call, reply) else {
         return Err(Stop::OutOfMemory);
     };
     let before = *pools;
-    *pools += pools_made(call, &reply);
-    log_then_print(
-        desk,
-        line,
-        before,
-        call,
-        &reply,
-        commands.moves(),
-        commands.words(),
-    )
+    *pools += pools_made(call, reply);
+    log_then_print(desk, line, before, call, reply, commands)
 }
 
 /// How many pools a command makes.
+#[inline(always)]
 fn pools_made(call: &Call, reply: &Reply) -> u32
     ensures count { result ≡ pools_made_by call.now (Replied reply.now) }
     ensures at_most { result ≤ 1 }
@@ -106,6 +103,7 @@ fn pools_made(call: &Call, reply: &Reply) -> u32
 }
 
 /// How many pools a command makes where it is accepted.
+#[inline(always)]
 fn pools_of_accepted(call: &Call) -> u32
     ensures count { result ≡ pools_if_accepted call.now }
     ensures at_most { result ≤ 1 }
@@ -119,29 +117,29 @@ fn pools_of_accepted(call: &Call) -> u32
     }
 }
 
-/// Writes the records of a command that was answered, and then prints its answer.
-fn log_then_print<D: Desk>(
+/// Writes the records of the last command that the machine answered, and then prints its answer.
+#[inline(always)]
+fn log_then_print<D: Desk, C: Commands>(
     desk: &mut D,
     line: u32,
     pools: u32,
     call: &Call,
     reply: &Reply,
-    moves: &[Move],
-    words: &[u64],
+    commands: &C,
 ) -> Result<(), Stop<BadScriptLine>>
     ensures does { LogsThenPrints
-        (records_bytes (records_of moves.now line ++ records_of_command pools call.now (Replied reply.now) line))
-        (line_of_answer (answer_of words.now reply.now)) result (D.outside desk.old) (D.outside desk.new) }
+        (records_bytes (records_of (C.moves commands.now) line ++ records_of_command pools call.now (Replied reply.now) line))
+        (line_of_answer (answer_of (C.words commands.now) reply.now)) result (D.outside desk.old) (D.outside desk.new) }
     ensures cause { HasCause result (D.outside desk.old) (D.outside desk.new) }
     ensures steady { OnOk result (IsSteady (D.outside desk.old) (D.outside desk.new)) }
     ensures input { (D.outside desk.new).input ≡ (D.outside desk.old).input }
     ensures takes { LogTakes (D.outside desk.old) (D.outside desk.new) }
     ensures runs { RunsOn (D.outside desk.old) (D.outside desk.new) }
 {
-    let Ok(()) = log_records(desk, line, pools, call, reply, moves) else {
+    let Ok(()) = log_records(desk, line, pools, call, reply, commands.moves()) else {
         return Err(Stop::LogFailed);
     };
-    let Ok(()) = print(desk, reply, words) else {
+    let Ok(()) = print(desk, reply, commands) else {
         return Err(Stop::WriteFailed);
     };
     Ok(())

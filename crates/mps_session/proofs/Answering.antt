@@ -14,18 +14,16 @@ use Rattle.mps_model.specs.declared.call.Call.{Call}
 use Rattle.mps_model.specs.declared.call.Call.TheVariants as call
 use Rattle.mps_model.specs.declared.reply.Reply.{Reply}
 use Rattle.mps_model.specs.declared.reply.Reply.TheVariants as reply
-use Rattle.mps_outcome.specs.Collecting.{can_collect}
 use Rattle.mps_outcome.specs.State.{HeapState}
 use Rattle.mps_heap.specs.Answers.{says_words}
 use Rattle.mps_refinement.specs.Answering.{answer_to}
 use Rattle.mps_refinement.specs.Making.{IsRightMaking, IsRightMakingIn, MeansLayout, answer_of_making}
 use Rattle.mps_refinement.specs.RightMoving.{IsRightMoving}
 use Rattle.mps_refinement.specs.RightStep.{IsRight, IsRightIn, step_of}
-use Rattle.mps_session.specs.Built.{call_takes_memory, is_answered}
+use Rattle.mps_session.specs.Built.{is_answered}
 use Rattle.mps_session.specs.Groups.{makes_thing}
 use Rattle.mps_session.specs.Standing.{AnswersRightly, Answered, IsAnswered, HasScriptFormats, HeapStandsStill}
 use Rattle.mps_session.specs.Told.{Tells}
-use Rattle.mps_session.proofs.Groups.{making_takes_memory}
 
 -- in a world, where the reply tells the answer
 told_right : {after : HeapState AnyFormat} {c d : Call} {moves : List Move} {given : Reply} {answer : Answer} (w : World) (line : ℕ)
@@ -104,30 +102,13 @@ module _ (h : HeapState AnyFormat) (at : Addr) (came : Result ℕ Refusal) where
   }
 
 -- a call of no other group, of a heap that those groups left as it was
-module _ (old h after : HeapState AnyFormat) (c : Call) {E : Type 0} (r : Result Reply E) where
-  pub answered_last : (moves : List Move) (collects : Bool) → h ≡ old → is_answered collects c ≡ makes_thing c → moves ≡ []
-      → IfOk r (λ given. AnswersRightly (makes_thing c) h c [] given after)
-      → IfOk r (λ given. AnswersRightly (is_answered collects c) old c moves given after)
-  answered_last moves collects same one none answers = of_result r answers
-    where
-      of_result : (x : Result Reply E) → IfOk x (λ given. AnswersRightly (makes_thing c) h c [] given after)
-          → IfOk x (λ given. AnswersRightly (is_answered collects c) old c moves given after)
-      of_result (Err e) tells = tells
-      of_result (Ok given) tells =
-          subst (λ (b : Bool). AnswersRightly b old c moves given after) (sym one)
-          (subst (λ (ms : List Move). AnswersRightly (makes_thing c) old c ms given after) (sym none)
-          (subst (λ (x : HeapState AnyFormat). AnswersRightly (makes_thing c) x c [] given after) same tells))
+module _ (old h after : HeapState AnyFormat) (c : Call) where
+  pub answered_last : (given : Reply) (moves : List Move) (collects : Bool) → h ≡ old → is_answered collects c ≡ makes_thing c → moves ≡ []
+      → AnswersRightly (makes_thing c) h c [] given after → AnswersRightly (is_answered collects c) old c moves given after
+  answered_last given moves collects same one none answers =
+      subst (λ (b : Bool). AnswersRightly b old c moves given after) (sym one)
+      (subst (λ (ms : List Move). AnswersRightly (makes_thing c) old c ms given after) (sym none)
+      (subst (λ (x : HeapState AnyFormat). AnswersRightly (makes_thing c) x c [] given after) same answers))
 
-  pub still_last : h ≡ old → OnErr r (HeapStandsStill h after) → OnErr r (HeapStandsStill old after)
-  still_last same still = subst (λ (x : HeapState AnyFormat). OnErr r (HeapStandsStill x after)) same still
-
--- a call of a heap that others left as it was
-pub answered_still : (old h after : HeapState AnyFormat) (c : Call) {E : Type 0} (r : Result Reply E) → h ≡ old → (moves : List Move)
-    → IfOk r (λ given. AnswersRightly (is_answered (can_collect h) c) h c moves given after)
-    → IfOk r (λ given. AnswersRightly (is_answered (can_collect old) c) old c moves given after)
-answered_still old h after c r same moves =
-    subst (λ (x : HeapState AnyFormat). IfOk r (λ given. AnswersRightly (is_answered (can_collect x) c) x c moves given after)) same
-
-pub memory_last : (c : Call) {E : Type 0} (r : Result Reply E) → OnErr r (makes_thing c ≡ true) → OnErr r (call_takes_memory c ≡ true)
-memory_last c (Ok given) makes = makes
-memory_last c (Err e) makes = making_takes_memory c makes
+  pub still_last : h ≡ old → HeapStandsStill h after → HeapStandsStill old after
+  still_last same still = subst (λ (x : HeapState AnyFormat). HeapStandsStill x after) same still

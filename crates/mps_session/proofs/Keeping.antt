@@ -1,6 +1,6 @@
 -- A session goes on standing for some world of a script, with room for the moves of each call.
 use Rattle.std.proofs.Common.{◌≡◌, ◌∙◌, ◌+◌, ◌<◌, ◌≤◌, ℕ, Bool, sym, ap, subst, List, [], length, Result, Ok, Err, arith}
-use Rattle.std.specs.Prelude.{IfOk, OnErr}
+use Rattle.std.specs.Prelude.{OnErr, OnOk}
 use Rattle.mps_base.specs.Trail.{Moves, emptied}
 use Rattle.mps_base.specs.declared.moves.Move.{Move}
 use Rattle.mps_commands.specs.RightAnswer.{step_in}
@@ -57,11 +57,11 @@ module _ (h after : HeapState AnyFormat) (trail trail' : Moves) (kept : KeepsRoo
       }
 
   -- whatever the call came to
-  pub call_keeps : {E : Type 0} (c : Call) (moves : List Move) (collects : Bool) (r : Result Reply E)
-      → IfOk r (λ given. AnswersRightly (is_answered collects c) h c moves given after) → OnErr r (HeapStandsStill h after)
+  pub call_keeps : {T E : Type 0} (c : Call) (moves : List Move) (given : Reply) (collects : Bool) (r : Result T E)
+      → OnOk r (AnswersRightly (is_answered collects c) h c moves given after) → OnErr r (HeapStandsStill h after)
       → StandsForScript h trail → StandsForScript after trail'
-  call_keeps c moves collects (Ok given) answers still s = answered_keeps c moves given collects answers s
-  call_keeps c moves collects (Err e) answers still s = still_keeps still s
+  call_keeps c moves given collects (Ok done) answers still s = answered_keeps c moves given collects answers s
+  call_keeps c moves given collects (Err e) answers still s = still_keeps still s
 
 -- a new heap, with an empty trail that has room for a collection of it
 pub new_keeps : (grains limit : ℕ) (h : HeapState AnyFormat) (trail : Moves) → 0 < grains → IsNewHeap any_layout grains limit h

@@ -1,7 +1,7 @@
 -- What the answers of a session guarantee of worlds: before the arena is made, and afterwards.
 use Rattle.std.proofs.Common.{◌≡◌, ◌∙◌, ◌<◌, ℕ, Bool, true, false, refl, sym, ap, subst, List, [], Option, Some, None, Result, Ok, Err}
 use Rattle.std.proofs.lemmas.Bool.{and_parts, false≢true, lt-ltb}
-use Rattle.std.specs.Prelude.{◌↔◌, IfOk, if◌then◌else◌, nat_eq, not}
+use Rattle.std.specs.Prelude.{◌↔◌, OnOk, if◌then◌else◌, nat_eq, not}
 use Rattle.mps_base.specs.declared.moves.Move.{Move}
 use Rattle.mps_commands.specs.RightAnswer.{step_in, HasFewFlips}
 use Rattle.mps_format.specs.AnyFormat.{any_layout}
@@ -143,7 +143,7 @@ module _ (h after : HeapState AnyFormat) (c : Call) (moves : List Move) (given :
 
 -- ---- results
 
--- a property of the value of an `Ok` gives another
-pub ok_then : {T E : Type 0} (r : Result T E) {P Q : T → Type 0} → IfOk r P → ((x : T) → P x → Q x) → IfOk r Q
-ok_then (Ok x) holds next = next x holds
+-- what holds after an `Ok` gives more
+pub ok_then : {T E : Type 0} (r : Result T E) {P Q : Type 0} → OnOk r P → (P → Q) → OnOk r Q
+ok_then (Ok x) holds next = next holds
 ok_then (Err e) holds next = holds

@@ -1,5 +1,5 @@
 // Answers the calls on the heap of an arena.
-ghost use Rattle.std.specs.Prelude.{◌≡◌, ◌≤◌, IfOk, OnErr, IsTrue, false, []};
+ghost use Rattle.std.specs.Prelude.{◌≡◌, ◌≤◌, OnErr, OnOk, IsTrue, false, []};
 ghost use Rattle.mps_commands.specs.Range.{IsInRange};
 ghost use Rattle.mps_outcome.specs.Collecting.{can_collect};
 ghost use Rattle.mps_refinement.specs.RightMoving.{KeepsRoom};
@@ -15,59 +15,69 @@ use mps_heap::Heap;
 use mps_model::{Call, Reply};
 use std::alloc::AllocError;
 
-/// Answers a call, and appends its moves to the empty trail. An `Err` says that memory is out.
+/// Answers a call, writes the reply, and appends the moves to the empty trail. An `Err` says that memory is out.
+#[inline(always)]
 pub fn answer(
     heap: &mut Heap<AnyFormat>,
     trail: &mut Trail,
     call: &Call,
-) -> Result<Reply, AllocError>
+    reply: &mut Reply,
+) -> Result<(), AllocError>
     requires range { IsInRange call.now }
     requires empty { trail.old.moves ≡ [] }
     requires fits { most_moves heap.old.segs.grains ≤ trail.old.spare }
-    ensures right { IfOk result (λ reply.
-        AnswersRightly (is_answered (can_collect heap.old) call.now) heap.old call.now trail.new.moves reply heap.new) }
+    ensures right { OnOk result
+        (AnswersRightly (is_answered (can_collect heap.old) call.now) heap.old call.now trail.new.moves reply.new heap.new) }
     ensures unchanged { OnErr result (HeapStandsStill heap.old heap.new) }
     ensures memory { OnErr result (IsTrue (call_takes_memory call.now)) }
     ensures room { KeepsRoom trail.old trail.new }
 {
-    if let Some(reply) = reading::answer(heap, call) {
-        return Ok(reply);
+    if reading::reads_words(call) {
+        reading::answer(heap, call, reply);
+        return Ok(());
     }
-    if let Some(reply) = moving::answer(heap, trail, call) {
-        return Ok(reply);
+    if moving::may_move(call) {
+        moving::answer(heap, trail, call, reply);
+        return Ok(());
     }
-    if let Some(reply) = writing::answer(heap, call) {
-        return Ok(reply);
+    if writing::writes_words(call) {
+        writing::answer(heap, call, reply);
+        return Ok(());
     }
-    answer_seldom(heap, trail, call)
+    answer_seldom(heap, trail, call, reply)
 }
 
-/// Answers a call that is none of those of which a script has most, and appends its moves to the empty trail. An `Err` says that memory
-/// is out. It stands by itself, so that the others don't make room for what it calls.
+/// Answers a call that is none of those of which a script has most, writes the reply, and appends the moves to the empty trail. An `Err`
+/// says that memory is out. It stands by itself, so that the others don't make room for what it calls.
 #[inline(never)]
 fn answer_seldom(
     heap: &mut Heap<AnyFormat>,
     trail: &mut Trail,
     call: &Call,
-) -> Result<Reply, AllocError>
+    reply: &mut Reply,
+) -> Result<(), AllocError>
     requires range { IsInRange call.now }
     requires seldom { is_frequent call.now ≡ false }
     requires empty { trail.old.moves ≡ [] }
     requires fits { most_moves heap.old.segs.grains ≤ trail.old.spare }
-    ensures right { IfOk result (λ reply.
-        AnswersRightly (is_answered (can_collect heap.old) call.now) heap.old call.now trail.new.moves reply heap.new) }
+    ensures right { OnOk result
+        (AnswersRightly (is_answered (can_collect heap.old) call.now) heap.old call.now trail.new.moves reply.new heap.new) }
     ensures unchanged { OnErr result (HeapStandsStill heap.old heap.new) }
     ensures memory { OnErr result (IsTrue (call_takes_memory call.now)) }
     ensures room { KeepsRoom trail.old trail.new }
 {
     if let Call::Collect = *call {
-        return Ok(collecting::collect(heap, trail));
+        *reply = collecting::collect(heap, trail);
+        return Ok(());
     }
-    if let Some(reply) = areas::answer(heap, call) {
-        return Ok(reply);
+    if let Some(given) = areas::answer(heap, call) {
+        *reply = given;
+        return Ok(());
     }
-    if let Some(reply) = arena::answer(heap, call) {
-        return Ok(reply);
+    if let Some(given) = arena::answer(heap, call) {
+        *reply = given;
+        return Ok(());
     }
-    making::answer(heap, call)
+    *reply = making::answer(heap, call)?;
+    Ok(())
 }

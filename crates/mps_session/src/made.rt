@@ -1,5 +1,5 @@
 // A heap with the moves of its last call.
-ghost use Rattle.std.specs.Prelude.{◌≡◌, ◌<◌, ◌≤◌, IfOk, OnErr, IsTrue, []};
+ghost use Rattle.std.specs.Prelude.{◌≡◌, ◌<◌, ◌≤◌, IfOk, OnErr, OnOk, IsTrue, []};
 ghost use Rattle.mps_base.specs.Address.{max_grains};
 ghost use Rattle.mps_commands.specs.Range.{IsInRange};
 ghost use Rattle.mps_format.specs.AnyFormat.{any_layout};
@@ -52,19 +52,21 @@ impl Made {
         Ok(Made { heap, trail })
     }
 
-    /// Answers a call. An `Err` says that memory is out.
-    pub fn answer(&mut self, call: &Call) -> Result<Reply, AllocError>
+    /// Answers a call, and writes the reply. An `Err` says that memory is out.
+    #[inline(always)]
+    pub fn answer(&mut self, call: &Call, reply: &mut Reply) -> Result<(), AllocError>
         requires range { IsInRange call.now }
-        ensures right { IfOk result (λ reply. AnswersRightly (is_answered (can_collect self.old.heap) call.now) self.old.heap call.now
-            self.new.trail.moves reply self.new.heap) }
+        ensures right { OnOk result (AnswersRightly (is_answered (can_collect self.old.heap) call.now) self.old.heap call.now
+            self.new.trail.moves reply.new self.new.heap) }
         ensures unchanged { OnErr result (HeapStandsStill self.old.heap self.new.heap) }
         ensures memory { OnErr result (IsTrue (call_takes_memory call.now)) }
     {
         self.trail.clear();
-        calls::answer(&mut self.heap, &mut self.trail, call)
+        calls::answer(&mut self.heap, &mut self.trail, call, reply)
     }
 
     /// The moves of the last call.
+    #[inline(always)]
     pub fn moves(&self) -> &[Move]
         ensures { result.now ≡ self.now.trail.moves }
     {
@@ -72,6 +74,7 @@ impl Made {
     }
 
     /// The words of the arena.
+    #[inline(always)]
     pub fn words(&self) -> &[u64]
         ensures { result.now ≡ self.now.heap.segs.words }
     {

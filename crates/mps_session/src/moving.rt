@@ -1,5 +1,5 @@
 // Answers the calls that may make moves.
-ghost use Rattle.std.specs.Prelude.{◌≡◌, ◌<◌, IfNone, IfSome, is_some, []};
+ghost use Rattle.std.specs.Prelude.{◌≡◌, ◌<◌, [], true};
 ghost use Rattle.mps_refinement.specs.RightMoving.{KeepsRoom};
 ghost use Rattle.mps_session.specs.Groups.{may_move};
 ghost use Rattle.mps_session.specs.Standing.{IsAnswered};
@@ -10,22 +10,31 @@ use mps_format::AnyFormat;
 use mps_heap::Heap;
 use mps_model::{Call, Reply};
 
-/// Answers a call that may make moves, which it appends to the empty trail; `None` where it is another.
+/// Whether a call makes or ends a block, and so may make moves. A collection isn't one of these.
+#[inline(always)]
+pub fn may_move(call: &Call) -> bool
+    ensures { result ≡ may_move call.now }
+{
+    matches!(
+        call,
+        Call::Reserve { .. } | Call::Commit { .. } | Call::Alloc { .. } | Call::Free { .. }
+    )
+}
+
+/// Answers a call that may make moves, which it appends to the empty trail, and writes the reply.
 #[inline(never)]
-pub fn answer(heap: &mut Heap<AnyFormat>, trail: &mut Trail, call: &Call) -> Option<Reply>
+pub fn answer(heap: &mut Heap<AnyFormat>, trail: &mut Trail, call: &Call, reply: &mut Reply)
+    requires which { may_move call.now ≡ true }
     requires empty { trail.old.moves ≡ [] }
     requires fits { 1 < trail.old.spare }
-    ensures right { IfSome result (λ reply. IsAnswered heap.old call.now trail.new.moves reply heap.new) }
-    ensures which { is_some result ≡ may_move call.now }
-    ensures unchanged { IfNone result (heap.new ≡ heap.old) }
-    ensures unmoved { IfNone result (trail.new ≡ trail.old) }
+    ensures right { IsAnswered heap.old call.now trail.new.moves reply.new heap.new }
     ensures room { KeepsRoom trail.old trail.new }
 {
-    match *call {
-        Call::Reserve { point, head } => Some(done(heap.reserve(trail, point, head))),
-        Call::Commit { point, target } => Some(committed(heap.commit(trail, point, target))),
-        Call::Alloc { pool, words, place } => Some(done(heap.alloc(trail, pool, words, place))),
-        Call::Free { place } => Some(done(heap.free(trail, place))),
-        _ => None,
-    }
+    *reply = match *call {
+        Call::Reserve { point, head } => done(heap.reserve(trail, point, head)),
+        Call::Commit { point, target } => committed(heap.commit(trail, point, target)),
+        Call::Alloc { pool, words, place } => done(heap.alloc(trail, pool, words, place)),
+        Call::Free { place } => done(heap.free(trail, place)),
+        _ => unreachable!(),
+    };
 }

@@ -1,5 +1,5 @@
 // The heap of a script as a machine that answers commands.
-ghost use Rattle.std.specs.Prelude.{◌≡◌, IfOk, None, OnErr, true};
+ghost use Rattle.std.specs.Prelude.{◌≡◌, None, OnErr, OnOk, true};
 ghost use Rattle.mps_commands.specs.Range.{IsInRange};
 ghost use Rattle.mps_model.specs.FirstCall.{is_arena};
 ghost use Rattle.mps_session.specs.Built.{session_built};
@@ -27,24 +27,26 @@ impl Session {
         Session { alloc, made: None }
     }
 
-    /// Answers a call before the arena is made: `arena` makes it, and no other is supported.
+    /// Answers a call before the arena is made, and writes the reply: `arena` makes it, and no other is supported.
     #[cold]
     #[inline(never)]
-    fn begin(&mut self, call: &Call) -> Result<Reply, AllocError>
+    fn begin(&mut self, call: &Call, reply: &mut Reply) -> Result<(), AllocError>
         requires none { self.old.made ≡ None }
         requires range { IsInRange call.now }
-        ensures right { IfOk result (λ reply. BeginsRightly call.now reply self.new.made) }
+        ensures right { OnOk result (BeginsRightly call.now reply.new self.new.made) }
         ensures unchanged { OnErr result (self.new.made ≡ None) }
         ensures memory { OnErr result (is_arena call.now ≡ true) }
     {
         let Call::Arena { grains, limit } = *call else {
-            return Ok(Reply::Unsupported);
+            *reply = Reply::Unsupported;
+            return Ok(());
         };
         let made = Made::new(self.alloc, grains as u32, limit as u32)?;
         if let Some(before) = replace(&mut self.made, Some(made)) {
             before.finish();
         }
-        Ok(Reply::Ok)
+        *reply = Reply::Ok;
+        Ok(())
     }
 }
 
@@ -57,13 +59,15 @@ impl Commands for Session {
 
     ghost built = { session_built };
 
-    fn answer(&mut self, call: &Call) -> Result<Reply, AllocError> {
+    #[inline(always)]
+    fn answer(&mut self, call: &Call, reply: &mut Reply) -> Result<(), AllocError> {
         if let Some(made) = &mut self.made {
-            return made.answer(call);
+            return made.answer(call, reply);
         }
-        self.begin(call)
+        self.begin(call, reply)
     }
 
+    #[inline(always)]
     fn moves(&self) -> &[Move] {
         match &self.made {
             Some(made) => made.moves(),
@@ -71,6 +75,7 @@ impl Commands for Session {
         }
     }
 
+    #[inline(always)]
     fn words(&self) -> &[u64] {
         match &self.made {
             Some(made) => made.words(),

@@ -115,9 +115,10 @@ fn is_in_range(call: &Call) -> bool
 /// Calls a new session, and checks what each call answers and moves.
 fn run(rt: &impl Abort, alloc: Global, steps: &[Step<'_>]) {
     let mut session = Session::new(alloc);
+    let mut got = Reply::Ok;
     for &(call, reply, moves) in steps {
         assert!(rt; is_in_range(&call), "at {call:?}");
-        let got = session.answer(&call).expect(rt, "memory");
+        session.answer(&call, &mut got).expect(rt, "memory");
         assert_eq!(rt; got, reply, "at {call:?}");
         assert!(rt; session.moves() == moves, "at {call:?}");
     }

@@ -9,5 +9,5 @@ pub invariant_of-self : goal.invariant_of-self
 invariant_of-self c =
     let h = c.self.inside.heap in
     let kept = subst (λ (m : Moves). KeepsRoom m c.answer.new.trail) c.clear.ensures c.answer.ensures.room in
-    call_keeps h c.answer.new.heap c.self.inside.trail c.answer.new.trail kept c.args.call.now c.answer.new.trail.moves (can_collect h)
-    c.answer.result c.answer.ensures.right c.answer.ensures.unchanged c.self.invariant
+    call_keeps h c.answer.new.heap c.self.inside.trail c.answer.new.trail kept c.args.call.now c.answer.new.trail.moves
+    c.answer.new.reply (can_collect h) c.answer.result c.answer.ensures.right c.answer.ensures.unchanged c.self.invariant
