@@ -63,11 +63,11 @@ find_chains() {
   done
 }
 
-# The libraries of the program, those with the longest chains above them first.
+# The libraries of the program, those with the longest chains from them on first.
 longest_first() {
   local name
   for name in "${!chain[@]}"; do
-    if [ "$name" != mps_cli ]; then echo "${chain[$name]} $name"; fi
+    if [ "$name" != mps_cli ]; then echo "$((${chain[$name]} + ${lines[$name]})) $name"; fi
   done | sort -k1,1nr -k2 | cut -d' ' -f2
 }
 
@@ -113,7 +113,7 @@ note_ended() {
   done
 }
 
-# Begins the proofs of crates whose libraries are proved. The first one, which has the longest chain above it, gets half of the
+# Begins the proofs of crates whose libraries are proved. The first one, which has the longest chain from it on, gets half of the
 # processors; the others one each, or what is idle where there is no other.
 start_ready() {
   local name ready=()
