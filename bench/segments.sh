@@ -174,7 +174,7 @@ fn time_notes(rt: &HostRuntime, segs: &mut Segs, times: usize) -> io::Result<()>
 
 /// Copies words where the arena has them.
 fn copy_once(segs: &mut Segs, from: Addr, to: Addr, words: u32) {
-    let size = segs.words().len();
+    let size = 512 * (segs.grains() as usize + 1);
     if from.word() + words as usize <= size && to.word() + words as usize <= size {
         segs.copy(from, to, words);
     }

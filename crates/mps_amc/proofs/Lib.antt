@@ -3,6 +3,7 @@ pub mod Found
 pub mod Lost
 pub mod Padded
 pub mod Padding
+pub mod PartSeen
 pub mod Reclaimed
 pub mod Refused
 pub mod Reopening

@@ -166,11 +166,11 @@ impl Amc {
 
 /// Where the block has moved that was at `at`.
 fn forwarded_from<F: Format>(segs: &Segs, format: &F, at: Addr) -> Option<Addr>
-    requires { word_of at.0 < length segs.now.words }
+    requires held { (t : Segment) × (segment_over segs.now.segments at.0 ≡ Some t) }
     ensures sound { IfSome result (λ to. IsForwarded (F.layout format.now) segs.now.words at.0 to.0) }
     ensures complete { IfNone result (IsUnforwarded (F.layout format.now) segs.now.words at.0) }
 {
-    format.forwarded(&segs.words()[at.word()..])
+    format.forwarded(segs.words_from(at))
 }
 
 /// The pool of the segment in which an address lies.

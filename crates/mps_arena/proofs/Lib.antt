@@ -1,3 +1,5 @@
+pub mod Held
 pub mod Loans
+pub mod Padded
 pub mod Scan
 pub mod Table

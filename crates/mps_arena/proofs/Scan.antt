@@ -272,7 +272,7 @@ no_runs : (grain n : ℕ) → runs_from grain (replicate n 0) ≡ []
 no_runs grain zero = runs_from-nil grain
 no_runs grain (suc n) = runs_from-zero grain (replicate n 0) 0 refl ∙ no_runs (suc grain) n
 
-none_held : (n : ℕ) → runs_in (replicate n 0) ≡ []
+pub none_held : (n : ℕ) → runs_in (replicate n 0) ≡ []
 unfolding runs_in
 none_held n = no_runs 0 n
 

@@ -1,7 +1,7 @@
 -- What a caller sees of an arena, and the results of its calls.
-use Rattle.std.specs.Prelude.{ℕ, ◌+◌, ◌*◌, ◌≡◌, List, [], ◌∷◌, ◌++◌, Result, Ok, Err, take, drop, length, replicate, refl}
+use Rattle.std.specs.Prelude.{ℕ, ◌+◌, ◌*◌, ◌≤◌, ◌≡◌, Contains, List, [], ◌∷◌, ◌++◌, Result, Ok, Err, take, drop, length, replicate, refl}
 use lib.Seq.{paste}
-use Rattle.mps_base.specs.Run.{Run, with_run}
+use Rattle.mps_base.specs.Run.{Run, end_of, with_run}
 use Rattle.mps_base.specs.Placement.{Placement, Place, NewSegment, OverLimit, NoFreeRun, run_placement}
 use Rattle.mps_base.specs.Address.{address_of_grain, address_of_word, words_of_grain}
 use Rattle.mps_base.specs.declared.address.Addr.{Addr}
@@ -19,6 +19,13 @@ pub record ArenaMemory : Type 0 where
 -- the arena before any run is taken: all words are 0
 abbrev pub new_arena : (grains limit : ℕ) → ArenaMemory
 new_arena grains limit = record { words = replicate (words_of_grain * (grains + 1)) 0; grains = grains; limit = limit; held = [] }
+
+-- n words from one on lie in grains that are held, all of one run
+pub record AreHeldWords (held : List Run) (from n : ℕ) : Type 0 where
+  pub run : Run
+  pub listed : Contains held run
+  pub after : words_of_grain * run.from ≤ from
+  pub before : from + n ≤ words_of_grain * end_of run
 
 -- where a new run of `need` grains is placed
 abbrev pub placement_in : ArenaMemory → (need : ℕ) → Placement

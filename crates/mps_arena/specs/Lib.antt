@@ -2,3 +2,5 @@ pub mod Arena
 pub mod Grains
 pub mod Inside
 pub mod Lending
+pub mod Memory
+pub mod MemoryLending

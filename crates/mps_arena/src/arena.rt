@@ -1,14 +1,15 @@
 // The arena.
 #![tactic(auto)]
 
-ghost use Rattle.std.specs.Prelude.{◌≡◌, ◌+◌, ◌*◌, ◌/◌, ◌%◌, ◌<◌, ◌≤◌, length, IfOk, IfErr, OnOk, Contains, slice_index, slice_set, slice_range, MatchResult};
+ghost use Rattle.std.specs.Prelude.{◌≡◌, ℕ, ◌+◌, ◌*◌, ◌/◌, ◌%◌, ◌<◌, ◌≤◌, length, take, drop, IfOk, IfErr, OnOk, Contains, slice_get, slice_index, slice_set, slice_range, MatchResult};
 ghost use Rattle.mps_base.specs.Run.{total, with_run, without_run};
-ghost use Rattle.mps_base.specs.Address.{bytes_of_word, bytes_of_grain, grain_of, word_of, words_of_grain, max_grains};
-ghost use Rattle.mps_arena.specs.Arena.{ArenaMemory, new_arena, placement_in, answer_of_placement, held_after, cleared_words, copied_words};
+ghost use Rattle.mps_base.specs.Address.{bytes_of_word, bytes_of_grain, grain_of, word_of, words_of_grain, max_grains, max_block_words};
+ghost use Rattle.mps_arena.specs.Arena.{ArenaMemory, AreHeldWords, new_arena, placement_in, answer_of_placement, held_after, cleared_words, copied_words};
 ghost use Rattle.std.specs.Borrow.{sem};
 ghost use Rattle.mps_arena.specs.Lending.{LendsArenaWords};
 
 use crate::grains::lowest_free;
+use crate::memory::Memory;
 use mps_base::{Addr, BYTES_OF_GRAIN, BYTES_OF_WORD, Refusal, WORDS_OF_GRAIN};
 use std::alloc::{AllocError, Global};
 use std::marker::Model;
@@ -16,7 +17,7 @@ use std::marker::Model;
 /// The words of an arena, and which runs of its grains are held. Clauses see its words, its size and its limit in grains, and the runs.
 #[derive(Drop)]
 pub struct Arena {
-    words: Vec<u64>,
+    memory: Memory,
     runs: Vec<u32>,
     committed: u32,
     limit: u32,
@@ -24,13 +25,16 @@ pub struct Arena {
 
 impl Model for Arena {
     ghost use Rattle.mps_arena.specs.Arena.{ArenaMemory};
-    ghost use Rattle.mps_arena.specs.Inside.{memory_of, IsSoundArena};
+    ghost use Rattle.std.specs.Prelude.{length};
+    ghost use Rattle.mps_arena.specs.Grains.{runs_in};
+    ghost use Rattle.mps_arena.specs.Inside.{memory_of, IsSoundArena, AreStored};
 
     ghost Value = { ArenaMemory };
 
-    ghost view = { λ a. memory_of a.words.items a.runs.items a.limit };
+    ghost view = { λ a. memory_of a.memory.words a.runs.items a.limit };
 
-    ghost invariant = { λ a. IsSoundArena a.words.items a.runs.items a.committed a.limit };
+    ghost invariant = { λ a. IsSoundArena a.memory.words a.runs.items a.committed a.limit
+        × AreStored (runs_in a.runs.items) (length a.memory.words) a.memory.stored };
 }
 
 impl Arena {
@@ -40,10 +44,10 @@ impl Arena {
         requires at_most { grains ≤ max_grains }
         ensures { IfOk result (λ arena. arena ≡ new_arena grains limit) }
     {
-        let words = vec![in alloc; 0u64; WORDS_OF_GRAIN * (grains as usize + 1)]?;
         let runs = vec![in alloc; 0u32; grains as usize + 1]?;
+        let memory = Memory::new(alloc, WORDS_OF_GRAIN * (grains as usize + 1))?;
         Ok(Arena {
-            words,
+            memory,
             runs,
             committed: 0,
             limit,
@@ -66,6 +70,8 @@ impl Arena {
         }
         match lowest_free(&self.runs, grains) {
             Ok(grain) => {
+                self.memory
+                    .store_run(WORDS_OF_GRAIN * (grain as usize + grains as usize));
                 self.runs[grain as usize] = grains;
                 self.committed += grains;
                 Ok(Addr(BYTES_OF_GRAIN * grain as u64))
@@ -116,24 +122,35 @@ impl Arena {
         self.runs.len() as u32 - 1
     }
 
-    /// All words, by their address divided by 8.
-    pub fn words(&self) -> &[u64]
-        ensures { result.now ≡ self.now.words }
+    /// The word of a number, which is its address divided by 8; none where the arena has no such word.
+    #[inline(always)]
+    pub fn item(&self, word: usize) -> Option<u64>
+        ensures { result ≡ slice_get self.now.words word }
     {
-        &self.words
+        self.memory.item(word)
     }
 
-    /// The `words` words from `at` on.
+    /// The words from a held one on: all that the arena has there, or at least as many as a block may have.
+    pub fn words_from(&self, at: Addr) -> &[u64]
+        requires held { AreHeldWords self.now.held (word_of at.0) 1 }
+        ensures value { result.now ≡ take (length result.now) (drop (word_of at.0) self.now.words) }
+        ensures complete { (n : ℕ) → n ≤ max_block_words → word_of at.0 + n ≤ length self.now.words → n ≤ length result.now }
+    {
+        self.memory.words_from(at.word())
+    }
+
+    /// The `words` words from `at` on, which are held.
     pub fn lend(&self, at: Addr, words: u32) -> &[u64]
         requires aligned { at.0 % bytes_of_word ≡ 0 }
-        requires in_arena { word_of at.0 + words ≤ length self.now.words }
+        requires held { AreHeldWords self.now.held (word_of at.0) words }
         ensures { result.now ≡ slice_range self.now.words (word_of at.0) (word_of at.0 + words) }
     {
         let from = (at.0 / BYTES_OF_WORD) as usize;
-        &self.words[from..from + words as usize]
+        self.memory.slice(from, from + words as usize)
     }
 
-    /// The `words` words from `at` on, to be written.
+    /// The `words` words from `at` on, to be written. The first such call touches all memory of the arena, `set_word` and `copy` only
+    /// what they write and what lies before it.
     pub fn lend_mut(&mut self, at: Addr, words: u32) -> &mut [u64]
         requires aligned { at.0 % bytes_of_word ≡ 0 }
         requires in_arena { word_of at.0 + words ≤ length self.old.words }
@@ -141,7 +158,7 @@ impl Arena {
         ensures value { result.now ≡ slice_range self.old.words (word_of at.0) (word_of at.0 + words) }
     {
         let from = (at.0 / BYTES_OF_WORD) as usize;
-        self.words.slice_mut(from..from + words as usize)
+        self.memory.slice_mut(from, from + words as usize)
     }
 
     /// The word at an address.
@@ -149,7 +166,7 @@ impl Arena {
         requires { word_of at.0 < length self.now.words }
         ensures { result ≡ slice_index self.now.words (word_of at.0) }
     {
-        self.words[at.word()]
+        self.memory.word(at.word())
     }
 
     /// Writes the word at an address.
@@ -157,7 +174,7 @@ impl Arena {
         requires { word_of at.0 < length self.old.words }
         ensures { self.new ≡ record self.old { words = slice_set self.old.words (word_of at.0) word } }
     {
-        self.words[at.word()] = word;
+        self.memory.set_word(at.word(), word);
     }
 
     /// Writes 0 in the `words` words from `at` on.
@@ -165,7 +182,7 @@ impl Arena {
         requires { word_of at.0 + words ≤ length self.old.words }
         ensures { self.new ≡ record self.old { words = cleared_words self.old.words (word_of at.0) words } }
     {
-        write_zeros(&mut self.words, at.word(), words as usize);
+        self.memory.clear(at.word(), words as usize);
     }
 
     /// Copies the `words` words from `from` on to `to` and the words after it. The two may overlap.
@@ -174,18 +191,6 @@ impl Arena {
         requires to_in_arena { word_of to.0 + words ≤ length self.old.words }
         ensures { self.new ≡ record self.old { words = copied_words self.old.words (word_of from.0) (word_of to.0) words } }
     {
-        let from = from.word();
-        self.words
-            .copy_within(from..from + words as usize, to.word());
-    }
-}
-
-/// Writes 0 in `count` words from the word `from` on.
-fn write_zeros(words: &mut [u64], from: usize, count: usize)
-    requires { from + count ≤ length words.old }
-    ensures { words.new ≡ cleared_words words.old from count }
-{
-    for i in 0..count {
-        words[from + i] = 0;
+        self.memory.copy(from.word(), to.word(), words as usize);
     }
 }

@@ -3,6 +3,7 @@
 
 mod arena;
 mod grains;
+mod memory;
 
 pub use arena::Arena;
 

@@ -6,7 +6,6 @@ ghost use Rattle.mps_base.specs.Address.{word_of};
 ghost use Rattle.mps_model.specs.Graph.{has_references};
 ghost use Rattle.mps_outcome.specs.Finding.{cell_at, number_cell_at, reference_cell_at, retargeted};
 
-use crate::items::item;
 use mps_base::{Addr, BYTES_OF_WORD, Refusal};
 use mps_format::Format;
 use mps_outcome::{Block, CellFound};
@@ -58,16 +57,16 @@ fn word_of_cell(at: u64, k: u64) -> usize
 
 /// Cell `k` of a block.
 #[inline(always)]
-fn cell_at<F: Format>(words: &[u64], b: &Block<F>, k: u64) -> Result<CellFound, Refusal>
+fn cell_at<F: Format>(segs: &Segs, b: &Block<F>, k: u64) -> Result<CellFound, Refusal>
     requires { IsTrue ((F.layout b.now.format).is_valid b.now.head) }
-    ensures value { result ≡ cell_at F.layout words.now b.now k }
+    ensures value { result ≡ cell_at F.layout segs.now.words b.now k }
     ensures at_most { IfOk result (λ _. k < 2 ^ 32) }
 {
     if u64::from(b.format.words(b.head)) <= k {
         return Err(Refusal::BadIndex);
     }
     let word = word_of_cell(b.at, k);
-    let Some(value) = item(words, word) else {
+    let Some(value) = segs.item(word) else {
         return Err(Refusal::BadIndex);
     };
     Ok(CellFound { word, value })
@@ -75,11 +74,11 @@ fn cell_at<F: Format>(words: &[u64], b: &Block<F>, k: u64) -> Result<CellFound, 
 
 /// Cell `k` of a block, where it is a number.
 #[inline(always)]
-pub fn number_cell_at<F: Format>(words: &[u64], b: &Block<F>, k: u64) -> Result<CellFound, Refusal>
+pub fn number_cell_at<F: Format>(segs: &Segs, b: &Block<F>, k: u64) -> Result<CellFound, Refusal>
     requires { IsTrue ((F.layout b.now.format).is_valid b.now.head) }
-    ensures { result ≡ number_cell_at F.layout words.now b.now k }
+    ensures { result ≡ number_cell_at F.layout segs.now.words b.now k }
 {
-    let cell = cell_at(words, b, k)?;
+    let cell = cell_at(segs, b, k)?;
     if k == 0 || is_reference(&b.format, b.head, k as u32) {
         return Err(Refusal::NotANumber);
     }
@@ -87,15 +86,11 @@ pub fn number_cell_at<F: Format>(words: &[u64], b: &Block<F>, k: u64) -> Result<
 }
 
 /// Cell `k` of a block, where it is a reference.
-pub fn reference_cell_at<F: Format>(
-    words: &[u64],
-    b: &Block<F>,
-    k: u64,
-) -> Result<CellFound, Refusal>
+pub fn reference_cell_at<F: Format>(segs: &Segs, b: &Block<F>, k: u64) -> Result<CellFound, Refusal>
     requires { IsTrue ((F.layout b.now.format).is_valid b.now.head) }
-    ensures { result ≡ reference_cell_at F.layout words.now b.now k }
+    ensures { result ≡ reference_cell_at F.layout segs.now.words b.now k }
 {
-    let cell = cell_at(words, b, k)?;
+    let cell = cell_at(segs, b, k)?;
     if !is_reference(&b.format, b.head, k as u32) {
         return Err(Refusal::NotARef);
     }
@@ -107,7 +102,7 @@ pub fn write_word(segs: &mut Segs, word: usize, value: u64)
     ensures { segs.new ≡ record segs.old { words = slice_set segs.old.words word value } }
 {
     let _ = segs.grains(); // the address of a word fits
-    if word < segs.words().len() {
+    if segs.item(word).is_some() {
         segs.set_word(Addr(BYTES_OF_WORD * word as u64), value);
     }
 }

@@ -1,5 +1,5 @@
 // A machine that answers the commands of a script.
-ghost use Rattle.std.specs.Prelude.{◌≡◌, ℕ, List, OnOk, OnErr, IsTrue};
+ghost use Rattle.std.specs.Prelude.{◌≡◌, ℕ, List, slice_get, OnOk, OnErr, IsTrue};
 ghost use Rattle.mps_base.specs.declared.moves.Move.{Move};
 ghost use Rattle.mps_model.specs.Answer.{answer_of};
 ghost use Rattle.mps_model.specs.World.{World};
@@ -48,9 +48,9 @@ pub trait Commands {
     fn moves(&self) -> &[Move]
         ensures { result.now ≡ moves self.now };
 
-    /// The words of the arena, its word 0 at address 0. A reply `Words` names some of them.
-    fn words(&self) -> &[u64]
-        ensures { result.now ≡ words self.now };
+    /// The word of a number, which is its address divided by 8; none where the arena has no such word. A reply `Words` names some words.
+    fn word(&self, number: usize) -> Option<u64>
+        ensures { result ≡ slice_get (words self.now) number };
 
     /// Ends the machine.
     fn finish(self);

@@ -2,7 +2,7 @@
 #![tactic(auto)]
 
 ghost use Rattle.std.specs.Prelude.{◌≡◌, ℕ, ◌+◌, ◌^◌, ◌<◌, ◌≤◌, [], length, IfOk, IfSome, IfNone, Contains};
-ghost use Rattle.mps_base.specs.Run.{IsAscending, with_run, without_run, gaps, lowest_fitting, runs_within, total};
+ghost use Rattle.mps_base.specs.Run.{Run, IsAscending, with_run, without_run, gaps, lowest_fitting, runs_within, total};
 ghost use Rattle.mps_extents.specs.Extents.{ExtentLists, nothing_covered, run_over, first_run, IsFirstWithin, AreWhole};
 
 use mps_bits::Bits;
@@ -136,6 +136,14 @@ impl Extents {
         ensures { result ≡ total self.now.blocks }
     {
         self.live_words
+    }
+
+    /// Blocks are covered: a block is among the runs that blocks and reservations cover.
+    #[inline(always)]
+    pub fn blocks_are_covered(&self)
+        ensures { (r : Run) → Contains self.now.blocks r → Contains self.now.covered r }
+    {
+        let _ = &self.covered;
     }
 
     /// How many words the block has that begins at `at`.

@@ -13,7 +13,7 @@ mod manual;
 mod objects;
 mod results;
 
-ghost use Rattle.std.specs.Prelude.{◌≡◌, ◌≤◌, ◌<◌, IfOk};
+ghost use Rattle.std.specs.Prelude.{◌≡◌, ◌≤◌, ◌<◌, slice_get, IfOk};
 ghost use Rattle.mps_base.specs.Address.{max_grains};
 ghost use Rattle.mps_heap.specs.Right.{IsNewHeap};
 
@@ -51,11 +51,11 @@ impl<F: Format> Heap<F> {
         Ok(Heap { state })
     }
 
-    /// The words of the arena, by their address divided by 8.
-    pub fn words(&self) -> &[u64]
-        ensures { result.now ≡ self.now.segs.words }
+    /// The word of a number, which is its address divided by 8; none where the arena has no such word.
+    pub fn word(&self, number: usize) -> Option<u64>
+        ensures { result ≡ slice_get self.now.segs.words number }
     {
-        self.state.words()
+        self.state.item(number)
     }
 
     /// Ends each open reservation, and lets the heap go.

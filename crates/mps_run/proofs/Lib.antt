@@ -8,5 +8,6 @@ pub mod RecordBytes
 pub mod Records
 pub mod Reported
 pub mod SoFar
+mod SomeWords
 pub mod Steps
 pub mod Turns

@@ -1,5 +1,5 @@
 // The answer of a command.
-ghost use Rattle.std.specs.Prelude.{◌≡◌, ◌≤◌, ◌∷◌, ◌++◌, length, take, drop, OnOk, OnErr};
+ghost use Rattle.std.specs.Prelude.{◌≤◌, ◌<◌, ◌^◌, ◌∷◌, ◌++◌, length, take, drop, OnOk, OnErr};
 ghost use Rattle.std.specs.List.{flat_map};
 ghost use Rattle.mps_base.specs.Address.{word_of};
 ghost use Rattle.mps_model.specs.Answer.{Dumped, answer_of};
@@ -19,8 +19,7 @@ use mps_report::print_all;
 /// Room for a space, `0x` and the digits of a word.
 const MAX_WORD_BYTES: usize = 19;
 
-/// Prints the answer line of a reply, as one piece; that of words word by word, from the words of the arena, which are asked for only
-/// then.
+/// Prints the answer line of a reply, as one piece; that of words word by word, each of which is asked for only then.
 #[inline(always)]
 pub fn print<D: Desk, C: Commands>(desk: &mut D, reply: &Reply, commands: &C) -> Result<(), Failed>
     ensures printed { OnOk result (Prints (D.outside desk.old) (D.outside desk.new)
@@ -29,52 +28,75 @@ pub fn print<D: Desk, C: Commands>(desk: &mut D, reply: &Reply, commands: &C) ->
         (line_of_answer (answer_of (C.words commands.now) reply.now))) }
 {
     if let Reply::Words(at, count) = *reply {
-        return print_words(desk, words_at(commands.words(), at, count));
+        return print_words(desk, commands, at, count);
     }
     let mut text = [0u8; MAX_ANSWER_BYTES];
     let length = put_text(&mut text, reply);
     print_all(&text[..length], desk)
 }
 
-/// The words from an address on, as many as are asked for or as there are.
-fn words_at(words: &[u64], at: Addr, count: u32) -> &[u64]
-    ensures { result.now ≡ take count (drop (word_of at.0) words.now) }
-{
-    let from = at.word().min(words.len());
-    let rest = &words[from..];
-    &rest[..(count as usize).min(rest.len())]
-}
-
-/// Prints the line of words. It isn't inlined, as `print` has no words as a rule.
+/// Prints the line of the words from an address on, as many as are asked for or as there are. It isn't inlined, as `print` has no words
+/// as a rule.
 #[cold]
 #[inline(never)]
-fn print_words<D: Desk>(desk: &mut D, words: &[u64]) -> Result<(), Failed>
-    ensures printed { OnOk result (Prints (D.outside desk.old) (D.outside desk.new) (line_of_answer (Dumped words.now))) }
-    ensures failed { OnErr result (PrintsPart (D.outside desk.old) (D.outside desk.new) (line_of_answer (Dumped words.now))) }
+fn print_words<D: Desk, C: Commands>(
+    desk: &mut D,
+    commands: &C,
+    at: Addr,
+    count: u32,
+) -> Result<(), Failed>
+    ensures printed { OnOk result (Prints (D.outside desk.old) (D.outside desk.new)
+        (line_of_answer (Dumped (take count (drop (word_of at.0) (C.words commands.now)))))) }
+    ensures failed { OnErr result (PrintsPart (D.outside desk.old) (D.outside desk.new)
+        (line_of_answer (Dumped (take count (drop (word_of at.0) (C.words commands.now)))))) }
 {
-    match words {
-        [] => print_all(b"\n", desk),
-        [first, more @ ..] => print_first_and_more(desk, *first, more),
+    let from = at.word();
+    if count == 0 {
+        return print_all(b"\n", desk);
     }
+    let Some(first) = commands.word(from) else {
+        return print_all(b"\n", desk);
+    };
+    print_first_and_more(desk, commands, first, from + 1, count - 1)
 }
 
-/// Prints the line of a word and more words.
-fn print_first_and_more<D: Desk>(desk: &mut D, first: u64, more: &[u64]) -> Result<(), Failed>
-    ensures printed { OnOk result (Prints (D.outside desk.old) (D.outside desk.new) (line_of_answer (Dumped (first ∷ more.now)))) }
-    ensures failed { OnErr result (PrintsPart (D.outside desk.old) (D.outside desk.new) (line_of_answer (Dumped (first ∷ more.now)))) }
+/// Prints the line of a word and of the words from a number on, as many as are asked for or as there are.
+fn print_first_and_more<D: Desk, C: Commands>(
+    desk: &mut D,
+    commands: &C,
+    first: u64,
+    from: usize,
+    count: u32,
+) -> Result<(), Failed>
+    requires { from < 2 ^ 62 }
+    ensures printed { OnOk result (Prints (D.outside desk.old) (D.outside desk.new)
+        (line_of_answer (Dumped (first ∷ take count (drop from (C.words commands.now)))))) }
+    ensures failed { OnErr result (PrintsPart (D.outside desk.old) (D.outside desk.new)
+        (line_of_answer (Dumped (first ∷ take count (drop from (C.words commands.now)))))) }
 {
     print_word(desk, b"0x", first)?;
-    print_more_words(desk, more)?;
+    print_more_words(desk, commands, from, count)?;
     print_all(b"\n", desk)
 }
 
-/// Prints words, each after a space.
-fn print_more_words<D: Desk>(desk: &mut D, words: &[u64]) -> Result<(), Failed>
-    ensures printed { OnOk result (Prints (D.outside desk.old) (D.outside desk.new) (flat_map and_word words.now)) }
-    ensures failed { OnErr result (PrintsPart (D.outside desk.old) (D.outside desk.new) (flat_map and_word words.now)) }
+/// Prints the words from a number on, each after a space, as many as are asked for or as there are.
+fn print_more_words<D: Desk, C: Commands>(
+    desk: &mut D,
+    commands: &C,
+    from: usize,
+    count: u32,
+) -> Result<(), Failed>
+    requires { from < 2 ^ 62 }
+    ensures printed { OnOk result (Prints (D.outside desk.old) (D.outside desk.new)
+        (flat_map and_word (take count (drop from (C.words commands.now))))) }
+    ensures failed { OnErr result (PrintsPart (D.outside desk.old) (D.outside desk.new)
+        (flat_map and_word (take count (drop from (C.words commands.now))))) }
 {
-    for word in words {
-        print_word(desk, b" 0x", *word)?;
+    for k in 0..count {
+        let Some(word) = commands.word(from + k as usize) else {
+            return Ok(());
+        };
+        print_word(desk, b" 0x", word)?;
     }
     Ok(())
 }

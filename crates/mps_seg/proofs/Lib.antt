@@ -7,6 +7,7 @@ pub mod FullSegments
 pub mod GapSegment
 pub mod Giving
 pub mod HeldSegments
+pub mod HeldWords
 pub mod Marked
 pub mod NextSegment
 pub mod OpenGaps

@@ -63,9 +63,10 @@ const RESERVATION: [Step; 9] = [
     Step::Place(Placing::Committed(0)),
 ];
 
-/// Words are lent to be written, cleared, written and copied over themselves.
-const WORDS: [Step; 10] = [
+/// The words of a block are lent to be written, cleared, written and copied over themselves.
+const WORDS: [Step; 11] = [
     Step::Write(Writing::Size(4)),
+    Step::Place(Placing::Fill(0, 4, Ok(Addr(0x1000)))),
     Step::Write(Writing::Two(0x1008, 7)),
     Step::Write(Writing::Words(0x1000, [0, 7, 7, 0])),
     Step::Write(Writing::Clear(0x1000, 4)),

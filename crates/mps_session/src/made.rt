@@ -1,5 +1,5 @@
 // A heap with the moves of its last call.
-ghost use Rattle.std.specs.Prelude.{◌≡◌, ◌<◌, ◌≤◌, IfOk, OnErr, OnOk, IsTrue, []};
+ghost use Rattle.std.specs.Prelude.{◌≡◌, ◌<◌, ◌≤◌, slice_get, IfOk, OnErr, OnOk, IsTrue, []};
 ghost use Rattle.mps_base.specs.Address.{max_grains};
 ghost use Rattle.mps_commands.specs.Range.{IsInRange};
 ghost use Rattle.mps_format.specs.AnyFormat.{any_layout};
@@ -73,12 +73,12 @@ impl Made {
         self.trail.moves()
     }
 
-    /// The words of the arena.
+    /// The word of a number, which is its address divided by 8; none where the arena has no such word.
     #[inline(always)]
-    pub fn words(&self) -> &[u64]
-        ensures { result.now ≡ self.now.heap.segs.words }
+    pub fn word(&self, number: usize) -> Option<u64>
+        ensures { result ≡ slice_get self.now.heap.segs.words number }
     {
-        self.heap.words()
+        self.heap.word(number)
     }
 
     /// Ends the heap.

@@ -76,10 +76,10 @@ impl Commands for Session {
     }
 
     #[inline(always)]
-    fn words(&self) -> &[u64] {
+    fn word(&self, number: usize) -> Option<u64> {
         match &self.made {
-            Some(made) => made.words(),
-            None => &[],
+            Some(made) => made.word(number),
+            None => None,
         }
     }
 

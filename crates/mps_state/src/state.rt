@@ -1,7 +1,7 @@
 // The heap at rest.
 #![tactic(auto)]
 
-ghost use Rattle.std.specs.Prelude.{◌≡◌, ◌<◌, ◌≤◌, [], IfOk};
+ghost use Rattle.std.specs.Prelude.{◌≡◌, ◌<◌, ◌≤◌, [], slice_get, IfOk};
 ghost use Rattle.mps_base.specs.Address.{max_grains};
 ghost use Rattle.mps_buffer.specs.Points.{AreReserved};
 ghost use Rattle.mps_outcome.specs.Arena.{new_heap};
@@ -101,11 +101,11 @@ impl<F: Format> State<F> {
         })
     }
 
-    /// All words of the arena, by their address divided by 8.
-    pub fn words(&self) -> &[u64]
-        ensures { result.now ≡ self.now.segs.words }
+    /// The word of a number, which is its address divided by 8; none where the arena has no such word.
+    pub fn item(&self, word: usize) -> Option<u64>
+        ensures { result ≡ slice_get self.now.segs.words word }
     {
-        self.segs.words()
+        self.segs.item(word)
     }
 
     /// Ends each open reservation, and lets the heap go.

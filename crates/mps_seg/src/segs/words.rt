@@ -1,8 +1,9 @@
 // The words of the arena: read, written, cleared, copied and lent.
 #![tactic(auto)]
 
-ghost use Rattle.std.specs.Prelude.{◌≡◌, ◌+◌, ◌%◌, ◌<◌, ◌≤◌, length, slice_index, slice_set, slice_range};
-ghost use Rattle.mps_base.specs.Address.{bytes_of_word, word_of};
+ghost use Rattle.std.specs.Prelude.{◌≡◌, ℕ, ◌+◌, ◌%◌, ◌<◌, ◌≤◌, Some, length, take, drop, Contains, slice_get, slice_index, slice_set, slice_range};
+ghost use Rattle.mps_base.specs.Address.{bytes_of_word, word_of, max_block_words};
+ghost use Rattle.mps_base.specs.Segment.{Segment, segment_over};
 ghost use Rattle.mps_arena.specs.Arena.{cleared_words, copied_words};
 ghost use Rattle.std.specs.Borrow.{sem};
 ghost use Rattle.mps_seg.specs.Lending.{LendsSegmentWords};
@@ -11,12 +12,21 @@ use super::Segs;
 use mps_base::Addr;
 
 impl Segs {
-    /// All words of the arena, by their address divided by 8.
+    /// The word of a number, which is its address divided by 8; none where the arena has no such word.
     #[inline(always)]
-    pub fn words(&self) -> &[u64]
-        ensures { result.now ≡ self.now.words }
+    pub fn item(&self, word: usize) -> Option<u64>
+        ensures { result ≡ slice_get self.now.words word }
     {
-        self.arena.words()
+        self.arena.item(word)
+    }
+
+    /// The words from one in a segment on: all that the arena has there, or at least as many as a block may have.
+    pub fn words_from(&self, at: Addr) -> &[u64]
+        requires held { (t : Segment) × (segment_over self.now.segments at.0 ≡ Some t) }
+        ensures value { result.now ≡ take (length result.now) (drop (word_of at.0) self.now.words) }
+        ensures complete { (n : ℕ) → n ≤ max_block_words → word_of at.0 + n ≤ length self.now.words → n ≤ length result.now }
+    {
+        self.arena.words_from(at)
     }
 
     /// The word at an address.
@@ -52,12 +62,13 @@ impl Segs {
         self.arena.copy(from, to, words);
     }
 
-    /// The `words` words from `at` on.
+    /// The `words` words of the block that begins at `at`.
     pub fn lend(&self, at: Addr, words: u32) -> &[u64]
         requires aligned { at.0 % bytes_of_word ≡ 0 }
-        requires in_arena { word_of at.0 + words ≤ length self.now.words }
+        requires block { Contains self.now.blocks (record { from = word_of at.0; count = words }) }
         ensures { result.now ≡ slice_range self.now.words (word_of at.0) (word_of at.0 + words) }
     {
+        self.extents.blocks_are_covered();
         self.arena.lend(at, words)
     }
 

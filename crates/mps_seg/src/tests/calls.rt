@@ -157,14 +157,30 @@ pub(super) fn marks_at(segs: &Segs, at: Addr) -> [bool; 3] {
     [segs.is_white(at), segs.is_kept(at), segs.is_grey(at)]
 }
 
-/// Whether the words from an address on are these.
+/// Whether the words of the block of four words at an address are these, read one by one and all together; false where there is no
+/// such block.
 pub(super) fn has_words(segs: &Segs, at: Addr, words: &[u64; 4]) -> bool {
-    at.0 % 8 == 0 && at.word() + 4 <= segs.words().len() && segs.lend(at, 4) == words.as_slice()
+    let Some(block) = segs.block_at(at.0) else {
+        return false;
+    };
+    if block.0 != at.0 || segs.block_words(block) != 4 {
+        return false;
+    }
+    segs.lend(block, 4) == words.as_slice() && begins_with(segs, at, words)
+}
+
+/// Whether the words from an address in a segment on begin with these; false where there is no segment.
+fn begins_with(segs: &Segs, at: Addr, words: &[u64; 4]) -> bool {
+    let Some(_) = segs.segment_of(at) else {
+        return false;
+    };
+    let found = segs.words_from(at);
+    found.len() >= 4 && found[..4] == words[..]
 }
 
 /// Writes a word in each of the two that are lent from an address on; false where the arena has no such words.
 pub(super) fn write_two(segs: &mut Segs, at: Addr, word: u64) -> bool {
-    if at.0 % 8 != 0 || at.word() + 2 > segs.words().len() {
+    if at.0 % 8 != 0 || segs.item(at.word() + 1).is_none() {
         return false;
     }
     segs.lend_mut(at, 2).fill(word);
@@ -173,16 +189,16 @@ pub(super) fn write_two(segs: &mut Segs, at: Addr, word: u64) -> bool {
 
 /// Writes a word, and says whether it is read again.
 pub(super) fn write_word(segs: &mut Segs, at: Addr, word: u64) -> bool {
-    if at.word() >= segs.words().len() {
+    if segs.item(at.word()).is_none() {
         return false;
     }
     segs.set_word(at, word);
-    segs.word(at) == word
+    segs.word(at) == word && segs.item(at.word()) == Some(word)
 }
 
 /// Copies words to the word after the first one and the words after that; false where the arena has no such words.
 pub(super) fn copy_up(segs: &mut Segs, at: Addr, words: u32) -> bool {
-    if at.0 >= 0x10000 || at.word() + 1 + words as usize > segs.words().len() {
+    if at.0 >= 0x10000 || segs.item(at.word() + words as usize).is_none() {
         return false;
     }
     segs.copy(at, Addr(at.0 + 8), words);
@@ -191,7 +207,8 @@ pub(super) fn copy_up(segs: &mut Segs, at: Addr, words: u32) -> bool {
 
 /// Clears words from an address on; false where the arena has no such words.
 pub(super) fn clear_at(segs: &mut Segs, at: Addr, words: u32) -> bool {
-    if at.word() + words as usize > segs.words().len() {
+    let past = at.word() + words as usize;
+    if past > 0 && segs.item(past - 1).is_none() {
         return false;
     }
     segs.clear(at, words);

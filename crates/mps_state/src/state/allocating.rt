@@ -93,7 +93,7 @@ impl<F: Format> State<F> {
         let point = self.point_named(name)?;
         let held = reservation_of(point.value)?;
         let block = self.block_held(point.value, held)?;
-        let cell = number_cell_at(self.segs.words(), &block, k)?;
+        let cell = number_cell_at(&self.segs, &block, k)?;
         self.set_reserved_word(held, cell.word, value);
         Ok(())
     }
@@ -106,7 +106,7 @@ impl<F: Format> State<F> {
         let from = self.slot_in(source)?;
         let held = reservation_of(point.value)?;
         let block = self.block_held(point.value, held)?;
-        let cell = reference_cell_at(self.segs.words(), &block, k)?;
+        let cell = reference_cell_at(&self.segs, &block, k)?;
         let word = with_target(&block.format, cell.value, from.value);
         self.set_reserved_word(held, cell.word, word);
         Ok(())

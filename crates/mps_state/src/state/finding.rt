@@ -132,7 +132,7 @@ impl<F: Format> State<F> {
         let Some(format) = self.format_over(address) else {
             return Err(Refusal::NullRef);
         };
-        let Some(head) = item(self.segs.words(), Addr(address).word()) else {
+        let Some(head) = self.segs.item(Addr(address).word()) else {
             return Err(Refusal::NullRef);
         };
         if !format.accepts(head) {

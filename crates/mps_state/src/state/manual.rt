@@ -8,7 +8,7 @@ ghost use Rattle.mps_state.specs.Placed.{allocated_into, freed_at};
 
 use super::State;
 use mps_base::{Addr, BYTES_OF_WORD, Name, Refusal, Slot, Trail};
-use mps_cells::{begins_block, is_block_over, item, pool_of_segment, write_word};
+use mps_cells::{begins_block, is_block_over, pool_of_segment, write_word};
 use mps_format::Format;
 use mps_outcome::Entry;
 use mps_pools::is_automatic;
@@ -126,7 +126,7 @@ impl<F: Format> State<F> {
         }
         let word = Addr(at).word() + k as usize;
         let _ = self.segs.grains(); // the address of a word fits
-        if word >= self.segs.words().len() {
+        if self.segs.item(word).is_none() {
             return Err(Refusal::BadIndex);
         }
         if !is_block_over(&self.segs, at + BYTES_OF_WORD * k, at) {
@@ -142,7 +142,7 @@ impl<F: Format> State<F> {
         let from = self.block_place_in(place)?;
         let at = self.block_in(from)?;
         let word = self.word_in_block(at, k)?;
-        match item(self.segs.words(), word) {
+        match self.segs.item(word) {
             Some(value) => Ok(value),
             None => Err(Refusal::BadIndex),
         }

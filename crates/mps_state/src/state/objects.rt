@@ -82,7 +82,7 @@ impl<F: Format> State<F> {
         ensures { result ≡ number_in F.layout self.now slot k }
     {
         let object = self.object_in(slot)?;
-        let cell = number_cell_at(self.segs.words(), &object, k)?;
+        let cell = number_cell_at(&self.segs, &object, k)?;
         Ok(cell.value)
     }
 
@@ -91,7 +91,7 @@ impl<F: Format> State<F> {
         ensures { Comes self.old (number_set F.layout self.old slot k value) result self.new }
     {
         let object = self.object_in(slot)?;
-        let cell = number_cell_at(self.segs.words(), &object, k)?;
+        let cell = number_cell_at(&self.segs, &object, k)?;
         write_word(&mut self.segs, cell.word, value);
         Ok(())
     }
@@ -102,7 +102,7 @@ impl<F: Format> State<F> {
     {
         let into = self.slot_in(target)?;
         let object = self.object_in(source)?;
-        let cell = reference_cell_at(self.segs.words(), &object, k)?;
+        let cell = reference_cell_at(&self.segs, &object, k)?;
         let at = object.format.target(cell.value);
         self.set_slot(into, at.0);
         Ok(())
@@ -115,7 +115,7 @@ impl<F: Format> State<F> {
         let into = self.slot_in(target)?;
         let from = self.slot_in(source)?;
         let object = self.object_at(into.value)?;
-        let cell = reference_cell_at(self.segs.words(), &object, k)?;
+        let cell = reference_cell_at(&self.segs, &object, k)?;
         let word = with_target(&object.format, cell.value, from.value);
         write_word(&mut self.segs, cell.word, word);
         Ok(())

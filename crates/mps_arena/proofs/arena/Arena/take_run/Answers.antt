@@ -1,11 +1,23 @@
-use Rattle.std.proofs.Common.{ℕ, ◌≡◌, List, length, get_or, Some, sym, ap, ◌∙◌, arith, subst}
+use Rattle.std.proofs.Common.{ℕ, ◌≡◌, ◌+◌, ◌*◌, List, length, get_or, set, max, min, Some, sym, ap, ◌∙◌, arith, subst}
+use Rattle.mps_base.specs.Address.{max_block_words, words_of_grain}
 use Rattle.mps_base.specs.Run.{Run, gaps, lowest_fitting}
 use Rattle.mps_arena.specs.Arena.{ArenaMemory, held_after, placement_in}
 use Rattle.mps_arena.specs.Grains.{runs_in}
-use Rattle.mps_arena.specs.Inside.{memory_of}
+use Rattle.mps_arena.specs.Inside.{AreStored, IsSoundArena, memory_of}
+use Rattle.mps_arena.specs.Memory.{StoredWords}
 use Rattle.mps_base.proofs.Runs.{in_lowest_gap}
+use Rattle.mps_arena.proofs.Held.{stored_after_take}
 use Rattle.mps_arena.proofs.Scan.{sound_after_take, state_after_take, held_after_placing}
 use Rattle.mps_arena.proofs.arena.Arena.take_run.Goals as goal
+
+pub store_run-requires : goal.store_run-requires
+store_run-requires c =
+    let runs = c.self.inside.runs.items in
+    let words = c.deref.ensures.value in
+    let P : List ℕ → Type 0 = λ t. lowest_fitting c.args.grains (gaps 1 (length t) (runs_in t)) ≡ Some c.in-Ok.grain in
+    let lowest = subst P words c.in-Ok.ensures.value in
+    let gap = in_lowest_gap 1 (length runs) (runs_in runs) c.args.grains c.in-Ok.grain c.requires c.self.invariant.0.ascending lowest in
+    omega (arith, gap.below, c.self.invariant.0.size)
 
 pub index_mut-requires : goal.index_mut-requires
 index_mut-requires c =
@@ -13,31 +25,48 @@ index_mut-requires c =
     let words = c.deref.ensures.value in
     let P : List ℕ → Type 0 = λ t. lowest_fitting c.args.grains (gaps 1 (length t) (runs_in t)) ≡ Some c.in-Ok.grain in
     let lowest = subst P words c.in-Ok.ensures.value in
-    let gap = in_lowest_gap 1 (length runs) (runs_in runs) c.args.grains c.in-Ok.grain c.requires c.self.invariant.ascending lowest in
+    let gap = in_lowest_gap 1 (length runs) (runs_in runs) c.args.grains c.in-Ok.grain c.requires c.self.invariant.0.ascending lowest in
     omega (arith, gap.below, c.self.inside.runs.ok.0, c.requires)
 
 pub invariant_of-self : goal.invariant_of-self
 invariant_of-self c =
-    let runs = c.self.inside.runs.items in
+    let inside = c.self.inside in
+    let runs = inside.runs.items in
     let words = c.deref.ensures.value in
-    let P : List ℕ → Type 0 = λ t. lowest_fitting c.args.grains (gaps 1 (length t) (runs_in t)) ≡ Some c.in-Ok.grain in
+    let grain = c.in-Ok.grain in
+    let need = c.args.grains in
+    let all = length inside.memory.words in
+    let P : List ℕ → Type 0 = λ t. lowest_fitting need (gaps 1 (length t) (runs_in t)) ≡ Some grain in
     let lowest = subst P words c.in-Ok.ensures.value in
-    let Q : List ℕ → Type 0 = λ t. get_or t c.in-Ok.grain 0 ≡ 0 in
-    sound_after_take c.self.inside.words.items runs c.self.inside.committed c.self.inside.limit c.in-Ok.grain c.args.grains
-    c.self.invariant c.requires c.if-grains-self.false
-    lowest (subst Q words c.in-Ok.ensures.free)
+    let Q : List ℕ → Type 0 = λ t. get_or t grain 0 ≡ 0 in
+    let none = subst Q words c.in-Ok.ensures.free in
+    let gap = in_lowest_gap 1 (length runs) (runs_in runs) need grain c.requires c.self.invariant.0.ascending lowest in
+    let R : StoredWords → Type 0 = λ m.
+    IsSoundArena m.words (set runs grain need) (inside.committed + need) inside.limit
+    × AreStored (runs_in (set runs grain need)) (length m.words) m.stored
+    in
+    let more = max inside.memory.stored (min all (words_of_grain * (grain + need) + max_block_words)) in
+    subst R (sym c.store_run.ensures) (
+      sound_after_take inside.memory.words runs inside.committed inside.limit grain need c.self.invariant.0 c.requires
+          c.if-grains-self.false lowest none,
+      stored_after_take runs grain need all inside.memory.stored more (omega (arith, gap.below, c.requires)) none c.requires
+          c.self.invariant.1 (omega arith) (omega arith),
+    )
 
 pub returns-in-Ok-clause-state : goal.returns-in-Ok-clause-state
 returns-in-Ok-clause-state c =
-    let runs = c.self.inside.runs.items in
+    let inside = c.self.inside in
+    let all = inside.memory.words in
+    let runs = inside.runs.items in
     let words = c.deref.ensures.value in
     let P : List ℕ → Type 0 = λ t. lowest_fitting c.args.grains (gaps 1 (length t) (runs_in t)) ≡ Some c.in-Ok.grain in
     let lowest = subst P words c.in-Ok.ensures.value in
     let Q : List ℕ → Type 0 = λ t. get_or t c.in-Ok.grain 0 ≡ 0 in
-    let gap = in_lowest_gap 1 (length runs) (runs_in runs) c.args.grains c.in-Ok.grain c.requires c.self.invariant.ascending lowest in
-    state_after_take c.self.inside.words.items runs c.self.inside.limit c.in-Ok.grain c.args.grains
+    let gap = in_lowest_gap 1 (length runs) (runs_in runs) c.args.grains c.in-Ok.grain c.requires c.self.invariant.0.ascending lowest in
+    ap (λ (m : StoredWords). memory_of m.words (set runs c.in-Ok.grain c.args.grains) inside.limit) c.store_run.ensures
+    ∙ state_after_take all runs inside.limit c.in-Ok.grain c.args.grains
     (omega (arith, gap.below, c.requires)) (subst Q words c.in-Ok.ensures.free) c.requires
-    ∙ ap (λ (held : List Run). record (memory_of c.self.inside.words.items runs c.self.inside.limit) { held = held })
-    (sym (held_after_placing runs c.self.inside.limit c.args.grains c.in-Ok.grain (omega (arith, c.self.invariant.nonempty))
-    (omega (arith, c.self.invariant.counted, c.self.invariant.within_limit, c.requires, c.if-grains-self.false)) lowest))
+    ∙ ap (λ (held : List Run). record (memory_of all runs inside.limit) { held = held })
+    (sym (held_after_placing runs inside.limit c.args.grains c.in-Ok.grain (omega (arith, c.self.invariant.0.nonempty))
+    (omega (arith, c.self.invariant.0.counted, c.self.invariant.0.within_limit, c.requires, c.if-grains-self.false)) lowest))
     ∙ ap (λ (a : ArenaMemory). record a { held = held_after (placement_in a c.args.grains) a.held }) c.self.view_is
