@@ -298,9 +298,9 @@ both_in_range (form ∷ these) those h k = (h.0, both_in_range these those h.1 k
 
 a_to_b_in_range : AllInRange a_to_b_forms
 a_to_b_in_range = (
-  one_in_range slot_of call.Address (λ x. tt),
+  three_in_range name_of decimal_number slot_of call.Alloc (λ x y z. tt),
   (
-    three_in_range name_of decimal_number slot_of call.Alloc (λ x y z. tt),
+    one_in_range slot_of call.Address (λ x. tt),
     (
       three_in_range name_of name_of (named_in ranks) call.Point (λ x y z. tt),
       (
@@ -316,18 +316,18 @@ a_to_b_in_range = (
 
 c_in_range : AllInRange c_forms
 c_in_range = (
-  chain_in_range,
+  two_in_range name_of slot_of call.Commit (λ x y. tt),
   (
-    none_in_range call.Clamp tt,
+    two_in_range slot_of slot_of call.Copy (λ x y. tt),
     (
-      one_in_range slot_of call.Clear (λ x. tt),
+      chain_in_range,
       (
-        none_in_range call.Collect tt,
+        none_in_range call.Clamp tt,
         (
-          two_in_range name_of slot_of call.Commit (λ x y. tt),
+          one_in_range slot_of call.Clear (λ x. tt),
           (
-            none_in_range call.Committed tt,
-            (two_in_range slot_of slot_of call.Copy (λ x y. tt), tt),
+            none_in_range call.Collect tt,
+            (none_in_range call.Committed tt, tt),
           ),
         ),
       ),
@@ -337,16 +337,16 @@ c_in_range = (
 
 d_to_f_in_range : AllInRange d_to_f_forms
 d_to_f_in_range = (
-  one_in_range slot_of call.Definalize (λ x. tt),
+  one_in_range slot_of call.Free (λ x. tt),
   (
-    one_in_range name_of call.DropPoint (λ x. tt),
+    one_in_range slot_of call.Definalize (λ x. tt),
     (
-      one_in_range name_of call.DropRoot (λ x. tt),
+      one_in_range name_of call.DropPoint (λ x. tt),
       (
-        one_in_range prefixed_hexadecimal call.Dump (λ x. tt),
+        one_in_range name_of call.DropRoot (λ x. tt),
         (
-          one_in_range slot_of call.Finalize (λ x. tt),
-          (one_in_range slot_of call.Free (λ x. tt), tt),
+          one_in_range prefixed_hexadecimal call.Dump (λ x. tt),
+          (one_in_range slot_of call.Finalize (λ x. tt), tt),
         ),
       ),
     ),
@@ -357,27 +357,27 @@ g_to_k_in_range : AllInRange g_to_k_forms
 g_to_k_in_range = (
   three_in_range slot_of slot_of decimal_number call.Get (λ x y z. tt),
   (
-    one_in_range slot_of call.Head (λ x. tt),
-    (init_in_range, tt),
+    init_in_range,
+    (one_in_range slot_of call.Head (λ x. tt), tt),
   ),
 )
 
 l_in_range : AllInRange l_forms
 l_in_range = (
-  one_in_range name_of call.Dependency (λ x. tt),
+  two_in_range slot_of decimal_number call.Load (λ x y. tt),
   (
-    two_in_range name_of slot_of call.DependencyAdd (λ x y. tt),
+    one_in_range name_of call.Dependency (λ x. tt),
     (
-      two_in_range name_of name_of call.DependencyMerge (λ x y. tt),
+      two_in_range name_of slot_of call.DependencyAdd (λ x y. tt),
       (
-        one_in_range name_of call.DependencyReset (λ x. tt),
+        two_in_range name_of name_of call.DependencyMerge (λ x y. tt),
         (
-          one_in_range name_of call.DependencyStale (λ x. tt),
+          one_in_range name_of call.DependencyReset (λ x. tt),
           (
-            limit_in_range,
+            one_in_range name_of call.DependencyStale (λ x. tt),
             (
-              none_in_range call.Live tt,
-              (two_in_range slot_of decimal_number call.Load (λ x y. tt), tt),
+              limit_in_range,
+              (none_in_range call.Live tt, tt),
             ),
           ),
         ),
@@ -388,29 +388,29 @@ l_in_range = (
 
 m_to_o_in_range : AllInRange m_to_o_forms
 m_to_o_in_range = (
-  one_in_range slot_of call.Message (λ x. tt),
+  two_in_range slot_of decimal_number call.Number (λ x y. tt),
   (
     one_in_range slot_of call.Null (λ x. tt),
-    (two_in_range slot_of decimal_number call.Number (λ x y. tt), tt),
+    (one_in_range slot_of call.Message (λ x. tt), tt),
   ),
 )
 
 p_to_r_in_range : AllInRange p_to_r_forms
 p_to_r_in_range = (
-  none_in_range call.Park tt,
+  two_in_range name_of head_of call.Reserve (λ x y. tt),
   (
-    one_in_range slot_of call.Peek (λ x. tt),
+    three_in_range slot_of decimal_number slot_of call.Put (λ x y z. tt),
     (
-      two_in_range slot_of slot_of call.Pin (λ x y. tt),
+      none_in_range call.Park tt,
       (
-        two_in_range slot_of number_of call.Poke (λ x y. tt),
+        one_in_range slot_of call.Peek (λ x. tt),
         (
-          pool_in_range,
+          two_in_range slot_of slot_of call.Pin (λ x y. tt),
           (
-            three_in_range slot_of decimal_number slot_of call.Put (λ x y z. tt),
+            two_in_range slot_of number_of call.Poke (λ x y. tt),
             (
-              none_in_range call.Release tt,
-              (two_in_range name_of head_of call.Reserve (λ x y. tt), tt),
+              pool_in_range,
+              (none_in_range call.Release tt, tt),
             ),
           ),
         ),
@@ -421,15 +421,15 @@ p_to_r_in_range = (
 
 s_to_z_in_range : AllInRange s_to_z_forms
 s_to_z_in_range = (
-  two_in_range slot_of slot_of call.Same (λ x y. tt),
+  three_in_range slot_of decimal_number number_of call.SetNumber (λ x y z. tt),
   (
-    three_in_range slot_of decimal_number number_of call.SetNumber (λ x y z. tt),
+    two_in_range slot_of slot_of call.Same (λ x y. tt),
     (
-      start_in_range,
+      three_in_range slot_of decimal_number number_of call.Store (λ x y z. tt),
       (
-        one_in_range decimal_number call.Step (λ x. tt),
+        start_in_range,
         (
-          three_in_range slot_of decimal_number number_of call.Store (λ x y z. tt),
+          one_in_range decimal_number call.Step (λ x. tt),
           (
             table_in_range,
             (two_in_range slot_of slot_of call.Take (λ x y. tt), tt),

@@ -92,7 +92,7 @@ init = or (three name_of decimal_number number_of call.InitNumber) (three name_o
 abbrev pub start : List (List ℕ) → Option Call
 start = or (none call.Start) (two name_of decimal_number call.StartChain)
 
--- ---- the forms, in the order of the alphabet
+-- ---- the forms, in groups by the letters of the alphabet; of a group those of frequent commands come first
 
 -- a command word, and the call of the words after it
 abbrev pub Form : Type 0
@@ -100,8 +100,8 @@ Form = List ℕ × (List (List ℕ) → Option Call)
 
 abbrev pub a_to_b_forms : List Form
 a_to_b_forms =
-    (codes "addr", one slot_of call.Address)
-    ∷ (codes "alloc", three name_of decimal_number slot_of call.Alloc)
+    (codes "alloc", three name_of decimal_number slot_of call.Alloc)
+    ∷ (codes "addr", one slot_of call.Address)
     ∷ (codes "ap", three name_of name_of (named_in ranks) call.Point)
     ∷ (codes "area", two name_of length_of_root call.Area)
     ∷ (codes "arena", two (grains_from 1) (grains_from 0) call.Arena)
@@ -110,70 +110,70 @@ a_to_b_forms =
 
 abbrev pub c_forms : List Form
 c_forms =
-    (codes "chain", chain)
+    (codes "commit", two name_of slot_of call.Commit)
+    ∷ (codes "copy", two slot_of slot_of call.Copy)
+    ∷ (codes "chain", chain)
     ∷ (codes "clamp", none call.Clamp)
     ∷ (codes "clear", one slot_of call.Clear)
     ∷ (codes "collect", none call.Collect)
-    ∷ (codes "commit", two name_of slot_of call.Commit)
     ∷ (codes "committed", none call.Committed)
-    ∷ (codes "copy", two slot_of slot_of call.Copy)
     ∷ []
 
 abbrev pub d_to_f_forms : List Form
 d_to_f_forms =
-    (codes "definalize", one slot_of call.Definalize)
+    (codes "free", one slot_of call.Free)
+    ∷ (codes "definalize", one slot_of call.Definalize)
     ∷ (codes "dropap", one name_of call.DropPoint)
     ∷ (codes "droproot", one name_of call.DropRoot)
     ∷ (codes "dump", one prefixed_hexadecimal call.Dump)
     ∷ (codes "finalize", one slot_of call.Finalize)
-    ∷ (codes "free", one slot_of call.Free)
     ∷ []
 
 abbrev pub g_to_k_forms : List Form
 g_to_k_forms =
     (codes "get", three slot_of slot_of decimal_number call.Get)
-    ∷ (codes "head", one slot_of call.Head)
     ∷ (codes "init", init)
+    ∷ (codes "head", one slot_of call.Head)
     ∷ []
 
 abbrev pub l_forms : List Form
 l_forms =
-    (codes "ld", one name_of call.Dependency)
+    (codes "load", two slot_of decimal_number call.Load)
+    ∷ (codes "ld", one name_of call.Dependency)
     ∷ (codes "ldadd", two name_of slot_of call.DependencyAdd)
     ∷ (codes "ldmerge", two name_of name_of call.DependencyMerge)
     ∷ (codes "ldreset", one name_of call.DependencyReset)
     ∷ (codes "ldstale", one name_of call.DependencyStale)
     ∷ (codes "limit", one (grains_from 0) call.Limit)
     ∷ (codes "live", none call.Live)
-    ∷ (codes "load", two slot_of decimal_number call.Load)
     ∷ []
 
 abbrev pub m_to_o_forms : List Form
 m_to_o_forms =
-    (codes "message", one slot_of call.Message)
+    (codes "num", two slot_of decimal_number call.Number)
     ∷ (codes "null", one slot_of call.Null)
-    ∷ (codes "num", two slot_of decimal_number call.Number)
+    ∷ (codes "message", one slot_of call.Message)
     ∷ []
 
 abbrev pub p_to_r_forms : List Form
 p_to_r_forms =
-    (codes "park", none call.Park)
+    (codes "reserve", two name_of head_of call.Reserve)
+    ∷ (codes "put", three slot_of decimal_number slot_of call.Put)
+    ∷ (codes "park", none call.Park)
     ∷ (codes "peek", one slot_of call.Peek)
     ∷ (codes "pin", two slot_of slot_of call.Pin)
     ∷ (codes "poke", two slot_of number_of call.Poke)
     ∷ (codes "pool", pool)
-    ∷ (codes "put", three slot_of decimal_number slot_of call.Put)
     ∷ (codes "release", none call.Release)
-    ∷ (codes "reserve", two name_of head_of call.Reserve)
     ∷ []
 
 abbrev pub s_to_z_forms : List Form
 s_to_z_forms =
-    (codes "same", two slot_of slot_of call.Same)
-    ∷ (codes "setnum", three slot_of decimal_number number_of call.SetNumber)
+    (codes "setnum", three slot_of decimal_number number_of call.SetNumber)
+    ∷ (codes "same", two slot_of slot_of call.Same)
+    ∷ (codes "store", three slot_of decimal_number number_of call.Store)
     ∷ (codes "start", start)
     ∷ (codes "step", one decimal_number call.Step)
-    ∷ (codes "store", three slot_of decimal_number number_of call.Store)
     ∷ (codes "table", two name_of length_of_root call.Table)
     ∷ (codes "take", two slot_of slot_of call.Take)
     ∷ []

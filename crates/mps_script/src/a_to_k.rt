@@ -24,10 +24,10 @@ use mps_words::{
 pub fn call_of_a_to_b(line: &[u8], into: &mut Call) -> Option<()>
     ensures { filled result into.new ≡ call_in a_to_b_forms (word_at line.now) (words (after_word line.now)) }
 {
-    if let Some(arguments) = strip_word(line, b"addr") {
-        address(arguments, into)
-    } else if let Some(arguments) = strip_word(line, b"alloc") {
+    if let Some(arguments) = strip_word(line, b"alloc") {
         alloc(arguments, into)
+    } else if let Some(arguments) = strip_word(line, b"addr") {
+        address(arguments, into)
     } else if let Some(arguments) = strip_word(line, b"ap") {
         point(arguments, into)
     } else if let Some(arguments) = strip_word(line, b"area") {
@@ -46,7 +46,11 @@ pub fn call_of_a_to_b(line: &[u8], into: &mut Call) -> Option<()>
 pub fn call_of_c(line: &[u8], into: &mut Call) -> Option<()>
     ensures { filled result into.new ≡ call_in c_forms (word_at line.now) (words (after_word line.now)) }
 {
-    if let Some(arguments) = strip_word(line, b"chain") {
+    if let Some(arguments) = strip_word(line, b"commit") {
+        commit(arguments, into)
+    } else if let Some(arguments) = strip_word(line, b"copy") {
+        copy(arguments, into)
+    } else if let Some(arguments) = strip_word(line, b"chain") {
         chain(arguments, into)
     } else if let Some(arguments) = strip_word(line, b"clamp") {
         clamp(arguments, into)
@@ -54,12 +58,8 @@ pub fn call_of_c(line: &[u8], into: &mut Call) -> Option<()>
         clear(arguments, into)
     } else if let Some(arguments) = strip_word(line, b"collect") {
         collect(arguments, into)
-    } else if let Some(arguments) = strip_word(line, b"commit") {
-        commit(arguments, into)
     } else if let Some(arguments) = strip_word(line, b"committed") {
         committed(arguments, into)
-    } else if let Some(arguments) = strip_word(line, b"copy") {
-        copy(arguments, into)
     } else {
         None
     }
@@ -70,7 +70,9 @@ pub fn call_of_c(line: &[u8], into: &mut Call) -> Option<()>
 pub fn call_of_d_to_f(line: &[u8], into: &mut Call) -> Option<()>
     ensures { filled result into.new ≡ call_in d_to_f_forms (word_at line.now) (words (after_word line.now)) }
 {
-    if let Some(arguments) = strip_word(line, b"definalize") {
+    if let Some(arguments) = strip_word(line, b"free") {
+        free(arguments, into)
+    } else if let Some(arguments) = strip_word(line, b"definalize") {
         definalize(arguments, into)
     } else if let Some(arguments) = strip_word(line, b"dropap") {
         drop_point(arguments, into)
@@ -80,8 +82,6 @@ pub fn call_of_d_to_f(line: &[u8], into: &mut Call) -> Option<()>
         dump(arguments, into)
     } else if let Some(arguments) = strip_word(line, b"finalize") {
         finalize(arguments, into)
-    } else if let Some(arguments) = strip_word(line, b"free") {
-        free(arguments, into)
     } else {
         None
     }
@@ -94,10 +94,10 @@ pub fn call_of_g_to_k(line: &[u8], into: &mut Call) -> Option<()>
 {
     if let Some(arguments) = strip_word(line, b"get") {
         get(arguments, into)
-    } else if let Some(arguments) = strip_word(line, b"head") {
-        head(arguments, into)
     } else if let Some(arguments) = strip_word(line, b"init") {
         init(arguments, into)
+    } else if let Some(arguments) = strip_word(line, b"head") {
+        head(arguments, into)
     } else {
         None
     }
@@ -109,7 +109,7 @@ fn address(arguments: &[u8], into: &mut Call) -> Option<()>
     ensures { filled result into.new ≡ one slot_of call.Address (words arguments.now) }
 {
     let slot = slot(arguments)?;
-    *into = Call::Address { slot };
+    *into = Call::Address { slot: slot.slot() };
     Some(())
 }
 
@@ -119,7 +119,11 @@ fn alloc(arguments: &[u8], into: &mut Call) -> Option<()>
     ensures { filled result into.new ≡ three name_of decimal_number slot_of call.Alloc (words arguments.now) }
 {
     let (pool, (words, place)) = name_decimal_slot(arguments)?;
-    *into = Call::Alloc { pool, words, place };
+    *into = Call::Alloc {
+        pool: pool.name(),
+        words,
+        place: place.slot(),
+    };
     Some(())
 }
 
@@ -173,7 +177,7 @@ fn clear(arguments: &[u8], into: &mut Call) -> Option<()>
     ensures { filled result into.new ≡ one slot_of call.Clear (words arguments.now) }
 {
     let slot = slot(arguments)?;
-    *into = Call::Clear { slot };
+    *into = Call::Clear { slot: slot.slot() };
     Some(())
 }
 
@@ -192,7 +196,10 @@ fn commit(arguments: &[u8], into: &mut Call) -> Option<()>
     ensures { filled result into.new ≡ two name_of slot_of call.Commit (words arguments.now) }
 {
     let (point, target) = name_slot(arguments)?;
-    *into = Call::Commit { point, target };
+    *into = Call::Commit {
+        point: point.name(),
+        target: target.slot(),
+    };
     Some(())
 }
 
@@ -211,7 +218,10 @@ fn copy(arguments: &[u8], into: &mut Call) -> Option<()>
     ensures { filled result into.new ≡ two slot_of slot_of call.Copy (words arguments.now) }
 {
     let (target, source) = slot_slot(arguments)?;
-    *into = Call::Copy { target, source };
+    *into = Call::Copy {
+        target: target.slot(),
+        source: source.slot(),
+    };
     Some(())
 }
 
@@ -220,7 +230,7 @@ fn definalize(arguments: &[u8], into: &mut Call) -> Option<()>
     ensures { filled result into.new ≡ one slot_of call.Definalize (words arguments.now) }
 {
     let slot = slot(arguments)?;
-    *into = Call::Definalize { slot };
+    *into = Call::Definalize { slot: slot.slot() };
     Some(())
 }
 
@@ -229,7 +239,9 @@ fn drop_point(arguments: &[u8], into: &mut Call) -> Option<()>
     ensures { filled result into.new ≡ one name_of call.DropPoint (words arguments.now) }
 {
     let point = name(arguments)?;
-    *into = Call::DropPoint { point };
+    *into = Call::DropPoint {
+        point: point.name(),
+    };
     Some(())
 }
 
@@ -238,7 +250,7 @@ fn drop_root(arguments: &[u8], into: &mut Call) -> Option<()>
     ensures { filled result into.new ≡ one name_of call.DropRoot (words arguments.now) }
 {
     let root = name(arguments)?;
-    *into = Call::DropRoot { root };
+    *into = Call::DropRoot { root: root.name() };
     Some(())
 }
 
@@ -256,7 +268,7 @@ fn finalize(arguments: &[u8], into: &mut Call) -> Option<()>
     ensures { filled result into.new ≡ one slot_of call.Finalize (words arguments.now) }
 {
     let slot = slot(arguments)?;
-    *into = Call::Finalize { slot };
+    *into = Call::Finalize { slot: slot.slot() };
     Some(())
 }
 
@@ -265,7 +277,9 @@ fn free(arguments: &[u8], into: &mut Call) -> Option<()>
     ensures { filled result into.new ≡ one slot_of call.Free (words arguments.now) }
 {
     let place = slot(arguments)?;
-    *into = Call::Free { place };
+    *into = Call::Free {
+        place: place.slot(),
+    };
     Some(())
 }
 
@@ -276,8 +290,8 @@ fn get(arguments: &[u8], into: &mut Call) -> Option<()>
 {
     let (target, (source, cell)) = slot_slot_decimal(arguments)?;
     *into = Call::Get {
-        target,
-        source,
+        target: target.slot(),
+        source: source.slot(),
         cell,
     };
     Some(())
@@ -288,6 +302,6 @@ fn head(arguments: &[u8], into: &mut Call) -> Option<()>
     ensures { filled result into.new ≡ one slot_of call.Head (words arguments.now) }
 {
     let slot = slot(arguments)?;
-    *into = Call::Head { slot };
+    *into = Call::Head { slot: slot.slot() };
     Some(())
 }

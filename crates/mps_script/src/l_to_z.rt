@@ -25,7 +25,9 @@ use mps_words::{
 pub fn call_of_l(line: &[u8], into: &mut Call) -> Option<()>
     ensures { filled result into.new ≡ call_in l_forms (word_at line.now) (words (after_word line.now)) }
 {
-    if let Some(arguments) = strip_word(line, b"ld") {
+    if let Some(arguments) = strip_word(line, b"load") {
+        load(arguments, into)
+    } else if let Some(arguments) = strip_word(line, b"ld") {
         dependency(arguments, into)
     } else if let Some(arguments) = strip_word(line, b"ldadd") {
         dependency_add(arguments, into)
@@ -39,8 +41,6 @@ pub fn call_of_l(line: &[u8], into: &mut Call) -> Option<()>
         limit(arguments, into)
     } else if let Some(arguments) = strip_word(line, b"live") {
         live(arguments, into)
-    } else if let Some(arguments) = strip_word(line, b"load") {
-        load(arguments, into)
     } else {
         None
     }
@@ -51,12 +51,12 @@ pub fn call_of_l(line: &[u8], into: &mut Call) -> Option<()>
 pub fn call_of_m_to_o(line: &[u8], into: &mut Call) -> Option<()>
     ensures { filled result into.new ≡ call_in m_to_o_forms (word_at line.now) (words (after_word line.now)) }
 {
-    if let Some(arguments) = strip_word(line, b"message") {
-        message(arguments, into)
+    if let Some(arguments) = strip_word(line, b"num") {
+        number(arguments, into)
     } else if let Some(arguments) = strip_word(line, b"null") {
         null(arguments, into)
-    } else if let Some(arguments) = strip_word(line, b"num") {
-        number(arguments, into)
+    } else if let Some(arguments) = strip_word(line, b"message") {
+        message(arguments, into)
     } else {
         None
     }
@@ -67,7 +67,11 @@ pub fn call_of_m_to_o(line: &[u8], into: &mut Call) -> Option<()>
 pub fn call_of_p_to_r(line: &[u8], into: &mut Call) -> Option<()>
     ensures { filled result into.new ≡ call_in p_to_r_forms (word_at line.now) (words (after_word line.now)) }
 {
-    if let Some(arguments) = strip_word(line, b"park") {
+    if let Some(arguments) = strip_word(line, b"reserve") {
+        reserve(arguments, into)
+    } else if let Some(arguments) = strip_word(line, b"put") {
+        put(arguments, into)
+    } else if let Some(arguments) = strip_word(line, b"park") {
         park(arguments, into)
     } else if let Some(arguments) = strip_word(line, b"peek") {
         peek(arguments, into)
@@ -77,12 +81,8 @@ pub fn call_of_p_to_r(line: &[u8], into: &mut Call) -> Option<()>
         poke(arguments, into)
     } else if let Some(arguments) = strip_word(line, b"pool") {
         pool(arguments, into)
-    } else if let Some(arguments) = strip_word(line, b"put") {
-        put(arguments, into)
     } else if let Some(arguments) = strip_word(line, b"release") {
         release(arguments, into)
-    } else if let Some(arguments) = strip_word(line, b"reserve") {
-        reserve(arguments, into)
     } else {
         None
     }
@@ -93,16 +93,16 @@ pub fn call_of_p_to_r(line: &[u8], into: &mut Call) -> Option<()>
 pub fn call_of_s_to_z(line: &[u8], into: &mut Call) -> Option<()>
     ensures { filled result into.new ≡ call_in s_to_z_forms (word_at line.now) (words (after_word line.now)) }
 {
-    if let Some(arguments) = strip_word(line, b"same") {
-        same(arguments, into)
-    } else if let Some(arguments) = strip_word(line, b"setnum") {
+    if let Some(arguments) = strip_word(line, b"setnum") {
         set_number(arguments, into)
+    } else if let Some(arguments) = strip_word(line, b"same") {
+        same(arguments, into)
+    } else if let Some(arguments) = strip_word(line, b"store") {
+        store(arguments, into)
     } else if let Some(arguments) = strip_word(line, b"start") {
         start(arguments, into)
     } else if let Some(arguments) = strip_word(line, b"step") {
         step(arguments, into)
-    } else if let Some(arguments) = strip_word(line, b"store") {
-        store(arguments, into)
     } else if let Some(arguments) = strip_word(line, b"table") {
         table(arguments, into)
     } else if let Some(arguments) = strip_word(line, b"take") {
@@ -117,7 +117,9 @@ fn dependency(arguments: &[u8], into: &mut Call) -> Option<()>
     ensures { filled result into.new ≡ one name_of call.Dependency (words arguments.now) }
 {
     let dependency = name(arguments)?;
-    *into = Call::Dependency { dependency };
+    *into = Call::Dependency {
+        dependency: dependency.name(),
+    };
     Some(())
 }
 
@@ -126,7 +128,10 @@ fn dependency_add(arguments: &[u8], into: &mut Call) -> Option<()>
     ensures { filled result into.new ≡ two name_of slot_of call.DependencyAdd (words arguments.now) }
 {
     let (dependency, slot) = name_slot(arguments)?;
-    *into = Call::DependencyAdd { dependency, slot };
+    *into = Call::DependencyAdd {
+        dependency: dependency.name(),
+        slot: slot.slot(),
+    };
     Some(())
 }
 
@@ -135,7 +140,10 @@ fn dependency_merge(arguments: &[u8], into: &mut Call) -> Option<()>
     ensures { filled result into.new ≡ two name_of name_of call.DependencyMerge (words arguments.now) }
 {
     let (dependency, source) = name_name(arguments)?;
-    *into = Call::DependencyMerge { dependency, source };
+    *into = Call::DependencyMerge {
+        dependency: dependency.name(),
+        source: source.name(),
+    };
     Some(())
 }
 
@@ -144,7 +152,9 @@ fn dependency_reset(arguments: &[u8], into: &mut Call) -> Option<()>
     ensures { filled result into.new ≡ one name_of call.DependencyReset (words arguments.now) }
 {
     let dependency = name(arguments)?;
-    *into = Call::DependencyReset { dependency };
+    *into = Call::DependencyReset {
+        dependency: dependency.name(),
+    };
     Some(())
 }
 
@@ -153,7 +163,9 @@ fn dependency_stale(arguments: &[u8], into: &mut Call) -> Option<()>
     ensures { filled result into.new ≡ one name_of call.DependencyStale (words arguments.now) }
 {
     let dependency = name(arguments)?;
-    *into = Call::DependencyStale { dependency };
+    *into = Call::DependencyStale {
+        dependency: dependency.name(),
+    };
     Some(())
 }
 
@@ -181,7 +193,10 @@ fn load(arguments: &[u8], into: &mut Call) -> Option<()>
     ensures { filled result into.new ≡ two slot_of decimal_number call.Load (words arguments.now) }
 {
     let (place, word) = slot_decimal(arguments)?;
-    *into = Call::Load { place, word };
+    *into = Call::Load {
+        place: place.slot(),
+        word,
+    };
     Some(())
 }
 
@@ -190,7 +205,7 @@ fn message(arguments: &[u8], into: &mut Call) -> Option<()>
     ensures { filled result into.new ≡ one slot_of call.Message (words arguments.now) }
 {
     let slot = slot(arguments)?;
-    *into = Call::Message { slot };
+    *into = Call::Message { slot: slot.slot() };
     Some(())
 }
 
@@ -200,7 +215,7 @@ fn null(arguments: &[u8], into: &mut Call) -> Option<()>
     ensures { filled result into.new ≡ one slot_of call.Null (words arguments.now) }
 {
     let slot = slot(arguments)?;
-    *into = Call::Null { slot };
+    *into = Call::Null { slot: slot.slot() };
     Some(())
 }
 
@@ -210,7 +225,10 @@ fn number(arguments: &[u8], into: &mut Call) -> Option<()>
     ensures { filled result into.new ≡ two slot_of decimal_number call.Number (words arguments.now) }
 {
     let (slot, cell) = slot_decimal(arguments)?;
-    *into = Call::Number { slot, cell };
+    *into = Call::Number {
+        slot: slot.slot(),
+        cell,
+    };
     Some(())
 }
 
@@ -228,7 +246,7 @@ fn peek(arguments: &[u8], into: &mut Call) -> Option<()>
     ensures { filled result into.new ≡ one slot_of call.Peek (words arguments.now) }
 {
     let word = slot(arguments)?;
-    *into = Call::Peek { word };
+    *into = Call::Peek { word: word.slot() };
     Some(())
 }
 
@@ -237,7 +255,10 @@ fn pin(arguments: &[u8], into: &mut Call) -> Option<()>
     ensures { filled result into.new ≡ two slot_of slot_of call.Pin (words arguments.now) }
 {
     let (word, slot) = slot_slot(arguments)?;
-    *into = Call::Pin { word, slot };
+    *into = Call::Pin {
+        word: word.slot(),
+        slot: slot.slot(),
+    };
     Some(())
 }
 
@@ -246,7 +267,10 @@ fn poke(arguments: &[u8], into: &mut Call) -> Option<()>
     ensures { filled result into.new ≡ two slot_of number_of call.Poke (words arguments.now) }
 {
     let (word, value) = slot_value(arguments)?;
-    *into = Call::Poke { word, value };
+    *into = Call::Poke {
+        word: word.slot(),
+        value,
+    };
     Some(())
 }
 
@@ -257,9 +281,9 @@ fn put(arguments: &[u8], into: &mut Call) -> Option<()>
 {
     let (target, (cell, source)) = slot_decimal_slot(arguments)?;
     *into = Call::Put {
-        target,
+        target: target.slot(),
         cell,
-        source,
+        source: source.slot(),
     };
     Some(())
 }
@@ -279,7 +303,10 @@ fn reserve(arguments: &[u8], into: &mut Call) -> Option<()>
     ensures { filled result into.new ≡ two name_of head_of call.Reserve (words arguments.now) }
 {
     let (point, head) = name_head(arguments)?;
-    *into = Call::Reserve { point, head };
+    *into = Call::Reserve {
+        point: point.name(),
+        head,
+    };
     Some(())
 }
 
@@ -289,7 +316,10 @@ fn same(arguments: &[u8], into: &mut Call) -> Option<()>
     ensures { filled result into.new ≡ two slot_of slot_of call.Same (words arguments.now) }
 {
     let (slot, other) = slot_slot(arguments)?;
-    *into = Call::Same { slot, other };
+    *into = Call::Same {
+        slot: slot.slot(),
+        other: other.slot(),
+    };
     Some(())
 }
 
@@ -299,7 +329,11 @@ fn set_number(arguments: &[u8], into: &mut Call) -> Option<()>
     ensures { filled result into.new ≡ three slot_of decimal_number number_of call.SetNumber (words arguments.now) }
 {
     let (slot, (cell, value)) = slot_decimal_value(arguments)?;
-    *into = Call::SetNumber { slot, cell, value };
+    *into = Call::SetNumber {
+        slot: slot.slot(),
+        cell,
+        value,
+    };
     Some(())
 }
 
@@ -318,7 +352,11 @@ fn store(arguments: &[u8], into: &mut Call) -> Option<()>
     ensures { filled result into.new ≡ three slot_of decimal_number number_of call.Store (words arguments.now) }
 {
     let (place, (word, value)) = slot_decimal_value(arguments)?;
-    *into = Call::Store { place, word, value };
+    *into = Call::Store {
+        place: place.slot(),
+        word,
+        value,
+    };
     Some(())
 }
 
@@ -336,6 +374,9 @@ fn take(arguments: &[u8], into: &mut Call) -> Option<()>
     ensures { filled result into.new ≡ two slot_of slot_of call.Take (words arguments.now) }
 {
     let (slot, word) = slot_slot(arguments)?;
-    *into = Call::Take { slot, word };
+    *into = Call::Take {
+        slot: slot.slot(),
+        word: word.slot(),
+    };
     Some(())
 }

@@ -76,7 +76,7 @@ fn format_chain(arguments: &[u8]) -> Option<(u64, Name)>
     ensures { result ≡ pair (named_in formats) name_in (words arguments.now) }
 {
     let (word, rest) = next_word(arguments)?;
-    Some((format_of(word)?, name(rest)?))
+    Some((format_of(word)?, name(rest)?.name()))
 }
 
 /// `pool P KIND FORMAT C`, after `pool`.

@@ -10,11 +10,10 @@ ghost use Rattle.mps_model.specs.declared.call.Call.{Call};
 ghost use Rattle.mps_script.specs.Calls.{none};
 ghost use Rattle.mps_script.specs.Form.{init, start};
 
-use mps_base::Name;
 use mps_model::Call;
 use mps_numerals::decimal_number;
 use mps_words::{
-    head_of, is_blank, name_decimal, name_from, name_of, next_name, next_word, only_word,
+    WrittenName, head_of, is_blank, name_decimal, name_of, next_name, next_word, only_word,
     prefixed_hexadecimal, slot, value,
 };
 
@@ -35,12 +34,12 @@ pub fn hexadecimal(arguments: &[u8]) -> Option<u64>
 
 /// A name and a head.
 #[inline(always)]
-pub fn name_head(arguments: &[u8]) -> Option<(Name, u64)>
+pub fn name_head(arguments: &[u8]) -> Option<(WrittenName<'_>, u64)>
     ensures { result ≡ pair name_in head_in (words arguments.now) }
 {
     let (word, rest) = next_name(arguments)?;
     let head = head_of(only_word(rest)?)?;
-    Some((name_from(word), head))
+    Some((WrittenName::new(word), head))
 }
 
 /// `init X K VALUE` or `init X K SLOT`.
@@ -59,7 +58,7 @@ pub fn init(arguments: &[u8], into: &mut Call) -> Option<()>
             *into = Call::InitReference {
                 point,
                 cell,
-                source,
+                source: source.slot(),
             };
         }
     }
@@ -75,6 +74,9 @@ pub fn start(arguments: &[u8], into: &mut Call) -> Option<()>
         return Some(());
     }
     let (chain, generation) = name_decimal(arguments)?;
-    *into = Call::StartChain { chain, generation };
+    *into = Call::StartChain {
+        chain: chain.name(),
+        generation,
+    };
     Some(())
 }

@@ -1,7 +1,7 @@
 -- The bytes of a name, gathered as numbers of 64 bits, the first of them lowest.
-use Rattle.std.proofs.Common.{◌≡◌, ℕ, zero, suc, ◌+◌, ◌-◌, ◌*◌, ◌/◌, ◌%◌, ◌^◌, ◌<◌, ◌≤◌, List, [], ◌∷◌, ◌++◌, length, take, drop, replicate, get_or, refl, ap, ◌∙◌, arith}
+use Rattle.std.proofs.Common.{◌≡◌, ℕ, zero, suc, ◌+◌, ◌-◌, ◌*◌, ◌/◌, ◌%◌, ◌^◌, ◌<◌, ◌≤◌, List, [], ◌∷◌, ◌++◌, length, take, drop, replicate, get_or, refl, sym, ap, ◌∙◌, arith}
 use Rattle.std.proofs.Math.Nat.{div-div-eq-div-mul, pow-succ'}
-use Rattle.std.proofs.lemmas.List.{get_or-drop, length-drop}
+use Rattle.std.proofs.lemmas.List.{append_assoc, drop-append-le, get_or-drop, length-drop}
 use Rattle.std.specs.Int.{byte_at, bytes_low_first}
 use Rattle.mps_words.specs.Gathered.{gathered}
 
@@ -49,6 +49,20 @@ bytes_of_gathered zero (byte ∷ bytes) le fits = absurd (omega arith)
 bytes_of_gathered (suc k) (byte ∷ bytes) le fits =
     one_more k byte (gathered bytes) (fits 0)
     ∙ ap (λ (later : List ℕ). byte ∷ later) (bytes_of_gathered k bytes (omega arith) (λ i. fits (suc i)))
+
+-- the bytes of the number of at most eight bytes, with eight zeros after them
+pub short_bytes : (bytes low : List ℕ) → length bytes ≤ 8 → IsBytes bytes → low ≡ bytes_low_first 0 8 (gathered bytes)
+    → low ++ replicate 8 0 ≡ bytes ++ drop (length bytes) (replicate 16 0)
+short_bytes bytes low le fits is =
+    ap (λ (x : List ℕ). x ++ replicate 8 0) (is ∙ bytes_of_gathered 8 bytes le fits)
+    ∙ append_assoc bytes (drop (length bytes) (replicate 8 0)) (replicate 8 0)
+    ∙ ap (λ (x : List ℕ). bytes ++ x) (sym (drop-append-le (length bytes) (replicate 8 0) (replicate 8 0) le))
+
+-- one byte is the number of it alone
+pub of_one_byte : (bytes : List ℕ) → length bytes ≡ 1 → get_or bytes 0 0 ≡ gathered bytes
+of_one_byte [] one = absurd (omega (arith, one))
+of_one_byte (byte ∷ []) one = omega arith
+of_one_byte (byte ∷ other ∷ bytes) one = absurd (omega (arith, one))
 
 IsBytes-drop : (n : ℕ) (bytes : List ℕ) → IsBytes bytes → IsBytes (drop n bytes)
 IsBytes-drop n bytes h i = rw get_or-drop (h (n + i))

@@ -14,8 +14,9 @@ pub use arguments::{
     slot_slot_decimal, slot_value, value,
 };
 pub use head::head_of;
-pub use names::{name_from, name_of, next_name};
+pub use names::{WrittenName, name_of, next_name};
 pub use number::{next_decimal, next_value, number_of, number_within, prefixed_hexadecimal};
+pub use slots::WrittenSlot;
 pub use words::{
     MAX_LINE_BYTES, after_spaces, is_blank, is_word, next_word, only_word, strip_word,
 };

@@ -9,6 +9,7 @@ ghost use Rattle.mps_words.specs.Word.{words, word_at, after_word};
 
 use crate::words::after_spaces;
 use mps_base::{MAX_NAME_BYTES, Name, is_name};
+use std::marker::Model;
 
 /// The bytes that are gathered in a number.
 const GATHERED_BYTES: usize = 8;
@@ -60,7 +61,7 @@ fn name_at(line: &[u8]) -> Option<(&[u8], &[u8])>
 }
 
 /// The bytes of the first word, where it is a name, and what stands after it. The name is made of them where it is to stand, once the
-/// words after it are in their forms (`name_from`).
+/// words after it are in their forms (`WrittenName`).
 #[inline(always)]
 pub fn next_name(bytes: &[u8]) -> Option<(&[u8], &[u8])>
     ensures found { MatchOption result (headed name_of (words bytes.now) ≡ None)
@@ -85,19 +86,6 @@ fn gathered(bytes: &[u8]) -> u64
     number
 }
 
-/// The number of the bytes of a word, the first lowest. Most names have one byte, which needs no loop.
-#[inline(always)]
-fn number_of(word: &[u8]) -> u128
-    requires { length word.now ≤ 16 }
-    ensures { result ≡ gathered word.now }
-{
-    match word {
-        [byte] => u128::from(*byte),
-        _ if word.len() > GATHERED_BYTES => long_number(word),
-        _ => u128::from(gathered(word)),
-    }
-}
-
 /// The same of a word of more than 8 bytes.
 #[cold]
 #[inline(never)]
@@ -111,15 +99,62 @@ fn long_number(word: &[u8]) -> u128
     u128::from(low) + u128::from(high) * 0x1_0000_0000_0000_0000
 }
 
-/// The name of its bytes. They are one number first, as bytes that are stored one by one can't be loaded together soon.
+/// The name of its bytes. They are one number first, and copied as one piece: what is stored byte by byte can't be loaded together
+/// soon.
 #[inline(always)]
 pub fn name_from(name: &[u8]) -> Name
     requires { length name.now ≤ 16 }
     ensures { result ≡ name_from name.now }
 {
+    let mut bytes = [0u8; MAX_NAME_BYTES];
+    if let [byte] = name {
+        bytes[..GATHERED_BYTES].copy_from_slice(&u64::from(*byte).to_le_bytes());
+    } else if name.len() <= GATHERED_BYTES {
+        bytes[..GATHERED_BYTES].copy_from_slice(&gathered(name).to_le_bytes());
+    } else {
+        bytes.copy_from_slice(&long_number(name).to_le_bytes());
+    }
     Name {
         len: name.len() as u8,
-        bytes: number_of(name).to_le_bytes(),
+        bytes,
+    }
+}
+
+/// A name as it stands in a line: its bytes. It is made where it is to stand, so that it isn't copied on the way. Contracts see the
+/// name.
+#[derive(Debug, Drop)]
+pub struct WrittenName<'a> {
+    bytes: &'a [u8],
+}
+
+impl<'a> Model for WrittenName<'a> {
+    ghost use Rattle.std.specs.Prelude.{◌≤◌, length};
+    ghost use Rattle.mps_base.specs.declared.names.Name.{Name};
+    ghost use Rattle.mps_words.specs.Name.{name_from};
+
+    ghost Value = { Name };
+
+    ghost view = { λ n. name_from n.bytes.now };
+
+    ghost invariant = { λ n. length n.bytes.now ≤ 16 };
+}
+
+impl<'a> WrittenName<'a> {
+    /// The name of these bytes.
+    #[inline(always)]
+    pub fn new(bytes: &'a [u8]) -> WrittenName<'a>
+        requires { length bytes.now ≤ 16 }
+        ensures { result ≡ name_from bytes.now }
+    {
+        WrittenName { bytes }
+    }
+
+    /// Makes the name.
+    #[inline(always)]
+    pub fn name(&self) -> Name
+        ensures { result ≡ self.now }
+    {
+        name_from(self.bytes)
     }
 }
 

@@ -50,7 +50,7 @@ pub fn decimal_at(bytes: &[u8]) -> Option<(u64, &[u8])>
 }
 
 /// The same of any word.
-#[inline(never)]
+#[inline(always)]
 fn long_decimal_at(bytes: &[u8]) -> Option<(u64, &[u8])>
     ensures { MatchOption result (decimal_of (word_at bytes.now) ≡ None)
         (λ p. (decimal_of (word_at bytes.now) ≡ Some p.0) × (p.1.now ≡ after_word bytes.now)) }
@@ -74,7 +74,7 @@ fn value_at(bytes: &[u8]) -> Option<(u64, &[u8])>
 }
 
 /// The same of any word.
-#[inline(never)]
+#[inline(always)]
 fn long_value_at(bytes: &[u8]) -> Option<(u64, &[u8])>
     ensures { MatchOption result (number_of (word_at bytes.now) ≡ None)
         (λ p. (number_of (word_at bytes.now) ≡ Some p.0) × (p.1.now ≡ after_word bytes.now)) }

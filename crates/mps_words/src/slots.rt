@@ -4,10 +4,11 @@ ghost use Rattle.mps_words.specs.Name.{slot_from, slot_of};
 ghost use Rattle.mps_words.specs.Reading.{headed};
 ghost use Rattle.mps_words.specs.Word.{words, word_at, after_word};
 
-use crate::names::{after_name, name_from};
+use crate::names::{WrittenName, after_name};
 use crate::number::decimal_at;
 use crate::words::after_spaces;
 use mps_base::{MAX_NAME_BYTES, Slot};
+use std::marker::Model;
 
 /// The word at the beginning as a slot: the bytes of its name, its index, and what stands after it.
 #[inline(always)]
@@ -32,7 +33,7 @@ fn slot_at(line: &[u8]) -> Option<(&[u8], u64, &[u8])>
 }
 
 /// The first word as a slot: the bytes of its name, its index, and what stands after it. The slot is made of them where it is to
-/// stand, once the words after it are in their forms (`slot_from`).
+/// stand, once the words after it are in their forms (`WrittenSlot`).
 #[inline(always)]
 pub fn next_slot(bytes: &[u8]) -> Option<(&[u8], u64, &[u8])>
     ensures found { MatchOption result (headed slot_of (words bytes.now) ≡ None)
@@ -42,14 +43,43 @@ pub fn next_slot(bytes: &[u8]) -> Option<(&[u8], u64, &[u8])>
     slot_at(after_spaces(bytes))
 }
 
-/// The slot of the bytes of a name and an index.
-#[inline(always)]
-pub fn slot_from(name: &[u8], index: u64) -> Slot
-    requires { length name.now ≤ 16 }
-    ensures { result ≡ slot_from name.now index }
-{
-    Slot {
-        name: name_from(name),
-        index,
+/// A slot as it stands in a line: the bytes of its name, and its index. It is made where it is to stand, so that it isn't copied on the
+/// way. Contracts see the slot.
+#[derive(Debug, Drop)]
+pub struct WrittenSlot<'a> {
+    name: WrittenName<'a>,
+    index: u64,
+}
+
+impl<'a> Model for WrittenSlot<'a> {
+    ghost use Rattle.mps_base.specs.declared.names.Slot.{Slot};
+
+    ghost Value = { Slot };
+
+    ghost view = { λ s. record { name = s.name; index = s.index } };
+}
+
+impl<'a> WrittenSlot<'a> {
+    /// The slot of the bytes of a name and an index.
+    #[inline(always)]
+    pub fn new(name: &'a [u8], index: u64) -> WrittenSlot<'a>
+        requires { length name.now ≤ 16 }
+        ensures { result ≡ slot_from name.now index }
+    {
+        WrittenSlot {
+            name: WrittenName::new(name),
+            index,
+        }
+    }
+
+    /// Makes the slot.
+    #[inline(always)]
+    pub fn slot(&self) -> Slot
+        ensures { result ≡ self.now }
+    {
+        Slot {
+            name: self.name.name(),
+            index: self.index,
+        }
     }
 }

@@ -14,6 +14,6 @@ returns-in_err-others c =
 
 pub returns : goal.returns
 returns c =
-    ap (λ slot. Some (slot, c.in_ok-others.others)) c.slot_from.ensures
+    ap (λ slot. Some (slot, c.in_ok-others.others)) c.new.ensures
     ∙ onto_some slot_of (pair slot_of decimal_number) (words c.args.arguments.now) _ _
     c.in_ok-name.ensures.found (Some c.in_ok-others.others) c.in_ok-others.ensures

@@ -13,6 +13,6 @@ returns-in_err-others c =
 
 pub returns : goal.returns
 returns c =
-    ap (λ slot. Some (slot, c.in_ok-others.others)) c.slot_from.ensures
+    ap (λ slot. Some (slot, c.in_ok-others.others)) c.new.ensures
     ∙ onto_some slot_of (single number_of) (words c.args.arguments.now) _ _
     c.in_ok-name.ensures.found (Some c.in_ok-others.others) c.in_ok-others.ensures
