@@ -188,6 +188,7 @@ impl Desk for HostDesk {
         Ok(count)
     }
 
+    #[inline(always)]
     fn out(&mut self, bytes: &[u8]) -> Result<usize, Failed> {
         if self.out.hold(bytes) {
             return Ok(bytes.len());

@@ -32,7 +32,22 @@ pub fn print<D: Desk, C: Commands>(desk: &mut D, reply: &Reply, commands: &C) ->
     }
     let mut text = [0u8; MAX_ANSWER_BYTES];
     let length = put_text(&mut text, reply);
-    print_all(&text[..length], desk)
+    print_line(desk, &text[..length])
+}
+
+/// Prints an answer line. As a rule a desk takes it whole; where it took a part, the rest follows.
+#[inline(always)]
+fn print_line<D: Desk>(desk: &mut D, line: &[u8]) -> Result<(), Failed>
+    ensures printed { OnOk result (Prints (D.outside desk.old) (D.outside desk.new) line.now) }
+    ensures failed { OnErr result (PrintsPart (D.outside desk.old) (D.outside desk.new) line.now) }
+{
+    let Ok(count) = desk.out(line) else {
+        return Err(Failed);
+    };
+    if count == line.len() {
+        return Ok(());
+    }
+    print_all(&line[count..], desk)
 }
 
 /// Prints the line of the words from an address on, as many as are asked for or as there are. It isn't inlined, as `print` has no words
