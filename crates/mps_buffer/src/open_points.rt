@@ -135,6 +135,7 @@ impl OpenPoints {
 
     /// The open reservation of a point becomes a block, whose address is returned. `Flipped` where a flip came since the reserve. The
     /// point has no reservation from now on.
+    #[inline(always)]
     pub fn commit(&mut self, segs: &mut Segs, trail: &mut Trail, key: u32) -> Result<Addr, Flipped>
         requires open { (p : Point) × (h : Held) × HasOpen self.old key p h × IsReserved self.old.flips (Some h) segs.old }
         requires fits { 0 < trail.old.spare }
