@@ -19,7 +19,7 @@ def sources():
 
 
 def is_product(path):
-    return path.suffix == ".rt" and "test" not in path.name
+    return path.suffix == ".rt" and not any("test" in part for part in path.parts[3:])
 
 
 def functions(path, rows):
