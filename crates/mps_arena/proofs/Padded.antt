@@ -5,7 +5,7 @@ use Rattle.std.proofs.lemmas.List.{append-nil, drop-append-le, ext_get_or, get_o
 use Rattle.std.proofs.lemmas.List.Edits.{length-paste}
 use Rattle.std.proofs.Math.Seq.{length_paste_head}
 use Rattle.std.proofs.lemmas.Option.{slice_get-get_or, slice_get_past}
-use Rattle.std.specs.Prelude.{Some, None, slice_get}
+use Rattle.std.specs.Prelude.{Some, None, slice_get, Vec, vec_len}
 use Rattle.mps_arena.specs.Arena.{cleared_words, copied_words, with_words}
 use Rattle.mps_arena.specs.Memory.{StoredWords, memory_with, padded_words, with_copy, with_stored_word}
 
@@ -316,10 +316,38 @@ pub state_clear : (size : ℕ) (stored : List ℕ) (from n : ℕ) → length sto
 state_clear size stored from n fits within none =
     ap (λ (ws : List ℕ). seen ws (length stored)) (sym (padded_clear size stored from n fits within (omega (arith, none))))
 
--- how many words there are, from what a caller sees
-pub memory_size : (size : ℕ) (stored : List ℕ) (memory : StoredWords) → memory_with size stored ≡ memory → length stored ≤ size
-    → length memory.words ≡ size
-memory_size size stored memory is fits = ap (λ (m : StoredWords). length m.words) (sym is) ∙ padded_words-length size stored fits
+-- at most all words are stored, and the caller sees all of them
+pub record Sizes (size : ℕ) (stored : List ℕ) (memory : StoredWords) : Type 0 where
+  pub few : length stored ≤ size
+  pub all : length memory.words ≡ size
+
+pub sizes_of : {Z : Type 0} (size : ℕ) (stored : Vec ℕ Z) (memory : StoredWords) → memory_with size stored.items ≡ memory
+    → vec_len stored ≤ size → Sizes size stored.items memory
+sizes_of size stored memory is fits =
+    let few : length stored.items ≤ size = omega (arith, fits, stored.ok.0) in
+    record {
+      few = few;
+      all = ap (λ (m : StoredWords). length m.words) (sym is) ∙ padded_words-length size stored.items few;
+    }
+
+-- each word is stored, and the caller sees these words
+pub record AreAllStored (size : ℕ) (stored words : List ℕ) : Type 0 where
+  pub all : length stored ≡ size
+  pub seen : length words ≡ size
+  pub same : padded_words size stored ≡ words
+
+-- after as many words were stored as there are
+pub all_grown : {Z : Type 0} (size before : ℕ) (stored : Vec ℕ Z) (old : StoredWords) → length old.words ≡ before
+    → memory_with size stored.items ≡ record old { stored = max old.stored (0 + before) } → vec_len stored ≤ size
+    → AreAllStored size stored.items old.words
+all_grown size before stored old first grown fits =
+    let again = sizes_of size stored (record old { stored = max old.stored (0 + before) }) grown fits in
+    let long = ap (λ (m : StoredWords). m.stored) grown in
+    record {
+      all = omega (arith, long, first, again.all, again.few);
+      seen = again.all;
+      same = ap (λ (m : StoredWords). m.words) grown;
+    }
 
 -- ---- after all words were stored and some of them were lent
 

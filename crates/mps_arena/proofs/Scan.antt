@@ -298,3 +298,25 @@ new_state grains limit =
     let size : length (replicate {A = ℕ} (grains + 1) 0) - 1 ≡ grains = omega (arith, length-replicate {A = ℕ} (grains + 1) 0) in
     ap (λ (n : ℕ). record (new_arena grains limit) { grains = n; held = runs_in (replicate (grains + 1) 0) }) size
     ∙ ap (λ (held : List Run). record (new_arena grains limit) { held = held }) (none_held (grains + 1))
+
+-- ---- the place that a search found
+
+-- the lowest free run of grains that is long enough begins at `grain`, and lies within the table
+pub record IsFreePlace (runs : List ℕ) (need grain : ℕ) : Type 0 where
+  pub lowest : lowest_fitting need (gaps 1 (length runs) (runs_in runs)) ≡ Some grain
+  pub free : get_or runs grain 0 ≡ 0
+  pub below : grain + need ≤ length runs
+
+-- what was found in the words that the search was given is true of the table that they are
+pub place_found : (searched runs : List ℕ) (need grain : ℕ) → searched ≡ runs → 0 < need → IsAscending 1 (length runs) (runs_in runs)
+    → lowest_fitting need (gaps 1 (length searched) (runs_in searched)) ≡ Some grain → get_or searched grain 0 ≡ 0
+    → IsFreePlace runs need grain
+place_found searched runs need grain same some ascending is none =
+    let P : List ℕ → Type 0 = λ t. lowest_fitting need (gaps 1 (length t) (runs_in t)) ≡ Some grain in
+    let lowest = subst P same is in
+    let Q : List ℕ → Type 0 = λ t. get_or t grain 0 ≡ 0 in
+    record {
+      lowest = lowest;
+      free = subst Q same none;
+      below = (in_lowest_gap 1 (length runs) (runs_in runs) need grain some ascending lowest).below;
+    }

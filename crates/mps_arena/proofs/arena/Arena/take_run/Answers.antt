@@ -1,46 +1,40 @@
-use Rattle.std.proofs.Common.{ℕ, ◌≡◌, ◌+◌, ◌*◌, List, length, get_or, set, max, min, Some, sym, ap, ◌∙◌, arith, subst}
+use Rattle.std.proofs.Common.{◌+◌, ◌*◌, List, length, set, max, min, sym, ap, ◌∙◌, arith, subst}
 use Rattle.mps_base.specs.Address.{max_block_words, words_of_grain}
-use Rattle.mps_base.specs.Run.{Run, gaps, lowest_fitting}
+use Rattle.mps_base.specs.Run.{Run}
 use Rattle.mps_arena.specs.Arena.{ArenaMemory, held_after, placement_in}
 use Rattle.mps_arena.specs.Grains.{runs_in}
 use Rattle.mps_arena.specs.Inside.{AreStored, IsSoundArena, memory_of}
 use Rattle.mps_arena.specs.Memory.{StoredWords}
-use Rattle.mps_base.proofs.Runs.{in_lowest_gap}
 use Rattle.mps_arena.proofs.Held.{stored_after_take}
-use Rattle.mps_arena.proofs.Scan.{sound_after_take, state_after_take, held_after_placing}
+use Rattle.mps_arena.proofs.Scan.{sound_after_take, state_after_take, held_after_placing, place_found}
 use Rattle.mps_arena.proofs.arena.Arena.take_run.Goals as goal
 
 pub store_run-requires : goal.store_run-requires
 store_run-requires c =
     let runs = c.self.inside.runs.items in
-    let words = c.deref.ensures.value in
-    let P : List ℕ → Type 0 = λ t. lowest_fitting c.args.grains (gaps 1 (length t) (runs_in t)) ≡ Some c.in-Ok.grain in
-    let lowest = subst P words c.in-Ok.ensures.value in
-    let gap = in_lowest_gap 1 (length runs) (runs_in runs) c.args.grains c.in-Ok.grain c.requires c.self.invariant.0.ascending lowest in
-    omega (arith, gap.below, c.self.invariant.0.size)
+    let place = place_found c.deref.result.now runs c.args.grains c.in-Ok.grain c.deref.ensures.value c.requires
+    c.self.invariant.0.ascending c.in-Ok.ensures.value c.in-Ok.ensures.free
+    in
+    omega (arith, place.below, c.self.invariant.0.size)
 
 pub index_mut-requires : goal.index_mut-requires
 index_mut-requires c =
     let runs = c.self.inside.runs.items in
-    let words = c.deref.ensures.value in
-    let P : List ℕ → Type 0 = λ t. lowest_fitting c.args.grains (gaps 1 (length t) (runs_in t)) ≡ Some c.in-Ok.grain in
-    let lowest = subst P words c.in-Ok.ensures.value in
-    let gap = in_lowest_gap 1 (length runs) (runs_in runs) c.args.grains c.in-Ok.grain c.requires c.self.invariant.0.ascending lowest in
-    omega (arith, gap.below, c.self.inside.runs.ok.0, c.requires)
+    let place = place_found c.deref.result.now runs c.args.grains c.in-Ok.grain c.deref.ensures.value c.requires
+    c.self.invariant.0.ascending c.in-Ok.ensures.value c.in-Ok.ensures.free
+    in
+    omega (arith, place.below, c.self.inside.runs.ok.0, c.requires)
 
 pub invariant_of-self : goal.invariant_of-self
 invariant_of-self c =
     let inside = c.self.inside in
     let runs = inside.runs.items in
-    let words = c.deref.ensures.value in
     let grain = c.in-Ok.grain in
     let need = c.args.grains in
     let all = length inside.memory.words in
-    let P : List ℕ → Type 0 = λ t. lowest_fitting need (gaps 1 (length t) (runs_in t)) ≡ Some grain in
-    let lowest = subst P words c.in-Ok.ensures.value in
-    let Q : List ℕ → Type 0 = λ t. get_or t grain 0 ≡ 0 in
-    let none = subst Q words c.in-Ok.ensures.free in
-    let gap = in_lowest_gap 1 (length runs) (runs_in runs) need grain c.requires c.self.invariant.0.ascending lowest in
+    let place = place_found c.deref.result.now runs need grain c.deref.ensures.value c.requires
+    c.self.invariant.0.ascending c.in-Ok.ensures.value c.in-Ok.ensures.free
+    in
     let R : StoredWords → Type 0 = λ m.
     IsSoundArena m.words (set runs grain need) (inside.committed + need) inside.limit
     × AreStored (runs_in (set runs grain need)) (length m.words) m.stored
@@ -48,8 +42,8 @@ invariant_of-self c =
     let more = max inside.memory.stored (min all (words_of_grain * (grain + need) + max_block_words)) in
     subst R (sym c.store_run.ensures) (
       sound_after_take inside.memory.words runs inside.committed inside.limit grain need c.self.invariant.0 c.requires
-          c.if-grains-self.false lowest none,
-      stored_after_take runs grain need all inside.memory.stored more (omega (arith, gap.below, c.requires)) none c.requires
+          c.if-grains-self.false place.lowest place.free,
+      stored_after_take runs grain need all inside.memory.stored more (omega (arith, place.below, c.requires)) place.free c.requires
           c.self.invariant.1 (omega arith) (omega arith),
     )
 
@@ -58,15 +52,13 @@ returns-in-Ok-clause-state c =
     let inside = c.self.inside in
     let all = inside.memory.words in
     let runs = inside.runs.items in
-    let words = c.deref.ensures.value in
-    let P : List ℕ → Type 0 = λ t. lowest_fitting c.args.grains (gaps 1 (length t) (runs_in t)) ≡ Some c.in-Ok.grain in
-    let lowest = subst P words c.in-Ok.ensures.value in
-    let Q : List ℕ → Type 0 = λ t. get_or t c.in-Ok.grain 0 ≡ 0 in
-    let gap = in_lowest_gap 1 (length runs) (runs_in runs) c.args.grains c.in-Ok.grain c.requires c.self.invariant.0.ascending lowest in
+    let place = place_found c.deref.result.now runs c.args.grains c.in-Ok.grain c.deref.ensures.value c.requires
+    c.self.invariant.0.ascending c.in-Ok.ensures.value c.in-Ok.ensures.free
+    in
     ap (λ (m : StoredWords). memory_of m.words (set runs c.in-Ok.grain c.args.grains) inside.limit) c.store_run.ensures
     ∙ state_after_take all runs inside.limit c.in-Ok.grain c.args.grains
-    (omega (arith, gap.below, c.requires)) (subst Q words c.in-Ok.ensures.free) c.requires
+    (omega (arith, place.below, c.requires)) place.free c.requires
     ∙ ap (λ (held : List Run). record (memory_of all runs inside.limit) { held = held })
     (sym (held_after_placing runs inside.limit c.args.grains c.in-Ok.grain (omega (arith, c.self.invariant.0.nonempty))
-    (omega (arith, c.self.invariant.0.counted, c.self.invariant.0.within_limit, c.requires, c.if-grains-self.false)) lowest))
+    (omega (arith, c.self.invariant.0.counted, c.self.invariant.0.within_limit, c.requires, c.if-grains-self.false)) place.lowest))
     ∙ ap (λ (a : ArenaMemory). record a { held = held_after (placement_in a c.args.grains) a.held }) c.self.view_is
