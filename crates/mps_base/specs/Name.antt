@@ -31,7 +31,7 @@ is_name (first ∷ rest) = is_letter first && (nat_lt (length rest) max_name_byt
 
 -- the same bytes
 abbrev pub same_name : Name → Name → Bool
-same_name these those = these.len == those.len && bytes_eq these.bytes those.bytes
+same_name these those = bytes_eq these.bytes those.bytes
 
 pub letters_digits_and_underscores : is_name (codes "ring_2") ≡ true
 letters_digits_and_underscores = refl

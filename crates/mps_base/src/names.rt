@@ -1,9 +1,8 @@
 // The names of a client's things, and what kinds of pool and point there are.
 
-/// A name: a letter a to z and then at most 15 letters a to z, digits or underscores. The bytes from `len` on are 0.
+/// A name: a letter a to z and then at most 15 letters a to z, digits or underscores. The bytes after its last one are 0.
 #[derive(Clone, Copy, Debug, PartialEq, Eq, Hash)]
 pub struct Name {
-    pub len: u8,
     pub bytes: [u8; 16],
 }
 

@@ -20,7 +20,7 @@ use Rattle.mps_generated.proofs.Separated.{cut_first, uncut, is_number, number_h
 
 -- a name of one letter
 abbrev letter : ℕ → Name
-letter code = record { len = 1; bytes = code ∷ replicate 15 0 }
+letter code = record { bytes = code ∷ replicate 15 0 }
 
 -- a slot of the table `t`
 abbrev t : ℕ → Slot

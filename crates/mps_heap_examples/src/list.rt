@@ -19,7 +19,6 @@ const NEXT: u64 = 2;
 /// The name that has one letter.
 pub const fn named(letter: u8) -> Name {
     Name {
-        len: 1,
         bytes: [letter, 0, 0, 0, 0, 0, 0, 0, 0, 0, 0, 0, 0, 0, 0, 0],
     }
 }

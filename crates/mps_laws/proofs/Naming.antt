@@ -1,27 +1,23 @@
 -- What names stand for, once a name is made or dropped.
 use Rattle.std.proofs.Common.{◌≡◌, ℕ, Bool, true, false, true≢false, refl, sym, ◌∙◌, ap, List, [], ◌∷◌, None, Some, Option}
-use Rattle.std.specs.Prelude.{◌==◌, if◌then◌else◌}
+use Rattle.std.specs.Prelude.{if◌then◌else◌}
 use Rattle.std.specs.Str.{bytes_eq}
 use Rattle.std.proofs.lemmas.Slice.Eq.{bytes_eq-Decides}
-use Rattle.std.proofs.lemmas.Bool.{and_parts, and_from, eqb-true, eq-eqb}
 use Rattle.mps_base.specs.declared.names.Name.{Name}
 use Rattle.mps_base.specs.Name.{same_name}
 use Rattle.mps_model.specs.Graph.{NamedThing, Thing, thing_in, with_last, without_name}
 
-abbrev name_with : (len : ℕ) → (bytes : List ℕ) → Name
-name_with len bytes = record { len = len; bytes = bytes }
+abbrev name_with : List ℕ → Name
+name_with bytes = record { bytes = bytes }
 
 -- names that are the same are equal
 pub same_name_equal : (these those : Name) → same_name these those ≡ true → these ≡ those
 same_name_equal these those e =
-    let both = and_parts (these.len == those.len) (bytes_eq these.bytes those.bytes) e in
-    ap (λ len. name_with len these.bytes) (eqb-true these.len those.len both.0)
-    ∙ ap (name_with those.len) ((bytes_eq-Decides these.bytes those.bytes).0 both.1)
+    ap name_with ((bytes_eq-Decides these.bytes those.bytes).0 e)
 
 pub same_name_itself : (name : Name) → same_name name name ≡ true
 same_name_itself name =
-    and_from (name.len == name.len) (bytes_eq name.bytes name.bytes) (eq-eqb name.len name.len refl)
-    ((bytes_eq-Decides name.bytes name.bytes).1 refl)
+    (bytes_eq-Decides name.bytes name.bytes).1 refl
 
 -- each name is taken once
 abbrev pub AreTakenOnce : List NamedThing → Type 0

@@ -56,7 +56,7 @@ GetsReachLiveObjects =
 
 -- the name of one letter
 abbrev pub letter : (code : ℕ) → Name
-letter code = record { len = 1; bytes = code ∷ replicate 15 0 }
+letter code = record { bytes = code ∷ replicate 15 0 }
 
 -- slot 0 of the table t refers to object 0, which lives, and slot 1 to object 1, which is gone. Slot 2 is null
 abbrev one_gone : World

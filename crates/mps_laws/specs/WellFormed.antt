@@ -37,7 +37,7 @@ abbrev accepted : (line : ℕ) → Call → List Move → Step
 accepted line call moves = record { line = line; call = call; moves = moves; answer = Replied reply.Ok }
 
 abbrev one_letter : (code : ℕ) → Name
-one_letter code = record { len = 1; bytes = code ∷ replicate 15 0 }
+one_letter code = record { bytes = code ∷ replicate 15 0 }
 
 abbrev at : (address : ℕ) → Addr
 at address = record { 0 = address }

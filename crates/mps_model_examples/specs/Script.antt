@@ -16,7 +16,7 @@ use Rattle.mps_model.specs.World.{Tail}
 
 -- the name of one letter
 abbrev pub name_of_letter : (code : ℕ) → Name
-name_of_letter code = record { len = 1; bytes = code ∷ replicate 15 0 }
+name_of_letter code = record { bytes = code ∷ replicate 15 0 }
 
 abbrev pub a : Name
 a = name_of_letter 97

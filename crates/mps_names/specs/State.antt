@@ -29,7 +29,7 @@ pub record Updates (old new : NamesState) (name : Name) (thing : Option Thing) :
   pub others : (other : Name) → same_name name other ≡ false → thing_named new other ≡ thing_named old other
 
 abbrev letter : ℕ → Name
-letter code = record { len = 1; bytes = code ∷ 0 ∷ 0 ∷ 0 ∷ 0 ∷ 0 ∷ 0 ∷ 0 ∷ 0 ∷ 0 ∷ 0 ∷ 0 ∷ 0 ∷ 0 ∷ 0 ∷ 0 ∷ [] }
+letter code = record { bytes = code ∷ 0 ∷ 0 ∷ 0 ∷ 0 ∷ 0 ∷ 0 ∷ 0 ∷ 0 ∷ 0 ∷ 0 ∷ 0 ∷ 0 ∷ 0 ∷ 0 ∷ 0 ∷ [] }
 
 abbrev example : List (Name × Thing)
 example = (letter 97, thing.Pool 0) ∷ (letter 98, thing.Table 2) ∷ []

@@ -30,7 +30,7 @@ impl PartialEq for Key {
     ghost laws = { Prim.search (comparing, rules) };
 
     fn eq(&self, other: &Key) -> bool {
-        is_same_name(&self.name, &other.name)
+        are_same(&self.name.bytes, &other.name.bytes)
     }
 }
 
@@ -48,15 +48,7 @@ impl Hash for Key {
     }
 }
 
-/// Whether two names are the same. Their bytes are compared as two numbers.
-#[inline(always)]
-fn is_same_name(these: &Name, those: &Name) -> bool
-    ensures { result ≡ same_name these.now those.now }
-{
-    these.len == those.len && are_same(&these.bytes, &those.bytes)
-}
-
-/// Whether the bytes of two names are the same.
+/// Whether the bytes of two names are the same. They are compared as two numbers.
 #[inline(always)]
 fn are_same(these: &[u8; 16], those: &[u8; 16]) -> bool
     ensures { result ≡ bytes_eq these.now those.now }

@@ -7,7 +7,7 @@ use std::alloc::AllocError;
 fn takes_a_name_once(rt: HostRuntime) -> Result<(), AllocError> {
     let mut bytes = [0; 16];
     bytes[0] = 97;
-    let name = Name { len: 1, bytes };
+    let name = Name { bytes };
     let mut names = Names::new(rt.alloc());
     assert!(rt; names.refuse_taken(name) == Ok(()));
     names.make_room()?;

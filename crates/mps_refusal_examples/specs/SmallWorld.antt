@@ -15,7 +15,7 @@ use Rattle.mps_model.specs.World.{World, PoolKind, Pool, Collected, OneSize, Any
 -- ---- names
 
 abbrev pub name : (letters : List ℕ) → Name
-name letters = record { len = length letters; bytes = letters ++ replicate (16 - length letters) 0 }
+name letters = record { bytes = letters ++ replicate (16 - length letters) 0 }
 
 -- a name that nothing has
 abbrev pub unknown : Name

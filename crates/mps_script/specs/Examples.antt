@@ -24,7 +24,7 @@ are_wrong lines = list_all (λ line. is_none (call_of_command (words line))) lin
 
 -- a name of one letter
 abbrev letter : ℕ → Name
-letter code = record { len = 1; bytes = code ∷ replicate 15 0 }
+letter code = record { bytes = code ∷ replicate 15 0 }
 
 -- the names `a`, `b`, `c`
 abbrev a : Name

@@ -22,7 +22,7 @@ const NO: Reply = Reply::Unsupported;
 fn named(letter: u8) -> Name {
     let mut bytes = [0; 16];
     bytes[0] = letter;
-    Name { len: 1, bytes }
+    Name { bytes }
 }
 
 /// A slot of the table `t`.
