@@ -116,6 +116,16 @@ pub first_word : (xs : List ℕ) → words xs ≡ words_from (after_spaces xs)
 first_word [] = refl
 first_word (x ∷ xs) = first_word_at x xs (is_space x) refl (first_word xs)
 
+-- the words of a line stand after its spaces
+words_spaced_at : (x : ℕ) (xs : List ℕ) (b : Bool) → is_space x ≡ b → words (after_spaces xs) ≡ words xs
+    → words (after_spaces (x ∷ xs)) ≡ words (x ∷ xs)
+words_spaced_at x xs true h ih = ap words (spaces_more x xs h) ∙ ih ∙ sym (skips_space x xs h)
+words_spaced_at x xs false h ih = ap words (no_spaces x xs h)
+
+pub words_spaced : (xs : List ℕ) → words (after_spaces xs) ≡ words xs
+words_spaced [] = refl
+words_spaced (x ∷ xs) = words_spaced_at x xs (is_space x) refl (words_spaced xs)
+
 -- there is none left where nothing does
 pub is_none : (line : List ℕ) → (length line == 0) ≡ is_none_left (words_from line)
 is_none [] = refl
@@ -152,6 +162,16 @@ word_on text rest all = before_past is_space text rest (no_space_in text all)
 -- and the same stands after both
 after_on : (text rest : List ℕ) → word_at text ≡ text → after_word (text ++ rest) ≡ after_word rest
 after_on text rest all = after_past is_space text rest (no_space_in text all)
+
+-- a line without spaces is its one word
+nothing_after : (text : List ℕ) → word_at text ≡ text → after_word text ≡ []
+nothing_after text all = grind (arith, common_steps, no_space_in text all)
+
+pub words_of_one : (text : List ℕ) → word_at text ≡ text → 1 ≤ length text → words_from text ≡ text ∷ []
+words_of_one [] all some = absurd (omega arith)
+words_of_one (x ∷ xs) all some =
+    ap (λ (w : List ℕ). w ∷ words (after_word (x ∷ xs))) all
+    ∙ ap (λ (rest : List ℕ). (x ∷ xs) ∷ words rest) (nothing_after (x ∷ xs) all)
 
 -- no word stands where nothing does
 pub none_at_end : (rest : List ℕ) → length rest < 1 → word_at rest ≡ []

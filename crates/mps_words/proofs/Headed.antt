@@ -1,8 +1,8 @@
 -- What the first word writes, and what the words after it write.
-use Rattle.std.proofs.Common.{◌≡◌, ℕ, if◌then◌else◌, Bool, Option, Some, None, MatchOption, option_map, List, [], ◌∷◌, refl, sym, ap, ◌∙◌}
+use Rattle.std.proofs.Common.{◌≡◌, ℕ, if◌then◌else◌, Bool, Option, Some, None, MatchOption, option_map, List, [], ◌∷◌, refl, sym, ap, ◌∙◌, arith}
 use Rattle.mps_words.specs.Reading.{single, both, headed, onto}
 use Rattle.mps_words.specs.Word.{words, word_at, after_word, after_spaces, is_none_left}
-use Rattle.mps_words.proofs.FirstWord.{words_from, first_word}
+use Rattle.mps_words.proofs.FirstWord.{words_from, first_word, words_of_one}
 
 none_before : {A B : Type 0} (o : Option B) → both {A = A} {B = B} None o ≡ None
 none_before None = refl
@@ -76,3 +76,11 @@ module _ {A : Type 0} (read : List ℕ → Option A) (empty : read [] ≡ None) 
   first_read_by xs line is B made now P both_hold (Some p) some =
       let h = both_hold p some in
       first_read xs line is ∙ rw (h.0, h.1) refl
+
+  -- a line without spaces is its one word
+  one_read_at : (line : List ℕ) → word_at line ≡ line → read line ≡ single read (words_from line)
+  one_read_at [] all = empty
+  one_read_at (x ∷ xs) all = ap (single read) (sym (words_of_one (x ∷ xs) all (omega arith)))
+
+  pub one_read : (xs line : List ℕ) → line ≡ after_spaces xs → word_at line ≡ line → read line ≡ single read (words xs)
+  one_read xs line is all = one_read_at line all ∙ ap (single read) (ap words_from is ∙ sym (first_word xs))

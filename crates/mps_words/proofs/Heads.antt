@@ -12,7 +12,7 @@ use Rattle.mps_format.specs.Leaf.{is_leaf}
 use Rattle.mps_format.specs.HeadText.{is_colon, text_of, head_text, word_of, head_of_word, IsInWords}
 use Rattle.mps_format.proofs.Heads.{word_of-head_of_word, head_text-head_of_word}
 use Rattle.mps_format.proofs.Colons.{has_colon, cut_at_colon, joined_at_colon}
-use Rattle.mps_words.specs.Word.{cut_at}
+use Rattle.mps_words.specs.Word.{cut_at, word_at}
 use Rattle.mps_numerals.specs.Decimal.{decimal_number}
 use Rattle.mps_words.proofs.OneDigit.{of_digit}
 use Rattle.mps_words.specs.Head.{two_numbers, head_after, head_in, head_of}
@@ -173,14 +173,23 @@ head_text_read word head small e =
 no_colon : (digit : ℕ) → digit ≤ 57 → (digit == 58) ≡ false
 no_colon digit most = grind (arith, nat_tests)
 
+no_space : (digit : ℕ) → 48 ≤ digit → (digit == 32) ≡ false
+no_space digit least = grind (arith, nat_tests)
+
+-- it is read as this head, and has no space
+abbrev IsShort : ℕ → ℕ → List ℕ → Type 0
+IsShort size references text = (Some (Front (size - 48) (references - 48)) ≡ head_in text) × (word_at text ≡ text)
+
 digits_of_front : (size references : ℕ) → 48 ≤ size → size ≤ 57 → 48 ≤ references → references ≤ 57
-    → Some (Front (size - 48) (references - 48)) ≡ head_in (102 ∷ 58 ∷ size ∷ 58 ∷ references ∷ [])
-digits_of_front size references least most least' most' =
-    rw (no_colon size most, of_digit size least most, of_digit references least' most') refl
+    → IsShort size references (102 ∷ 58 ∷ size ∷ 58 ∷ references ∷ [])
+digits_of_front size references least most least' most' = (
+  rw (no_colon size most, of_digit size least most, of_digit references least' most') refl,
+  rw (no_space size least, no_space references least') refl,
+)
 
 pub short_front : (text : List ℕ) → length text ≡ 5 → get_or text 0 0 ≡ 102 → get_or text 1 0 ≡ 58 → get_or text 3 0 ≡ 58
     → 48 ≤ get_or text 2 0 → get_or text 2 0 ≤ 57 → 48 ≤ get_or text 4 0 → get_or text 4 0 ≤ 57
-    → Some (Front (get_or text 2 0 - 48) (get_or text 4 0 - 48)) ≡ head_in text
+    → IsShort (get_or text 2 0) (get_or text 4 0) text
 short_front (a ∷ b ∷ c ∷ d ∷ e ∷ []) five first second fourth least most least' most' =
     rw (first, second, fourth) (digits_of_front c e least most least' most')
 short_front [] five first second fourth least most least' most' = absurd (omega arith)

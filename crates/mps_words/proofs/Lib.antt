@@ -6,3 +6,4 @@ pub mod NameBytes
 pub mod OneDigit
 pub mod FirstName
 pub mod FirstSlot
+pub mod Unique

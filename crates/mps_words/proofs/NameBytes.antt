@@ -58,12 +58,6 @@ short_bytes bytes low le fits is =
     ∙ append_assoc bytes (drop (length bytes) (replicate 8 0)) (replicate 8 0)
     ∙ ap (λ (x : List ℕ). bytes ++ x) (sym (drop-append-le (length bytes) (replicate 8 0) (replicate 8 0) le))
 
--- one byte is the number of it alone
-pub of_one_byte : (bytes : List ℕ) → length bytes ≡ 1 → get_or bytes 0 0 ≡ gathered bytes
-of_one_byte [] one = absurd (omega (arith, one))
-of_one_byte (byte ∷ []) one = omega arith
-of_one_byte (byte ∷ other ∷ bytes) one = absurd (omega (arith, one))
-
 IsBytes-drop : (n : ℕ) (bytes : List ℕ) → IsBytes bytes → IsBytes (drop n bytes)
 IsBytes-drop n bytes h i = rw get_or-drop (h (n + i))
 

@@ -1,5 +1,5 @@
 -- Names and slots as words.
-use Rattle.std.specs.Prelude.{ℕ, ◌≡◌, if◌then◌else◌, codes, Option, Some, None, option_and_then, List, ◌++◌, not, length, drop, replicate, refl}
+use Rattle.std.specs.Prelude.{ℕ, ◌≡◌, if◌then◌else◌, codes, Option, Some, None, option_and_then, List, [], ◌∷◌, ◌++◌, not, length, drop, replicate, refl}
 use Rattle.std.specs.List.{position_or_len}
 use Rattle.mps_base.specs.Name.{is_name, is_name_byte, max_name_bytes}
 use Rattle.mps_base.specs.declared.names.Name.{Name}
@@ -13,11 +13,15 @@ after_name text = drop (position_or_len (λ b. not (is_name_byte b)) text) text
 
 -- the name of these bytes
 abbrev pub name_from : List ℕ → Name
-name_from bytes = record { len = length bytes; bytes = bytes ++ drop (length bytes) (replicate max_name_bytes 0) }
+name_from bytes = record { bytes = bytes ++ drop (length bytes) (replicate max_name_bytes 0) }
 
 -- the name that a word writes
 abbrev pub name_of : List ℕ → Option Name
 name_of word = if is_name word then Some (name_from word) else None
+
+-- two words that write one name are the same word
+abbrev pub NamesAreUnique : Type 0
+NamesAreUnique = (these those : List ℕ) (name : Name) → name_of these ≡ Some name → name_of those ≡ Some name → these ≡ those
 
 -- the slot of the bytes of its name and an index
 abbrev pub slot_from : List ℕ → ℕ → Slot
@@ -34,11 +38,14 @@ slot_of word =
 pub what_stands_after_a_name : after_name (codes "t_1.0 2") ≡ codes ".0 2"
 what_stands_after_a_name = refl
 
-pub a_name : name_of (codes "t_1") ≡ Some (record { len = 3; bytes = codes "t_1" ++ replicate 13 0 })
+pub a_name : name_of (codes "t_1") ≡ Some (record { bytes = codes "t_1" ++ replicate 13 0 })
 a_name = refl
 
 pub a_digit_is_not_first : name_of (codes "1t") ≡ None
 a_digit_is_not_first = refl
+
+pub a_zero_is_in_no_name : name_of (116 ∷ 0 ∷ []) ≡ None
+a_zero_is_in_no_name = refl
 
 pub a_slot_needs_its_number : slot_of (codes "t.") ≡ None
 a_slot_needs_its_number = refl

@@ -2,13 +2,27 @@
 ghost use Rattle.std.specs.Prelude.{◌≡◌, IfSome};
 ghost use Rattle.mps_format.specs.HeadText.{text_of};
 ghost use Rattle.mps_words.specs.Head.{head_in, head_of};
+ghost use Rattle.mps_words.specs.Reading.{single};
+ghost use Rattle.mps_words.specs.Word.{words, word_at};
 
+use crate::words::{after_spaces, only_word};
 use mps_format::Head;
 
-/// The head that a text writes, with any numbers. Most are of the format `front` with numbers of one digit, which need no loop.
+/// The head that a text writes, with any numbers. Most are short.
 #[inline(always)]
 fn parsed(text: &[u8]) -> Option<Head>
     ensures { result ≡ head_in text.now }
+{
+    match short_head(text) {
+        Some(head) => Some(head),
+        None => parsed_long(text),
+    }
+}
+
+/// The head of the format `front` that a text writes with two numbers of one digit, which need no loop. Such a text has no space.
+#[inline(always)]
+fn short_head(text: &[u8]) -> Option<Head>
+    ensures { IfSome result (λ h. (Some h ≡ head_in text.now) × (word_at text.now ≡ text.now)) }
 {
     match text {
         [
@@ -21,7 +35,7 @@ fn parsed(text: &[u8]) -> Option<Head>
             size: u64::from(*size - b'0'),
             references: u64::from(*references - b'0'),
         }),
-        _ => parsed_long(text),
+        _ => None,
     }
 }
 
@@ -36,9 +50,22 @@ fn parsed_long(text: &[u8]) -> Option<Head>
 
 /// The head word that a head text stands for, 0 where its numbers break the rules of its format.
 #[inline(always)]
-pub fn head_of(word: &[u8]) -> Option<u64>
+fn head_of(word: &[u8]) -> Option<u64>
     ensures { result ≡ head_of word.now }
 {
     let head = parsed(word)?;
     Some(head.word())
+}
+
+/// The head word of the one head that is left, 0 where its numbers break the rules of its format. None where it isn't the only word
+/// or is no head. A short one that ends the line is read where it stands, and its end isn't sought.
+#[inline(always)]
+pub fn only_head(bytes: &[u8]) -> Option<u64>
+    ensures { result ≡ single head_of (words bytes.now) }
+{
+    let line = after_spaces(bytes);
+    match short_head(line) {
+        Some(head) => Some(head.word()),
+        None => head_of(only_word(line)?),
+    }
 }

@@ -13,8 +13,8 @@ pub use arguments::{
     name_slot, slot, slot_decimal, slot_decimal_slot, slot_decimal_value, slot_slot,
     slot_slot_decimal, slot_value, value,
 };
-pub use head::head_of;
-pub use names::{WrittenName, name_of, next_name};
+pub use head::only_head;
+pub use names::{WrittenName, name_of, names_are_unique, next_name};
 pub use number::{next_decimal, next_value, number_of, number_within, prefixed_hexadecimal};
 pub use slots::WrittenSlot;
 pub use words::{

@@ -3,7 +3,7 @@ ghost use Rattle.std.specs.Prelude.{◌≡◌, ◌≤◌, None, Some, length, If
 ghost use Rattle.std.specs.Int.{bytes_low_first};
 ghost use Rattle.mps_base.specs.Name.{is_name_byte};
 ghost use Rattle.mps_words.specs.Gathered.{gathered};
-ghost use Rattle.mps_words.specs.Name.{after_name, name_from, name_of};
+ghost use Rattle.mps_words.specs.Name.{NamesAreUnique, after_name, name_from, name_of};
 ghost use Rattle.mps_words.specs.Reading.{headed};
 ghost use Rattle.mps_words.specs.Word.{words, word_at, after_word};
 
@@ -14,12 +14,12 @@ use std::marker::Model;
 /// The bytes that are gathered in a number.
 const GATHERED_BYTES: usize = 8;
 
-/// Whether a byte may stand in a name.
+/// Whether a byte may stand in a name. Spaces and dots, at which a name ends, are found by the first comparison.
 #[inline(always)]
 fn is_name_byte(byte: u8) -> bool
     ensures { result ≡ is_name_byte byte }
 {
-    byte.is_ascii_lowercase() || byte.is_ascii_digit() || byte == b'_'
+    byte >= b'0' && (byte <= b'9' || byte.is_ascii_lowercase() || byte == b'_')
 }
 
 /// What stands after the bytes at the beginning that may stand in a name.
@@ -114,11 +114,13 @@ pub fn name_from(name: &[u8]) -> Name
     } else {
         bytes.copy_from_slice(&long_number(name).to_le_bytes());
     }
-    Name {
-        len: name.len() as u8,
-        bytes,
-    }
+    Name { bytes }
 }
+
+/// Two words that write one name are the same word: no byte of a name is 0, so a name ends where its zeros begin.
+pub fn names_are_unique()
+    ensures { NamesAreUnique }
+{}
 
 /// A name as it stands in a line: its bytes. It is made where it is to stand, so that it isn't copied on the way. Contracts see the
 /// name.
