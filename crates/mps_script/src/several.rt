@@ -13,7 +13,7 @@ ghost use Rattle.mps_script.specs.Form.{init, start};
 use mps_model::Call;
 use mps_numerals::decimal_number;
 use mps_words::{
-    WrittenName, head_of, is_blank, name_decimal, name_of, next_name, next_word, only_word,
+    WrittenName, is_blank, name_decimal, name_of, next_name, next_word, only_head, only_word,
     prefixed_hexadecimal, slot, value,
 };
 
@@ -38,8 +38,7 @@ pub fn name_head(arguments: &[u8]) -> Option<(WrittenName<'_>, u64)>
     ensures { result ≡ pair name_in head_in (words arguments.now) }
 {
     let (word, rest) = next_name(arguments)?;
-    let head = head_of(only_word(rest)?)?;
-    Some((WrittenName::new(word), head))
+    Some((WrittenName::new(word), only_head(rest)?))
 }
 
 /// `init X K VALUE` or `init X K SLOT`.
