@@ -1,6 +1,7 @@
 // The answer line of a reply.
-ghost use Rattle.std.specs.Prelude.{◌≡◌, ◌+◌, ◌<◌, ◌≤◌, ◌++◌, ◌∷◌, [], length, take, decimal, true};
+ghost use Rattle.std.specs.Prelude.{◌≡◌, ◌+◌, ◌<◌, ◌≤◌, ◌++◌, length, take, true};
 ghost use Rattle.mps_model.specs.Answer.{Replied};
+ghost use Rattle.mps_model.specs.declared.reply.Reply.TheVariants as reply;
 ghost use Rattle.mps_model.specs.Text.{word_text, and_number, refusal_text, reply_text, line_of_answer};
 ghost use Rattle.mps_answers.specs.Text.{is_printable};
 
@@ -106,15 +107,13 @@ fn put_three_spaced(out: &mut [u8], at: usize, first: u32, second: u32, third: u
     put_two_spaced(out, at, second, third)
 }
 
-/// The line of a number of one digit, put as one piece: bytes that are stored one by one can't be loaded together soon.
+/// The answer line of a number of one digit.
 #[inline(always)]
-fn put_digit_line(out: &mut [u8], digit: u64) -> usize
-    requires digit { digit < 10 }
-    requires fits { 2 ≤ length out.old }
-    ensures at_most { result ≤ 2 }
-    ensures text { take result out.new ≡ decimal digit ++ 10 ∷ [] }
+pub fn digit_line(digit: u64) -> [u8; 2]
+    requires { digit < 10 }
+    ensures { result ≡ line_of_answer (Replied (reply.Number digit)) }
 {
-    put(&[b'0' + digit as u8, b'\n'], out, 0)
+    [b'0' + digit as u8, b'\n']
 }
 
 /// The answer of a reply, without its line feed.
@@ -157,11 +156,6 @@ pub fn put_text(out: &mut [u8], reply: &Reply) -> usize
     ensures at_most { result ≤ 64 }
     ensures text { take result out.new ≡ line_of_answer (Replied reply.now) }
 {
-    match *reply {
-        Reply::Number(n) if n < 10 => put_digit_line(out, n),
-        _ => {
-            let at = put_plain(out, reply);
-            put(b"\n", out, at)
-        }
-    }
+    let at = put_plain(out, reply);
+    put(b"\n", out, at)
 }
