@@ -48,6 +48,7 @@ impl Held {
 
     /// Takes the piece, where there is room for it beside the bytes that wait: in memory that is there already it always
     /// fits, up to the most bytes that wait; for more there may be no memory.
+    #[inline(always)]
     pub fn hold(&mut self, piece: &[u8]) -> bool
         ensures held { IsTrue result → self.new.bytes ≡ self.old.bytes ++ piece.now }
         ensures going { IsTrue result → self.old.failed ≡ false }

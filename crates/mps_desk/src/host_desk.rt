@@ -1,5 +1,5 @@
 // The desk over real files and the standard streams.
-ghost use Rattle.std.specs.Prelude.{◌≡◌, ◌≤◌, None, length, IfSome};
+ghost use Rattle.std.specs.Prelude.{◌≡◌, ◌<◌, ◌≤◌, None, length, IfSome};
 ghost use Rattle.mps_desk.specs.Desk.{Outside};
 
 use crate::held::Held;
@@ -109,6 +109,19 @@ impl HostDesk {
         }
     }
 
+    /// Takes some of a piece for the log, and writes the bytes that wait where that needs room. None where a write failed.
+    #[inline(never)]
+    fn take_for_log(&mut self, piece: &[u8]) -> Option<usize>
+        ensures same { self.new ≡ self.old }
+        ensures at_most { IfSome result (λ n. n ≤ length piece.now) }
+        ensures nonzero { IfSome result (λ n. 0 < length piece.now → 0 < n) }
+    {
+        match &mut self.log_file {
+            Some(file) => self.log.take(piece, file),
+            None => Some(piece.len()),
+        }
+    }
+
     /// Makes a file the log's. False where it can't be made, or the log failed.
     fn make_log(&mut self, name: &str) -> bool
         ensures { self.new ≡ self.old }
@@ -176,12 +189,12 @@ impl Desk for HostDesk {
         Err(Failed)
     }
 
+    #[inline(always)]
     fn log(&mut self, bytes: &[u8]) -> Result<usize, Failed> {
-        let taken = match &mut self.log_file {
-            Some(file) => self.log.take(bytes, file),
-            None => Some(bytes.len()),
-        };
-        let Some(count) = taken else {
+        if self.log_file.is_some() && self.log.hold(bytes) {
+            return Ok(bytes.len());
+        }
+        let Some(count) = self.take_for_log(bytes) else {
             self.log_faults = self.log_faults.saturating_add(1);
             return Err(Failed);
         };
