@@ -78,6 +78,7 @@ impl Event {
     ghost use Rattle.mps_event.specs.Event.{event_of, code_of, field_count_of};
 
     /// The event that a code of a log of this version stands for. None exactly where it stands for none.
+    #[inline(always)]
     pub fn of_code(code: u16, version: Version) -> Option<Event>
         ensures { result ≡ event_of version code }
     {
@@ -127,6 +128,7 @@ impl Event {
     }
 
     /// How many fields the event's records have: at most 4.
+    #[inline(always)]
     pub fn field_count(self) -> u16
         ensures { result ≡ field_count_of self }
     {

@@ -23,6 +23,7 @@ const INTERNED: usize = 16;
 /// Reads the record with which `bytes` begin, in a log of this version; `ended` says that no more bytes follow these.
 /// None exactly where there is no whole record yet: the bytes are empty, or they have not ended and are fewer than 8, or
 /// fewer than a known code with its number of fields needs. `Cut` comes only where the bytes have ended.
+#[inline(always)]
 pub fn first<'a>(
     bytes: &'a [u8],
     ended: bool,
@@ -40,6 +41,7 @@ pub fn first<'a>(
 }
 
 /// The same, with its equation alone.
+#[inline(always)]
 fn first_record<'a>(
     bytes: &'a [u8],
     ended: bool,
@@ -67,6 +69,7 @@ fn too_few<'a>(ended: bool) -> Result<Option<RecordRef<'a>>, LogFault>
 }
 
 /// The record of an event with which the bytes begin.
+#[inline(always)]
 fn record_of<'a>(
     event: Event,
     bytes: &'a [u8],
@@ -87,6 +90,7 @@ fn record_of<'a>(
 }
 
 /// The record of an event that the bytes are, all of them.
+#[inline(always)]
 fn whole_record<'a>(event: Event, bytes: &'a [u8]) -> Result<Option<RecordRef<'a>>, LogFault>
     requires count { little_number 2 (drop 2 bytes.now) ≡ field_count_of event }
     requires size { length bytes.now ≡ size_of_record (field_count_of event) }
