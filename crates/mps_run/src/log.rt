@@ -100,6 +100,7 @@ fn log_move<D: Desk>(desk: &mut D, line: u32, moved: &Move) -> Result<(), Failed
 }
 
 /// Writes the record of an event that makes a block.
+#[inline(always)]
 fn log_block<D: Desk>(
     desk: &mut D,
     line: u32,
@@ -208,6 +209,7 @@ fn log_made<D: Desk>(desk: &mut D, line: u32, pools: u64, call: &Call) -> Result
 }
 
 /// Writes one record.
+#[inline(always)]
 fn log_record<D: Desk>(desk: &mut D, line: u32, event: Event, fields: &[u64]) -> Result<(), Failed>
     requires known { AreFields One (code_of event) fields.now }
     requires at_most { length fields.now ≤ 4 }
@@ -218,10 +220,26 @@ fn log_record<D: Desk>(desk: &mut D, line: u32, event: Event, fields: &[u64]) ->
 {
     let mut bytes = [0u8; MAX_RECORD_BYTES];
     let length = put_record(&mut bytes, line, event, fields);
-    log_all(&bytes[..length], desk)
+    log_piece(desk, &bytes[..length])
+}
+
+/// Writes a record to the log. As a rule a desk takes it whole; where it took a part, the rest follows.
+#[inline(always)]
+fn log_piece<D: Desk>(desk: &mut D, piece: &[u8]) -> Result<(), Failed>
+    ensures logged { OnOk result (Logs (D.outside desk.old) (D.outside desk.new) piece.now) }
+    ensures failed { OnErr result (LogsPart (D.outside desk.old) (D.outside desk.new) piece.now) }
+{
+    let Ok(count) = desk.log(piece) else {
+        return Err(Failed);
+    };
+    if count == piece.len() {
+        return Ok(());
+    }
+    log_all(&piece[count..], desk)
 }
 
 /// Puts a record at the beginning of the bytes, and returns its length.
+#[inline(always)]
 fn put_record(bytes: &mut [u8], line: u32, event: Event, fields: &[u64]) -> usize
     requires known { AreFields One (code_of event) fields.now }
     requires at_most { length fields.now ≤ 4 }

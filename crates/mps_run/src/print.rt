@@ -1,14 +1,15 @@
 // The answer of a command.
-ghost use Rattle.std.specs.Prelude.{◌≤◌, ◌<◌, ◌^◌, ◌∷◌, ◌++◌, length, take, drop, OnOk, OnErr};
+ghost use Rattle.std.specs.Prelude.{◌≡◌, ◌≤◌, ◌<◌, ◌^◌, ◌∷◌, ◌++◌, length, take, drop, true, OnOk, OnErr};
 ghost use Rattle.std.specs.List.{flat_map};
+ghost use Rattle.mps_answers.specs.Text.{is_printable};
 ghost use Rattle.mps_base.specs.Address.{word_of};
-ghost use Rattle.mps_model.specs.Answer.{Dumped, answer_of};
+ghost use Rattle.mps_model.specs.Answer.{Replied, Dumped, answer_of};
 ghost use Rattle.mps_model.specs.Text.{line_of_answer};
 ghost use Rattle.mps_numerals.specs.Hexadecimal.{hexadecimal};
 ghost use Rattle.mps_report.specs.Streams.{Prints, PrintsPart};
 ghost use Rattle.mps_run.specs.Pieces.{and_word};
 
-use mps_answers::{MAX_ANSWER_BYTES, put_text};
+use mps_answers::{MAX_ANSWER_BYTES, digit_line, put_text};
 use mps_base::Addr;
 use mps_commands::Commands;
 use mps_desk::{Desk, Failed};
@@ -27,9 +28,21 @@ pub fn print<D: Desk, C: Commands>(desk: &mut D, reply: &Reply, commands: &C) ->
     ensures failed { OnErr result (PrintsPart (D.outside desk.old) (D.outside desk.new)
         (line_of_answer (answer_of (C.words commands.now) reply.now))) }
 {
-    if let Reply::Words(at, count) = *reply {
-        return print_words(desk, commands, at, count);
+    match *reply {
+        Reply::Ok => print_line(desk, b"ok\n"),
+        Reply::Number(n) if n < 10 => print_line(desk, &digit_line(n)),
+        Reply::Words(at, count) => print_words(desk, commands, at, count),
+        _ => print_text(desk, reply),
     }
+}
+
+/// Prints the answer line of a reply that isn't words.
+#[inline(always)]
+fn print_text<D: Desk>(desk: &mut D, reply: &Reply) -> Result<(), Failed>
+    requires { is_printable reply.now ≡ true }
+    ensures printed { OnOk result (Prints (D.outside desk.old) (D.outside desk.new) (line_of_answer (Replied reply.now))) }
+    ensures failed { OnErr result (PrintsPart (D.outside desk.old) (D.outside desk.new) (line_of_answer (Replied reply.now))) }
+{
     let mut text = [0u8; MAX_ANSWER_BYTES];
     let length = put_text(&mut text, reply);
     print_line(desk, &text[..length])
