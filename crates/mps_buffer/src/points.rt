@@ -153,11 +153,11 @@ impl Points {
         ensures others { IfOk result (λ token. (r : Run) → CanCover segs.old r → AreApart r (run_of_held token.held)
             → CanCover segs.new r) }
     {
-        let Some(p) = self.points[point as usize] else {
+        let flips = self.flips;
+        let Some(p) = &mut self.points[point as usize] else {
             unreachable!()
         };
-        let (held, now) = reserve_at(segs, trail, &p, self.flips, head, words)?;
-        self.points[point as usize] = Some(now);
+        let held = reserve_at(segs, trail, p, flips, head, words)?;
         Ok(Reserved::new(point, held))
     }
 
@@ -208,6 +208,7 @@ impl Points {
     }
 
     /// The reservation becomes a block, whose address is returned. `Flipped` where a flip came since the reserve.
+    #[inline(always)]
     pub fn commit(
         &mut self,
         segs: &mut Segs,
@@ -226,13 +227,7 @@ impl Points {
             → MatchResult result (λ at. trail.new ≡ with_move trail.old (Commit at token.held.words p.pool)) (λ _. trail.new ≡ trail.old) }
     {
         let (point, held) = token.spend();
-        let Some(p) = self.points[point as usize] else {
-            unreachable!()
-        };
-        self.points[point as usize] = Some(Point {
-            reservation: None,
-            ..p
-        });
+        let pool = close(&mut self.points[point as usize]);
         if held.flips != self.flips {
             return Err(Flipped);
         }
@@ -240,7 +235,7 @@ impl Points {
         trail.push(Move::Commit {
             at: held.at,
             words: held.words,
-            pool: p.pool,
+            pool,
         });
         Ok(held.at)
     }
@@ -254,13 +249,7 @@ impl Points {
         ensures state { segs.new ≡ (if token.held.flips == self.old.flips then without_reservation segs.old token.held else segs.old) }
     {
         let (point, held) = token.spend();
-        let Some(p) = self.points[point as usize] else {
-            unreachable!()
-        };
-        self.points[point as usize] = Some(Point {
-            reservation: None,
-            ..p
-        });
+        let _pool = close(&mut self.points[point as usize]);
         if held.flips == self.flips {
             segs.uncover(held.at, held.words);
         }
@@ -304,32 +293,44 @@ fn free_key(points: &[Option<Point>]) -> Option<u32>
     None
 }
 
-/// Reserves words at a point, and returns the reservation and the point with it.
+/// Ends the reservation of a point, where it has one, and returns the number of its pool.
+#[inline(always)]
+fn close(place: &mut Option<Point>) -> u32
+    requires { (p : Point) × (place.old ≡ Some p) }
+    ensures point { (p : Point) → place.old ≡ Some p → place.new ≡ Some (closed p) }
+    ensures pool { (p : Point) → place.old ≡ Some p → result ≡ p.pool }
+{
+    let Some(p) = place else { unreachable!() };
+    p.reservation = None;
+    p.pool
+}
+
+/// Reserves words at a point, which has the reservation from then on.
 fn reserve_at(
     segs: &mut Segs,
     trail: &mut Trail,
-    p: &Point,
+    p: &mut Point,
     flips: u64,
     head: u64,
     words: u32,
-) -> Result<(Held, Point), Refusal>
+) -> Result<Held, Refusal>
     requires nonzero { 0 < words }
     requires at_most { words ≤ max_block_words }
     requires fits { 0 < trail.old.spare }
-    requires at_hand { IsAtHand segs.old p.now.buffer }
+    requires at_hand { IsAtHand segs.old p.old.buffer }
     ensures value { MatchResult result
-        (λ made. (answer_of_placement (placement_at p.now segs.old words) ≡ Ok made.0.at)
-        × (made.0 ≡ record { at = made.0.at; head = head; words = words; flips = flips }))
-        (λ why. answer_of_placement (placement_at p.now segs.old words) ≡ Err why) }
+        (λ held. (answer_of_placement (placement_at p.old segs.old words) ≡ Ok held.at)
+        × (held ≡ record { at = held.at; head = head; words = words; flips = flips }))
+        (λ why. answer_of_placement (placement_at p.old segs.old words) ≡ Err why) }
     ensures state { MatchResult result
-        (λ made. segs.new ≡ with_reservation (with_place segs.old p.now (placement_at p.now segs.old words)) made.0)
+        (λ held. segs.new ≡ with_reservation (with_place segs.old p.old (placement_at p.old segs.old words)) held)
         (λ _. segs.new ≡ segs.old) }
-    ensures point { IfOk result (λ made. made.1 ≡ opened p.now (placement_at p.now segs.old words) made.0) }
-    ensures moves { MatchResult result (λ _. trail.new ≡ moves_after (placement_at p.now segs.old words) p.now.pool 0 trail.old)
+    ensures point { MatchResult result (λ held. p.new ≡ opened p.old (placement_at p.old segs.old words) held) (λ _. p.new ≡ p.old) }
+    ensures moves { MatchResult result (λ _. trail.new ≡ moves_after (placement_at p.old segs.old words) p.old.pool 0 trail.old)
         (λ _. trail.new ≡ trail.old) }
-    ensures at_hand { p.now.is_copying ≡ true
-        → IfOk result (λ _. IsAtHand segs.new (buffer_after p.now (placement_at p.now segs.old words) words)) }
-    ensures others { IfOk result (λ made. (r : Run) → CanCover segs.old r → AreApart r (run_of_held made.0) → CanCover segs.new r) }
+    ensures at_hand { p.old.is_copying ≡ true
+        → IfOk result (λ _. IsAtHand segs.new (buffer_after p.old (placement_at p.old segs.old words) words)) }
+    ensures others { IfOk result (λ held. (r : Run) → CanCover segs.old r → AreApart r (run_of_held held) → CanCover segs.new r) }
 {
     let placed = place(segs, trail, p, words)?;
     segs.cover(placed.at, words);
@@ -343,12 +344,9 @@ fn reserve_at(
         words,
         flips,
     };
-    let now = Point {
-        buffer: placed.buffer,
-        reservation: Some(held),
-        ..*p
-    };
-    Ok((held, now))
+    p.buffer = placed.buffer;
+    p.reservation = Some(held);
+    Ok(held)
 }
 
 /// Ends the reservations of these points that no flip has ended.
