@@ -101,25 +101,24 @@ fn apply_to_blocks(
 ) -> Result<(), ReplayFault>
     ensures { Gives (store_after (store_of live.old.entries) entry.now) (store_of live.new.entries) result }
 {
-    let first = field_at(entry, 0);
-    let second = field_at(entry, 1);
     match entry.code() {
         80 | 81 => make(
             live,
-            first,
+            field_at(entry, 0),
             Extent {
-                words: second,
+                words: field_at(entry, 1),
                 pool: field_at(entry, 2),
             },
         ),
-        82 => relocate(live, first, second),
-        83 | 84 => touch(live, first),
-        85 => free(live, first),
+        82 => relocate(live, field_at(entry, 0), field_at(entry, 1)),
+        83 | 84 => touch(live, field_at(entry, 0)),
+        85 => free(live, field_at(entry, 0)),
         _ => Ok(()),
     }
 }
 
 /// Makes a block.
+#[inline(always)]
 fn make(live: &mut IndexMap<u64, Extent>, at: u64, extent: Extent) -> Result<(), ReplayFault>
     ensures { Gives (after_making (store_of live.old.entries) at extent.words extent.pool) (store_of live.new.entries) result }
 {
