@@ -57,6 +57,13 @@ const COLLECTED: &[u8] =
 const COLLECTED_ANSWERS: &[u8] =
     b"ok\nok\nok\nok\nok\nok\nok\n7\n0x1000\nok\n0x2000\n1\n0x100000301 0x0 0x7\n";
 
+/// Heads of one digit and of more, with spaces around them, and one that breaks the rules.
+const HEADS: &[u8] =
+    b"arena 8 8\ntable t 1\npool p amc front\nap x p exact\nreserve x   f:2:0  \ncommit x t.0\nhead t.0\n\
+    reserve x f:12:3\ncommit x t.0\nhead t.0\nreserve x f:1:9\n";
+
+const HEADS_ANSWERS: &[u8] = b"ok\nok\nok\nok\nok\nok\nf:2:0\nok\nok\nf:12:3\nrefused 7\n";
+
 /// A command before the arena, and the arena again.
 const NO_ARENA_FIRST: &[u8] = b"\ntable t 4\narena 8 9\n";
 

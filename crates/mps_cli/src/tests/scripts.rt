@@ -1,8 +1,8 @@
 // Scripts on standard input.
 use super::{
     ARENA_AGAIN, COLLECTED, COLLECTED_ANSWERS, COMMENTS, Ends, FIRST, FIRST_ANSWERS, FIRST_LOG,
-    FULL_ARENA, FULL_ARENA_ANSWERS, HEADER, NO_ARENA_FIRST, NOT_BUILT, NOT_BUILT_ANSWERS, compare,
-    run,
+    FULL_ARENA, FULL_ARENA_ANSWERS, HEADER, HEADS, HEADS_ANSWERS, NO_ARENA_FIRST, NOT_BUILT,
+    NOT_BUILT_ANSWERS, compare, run,
 };
 use mps_desk::{DeskCall, MemDesk};
 use std::alloc::{AllocError, Global};
@@ -65,8 +65,8 @@ fn compare_log(rt: &impl Abort, desk: &MemDesk, case: &ScriptCase) {
 }
 
 /// Whole and in pieces of 1 and of 7 bytes, the first script has its answers, and its log byte for byte. Then scripts that
-/// have no command, an arena that is full, and commands out of turn.
-const SCRIPTS: [ScriptCase; 10] = [
+/// have no command, an arena that is full, heads in their forms, and commands out of turn.
+const SCRIPTS: [ScriptCase; 11] = [
     ScriptCase {
         script: FIRST,
         most: 0,
@@ -150,6 +150,18 @@ const SCRIPTS: [ScriptCase; 10] = [
         },
         log: FIRST_LOG,
         log_bytes: 256,
+    },
+    ScriptCase {
+        script: HEADS,
+        most: 0,
+        failing: None,
+        ends: Ends {
+            status: 0,
+            printed: HEADS_ANSWERS,
+            reported: b"",
+        },
+        log: HEADER,
+        log_bytes: 168,
     },
     ScriptCase {
         script: NOT_BUILT,
@@ -318,6 +330,9 @@ const BAD_LINES: [BadLineCase; 2] = [
             b"table t 01",
             b"table T 1",
             b"table\tt 1",
+            b"reserve x f:2:0 f:2:0",
+            b"reserve x f:2:x",
+            b"reserve x f:2:0\t",
             b"live\r",
             b"live\x00",
         ],
