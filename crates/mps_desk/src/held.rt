@@ -1,5 +1,5 @@
 // Bytes that wait to be written.
-ghost use Rattle.std.specs.Prelude.{◌≡◌, ◌<◌, ◌≤◌, [], ◌++◌, true, false, length, take, IsTrue, IfNone, IfSome, OnSome};
+ghost use Rattle.std.specs.Prelude.{◌≡◌, ◌+◌, ◌<◌, ◌≤◌, [], ◌++◌, true, false, length, take, IsTrue, IfNone, IfSome, OnSome, vec_capacity};
 ghost use Rattle.std.specs.Io.KnownBytes.{Appends};
 ghost use Rattle.mps_desk.specs.Held.{IsCarriedOn, HasRoom, max_held_bytes};
 
@@ -9,6 +9,9 @@ use std::marker::Model;
 
 /// The most bytes that wait.
 const MAX_HELD_BYTES: usize = 65_536;
+
+/// The most bytes of a piece that are held one by one, which costs less than a call.
+const SHORT_BYTES: usize = 3;
 
 /// Bytes that were taken and aren't written yet. Once a write failed they are let go, and no more are taken.
 #[derive(Drop)]
@@ -61,6 +64,10 @@ impl Held {
         if self.failed || piece.len() > left {
             return false;
         }
+        if piece.len() <= SHORT_BYTES && piece.len() <= self.bytes.capacity() - self.bytes.len() {
+            push_all(&mut self.bytes, piece);
+            return true;
+        }
         self.bytes.extend_from_slice(piece).is_ok()
     }
 
@@ -108,5 +115,17 @@ impl Held {
         ensures failed { self.new.failed ≡ self.old.failed }
     {
         self.bytes.clear();
+    }
+}
+
+/// Puts a piece after the bytes, in memory that is there already.
+#[inline(always)]
+fn push_all(bytes: &mut Vec<u8>, piece: &[u8])
+    requires { length bytes.old.items + length piece.now ≤ vec_capacity bytes.old }
+    ensures items { bytes.new.items ≡ bytes.old.items ++ piece.now }
+    ensures capacity { vec_capacity bytes.new ≡ vec_capacity bytes.old }
+{
+    for byte in piece {
+        bytes.push_reserved(*byte);
     }
 }
