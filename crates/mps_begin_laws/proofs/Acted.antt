@@ -48,6 +48,7 @@ use Rattle.mps_flip_laws.proofs.Reservations.{no_reservation_is_live}
 use Rattle.mps_unit_laws.specs.Standing.{AreCondemnedUnreserved, IsMoving, UnitStands, tracing}
 use Rattle.mps_begin_laws.specs.Before.{StandsBefore}
 use Rattle.mps_begin_laws.specs.Begun.{AFlipStands, AreRootsHeld, IsFlipStanding, IsActDone, ACollectionBegins}
+use Rattle.mps_trace.specs.declared.trace.Policy.{Policy}
 
 -- ---- something is condemned
 
@@ -56,7 +57,7 @@ has_some [] some = absurd (omega (arith, some))
 has_some (x ∷ xs) some = refl
 
 -- where segments of automatic pools are condemned in words, the model's flip condemns some
-pub something_condemned : {F : Type 0} (formats : List (Option F)) (ts : List Segment) (w : World) → ts ≡ w.segments
+pub something_condemned : {F : Type 0} (formats : List (Option (Policy F))) (ts : List Segment) (w : World) → ts ≡ w.segments
     → AreFormatsOf formats (pool_is is_automatic_kind w) → AllCopying (pool_is is_automatic_kind w) (is_copying_pool w)
     → 0 < length (automatic_of formats ts) → is_nothing (condemned_by w Everything) ≡ false
 something_condemned formats ts w same known copying some =
@@ -76,17 +77,12 @@ as_far fixes_no_more = record { next = refl; band = refl; cursor = refl }
 as_far (passes black rest) = as_far rest
 as_far (keeps white keep rest) = let far = as_far rest in record { next = far.next; band = far.band; cursor = far.cursor }
 
-moving_still : {F : Type 0} (layout : F → Layout) (formats : List (Option F)) (of : ChainsState) (w w' : World) → IsSameGraph w w'
-    → AreKnownPools layout formats of (is_copying_pool w') (pool_layout w') (generations_of w') → IsMoving layout formats of w
+moving_still : {F : Type 0} (layout : F → Layout) (formats : List (Option (Policy F))) (of : ChainsState) (w w' : World) → IsSameGraph w w'
+    → AreKnownPools layout formats of (pool_is is_automatic_kind w') (is_copying_pool w') (pool_layout w') (generations_of w') → IsMoving layout formats of w
     → IsMoving layout formats of w'
 moving_still layout formats of w w' same pools moving = record {
   shaped = shaped_still w w' same moving.shaped;
   pools = pools;
-  all_move = λ pool automatic.
-      ap (λ (ps : List Pool). option_map_or (λ p. is_copying_kind p.kind) (slice_get ps pool) false) same.pools
-      ∙ moving.all_move pool
-      (sym (ap (λ (ps : List Pool). option_map_or (λ p. is_automatic_kind p.kind) (slice_get ps pool) false)
-      same.pools) ∙ automatic);
   strong = λ id. ap (λ (g : Graph). for_object g id is_weak_object false) same.graph ∙ moving.strong id;
 }
 

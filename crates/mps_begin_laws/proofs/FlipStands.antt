@@ -1,5 +1,6 @@
 -- Right after a flip of everything the state in words stands for the abstract collector.
 use Rattle.std.proofs.Common.{◌≡◌, ◌∙◌, ℕ, ◌+◌, ◌≤◌, Bool, false, List, [], ◌∷◌, ◌++◌, length, map, sym, ap, subst, append-nil, arith}
+use Rattle.std.proofs.lemmas.Option.{same_Some}
 use Rattle.std.proofs.lemmas.List.{length-map}
 use Rattle.std.proofs.lemmas.List.Sums.{count_by-le-length, length-filter}
 use Rattle.std.specs.Prelude.{◌||◌, filter, nat_le, option_map}
@@ -32,7 +33,7 @@ use Rattle.mps_nail_laws.specs.Nailed.{AreWordsShown, AreMarkedTo, nails, pinned
 use Rattle.mps_nail_laws.proofs.Marks.{areas_marked}
 use Rattle.mps_begin_laws.specs.Before.{StandsBefore}
 use Rattle.mps_begin_laws.specs.Begun.{AFlipStands, IsFlipStanding}
-use Rattle.mps_begin_laws.proofs.FlippedImage.{resting, automatic_copies, image_pinned}
+use Rattle.mps_begin_laws.proofs.FlippedImage.{resting, kind_is, image_pinned}
 use Rattle.mps_begin_laws.proofs.FlippedSegments.{segments_flipped, bit_is, is_held, models, moved, condemns, strong, unmarked, whole}
 use Rattle.mps_begin_laws.proofs.NothingAtHand.{tails_are_empty, empty_tails_stand}
 use Rattle.mps_begin_laws.proofs.StrongNails.{strong_areas}
@@ -151,7 +152,8 @@ module _ {F : Type 0} (layout : F → Layout) (t : TraceState F) (s : SegsState)
     condemned = condemned;
     image = image;
     pools = b.pools.pools;
-    all_move = λ id o object is. automatic_copies layout t s m points w b id o object is;
+    collected = λ id o object is. kind_is layout t s m points w b id o object ∙ is;
+    still = λ id o from to object stays before now. same_Some from to (sym before ∙ now);
     tails = tails_are_empty t.chains t.amc (is_copying_pool w) b.pools.tails;
     hands = empty_tails_stand (setting_of z.segs w.addresses y) z.segs.segments w.addresses;
   }
@@ -168,7 +170,6 @@ module _ {F : Type 0} (layout : F → Layout) (t : TraceState F) (s : SegsState)
   moving = record {
     shaped = b.plain.shaped;
     pools = b.pools.pools;
-    all_move = b.pools.copying;
     strong = b.plain.none_weak;
   }
 

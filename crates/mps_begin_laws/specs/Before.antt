@@ -43,7 +43,7 @@ pub record AreSegmentsAtRest (s : SegsState) (w : World) : Type 0 where
 pub record ArePoolsKnown {F : Type 0} (layout : F → Layout) (t : TraceState F) (w : World) : Type 0 where
   pub formats : AreFormatsOf t.formats (pool_is is_automatic_kind w)
   pub copying : AllCopying (pool_is is_automatic_kind w) (is_copying_pool w)
-  pub pools : AreKnownPools layout t.formats t.chains (is_copying_pool w) (pool_layout w) (generations_of w)
+  pub pools : AreKnownPools layout t.formats t.chains (pool_is is_automatic_kind w) (is_copying_pool w) (pool_layout w) (generations_of w)
   pub tails : (pool generation : ℕ) → IsTrue (is_copying_pool w pool)
       → HasTail t.amc pool (target_generation (chains.generations_of t.chains pool) generation)
 

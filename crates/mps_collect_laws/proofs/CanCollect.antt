@@ -27,13 +27,14 @@ use Rattle.mps_refinement.specs.StandsFor.{StandsFor}
 use Rattle.mps_refinement.proofs.Ready.{all_are_reserved}
 use Rattle.mps_collect_laws.proofs.CollectRight.{IsBefore}
 use Rattle.mps_collect_laws.proofs.NullRoots.{null_roots_can_be_fixed}
+use Rattle.mps_trace.specs.declared.trace.Policy.{Policy}
 
 -- a trail with just the room that a collection asks for
 abbrev enough : (grains : ℕ) → Moves
 enough grains = record { moves = []; spare = most_moves grains }
 
 module _ {F : Type 0} (layout : F → Layout) (begins : ACollectionBegins F) (can_fix : RootsCanBeFixed F) (few : UnitsAreFew)
-    (scans : (formats : List (Option F)) (of : ChainsState) (at_flip : List (Option Address)) → AreScansDone layout formats of at_flip)
+    (scans : (formats : List (Option (Policy F))) (of : ChainsState) (at_flip : List (Option Address)) → AreScansDone layout formats of at_flip)
     (h : HeapState F) (m : Moves) (w : World) (st : StandsFor layout h w)
     (known : (n : Moves) → most_moves h.segs.grains ≤ n.spare → IsBefore layout h n w) (room : most_moves h.segs.grains ≤ m.spare) where
   k : IsBefore layout h m w

@@ -47,6 +47,7 @@ use Rattle.mps_collect_laws.proofs.RoomKept.{begin_pushes, units_keep_room, at_o
 use Rattle.mps_collect_laws.proofs.RootsAfter.{roots_stay, messages_after, tables_after, AreRootsAfter}
 use Rattle.mps_gen.specs.State.{ChainsState}
 use Rattle.mps_final.specs.State.{FinalsState}
+use Rattle.mps_trace.specs.declared.trace.Policy.{Policy}
 
 -- what has to be known of a heap that stands for a world before it collects everything: how its roots stand for those of the world, and
 -- all that a flip needs, whatever words are at hand for its pools
@@ -65,7 +66,7 @@ pub record IsRightThere {F : Type 0} (layout : F → Layout) (w : World) (m m' :
   pub room : KeepsRoom m m'
 
 module _ {F : Type 0} (layout : F → Layout) (begins : ACollectionBegins F) (nothing_ends : ACollectionOfNothingEnds F)
-    (scans : (formats : List (Option F)) (of : ChainsState) (at_flip : List (Option Address))
+    (scans : (formats : List (Option (Policy F))) (of : ChainsState) (at_flip : List (Option Address))
     → AreScansDone layout formats of at_flip)
     (h : HeapState F) (m : Moves) (h' : HeapState F) (m' : Moves) (collected : IsCollected layout h m h' m')
     (made : WereMadeBefore h.points.flips h.points) where

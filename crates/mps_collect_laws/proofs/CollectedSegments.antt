@@ -19,6 +19,7 @@ use Rattle.mps_trace.proofs.Ending.{segments_stay}
 use Rattle.mps_flip_laws.proofs.Reservations.{flip_moves_nothing}
 use Rattle.mps_unit_laws.specs.Laws.{HasSegmentsOf}
 use Rattle.mps_collect_laws.specs.Leaving.{IsButMoved}
+use Rattle.mps_trace.specs.declared.trace.Policy.{Policy}
 
 -- ---- condemned and kept
 
@@ -43,7 +44,7 @@ condemning_stays : (ts : List Segment) (s : SegsState) → (condemning_all ts s)
 condemning_stays [] s = refl
 condemning_stays (t ∷ ts) s = condemning_stays ts (condemning s t.base)
 
-pub segments_at_once : {F : Type 0} (formats : List (Option F)) (points : PointsState) (x z : Traced) (w : World)
+pub segments_at_once : {F : Type 0} (formats : List (Option (Policy F))) (points : PointsState) (x z : Traced) (w : World)
     → HasSegmentsOf x.segs w → IsAtRest w → is_nothing (condemned_by w Everything) ≡ true → z ≡ ended (at_flip formats points x)
     → HasSegmentsOf z.segs (world_after_moves w (flip_act w Everything))
 segments_at_once formats points x z w has rest nothing over =

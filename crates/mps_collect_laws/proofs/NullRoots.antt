@@ -22,6 +22,7 @@ use Rattle.mps_trace.specs.Trace.{TraceState, Traced}
 use Rattle.mps_slot_laws.specs.Rows.{HoldsAtFlip, WasAt, AreHeldAtFlip}
 use Rattle.mps_begin_laws.specs.Begun.{AreRootsHeld}
 use Rattle.mps_collect_laws.proofs.CollectIsRight.{something}
+use Rattle.mps_trace.specs.declared.trace.Policy.{Policy}
 
 -- ---- lists
 
@@ -84,7 +85,7 @@ module _ (w : World) (rest : IsAtRest w) (nothing : is_nothing (condemned_by w E
 abbrev AreNull : List ℕ → RootsState → Type 0
 AreNull order roots = (n i : ℕ) → n < length order → slot_of roots (slice_index_or order n 0) i ≡ 0
 
-module _ {F : Type 0} (layout : F → Layout) (formats : List (Option F)) (chains : ChainsState) where
+module _ {F : Type 0} (layout : F → Layout) (formats : List (Option (Policy F))) (chains : ChainsState) where
   stays_null : (x : Traced) (at : Address) (y : Traced) (to : Address) → at ≡ 0 → FixesRoot layout formats chains x at y to → to ≡ 0
   stays_null x at _ _ null (is_null none) = refl
   stays_null x at _ _ null (leads to some fixed) = absurd (omega (arith, null, some))

@@ -22,17 +22,18 @@ use Rattle.mps_trace_laws.specs.Tracing.{AreKnownPools}
 use Rattle.mps_flip_laws.specs.Condemned.{AreFormatsOf, AllCopying}
 use Rattle.mps_begin_laws.specs.Before.{ArePoolsKnown}
 use Rattle.mps_outcome.specs.Collecting.{IsTraceOf, is_moved_or_manual}
-use Rattle.mps_outcome.specs.State.{format_of_pool, is_copying_pool}
+use Rattle.mps_outcome.specs.State.{policy_of_pool, is_copying_pool}
 use Rattle.mps_outcome.specs.declared.pool.Pool.{Pool}
 use Rattle.mps_outcome.specs.declared.pool.Pool.TheVariants as pool
 use Rattle.mps_refinement.specs.StandsFor.{ArePools, IsPool}
 use Rattle.mps_refinement.proofs.PoolKinds.{copying_by_number, kind_of, kinds_alike}
 use Rattle.mps_collect_laws.proofs.CollectIsRight.{something}
+use Rattle.mps_trace.specs.declared.trace.Policy.{Policy}
 
 -- ---- one pool
 
 module _ {F : Type 0} where
-  has_format : (p : Pool F) → is_some (format_of_pool p) ≡ is_automatic_kind (kind_of p)
+  has_format : (p : Pool F) → is_some (policy_of_pool p) ≡ is_automatic_kind (kind_of p)
   has_format (pool.Automatic kind format) = refl
   has_format (pool.OneSize words) = refl
   has_format pool.AnySize = refl
@@ -42,24 +43,31 @@ module _ {F : Type 0} where
   moved_if_automatic (pool.OneSize words) moved automatic = absurd (false≢true automatic)
   moved_if_automatic pool.AnySize moved automatic = absurd (false≢true automatic)
 
-  format_where_copying : (p : Pool F) → is_copying_pool p ≡ true → (format : F) × (format_of_pool p ≡ Some format)
-  format_where_copying (pool.Automatic kind format) copying = (format, refl)
-  format_where_copying (pool.OneSize words) copying = absurd (false≢true copying)
-  format_where_copying pool.AnySize copying = absurd (false≢true copying)
+  format_where_automatic : (p : Pool F) → is_automatic_kind (kind_of p) ≡ true
+      → (format : Policy F) × (policy_of_pool p ≡ Some format)
+  format_where_automatic (pool.Automatic kind format) automatic =
+      (record { format = format; moves = is_copying_pool (pool.Automatic kind format) }, refl)
+  format_where_automatic (pool.OneSize words) automatic = absurd (false≢true automatic)
+  format_where_automatic pool.AnySize automatic = absurd (false≢true automatic)
 
-  layout_is : (layout : F → Layout) (formats : ℕ → Layout) (p : Pool F) (q : world.Pool) (format : F) → IsPool layout formats p q
-      → format_of_pool p ≡ Some format → layout format ≡ formats q.format
-  layout_is layout formats (pool.Automatic kind other) q format is e = ap layout (sym (same_Some other format e)) ∙ sym is.1
+  moves_by : (p : Pool F) (format : Policy F) → policy_of_pool p ≡ Some format → format.moves ≡ is_copying_pool p
+  moves_by (pool.Automatic kind other) format e = ap (λ (x : Policy F). x.moves) (sym (same_Some _ format e))
+  moves_by (pool.OneSize words) format e = absurd (none-some format e)
+  moves_by pool.AnySize format e = absurd (none-some format e)
+
+  layout_is : (layout : F → Layout) (formats : ℕ → Layout) (p : Pool F) (q : world.Pool) (format : Policy F) → IsPool layout formats p q
+      → policy_of_pool p ≡ Some format → layout format.format ≡ formats q.format
+  layout_is layout formats (pool.Automatic kind other) q format is e = ap (λ (x : Policy F). layout x.format) (sym (same_Some _ format e)) ∙ sym is.1
   layout_is layout formats (pool.OneSize words) q format is e = absurd (none-some format e)
   layout_is layout formats pool.AnySize q format is e = absurd (none-some format e)
 
   -- the format of a pool by its number, with None for what is no pool
-  format_there : (formats : List (Option F)) (number : ℕ) (o : Option (Option F)) → slice_get formats number ≡ o
+  format_there : (formats : List (Option (Policy F))) (number : ℕ) (o : Option (Option (Policy F))) → slice_get formats number ≡ o
       → is_automatic formats number ≡ option_map_or is_some o false
   format_there formats number None e =
-      ap is_some (sym (unwrap_or-slice_get formats number None) ∙ ap (λ (x : Option (Option F)). unwrap_or x None) e)
+      ap is_some (sym (unwrap_or-slice_get formats number None) ∙ ap (λ (x : Option (Option (Policy F))). unwrap_or x None) e)
   format_there formats number (Some format) e =
-      ap is_some (sym (unwrap_or-slice_get formats number None) ∙ ap (λ (x : Option (Option F)). unwrap_or x None) e)
+      ap is_some (sym (unwrap_or-slice_get formats number None) ∙ ap (λ (x : Option (Option (Policy F))). unwrap_or x None) e)
 
 -- no chain has generations where there is none
 none_on_chain : (o : Option ℕ) → option_map (λ (capacities : List ℕ). length capacities) (option_and_then (λ chain. slice_get [] chain) o)
@@ -91,10 +99,10 @@ module _ {F : Type 0} (layout : F → Layout) (pools : List (Pool F)) (t : Trace
           let p = something pools number (omega (arith, within, count)) in
           absurd (none-some p.0 (sym e ∙ p.1))
 
-  format_at : (number : ℕ) (o : Option (Pool F)) → slice_get pools number ≡ o → slice_get t.formats number ≡ option_map format_of_pool o
+  format_at : (number : ℕ) (o : Option (Pool F)) → slice_get pools number ≡ o → slice_get t.formats number ≡ option_map policy_of_pool o
   format_at number o e =
-      ap (λ (formats : List (Option F)). slice_get formats number) of.formats ∙ slice_get-map format_of_pool pools number
-      ∙ ap (option_map format_of_pool) e
+      ap (λ (formats : List (Option (Policy F))). slice_get formats number) of.formats ∙ slice_get-map policy_of_pool pools number
+      ∙ ap (option_map policy_of_pool) e
 
   kind_at : (number : ℕ) (q : world.Pool) → slice_get w.pools number ≡ Some q
       → pool_is is_automatic_kind w number ≡ is_automatic_kind q.kind
@@ -105,7 +113,7 @@ module _ {F : Type 0} (layout : F → Layout) (pools : List (Pool F)) (t : Trace
     where
       by_cases : AtNumber number → is_automatic t.formats number ≡ pool_is is_automatic_kind w number
       by_cases (both p q e f is) =
-          format_there t.formats number (Some (format_of_pool p)) (format_at number (Some p) e) ∙ has_format p
+          format_there t.formats number (Some (policy_of_pool p)) (format_at number (Some p) e) ∙ has_format p
           ∙ ap is_automatic_kind (sym (kinds_alike layout w.formats p q is)) ∙ sym (kind_at number q f)
       by_cases (neither e f) =
           format_there t.formats number None (format_at number None e)
@@ -124,20 +132,31 @@ module _ {F : Type 0} (layout : F → Layout) (pools : List (Pool F)) (t : Trace
           absurd (false≢true
           (sym (ap (λ (o : Option world.Pool). option_map_or (λ p. is_automatic_kind p.kind) o false) f) ∙ automatic))
 
-  -- a pool that moves its blocks, with its format
-  record IsMover (number : ℕ) : Type 0 where
+  -- an automatic pool, with its policy
+  record IsCollectedPool (number : ℕ) : Type 0 where
     pool_is : Pool F
     there : slice_get pools number ≡ Some pool_is
-    format : F
-    format_is : format_of_pool pool_is ≡ Some format
+    format : Policy F
+    format_is : policy_of_pool pool_is ≡ Some format
 
-  mover : (number : ℕ) → world.is_copying_pool w number ≡ true → IsMover number
+  collected : (number : ℕ) → pool_is is_automatic_kind w number ≡ true → IsCollectedPool number
+  collected number automatic = by_cases (at_number number)
+    where
+      by_cases : AtNumber number → IsCollectedPool number
+      by_cases (both p q e f is) =
+          let kind : is_automatic_kind (kind_of p) ≡ true =
+          ap is_automatic_kind (sym (kinds_alike layout w.formats p q is)) ∙ sym (kind_at number q f) ∙ automatic in
+          let format = format_where_automatic p kind in
+          record { pool_is = p; there = e; format = format.0; format_is = format.1 }
+      by_cases (neither e f) =
+          absurd (false≢true
+          (sym (ap (λ (o : Option world.Pool). option_map_or (λ p. is_automatic_kind p.kind) o false) f) ∙ automatic))
+
+  mover : (number : ℕ) → world.is_copying_pool w number ≡ true → (p : Pool F) × (slice_get pools number ≡ Some p)
   mover number copying = by_cases (at_number number)
     where
-      by_cases : AtNumber number → IsMover number
-      by_cases (both p q e f is) =
-          let format = format_where_copying p (copying_by_number layout w.formats p q is w number f ∙ copying) in
-          record { pool_is = p; there = e; format = format.0; format_is = format.1 }
+      by_cases : AtNumber number → (p : Pool F) × (slice_get pools number ≡ Some p)
+      by_cases (both p q e f is) = (p, e)
       by_cases (neither e f) =
           absurd (false≢true (sym (ap (λ (o : Option world.Pool). option_map_or (λ p. world.is_copying_kind p.kind) o false) f) ∙ copying))
 
@@ -153,24 +172,36 @@ module _ {F : Type 0} (layout : F → Layout) (pools : List (Pool F)) (t : Trace
       (option_and_then (λ chain. slice_get cs chain) (option_and_then (λ (p : world.Pool). p.chain) (world.pool_at w number)))) none
       ∙ none_on_chain (option_and_then (λ (p : world.Pool). p.chain) (world.pool_at w number))
 
-  formats_right : (number : ℕ) (format : F) → slice_get t.formats number ≡ Some (Some format) → layout format ≡ pool_layout w number
+  formats_right : (number : ℕ) (format : Policy F) → slice_get t.formats number ≡ Some (Some format)
+      → layout format.format ≡ pool_layout w number
   formats_right number format there = by_cases (at_number number)
     where
-      by_cases : AtNumber number → layout format ≡ pool_layout w number
+      by_cases : AtNumber number → layout format.format ≡ pool_layout w number
       by_cases (both p q e f is) =
           layout_is layout w.formats p q format is
-          (same_Some (format_of_pool p) (Some format) (sym (format_at number (Some p) e) ∙ there))
+          (same_Some (policy_of_pool p) (Some format) (sym (format_at number (Some p) e) ∙ there))
           ∙ sym (ap (λ (o : Option world.Pool). w.formats (option_map_or (λ (x : world.Pool). x.format) o 0)) f)
       by_cases (neither e f) = absurd (none-some (Some format) (sym (format_at number None e) ∙ there))
 
-  known_pools : AreKnownPools layout t.formats t.chains (world.is_copying_pool w) (pool_layout w) (generations_of w)
+  moves_right : (number : ℕ) (format : Policy F) → slice_get t.formats number ≡ Some (Some format)
+      → format.moves ≡ world.is_copying_pool w number
+  moves_right number format there = by_cases (at_number number)
+    where
+      by_cases : AtNumber number → format.moves ≡ world.is_copying_pool w number
+      by_cases (both p q e f is) =
+          moves_by p format (same_Some (policy_of_pool p) (Some format) (sym (format_at number (Some p) e) ∙ there))
+          ∙ copying_by_number layout w.formats p q is w number f
+      by_cases (neither e f) = absurd (none-some (Some format) (sym (format_at number None e) ∙ there))
+
+  known_pools : AreKnownPools layout t.formats t.chains (pool_is is_automatic_kind w) (world.is_copying_pool w) (pool_layout w) (generations_of w)
   known_pools = record {
-    listed = λ number copying.
-        let m = mover number copying in (m.format, format_at number (Some m.pool_is) m.there ∙ ap Some m.format_is);
+    listed = λ number automatic.
+        let m = collected number automatic in (m.format, format_at number (Some m.pool_is) m.there ∙ ap Some m.format_is);
     format_is = formats_right;
+    moves_is = moves_right;
     known = λ number copying.
         let m = mover number copying in
-        let within = slice_get_within pools number m.pool_is m.there in
+        let within = slice_get_within pools number m.0 m.1 in
         let long : length t.chains.of_pool ≡ length pools =
         ap (λ (c : ChainsState). length c.of_pool) of.chains ∙ length-replicate (length pools) None in
         omega (arith, within, long);
@@ -185,5 +216,5 @@ module _ {F : Type 0} (layout : F → Layout) (pools : List (Pool F)) (t : Trace
     tails = λ number generation copying.
         let m = mover number copying in
         subst (λ (o : Option ℕ). HasTail t.amc number (target_generation o generation)) (sym (generations_known number))
-        (of.tails number (slice_get_within pools number m.pool_is m.there));
+        (of.tails number (slice_get_within pools number m.0 m.1));
   }

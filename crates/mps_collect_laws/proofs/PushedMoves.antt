@@ -26,10 +26,11 @@ use Rattle.mps_trace.specs.Roots as roots
 use Rattle.mps_trace.specs.Roots.{FixesRoot, FixesSlots, FixesTables, FixesMessages, key_at}
 use Rattle.mps_trace.specs.Scan as scan
 use Rattle.mps_trace.specs.Scan.{FixesCell, ScansTo, ScansOne}
-use Rattle.mps_trace.specs.Trace.{Traced, FixesTo, passes, fixes, target_of}
+use Rattle.mps_trace.specs.Trace.{Traced, FixesTo, passes, fixes, marks, target_of}
 use Rattle.mps_trace.specs.Unit as units
 use Rattle.mps_trace.specs.Unit.{UnitTo, UnitsTo}
 use Rattle.mps_trace.specs.declared.running.Running.{Running}
+use Rattle.mps_trace.specs.declared.trace.Policy.{Policy}
 
 -- ---- trails
 
@@ -83,11 +84,13 @@ fix_pushes f amc s m at generation amc' s' m' _ (keeps t answer not_moved isnt o
     subst (IsPushed m) (sym fixed.trail)
     (pushed_on (placed placement t.pool generation m) (kept_or_moved (answer_of_placement placement) moves at))
 
-module _ {F : Type 0} (layout : F → Layout) (formats : List (Option F)) (chains : ChainsState) where
+module _ {F : Type 0} (layout : F → Layout) (formats : List (Option (Policy F))) (chains : ChainsState) where
   to_pushes : (x : Traced) (at : Addr) (y : Traced) (to : Addr) → FixesTo layout formats chains x at y to → IsPushed x.moves y.moves
   to_pushes x at _ _ (passes calm) = none_pushed x.moves
-  to_pushes x at y to (fixes t format answer condemned over listed fixed) =
-      fix_pushes (layout format) x.amc x.segs x.moves at (target_of chains t) y.amc y.segs y.moves answer fixed
+  to_pushes x at y to (fixes t format answer condemned over listed moves fixed) =
+      fix_pushes (layout format.format) x.amc x.segs x.moves at (target_of chains t) y.amc y.segs y.moves answer fixed
+  to_pushes x at y to (marks t format condemned over listed stays is) =
+      subst (λ (w : Traced). IsPushed x.moves w.moves) (sym is) (none_pushed x.moves)
 
   -- ---- roots
 
@@ -133,7 +136,7 @@ module _ {F : Type 0} (layout : F → Layout) (formats : List (Option F)) (chain
   scan_pushes x z one =
       let s = one.scanned in
       subst (λ (v : Traced). IsPushed x.moves v.moves) (sym s.black)
-      (cells_push (layout s.format) (slice_index x.segs.words (word_of (at_word one.word).0)) (at_word one.word) x s.all.from s.before
+      (cells_push (layout s.format.format) (slice_index x.segs.words (word_of (at_word one.word).0)) (at_word one.word) x s.all.from s.before
       s.all.run)
 
 -- ---- a reclaim
@@ -174,13 +177,13 @@ reclaim_pushes f s m base s' m' (is_padded t found used state padded trail) =
 
 -- ---- units
 
-module _ {F : Type 0} (layout : F → Layout) (formats : List (Option F)) (chains : ChainsState) where
+module _ {F : Type 0} (layout : F → Layout) (formats : List (Option (Policy F))) (chains : ChainsState) where
   unit_pushes : (x : Traced) (run : Running) (z : Traced) (run' : Running) → UnitTo layout formats chains x run z run'
       → IsPushed x.moves z.moves
   unit_pushes x run z _ (units.scans one) = scan_pushes layout formats chains x z one
   unit_pushes x run z run' (units.reclaims base left next other is) =
       let r = next.reclaimed in
-      (reclaim_pushes (layout r.format) x.segs x.moves base z.segs z.moves r.reclaimed).pushed
+      (reclaim_pushes (layout r.format.format) x.segs x.moves base z.segs z.moves r.reclaimed).pushed
 
   pub units_push : (x : Traced) (run : Running) (count : ℕ) (z : Traced) (run' : Running)
       → UnitsTo layout formats chains x run count z run' → IsPushed x.moves z.moves

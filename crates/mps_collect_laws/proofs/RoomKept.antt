@@ -54,7 +54,7 @@ module _ {F : Type 0} (layout : F → Layout) (t : TraceState F) where
       let v = ends.last.before in
       let can = a_unit_is_ready layout (record t { amc = u.amc }) u.segs u.moves at_flip ends.run_before done.after done.stands in
       let room : HasRoomToEnd u.segs u.moves base = (can.reclaim next.drained).room base next.lowest in
-      let told = reclaim_pushes (layout r.format) u.segs u.moves base v.segs v.moves r.reclaimed in
+      let told = reclaim_pushes (layout r.format.format) u.segs u.moves base v.segs v.moves r.reclaimed in
       let enough = room told.segment told.over in
       let few = told.most in
       let whole = pushed_on row (pushed_on told.pushed (one_pushed v.moves End)) in

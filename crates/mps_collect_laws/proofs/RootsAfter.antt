@@ -11,6 +11,7 @@ use Rattle.mps_root.specs.State.{RootsState, kept, items_of, with_item}
 use Rattle.mps_colours.proofs.ClientCells.{length_set}
 use Rattle.mps_trace.specs.Trace.{Traced}
 use Rattle.mps_trace.specs.Roots.{FixesSlots, FixesTables, FixesMessages, begins, goes_on, key_at, with_slot}
+use Rattle.mps_trace.specs.declared.trace.Policy.{Policy}
 
 -- ---- rows
 
@@ -94,7 +95,7 @@ pub record AreFinalsAfter (before after : FinalsState) : Type 0 where
 
 -- ---- the fixes
 
-module _ {F : Type 0} (layout : F → Layout) (formats : List (Option F)) (chains : ChainsState) where
+module _ {F : Type 0} (layout : F → Layout) (formats : List (Option (Policy F))) (chains : ChainsState) where
   pub slots_after : (key : ℕ) (roots : RootsState) (x : Traced) (count : ℕ) (roots' : RootsState) (z : Traced)
       → FixesSlots layout formats chains key roots x count roots' z → count ≤ length (items_of roots.tables key)
       → AreRootsAfter roots roots'

@@ -1,5 +1,5 @@
 -- Changes of what the client holds, and of what no collection moves.
-use Rattle.std.proofs.Common.{◌≡◌, ◌∙◌, ◌⊎◌, ℕ, Bool, true, false, refl, ap, List, ◌++◌, Option, Some, None, subst, inl, inr, arith}
+use Rattle.std.proofs.Common.{◌≡◌, ◌∙◌, ◌⊎◌, ℕ, true, false, refl, ap, List, ◌++◌, Option, Some, None, subst, inl, inr, arith}
 use Rattle.std.specs.Prelude.{Ok, Err, slice_get}
 use Rattle.mps_base.specs.Address.{Id, Address}
 use Rattle.mps_base.specs.declared.names.Name.{Name}
@@ -10,8 +10,7 @@ use Rattle.mps_model.specs.Graph.{Graph, AreaWord, Point, contains, entry_at, id
 use Rattle.mps_model.specs.Collection.{is_condemned}
 use Rattle.mps_model.specs.World.{World, is_live, is_copying_object, is_automatic_kind, pool_is}
 use Rattle.mps_model.specs.LegalMove.{holds_something}
-use Rattle.mps_model.specs.Checked.{Act, Checked, Found, Numbered, ◌>>=◌, ◌>>◌, required, refuse_when, numbered, entry_in, number_named, as_table, as_area, as_point, slot_in, word_in, point_named}
-use Rattle.mps_model.specs.Reply.{world_from}
+use Rattle.mps_model.specs.Checked.{Checked, Found, Numbered, ◌>>=◌, required, numbered, entry_in, number_named, as_table, as_area, as_point, slot_in, word_in, point_named}
 use Rattle.mps_colours.specs.Collecting.{Collecting, Running, is_white_in}
 use Rattle.mps_colours.proofs.Lists.{contains_append, contains_left, contains_right}
 use Rattle.mps_colours.proofs.ClientChange.{IsChange, change_keeps}
@@ -108,23 +107,6 @@ module _ (slots holds messages reservations : List Id) (id : Id) where
   held_so (in_reservations h) = contains_right ((slots ++ holds) ++ messages) reservations id h
 
 -- ---- acts
-
--- what holds of the world after an act, where it holds of the world that a refusal leaves
-pub bind_keeps : {A : Type 0} (P : World → Type 0) (w : World) (m : Checked A) (f : A → Checked Act) → P w
-    → ((a : A) → m ≡ Ok a → P (world_from w (f a))) → P (world_from w (m >>= f))
-bind_keeps P w (Ok a) f base each = each a refl
-bind_keeps P w (Err why) f base each = base
-
-pub then_keeps : {A : Type 0} (P : World → Type 0) (w : World) (m : Checked A) (next : Checked Act) → P w → P (world_from w next)
-    → P (world_from w (m >> next))
-then_keeps P w (Ok a) next base rest = rest
-then_keeps P w (Err why) next base rest = base
-
-pub refuse_keeps : (P : World → Type 0) (w : World) (b : Bool) (why : Refusal) (next : Checked Act) → P w
-    → (b ≡ false → P (world_from w next))
-    → P (world_from w (refuse_when b why >> next))
-refuse_keeps P w true why next base rest = base
-refuse_keeps P w false why next base rest = rest refl
 
 -- ---- entries that are found
 

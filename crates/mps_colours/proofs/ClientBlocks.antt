@@ -2,35 +2,30 @@
 use Rattle.std.proofs.Common.{◌≡◌, ◌∙◌, ℕ, Bool, true, false, refl, sym, ap, List, [], ◌∷◌, length, Option, Some, None, subst, inl, inr}
 use Rattle.std.proofs.lemmas.Bool.{false≢true, or_cases}
 use Rattle.std.proofs.lemmas.Option.{same_Some}
-use Rattle.std.specs.Prelude.{Ok, Err, slice_get, slice_set, if◌then◌else◌, not, is_some, replicate}
+use Rattle.std.specs.Prelude.{Ok, Err, slice_get, slice_set, if◌then◌else◌, replicate}
 use Rattle.std.specs.List.{list_any}
 use Rattle.std.specs.Option.{option_map_or}
 use Rattle.mps_base.specs.Address.{Id, address_of_grain}
 use Rattle.mps_base.specs.Placement.{Placement, Place, NewSegment, OverLimit, NoFreeRun}
 use Rattle.mps_base.specs.Run.{Run}
 use Rattle.mps_base.specs.Segment.{Segment, with_segment, words_of_segment}
-use Rattle.mps_base.specs.declared.names.Name.{Name}
-use Rattle.mps_base.specs.declared.names.Slot.{Slot}
-use Rattle.mps_base.specs.declared.refusal.Refusal.TheVariants as refusal
-use Rattle.mps_model.specs.declared.reply.Reply.TheVariants as reply
 use Rattle.mps_model.specs.Answer.{Answer, is_refused}
 use Rattle.mps_model.specs.Graph.{Object, Manual, Point, Reservation, contains, entry_at, with_last, targets_of_cells, targets_of_point, targets_of_reservation, ids_of_client, ids_in_slots, ids_in_holds, ids_in_reservations}
-use Rattle.mps_model.specs.World.{World, PointMemory, Pool, Tail, extent, extents_of, extent_of_reservation, is_copying_pool, is_automatic_kind, with_tail, is_live}
+use Rattle.mps_model.specs.World.{World, PointMemory, Pool, Tail, extent, extents_of, extent_of_reservation, is_copying_pool, with_tail, is_live}
 use Rattle.mps_model.specs.Placement.{ForAlloc, placement_of}
-use Rattle.mps_model.specs.Checked.{Act, Checked, Found, Numbered, ◌>>=◌, ◌>>◌, required, refuse_when, done, says, point_named, pool_named, slot_in, block_place_in, with_graph}
-use Rattle.mps_model.specs.Allocating.{with_reservation, reserved_address, committed_object, world_committed, act_commit, act_alloc, allows_size, refuse_without_place, graph_allocated, address_of_placement}
+use Rattle.mps_model.specs.Checked.{Checked, Found, Numbered, with_graph}
+use Rattle.mps_model.specs.Allocating.{with_reservation, reserved_address, committed_object, world_committed, graph_allocated}
 use Rattle.mps_model.specs.Effect.{holding, segment_of_move, world_after_moves}
 use Rattle.mps_model.specs.History.{alloc_at, moves_of_alloc, unless_refused}
-use Rattle.mps_model.specs.Reply.{world_from}
 use Rattle.mps_model.specs.WellFormed.{IsWellFormed}
 use Rattle.mps_colours.specs.Colours.{AreDifferent}
 use Rattle.mps_colours.specs.Collecting.{Collecting, Running, is_white_in}
 use Rattle.mps_colours.proofs.HeldSegments.{AreOrdered}
 use Rattle.mps_colours.proofs.ClientLists.{among_all, entry_is}
 use Rattle.mps_colours.proofs.ClientCovered.{extent_of_last}
-use Rattle.mps_colours.proofs.ClientBeside.{in_reservations, held_so, bind_keeps, then_keeps, IsFound, slot_found, point_found}
+use Rattle.mps_colours.proofs.ClientBeside.{in_reservations, held_so, IsFound}
 use Rattle.mps_colours.proofs.ClientRoots.{slot_keeps}
-use Rattle.mps_colours.proofs.ClientPoints.{open_is, ended_keeps}
+use Rattle.mps_colours.proofs.ClientPoints.{ended_keeps}
 use Rattle.mps_colours.proofs.ClientThings.{aside_keeps}
 use Rattle.mps_colours.proofs.ClientMaking.{made_keeps, made_black, made_live, segments_keep, among_with}
 
@@ -49,7 +44,7 @@ module _ (x : Collecting) (run : Running x) (formed : IsWellFormed x.world) wher
 
   module _ (point : Numbered Point) (found : entry_at w.graph.points point.number ≡ Some point.value) (r : Reservation)
       (is_open : point.value.reservation ≡ Some r) where
-    flipped_keeps : r.is_doomed ≡ true → P (with_graph w (with_reservation w.graph point None))
+    pub flipped_keeps : r.is_doomed ≡ true → P (with_graph w (with_reservation w.graph point None))
     flipped_keeps doomed = ended_keeps x run point found
         (λ p memory there passes. absurd (false≢true (sym (ap (λ o. list_any p (extent_of_reservation o memory)) is_open
         ∙ ap (λ b. list_any p (if (if b then false else true) then extent memory.reserved_at (length r.cells) ∷ [] else [])) doomed)
@@ -99,7 +94,7 @@ module _ (x : Collecting) (run : Running x) (formed : IsWellFormed x.world) wher
       ended_runs : Running ended
       ended_runs = ended_keeps with_new new_runs point found covers
 
-      committed_keeps : P (world_committed w point r slot)
+      pub committed_keeps : P (world_committed w point r slot)
       committed_keeps = slot_keeps ended ended_runs slot (Some (length w.graph.objects)) slot_there
           (λ id same. inr (subst (λ n. (is_live ended.world n ≡ true) × (is_white_in ended n ≡ false))
           (same_Some (length w.graph.objects) id same) (
@@ -107,35 +102,11 @@ module _ (x : Collecting) (run : Running x) (formed : IsWellFormed x.world) wher
             made_black x run new (reserved_address w point.number) formed.addresses different held,
           )))
 
-    ends_keeps : (slot : Found (Option ℕ)) → IsFound (entry_at w.graph.tables) slot
-        → Q (world_from w (if r.is_doomed then says reply.Flipped (with_graph w (with_reservation w.graph point None))
-        else done (world_committed w point r slot)))
-    ends_keeps slot there = of_doomed r.is_doomed refl
-      where
-        of_doomed : (b : Bool) → r.is_doomed ≡ b
-            → Q (world_from w (if b then says reply.Flipped (with_graph w (with_reservation w.graph point None)) else done
-            (world_committed w point r slot)))
-        of_doomed true e = λ different. flipped_keeps e
-        of_doomed false e = λ different. committed_keeps e slot there different
-
-  pub commit_keeps : (name : Name) (target : Slot) → Q (world_from w (act_commit w name target))
-  commit_keeps name target =
-      bind_keeps Q w (point_named w name) (λ point. slot_in w target >>= (λ slot. required point.value.reservation refusal.NotOpen
-      >>= (λ r. if r.is_doomed then says reply.Flipped (with_graph w (with_reservation w.graph point None))
-      else done (world_committed w point r slot)))) (λ different. run)
-      (λ point e. bind_keeps Q w (slot_in w target) (λ slot. required point.value.reservation refusal.NotOpen
-      >>= (λ r. if r.is_doomed then says reply.Flipped (with_graph w (with_reservation w.graph point None))
-      else done (world_committed w point r slot))) (λ different. run)
-      (λ slot f. bind_keeps Q w (required point.value.reservation refusal.NotOpen)
-      (λ r. if r.is_doomed then says reply.Flipped (with_graph w (with_reservation w.graph point None))
-      else done (world_committed w point r slot)) (λ different. run)
-      (λ r g. ends_keeps point (point_found w name point e) r (open_is point.value.reservation r g) slot (slot_found w target slot f))))
-
 -- ---- alloc
 
 -- a manual block is made
 module _ (x : Collecting) (run : Running x) (as_many : length x.world.addresses ≡ length x.world.graph.objects) where
-  allocated_keeps : (pool words at : ℕ) (place : Found (Option ℕ)) → AreDifferent (with_last x.world.addresses (Some at))
+  pub allocated_keeps : (pool words at : ℕ) (place : Found (Option ℕ)) → AreDifferent (with_last x.world.addresses (Some at))
       → Running (record x {
         world = record x.world {
           graph = graph_allocated x.world.graph pool words place;
@@ -155,55 +126,6 @@ module _ (x : Collecting) (run : Running x) (as_many : length x.world.addresses 
       x.world.grains x.world.limit x.world.chains x.world.graph.names
       (slice_set x.world.graph.blocks place.number (slice_set place.list place.index (Some (length x.world.graph.objects)))) x.world.state
       x.world.dependencies
-
--- an alloc, judged in one world, takes effect in another
-module _ (judged after : World) (words : ℕ) (into : Slot) where
-  abbrev world_allocated : Numbered Pool → Found (Option ℕ) → World
-  world_allocated from place = record after {
-    graph = graph_allocated after.graph from.number words place;
-    addresses = with_last after.addresses (Some (address_of_placement (placement_of judged (ForAlloc from.number words))));
-  }
-
-  abbrev roomy : Numbered Pool → Found (Option ℕ) → Checked Act
-  roomy from place = refuse_without_place (placement_of judged (ForAlloc from.number words)) >> done (world_allocated from place)
-
-  abbrev empty_place : Numbered Pool → Found (Option ℕ) → Checked Act
-  empty_place from place = refuse_when (is_some place.value) refusal.NameTaken >> roomy from place
-
-  abbrev sized : Numbered Pool → Found (Option ℕ) → Checked Act
-  sized from place = refuse_when (not (allows_size from.value.kind words)) refusal.BadSize >> empty_place from place
-
-  abbrev placed : Numbered Pool → Checked Act
-  placed from = block_place_in judged into >>= (λ place. sized from place)
-
-  abbrev kind_checked : Numbered Pool → Checked Act
-  kind_checked from = refuse_when (is_automatic_kind from.value.kind) refusal.WrongPool >> placed from
-
-  -- what holds of the world before the act and of the one after it
-  allocated_so : (R : World → Type 0) (pool : Name) → R after
-      → ((from : Numbered Pool) (place : Found (Option ℕ)) → R (world_allocated from place))
-      → R (world_from after (act_alloc judged after pool words into))
-  allocated_so R pool base each =
-      bind_keeps R after (pool_named judged pool) (λ from. kind_checked from) base
-      (λ from e. then_keeps R after (refuse_when (is_automatic_kind from.value.kind) refusal.WrongPool) (placed from) base
-      (bind_keeps R after (block_place_in judged into) (λ place. sized from place) base
-      (λ place f. then_keeps R after (refuse_when (not (allows_size from.value.kind words)) refusal.BadSize) (empty_place from place) base
-      (then_keeps R after (refuse_when (is_some place.value) refusal.NameTaken) (roomy from place) base
-      (then_keeps R after (refuse_without_place (placement_of judged (ForAlloc from.number words))) (done (world_allocated from place)) base
-      (each from place))))))
-
-  -- an alloc leaves the segments that it finds
-  pub alloc_segments : (pool : Name) → (world_from after (act_alloc judged after pool words into)).segments ≡ after.segments
-  alloc_segments pool = allocated_so (λ v. v.segments ≡ after.segments) pool refl (λ from place. refl)
-
-pub alloc_keeps : (x : Collecting) → Running x → length x.world.addresses ≡ length x.world.graph.objects
-    → (judged : World) (pool : Name) (words : ℕ)
-    (into : Slot) → AreDifferent (world_from x.world (act_alloc judged x.world pool words into)).addresses
-    → Running (record x { world = world_from x.world (act_alloc judged x.world pool words into) })
-alloc_keeps x run as_many judged pool words into =
-    allocated_so judged x.world words into (λ v. AreDifferent v.addresses → Running (record x { world = v })) pool (λ different. run)
-    (λ from place different. allocated_keeps x run as_many from.number words
-    (address_of_placement (placement_of judged (ForAlloc from.number words))) place different)
 
 -- ---- the segment that an alloc takes
 

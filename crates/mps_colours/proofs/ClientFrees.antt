@@ -2,7 +2,7 @@
 use Rattle.std.proofs.Common.{◌≡◌, ◌∙◌, ℕ, Bool, true, false, refl, sym, ap, List, [], ◌∷◌, length, Option, Some, None, subst, inl, inr}
 use Rattle.std.proofs.lemmas.Bool.{false≢true, true≢false, and_parts, or_cases, cases_Bool}
 use Rattle.std.proofs.lemmas.Option.{same_Some}
-use Rattle.std.specs.Prelude.{◌&&◌, ◌||◌, ◌==◌, not, if◌then◌else◌, option_map, Ok, Err, slice_get, slice_set, IsTrue}
+use Rattle.std.specs.Prelude.{◌&&◌, ◌||◌, ◌==◌, not, if◌then◌else◌, option_map, Ok, Err, slice_get, IsTrue}
 use Rattle.std.specs.List.{list_any, list_all, flat_map}
 use Rattle.std.specs.Option.{option_map_or}
 use Rattle.mps_base.specs.Address.{Id, Address, word_of, address_of_word}
@@ -15,10 +15,8 @@ use Rattle.mps_model.specs.World.{World, Pool, PoolKind, Collected, OneSize, Any
 use Rattle.mps_model.specs.Accessing.{address_or_null}
 use Rattle.mps_model.specs.Effect.{after_free, after_unseg, giving_back, with_address, where_one, world_after_moves, reclaiming, segment_base_of, with_collection}
 use Rattle.mps_model.specs.Flip.{at_address}
-use Rattle.mps_model.specs.Checked.{Checked, Found, ◌>>◌, done, block_place_in, with_graph, number_named, as_blocks}
-use Rattle.mps_model.specs.Allocating.{act_free, block_in, with_block_place}
+use Rattle.mps_model.specs.Checked.{Checked, Found, block_place_in, number_named, as_blocks}
 use Rattle.mps_model.specs.History.{free_at, free_of, give_back_empty, moves_of_free, unless_refused}
-use Rattle.mps_model.specs.Reply.{world_from}
 use Rattle.mps_model.specs.WellFormed.{IsWellFormed, is_live_automatic, is_right_object, is_right_body, is_right_point, is_right_reservation, are_right_points, are_right_cells, is_right_at_hand, is_home, are_shaped}
 use Rattle.mps_model.specs.Making.{is_weak_rank}
 use Rattle.mps_model.proofs.Reaching.{list_all-contains}
@@ -31,9 +29,9 @@ use Rattle.mps_colours.proofs.RightObjects.{object_has_words, pool_kind}
 use Rattle.mps_colours.proofs.Homes.{lies_at}
 use Rattle.mps_colours.proofs.FlipLists.{holds_show}
 use Rattle.mps_colours.proofs.ClientLists.{among_all, among_entries}
-use Rattle.mps_colours.proofs.ClientBeside.{IsHeldIn, in_slots, in_holds, in_messages, in_reservations, held_where, bind_keeps, then_keeps, found}
+use Rattle.mps_colours.proofs.ClientBeside.{IsHeldIn, in_slots, in_holds, in_messages, in_reservations, held_where, found}
 use Rattle.mps_colours.proofs.ClientChange.{IsUsed, held_by_client, referred_to, is_registered, is_to_be_scanned}
-use Rattle.mps_colours.proofs.ClientThings.{aside_keeps, list_all-at}
+use Rattle.mps_colours.proofs.ClientThings.{list_all-at}
 use Rattle.mps_colours.proofs.ClientMaking.{freed_keeps, segments_keep, among_without, find_among}
 
 -- ---- what is used is automatic
@@ -297,20 +295,3 @@ module _ (x : Collecting) (run : Running x) (formed : IsWellFormed x.world) wher
       })
   freeing_keeps live place answer fine =
       free_moves_keeps (block_place_in x.world place) (is_refused answer) (λ f id e value. block_right live place f id e value) fine
-
--- the act of a free changes tables of blocks alone
-pub free_act_keeps : (x : Collecting) → Running x → (place : Slot)
-    → Running (record x { world = world_from x.world (act_free x.world place) })
-free_act_keeps x run place =
-    bind_keeps (λ v. Running (record x { world = v })) x.world (block_place_in x.world place)
-    (λ at. block_in at >> done (with_graph x.world (with_block_place x.world.graph at None))) run
-    (λ at e. then_keeps (λ v. Running (record x { world = v })) x.world (block_in at)
-    (done (with_graph x.world (with_block_place x.world.graph at None))) run
-    (aside_keeps x run x.world.grains x.world.limit x.world.chains x.world.graph.names
-    (slice_set x.world.graph.blocks at.number (slice_set at.list at.index None)) x.world.state x.world.dependencies))
-
-pub free_act_segments : (v : World) (place : Slot) → (world_from v (act_free v place)).segments ≡ v.segments
-free_act_segments v place =
-    bind_keeps (λ u. u.segments ≡ v.segments) v (block_place_in v place)
-    (λ at. block_in at >> done (with_graph v (with_block_place v.graph at None))) refl
-    (λ at e. then_keeps (λ u. u.segments ≡ v.segments) v (block_in at) (done (with_graph v (with_block_place v.graph at None))) refl refl)

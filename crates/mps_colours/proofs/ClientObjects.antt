@@ -1,25 +1,19 @@
 -- The calls that write into objects and manual blocks.
 use Rattle.std.proofs.Common.{◌≡◌, ◌∙◌, ◌⊎◌, ℕ, true, false, refl, sym, ap, List, [], ◌++◌, length, Option, Some, None, subst, inl, inr, arith}
 use Rattle.std.proofs.lemmas.Bool.{cases_eq}
-use Rattle.std.proofs.lemmas.Option.{none-some}
 use Rattle.std.specs.Prelude.{slice_get, slice_set}
 use Rattle.std.specs.List.{list_any}
 use Rattle.std.specs.Option.{option_map_or}
 use Rattle.mps_base.specs.Address.{Id}
-use Rattle.mps_base.specs.declared.names.Slot.{Slot}
-use Rattle.mps_base.specs.declared.refusal.Refusal.TheVariants as refusal
-use Rattle.mps_model.specs.Graph.{Object, Body, Automatic, Manual, Cell, NumberCell, contains, object_at, targets, targets_of, targets_of_cells, targets_of_body, is_automatic, is_automatic_body, is_weak_object, is_weak_body, size_of, size_of_body, ids_of_client, body_with_cells, object_with_cells, graph_with_cells, with_target_cell}
+use Rattle.mps_model.specs.Graph.{Object, Body, Automatic, Manual, Cell, contains, object_at, targets, targets_of, targets_of_cells, targets_of_body, is_automatic, is_automatic_body, is_weak_object, is_weak_body, size_of, size_of_body, ids_of_client, body_with_cells, object_with_cells, graph_with_cells}
 use Rattle.mps_model.specs.World.{World, is_copying_pool, begins_in, reserved_extents}
-use Rattle.mps_model.specs.Checked.{◌>>=◌, ◌>>◌, required, done, slot_in, block_place_in, object_in, cells_of_body, number_at, reference_at, with_graph}
-use Rattle.mps_model.specs.Allocating.{block_in, words_at, body_with_word, graph_with_word, act_store}
-use Rattle.mps_model.specs.Accessing.{act_put, act_set_number}
-use Rattle.mps_model.specs.Reply.{world_from}
+use Rattle.mps_model.specs.Checked.{with_graph}
+use Rattle.mps_model.specs.Allocating.{body_with_word, graph_with_word}
 use Rattle.mps_colours.specs.Collecting.{Collecting, Running}
 use Rattle.mps_colours.proofs.Lists.{slice_get-set_same, slice_get-set_other, index_below}
 use Rattle.mps_colours.proofs.ClientChange.{IsChange, change_keeps}
-use Rattle.mps_colours.proofs.ClientCells.{length_set, length_with_target, targets_written, targets_retargeted}
+use Rattle.mps_colours.proofs.ClientCells.{length_set}
 use Rattle.mps_colours.proofs.ClientCovered.{holds_still, extents_same}
-use Rattle.mps_colours.proofs.ClientBeside.{bind_keeps, then_keeps, slot_found, slot_held}
 
 -- an object as it was, but for what it refers to and for its numbers
 pub record IsRewritten (held : Id → Type 0) (o q : Object) : Type 0 where
@@ -138,42 +132,6 @@ module _ (x : Collecting) (run : Running x) where
       of_object None e = run
       of_object (Some o) e = rewritten_keeps id o (object_with_cells o change) e (with_cells change o right)
 
-  pub put_keeps : (target : Slot) (k : ℕ) (source : Slot) → P (world_from w (act_put w target k source))
-  put_keeps target k source =
-      bind_keeps P w (slot_in w target) (λ into. slot_in w source >>= (λ from. object_in w into.value
-      >>= (λ object. reference_at (cells_of_body object.value.body) k
-      >> done (with_graph w (graph_with_cells w.graph object.number (λ cells. with_target_cell cells k from.value)))))) run
-      (λ into e. bind_keeps P w (slot_in w source) (λ from. object_in w into.value
-      >>= (λ object. reference_at (cells_of_body object.value.body) k
-      >> done (with_graph w (graph_with_cells w.graph object.number (λ cells. with_target_cell cells k from.value))))) run
-      (λ from f. bind_keeps P w (object_in w into.value) (λ object. reference_at (cells_of_body object.value.body) k
-      >> done (with_graph w (graph_with_cells w.graph object.number (λ cells. with_target_cell cells k from.value)))) run
-      (λ object g. then_keeps P w (reference_at (cells_of_body object.value.body) k)
-      (done (with_graph w (graph_with_cells w.graph object.number (λ cells. with_target_cell cells k from.value)))) run
-      (with_cells_keeps object.number (λ cells. with_target_cell cells k from.value) (record {
-        as_many = λ cells. length_with_target cells k from.value;
-        referred = λ cells t h. elim (targets_retargeted cells k from.value t h) [
-          | inl old ↦ inl old
-          | inr new ↦ inr (slot_held w.graph from t (slot_found w source from f) new)
-        ];
-      })))))
-
-  pub set_number_keeps : (slot : Slot) (k value : ℕ) → P (world_from w (act_set_number w slot k value))
-  set_number_keeps slot k value =
-      bind_keeps P w (slot_in w slot) (λ into. object_in w into.value >>= (λ object. number_at (cells_of_body object.value.body) k
-      >> done (with_graph w (graph_with_cells w.graph object.number (λ cells. slice_set cells k (NumberCell value)))))) run
-      (λ into e. bind_keeps P w (object_in w into.value) (λ object. number_at (cells_of_body object.value.body) k
-      >> done (with_graph w (graph_with_cells w.graph object.number (λ cells. slice_set cells k (NumberCell value))))) run
-      (λ object g. then_keeps P w (number_at (cells_of_body object.value.body) k)
-      (done (with_graph w (graph_with_cells w.graph object.number (λ cells. slice_set cells k (NumberCell value))))) run
-      (with_cells_keeps object.number (λ cells. slice_set cells k (NumberCell value)) (record {
-        as_many = λ cells. length_set cells k (NumberCell value);
-        referred = λ cells t h. elim (targets_written cells k (NumberCell value) t h) [
-          | inl old ↦ inl old
-          | inr none ↦ absurd (none-some t none)
-        ];
-      }))))
-
   -- ---- words of manual blocks
 
   with_word_so : (o : Object) (k value : ℕ) → IsRewritten IsHeld o (record o { body = body_with_word o.body k value })
@@ -202,7 +160,7 @@ module _ (x : Collecting) (run : Running x) where
       refers_so (Automatic head cells is_weak) t h = h
       refers_so (Manual words) t h = h
 
-  with_word_keeps : (id k value : ℕ) → P (with_graph w (graph_with_word w.graph id k value))
+  pub with_word_keeps : (id k value : ℕ) → P (with_graph w (graph_with_word w.graph id k value))
   with_word_keeps id k value = of_object (object_at w.graph id) refl
     where
       of_object : (o : Option Object) → object_at w.graph id ≡ o
@@ -212,12 +170,3 @@ module _ (x : Collecting) (run : Running x) where
           }))
       of_object None e = run
       of_object (Some o) e = rewritten_keeps id o (record o { body = body_with_word o.body k value }) e (with_word_so o k value)
-
-  pub store_keeps : (place : Slot) (k value : ℕ) → P (world_from w (act_store w place k value))
-  store_keeps place k value =
-      bind_keeps P w (block_place_in w place) (λ at. block_in at >>= (λ id. required (slice_get (words_at w.graph id) k) refusal.BadIndex
-      >> done (with_graph w (graph_with_word w.graph id k value)))) run
-      (λ at e. bind_keeps P w (block_in at) (λ id. required (slice_get (words_at w.graph id) k) refusal.BadIndex
-      >> done (with_graph w (graph_with_word w.graph id k value))) run
-      (λ id f. then_keeps P w (required (slice_get (words_at w.graph id) k) refusal.BadIndex)
-      (done (with_graph w (graph_with_word w.graph id k value))) run (with_word_keeps id k value)))

@@ -1,33 +1,24 @@
 -- The calls on allocation points: made and dropped, reservations made, written and ended.
 use Rattle.std.proofs.Common.{◌≡◌, ◌∙◌, ◌⊎◌, ℕ, Bool, true, false, refl, sym, ap, List, [], ◌∷◌, length, Option, Some, None, inl, inr}
 use Rattle.std.proofs.lemmas.Bool.{false≢true, true≢false}
-use Rattle.std.proofs.lemmas.Option.{none-some, same_Some}
-use Rattle.std.specs.Prelude.{Ok, slice_get, slice_set, is_some, if◌then◌else◌, not}
+use Rattle.std.proofs.lemmas.Option.{same_Some}
+use Rattle.std.specs.Prelude.{slice_get, slice_set, is_some, if◌then◌else◌}
 use Rattle.std.specs.List.{flat_map, list_any}
 use Rattle.std.specs.Option.{option_map_or}
 use Rattle.mps_base.specs.Address.{Id, Address}
 use Rattle.mps_base.specs.Run.{Run}
 use Rattle.mps_base.specs.declared.names.Name.{Name}
 use Rattle.mps_base.specs.declared.names.Rank.{Rank}
-use Rattle.mps_base.specs.declared.names.Slot.{Slot}
-use Rattle.mps_base.specs.declared.refusal.Refusal.TheVariants as refusal
-use Rattle.mps_model.specs.Graph.{Point, Reservation, NumberCell, Cell, PointThing, NamedThing, contains, entry_at, with_last, with_target_cell, targets_of_cells, targets_of_point, targets_of_reservation, without_name, ids_of_client, ids_in_reservations, ids_in_slots, ids_in_holds}
+use Rattle.mps_model.specs.Graph.{Point, Reservation, Cell, PointThing, NamedThing, contains, entry_at, with_last, targets_of_cells, targets_of_point, targets_of_reservation, without_name, ids_of_client, ids_in_reservations, ids_in_slots, ids_in_holds}
 use Rattle.mps_model.specs.World.{World, PointMemory, begins_in, extent, extents_of, extent_of_reservation, reserved_extents, empty_run}
-use Rattle.mps_model.specs.Checked.{Numbered, ◌>>=◌, ◌>>◌, required, refuse_when, done, point_named, pool_named, slot_in, number_at, reference_at, with_graph}
-use Rattle.mps_model.specs.Making.{act_point, act_drop_point, with_point, without_point, refuse_taken, refuse_at_limit, live_points, most_points, may_have_point}
-use Rattle.mps_model.specs.Allocating.{with_reservation, with_reserved, with_reserved_cells, buffer_after, act_init_number, act_init_reference}
-use Rattle.mps_model.specs.Reply.{world_from}
+use Rattle.mps_model.specs.Checked.{Numbered, with_graph}
+use Rattle.mps_model.specs.Making.{with_point, without_point}
+use Rattle.mps_model.specs.Allocating.{with_reservation, with_reserved, buffer_after}
 use Rattle.mps_colours.specs.Collecting.{Collecting, Running}
 use Rattle.mps_colours.proofs.Lists.{slice_get-set_same, index_below}
 use Rattle.mps_colours.proofs.ClientLists.{among_all, written_among, last_among, entry_is}
-use Rattle.mps_colours.proofs.ClientCells.{length_set, length_with_target, targets_written, targets_retargeted}
 use Rattle.mps_colours.proofs.ClientCovered.{holds_still, any_cases, any_left, any_right, extent_at_point, reserved_written, reserved_point_written, reserved_at_point, reserved_last}
-use Rattle.mps_colours.proofs.ClientBeside.{beside_keeps, IsRightlyHeld, IsHeldIn, in_slots, in_holds, in_messages, in_reservations, held_where, held_so, bind_keeps, then_keeps, refuse_keeps, same_Ok, not_Ok, slot_found, slot_held, point_found}
-
--- an open reservation
-pub open_is : (o : Option Reservation) (r : Reservation) → required o refusal.NotOpen ≡ Ok r → o ≡ Some r
-open_is None r e = absurd (not_Ok refusal.NotOpen r e)
-open_is (Some q) r e = ap Some (same_Ok q r e)
+use Rattle.mps_colours.proofs.ClientBeside.{beside_keeps, IsRightlyHeld, IsHeldIn, in_slots, in_holds, in_messages, in_reservations, held_where, held_so}
 
 module _ (x : Collecting) (run : Running x) where
   abbrev w : World
@@ -94,18 +85,6 @@ module _ (x : Collecting) (run : Running x) where
       (λ p h. inr (reserved_last p w.graph.points w.point_memories (Some (record { pool = pool; rank = rank; reservation = None }))
       (record { reserved_at = 0; buffer = empty_run }) h))
 
-  pub point_keeps : (name pool : Name) (rank : Rank) → P (world_from w (act_point w name pool rank))
-  point_keeps name pool rank =
-      then_keeps P w (refuse_taken w name) (pool_named w pool >>=
-      (λ of. refuse_when (not (may_have_point of.value.kind rank)) refusal.WrongPool
-      >> (refuse_at_limit (live_points w.graph) most_points >> done (with_point w name of.number rank)))) run
-      (bind_keeps P w (pool_named w pool) (λ of. refuse_when (not (may_have_point of.value.kind rank)) refusal.WrongPool
-      >> (refuse_at_limit (live_points w.graph) most_points >> done (with_point w name of.number rank))) run
-      (λ of e. then_keeps P w (refuse_when (not (may_have_point of.value.kind rank)) refusal.WrongPool)
-      (refuse_at_limit (live_points w.graph) most_points >> done (with_point w name of.number rank)) run
-      (then_keeps P w (refuse_at_limit (live_points w.graph) most_points) (done (with_point w name of.number rank)) run
-      (with_point_keeps name of.number rank))))
-
   -- no extent of a point without a live reservation
   none_of : (p : Run → Bool) (o : Option Point) (value : Point) (memory : PointMemory) → o ≡ Some value
       → extent_of_reservation value.reservation memory ≡ [] → list_any p (extent_at_point o memory) ≡ true → ⊥
@@ -134,13 +113,6 @@ module _ (x : Collecting) (run : Running x) where
         | inr at ↦ absurd (none_of p at.point point.value at.memory (is_value point at.point found at.is_point)
             (no_reservation point.value.reservation at.memory closed) at.passes)
       ])
-
-  pub drop_point_keeps : (name : Name) → P (world_from w (act_drop_point w name))
-  drop_point_keeps name =
-      bind_keeps P w (point_named w name)
-      (λ point. refuse_when (is_some point.value.reservation) refusal.Open >> done (without_point w name point.number)) run
-      (λ point e. refuse_keeps P w (is_some point.value.reservation) refusal.Open (done (without_point w name point.number)) run
-      (λ closed. without_point_keeps name point (point_found w name point e) closed))
 
   -- ---- reservations
 
@@ -216,7 +188,7 @@ module _ (x : Collecting) (run : Running x) where
           | inr new ↦ new
         ]
 
-    written_keeps : r.is_doomed ≡ false → P (with_graph w (with_reservation w.graph point (Some (record r { cells = cells }))))
+    pub written_keeps : r.is_doomed ≡ false → P (with_graph w (with_reservation w.graph point (Some (record r { cells = cells }))))
     written_keeps live =
         points_keep (slice_set w.graph.points point.number rewritten) w.point_memories w.graph.names
         (λ id h. elim (written_among targets_of_point w.graph.points point.number rewritten id h) [
@@ -232,38 +204,3 @@ module _ (x : Collecting) (run : Running x) where
               (ap (list_any p) (same_extent at.memory)
               ∙ (ap (λ q. list_any p (extent_at_point q at.memory)) (sym (is_value point at.point found at.is_point)) ∙ at.passes)))
         ])
-
-    pub cells_keep : P (with_reserved_cells w point r cells)
-    cells_keep = of_doomed r.is_doomed refl
-      where
-        of_doomed : (b : Bool) → r.is_doomed ≡ b
-            → P (if b then w else with_graph w (with_reservation w.graph point (Some (record r { cells = cells }))))
-        of_doomed true e = run
-        of_doomed false e = written_keeps e
-
-  pub init_number_keeps : (name : Name) (k value : ℕ) → P (world_from w (act_init_number w name k value))
-  init_number_keeps name k value =
-      bind_keeps P w (point_named w name) (λ point. required point.value.reservation refusal.NotOpen
-      >>= (λ r. number_at r.cells k >> done (with_reserved_cells w point r (slice_set r.cells k (NumberCell value))))) run
-      (λ point e. bind_keeps P w (required point.value.reservation refusal.NotOpen)
-      (λ r. number_at r.cells k >> done (with_reserved_cells w point r (slice_set r.cells k (NumberCell value)))) run
-      (λ r f. then_keeps P w (number_at r.cells k) (done (with_reserved_cells w point r (slice_set r.cells k (NumberCell value)))) run
-      (cells_keep point (point_found w name point e) r (open_is point.value.reservation r f) (slice_set r.cells k (NumberCell value))
-      (length_set r.cells k (NumberCell value))
-      (λ id h. elim (targets_written r.cells k (NumberCell value) id h) [ inl old ↦ inl old | inr none ↦ absurd (none-some id none) ]))))
-
-  pub init_reference_keeps : (name : Name) (k : ℕ) (source : Slot) → P (world_from w (act_init_reference w name k source))
-  init_reference_keeps name k source =
-      bind_keeps P w (point_named w name) (λ point. slot_in w source >>= (λ from. required point.value.reservation refusal.NotOpen
-      >>= (λ r. reference_at r.cells k >> done (with_reserved_cells w point r (with_target_cell r.cells k from.value))))) run
-      (λ point e. bind_keeps P w (slot_in w source) (λ from. required point.value.reservation refusal.NotOpen
-      >>= (λ r. reference_at r.cells k >> done (with_reserved_cells w point r (with_target_cell r.cells k from.value)))) run
-      (λ from g. bind_keeps P w (required point.value.reservation refusal.NotOpen)
-      (λ r. reference_at r.cells k >> done (with_reserved_cells w point r (with_target_cell r.cells k from.value))) run
-      (λ r f. then_keeps P w (reference_at r.cells k) (done (with_reserved_cells w point r (with_target_cell r.cells k from.value))) run
-      (cells_keep point (point_found w name point e) r (open_is point.value.reservation r f) (with_target_cell r.cells k from.value)
-      (length_with_target r.cells k from.value)
-      (λ id h. elim (targets_retargeted r.cells k from.value id h) [
-        | inl old ↦ inl old
-        | inr new ↦ inr (inl (slot_held w.graph from id (slot_found w source from g) new))
-      ])))))

@@ -1,5 +1,5 @@
 -- A get: what the client reads after a read barrier. No move of a collection changes a table or a name.
-use Rattle.std.proofs.Common.{◌≡◌, ◌∙◌, ℕ, Bool, true, false, refl, ap, List, [], ◌∷◌, map, Option, Some, None, subst, inr}
+use Rattle.std.proofs.Common.{◌≡◌, ◌∙◌, ℕ, Bool, true, false, refl, ap, List, [], ◌∷◌, map, Option, Some, None, subst}
 use Rattle.std.specs.Prelude.{Ok, slice_get, if◌then◌else◌, option_and_then}
 use Rattle.std.specs.Option.{option_map_or}
 use Rattle.mps_base.specs.Address.{Id}
@@ -10,15 +10,12 @@ use Rattle.mps_base.specs.declared.names.Slot.{Slot}
 use Rattle.mps_base.specs.declared.refusal.Refusal.TheVariants as refusal
 use Rattle.mps_model.specs.Graph.{Cell, HeadCell, NumberCell, ReferenceCell, Body, Automatic, Manual, Object, NamedThing, Slots, contains, entry_at, thing_in, object_at, targets, targets_of, targets_of_body, targets_of_cells, target_of_cell, is_automatic}
 use Rattle.mps_model.specs.World.{World, is_copying_pool, with_tail, id_at, object_is, is_live}
-use Rattle.mps_model.specs.Checked.{Act, Checked, Found, Numbered, ◌>>=◌, ◌>>◌, required, done, slot_in, numbered, entry_in, as_table, object_in, cells_of_body, reference_at, reference_in, with_graph}
-use Rattle.mps_model.specs.Allocating.{with_slot}
-use Rattle.mps_model.specs.Accessing.{act_get}
+use Rattle.mps_model.specs.Checked.{Checked, Found, Numbered, ◌>>=◌, required, slot_in, numbered, entry_in, as_table, object_in, cells_of_body, reference_at, reference_in}
 use Rattle.mps_model.specs.Effect.{holding, segment_of_move, with_collection, with_address, reclaiming, segment_base_of, where_one, after_moved, after_splat, after_post, after_free, placing, world_after_move, world_after_moves}
-use Rattle.mps_model.specs.Reply.{world_from}
 use Rattle.mps_colours.specs.Collecting.{Collecting, Running, is_white_in}
 use Rattle.mps_colours.proofs.ClientLists.{among_entries, map-slice_get}
-use Rattle.mps_colours.proofs.ClientBeside.{bind_keeps, then_keeps, same_Ok, not_Ok, slot_found, slot_held}
-use Rattle.mps_colours.proofs.ClientRoots.{slot_keeps, object_found}
+use Rattle.mps_colours.proofs.ClientBeside.{same_Ok, not_Ok, slot_found, slot_held}
+use Rattle.mps_colours.proofs.ClientRoots.{object_found}
 
 -- ---- tables and names stay
 
@@ -75,7 +72,7 @@ slot_of names tables slot =
     required (option_and_then as_table (thing_in names slot.name)) refusal.BadName >>= (λ number. numbered number (entry_at tables number)
     >>= (λ table. entry_in table slot.index))
 
-slot_same : (w v : World) (slot : Slot) → HasTables w v → slot_in v slot ≡ slot_in w slot
+pub slot_same : (w v : World) (slot : Slot) → HasTables w v → slot_in v slot ≡ slot_in w slot
 slot_same w v slot same = ap (λ names. slot_of names v.graph.tables slot) same.names
     ∙ ap (λ tables. slot_of w.graph.names tables slot) same.tables
 
@@ -116,17 +113,7 @@ module _ (x : Collecting) (run : Running x) (judged : World) (tables : HasTables
   abbrev P : World → Type 0
   P v = Running (record x { world = v })
 
-  abbrev read : Found (Option ℕ) → Numbered Object → Checked Act
-  read into now = reference_at (cells_of_body now.value.body) k >>=
-      (λ reference. done (with_graph x.world (with_slot x.world.graph into reference)))
-
-  abbrev after_barrier : Found (Option ℕ) → Found (Option ℕ) → Checked Act
-  after_barrier into from = object_in x.world from.value >>= (λ now. read into now)
-
-  abbrev before : Found (Option ℕ) → Found (Option ℕ) → Numbered Object → Checked Act
-  before into from object = reference_at (cells_of_body object.value.body) k >> after_barrier into from
-
-  read_right : (from : Found (Option ℕ)) (now : Numbered Object) (reference : Option ℕ) → slot_in x.world source ≡ Ok from
+  pub read_right : (from : Found (Option ℕ)) (now : Numbered Object) (reference : Option ℕ) → slot_in x.world source ≡ Ok from
       → object_in x.world from.value ≡ Ok now → reference_at (cells_of_body now.value.body) k ≡ Ok reference → (id : Id)
       → reference ≡ Some id
       → (is_live x.world id ≡ true) × (is_white_in x id ≡ false)
@@ -138,17 +125,3 @@ module _ (x : Collecting) (run : Running x) (judged : World) (tables : HasTables
         run.coloured.referred_live now.number id (run.coloured.held_live now.number held) (run.coloured.held now.number held) refers,
         read_kept from now.number id e it refers,
       )
-
-  pub get_keeps : P (world_from x.world (act_get judged x.world target source k))
-  get_keeps =
-      bind_keeps P x.world (slot_in judged target) (λ into. slot_in judged source >>= (λ from. object_in judged from.value
-      >>= (λ object. before into from object))) run
-      (λ into e. bind_keeps P x.world (slot_in judged source)
-      (λ from. object_in judged from.value >>= (λ object. before into from object)) run
-      (λ from f. bind_keeps P x.world (object_in judged from.value) (λ object. before into from object) run
-      (λ object g. then_keeps P x.world (reference_at (cells_of_body object.value.body) k) (after_barrier into from) run
-      (bind_keeps P x.world (object_in x.world from.value) (λ now. read into now) run
-      (λ now h. bind_keeps P x.world (reference_at (cells_of_body now.value.body) k)
-      (λ reference. done (with_graph x.world (with_slot x.world.graph into reference))) run
-      (λ reference i. slot_keeps x run into reference (slot_found x.world target into (slot_same judged x.world target tables ∙ e))
-      (λ id is. inr (read_right from now reference (slot_same judged x.world source tables ∙ f) h i id is))))))))

@@ -2,24 +2,19 @@
 use Rattle.std.proofs.Common.{◌≡◌, ◌∙◌, ◌⊎◌, ℕ, zero, suc, ◌+◌, ◌-◌, ◌<◌, ◌≤◌, Bool, true, false, refl, sym, ap, List, [], ◌∷◌, ◌++◌, length, Option, Some, None, subst, inl, inr, arith}
 use Rattle.std.proofs.lemmas.Bool.{false≢true, or_cases, or_left, or_right, eqb-true, cases_lt, lt-ltb, le-ltb, eq-eqb}
 use Rattle.std.proofs.lemmas.Option.{none-some, same_Some}
-use Rattle.std.specs.Prelude.{◌==◌, ◌||◌, if◌then◌else◌, slice_get, option_map, nat_le}
+use Rattle.std.specs.Prelude.{◌==◌, ◌||◌, if◌then◌else◌, slice_get, option_map}
 use Rattle.mps_base.specs.Address.{Id}
-use Rattle.mps_base.specs.declared.names.Slot.{Slot}
-use Rattle.mps_base.specs.declared.refusal.Refusal.TheVariants as refusal
 use Rattle.mps_model.specs.Graph.{contains, position_of_first, without_first, with_last, ids_of_client}
 use Rattle.mps_model.specs.Collection.{Collection, is_settled}
 use Rattle.mps_model.specs.World.{World, is_live}
-use Rattle.mps_model.specs.Checked.{◌>>=◌, ◌>>◌, refuse_when, done, slot_in, object_in, with_graph}
-use Rattle.mps_model.specs.Collecting.{act_finalize, without_position, without_registration, most_registrations}
+use Rattle.mps_model.specs.Checked.{with_graph}
+use Rattle.mps_model.specs.Collecting.{without_position, without_registration}
 use Rattle.mps_model.specs.History.{remembering, with_client_remembered}
-use Rattle.mps_model.specs.Reply.{world_from}
 use Rattle.mps_colours.specs.Collecting.{Collecting, Running, AreExamined, is_white_in}
 use Rattle.mps_colours.proofs.Counted.{counted_runs, survivors_again}
 use Rattle.mps_colours.proofs.Lists.{contains_append, contains_cases, index_below}
 use Rattle.mps_colours.proofs.Registrations.{StandsFirst, contains-without_first, length-without_first, slice_get-without_before, slice_get-without_after}
-use Rattle.mps_colours.proofs.ClientBeside.{bind_keeps, refuse_keeps, slot_found, slot_held}
 use Rattle.mps_colours.proofs.ClientLists.{length_last, last_cases}
-use Rattle.mps_colours.proofs.ClientRoots.{object_found}
 
 -- ---- where a number first stands
 
@@ -131,20 +126,6 @@ module _ (x : Collecting) (run : Running x) where
           | inr new ↦ subst (λ m. is_white_in x m ≡ false) new.1 (run.coloured.held id held)
         ];
       }) (λ h. h) (omega arith)
-
-  pub finalize_keeps : (slot : Slot) → Running (record x { world = world_from w (act_finalize w slot) })
-  finalize_keeps slot =
-      bind_keeps P w (slot_in w slot) (λ from. object_in w from.value >>= (λ object. refuse_when (nat_le most_registrations
-      (length w.graph.registered + length w.graph.messages)) (refusal.TooMany most_registrations)
-      >> done (with_graph w (record w.graph { registered = with_last w.graph.registered object.number })))) run
-      (λ from e. bind_keeps P w (object_in w from.value) (λ object. refuse_when (nat_le most_registrations
-      (length w.graph.registered + length w.graph.messages)) (refusal.TooMany most_registrations)
-      >> done (with_graph w (record w.graph { registered = with_last w.graph.registered object.number }))) run
-      (λ object f. refuse_keeps P w (nat_le most_registrations (length w.graph.registered + length w.graph.messages))
-      (refusal.TooMany most_registrations) (done
-      (with_graph w (record w.graph { registered = with_last w.graph.registered object.number }))) run
-      (λ room. finalized_keeps object.number (slot_held w.graph from object.number (slot_found w slot from e)
-      (object_found w from.value object f)))))
 
   -- ---- one less
 

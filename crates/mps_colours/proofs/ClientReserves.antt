@@ -1,5 +1,5 @@
 -- A reserve: the segment that it takes for itself, and its reservation.
-use Rattle.std.proofs.Common.{◌≡◌, ◌∙◌, ℕ, zero, suc, Bool, true, false, refl, sym, ap, List, [], ◌∷◌, ◌++◌, length, Option, Some, None, subst, inl, inr}
+use Rattle.std.proofs.Common.{◌≡◌, ◌∙◌, ℕ, zero, suc, Bool, true, false, refl, sym, ap, List, [], ◌∷◌, ◌++◌, Option, Some, None, subst, inl, inr}
 use Rattle.std.proofs.lemmas.Option.{none-some, same_Some}
 use Rattle.std.specs.Prelude.{Ok, Err, slice_get, slice_set, is_some, not, if◌then◌else◌, option_and_then}
 use Rattle.std.specs.List.{list_any}
@@ -12,18 +12,16 @@ use Rattle.mps_base.specs.declared.names.Name.{Name}
 use Rattle.mps_base.specs.declared.refusal.Refusal.TheVariants as refusal
 use Rattle.mps_model.specs.Graph.{Graph, Point, Reservation, contains, entry_at, thing_in, targets_of_cells, new_cells, ids_in_holds, ids_in_reservations, ids_in_slots}
 use Rattle.mps_model.specs.World.{World, PointMemory, Pool, extent_of_reservation, reserved_extents, is_copying_pool, pool_at}
-use Rattle.mps_model.specs.Placement.{ForReserve, placement_of}
-use Rattle.mps_model.specs.Checked.{Act, Checked, Numbered, ◌>>=◌, ◌>>◌, required, refuse_when, done, point_named, numbered, as_point}
-use Rattle.mps_model.specs.Allocating.{Reserving, check_reserve, takes_head, layout_of, refuse_without_place, with_reserved, address_of_placement, act_reserve}
+use Rattle.mps_model.specs.Checked.{Checked, Numbered, ◌>>=◌, ◌>>◌, required, refuse_when, point_named, numbered, as_point}
+use Rattle.mps_model.specs.Allocating.{Reserving, check_reserve, takes_head, layout_of}
 use Rattle.mps_model.specs.Effect.{holding, segment_of_move}
 use Rattle.mps_model.specs.History.{rank_of_point, with_buffer, after_own_segment, asking}
-use Rattle.mps_model.specs.Reply.{world_from}
 use Rattle.mps_colours.specs.Collecting.{Collecting, Running}
 use Rattle.mps_colours.proofs.HeldSegments.{AreOrdered}
 use Rattle.mps_colours.proofs.ClientCells.{no_targets_yet}
 use Rattle.mps_colours.proofs.ClientCovered.{extent_at_point}
-use Rattle.mps_colours.proofs.ClientBeside.{held_so, in_reservations, bind_keeps, then_keeps, same_Ok, not_Ok, point_found}
-use Rattle.mps_colours.proofs.ClientPoints.{points_keep, with_reserved_keeps}
+use Rattle.mps_colours.proofs.ClientBeside.{held_so, in_reservations, same_Ok, not_Ok}
+use Rattle.mps_colours.proofs.ClientPoints.{points_keep}
 use Rattle.mps_colours.proofs.ClientMaking.{segments_keep, among_with}
 
 -- ---- words at hand don't cover anything
@@ -112,7 +110,7 @@ pub owned_graph : (w v : World) → MayOwn w v → v.graph ≡ w.graph
 owned_graph w v owns_nothing = refl
 owned_graph w v (owns_segment s memories same) = refl
 
-owned_keeps : (x : Collecting) → Running x → (v : World) → MayOwn x.world v → AreOrdered 1 v.segments → Running (record x { world = v })
+pub owned_keeps : (x : Collecting) → Running x → (v : World) → MayOwn x.world v → AreOrdered 1 v.segments → Running (record x { world = v })
 owned_keeps x run v owns_nothing in_order = run
 owned_keeps x run v (owns_segment s memories same) in_order =
     let held = record x { world = record x.world { segments = with_segment s x.world.segments } } in
@@ -166,50 +164,6 @@ module _ (w : World) (name : Name) (head : ℕ) (r : Reserving) where
       of_point (Ok point) e g = checked_pool point (pool_at w point.value.pool) e g
 
 -- a point is found by the graph alone
-abbrev point_in : Graph → Name → Checked (Numbered Point)
+abbrev pub point_in : Graph → Name → Checked (Numbered Point)
 point_in g name = required (option_and_then as_point (thing_in g.names name)) refusal.BadName >>=
     (λ number. numbered number (entry_at g.points number))
-
--- ---- reserve
-
-module _ (judged after : World) (name : Name) (head : ℕ) where
-  abbrev with_new : Reserving → Numbered Point → World
-  with_new r point = with_reserved after point (record { head = head; cells = r.cells; is_doomed = false })
-      (address_of_placement (placement_of after (ForReserve point.number (length r.cells))))
-
-  abbrev reserved_at : Reserving → Checked Act
-  reserved_at r = point_named after name >>= (λ point. done (with_new r point))
-
-  abbrev roomy : Reserving → Checked Act
-  roomy r = refuse_without_place (placement_of judged (ForReserve r.point.number (length r.cells))) >> reserved_at r
-
-  -- what holds of the world before the act, and of the one after it
-  reserved_so : (R : World → Type 0) → R after
-      → ((r : Reserving) (point : Numbered Point) → check_reserve judged name head ≡ Ok r → point_named after name ≡ Ok point
-      → R (with_new r point))
-      → R (world_from after (act_reserve judged after name head))
-  reserved_so R base each =
-      bind_keeps R after (check_reserve judged name head) (λ r. roomy r) base
-      (λ r e. then_keeps R after (refuse_without_place (placement_of judged (ForReserve r.point.number (length r.cells))))
-      (reserved_at r) base
-      (bind_keeps R after (point_named after name) (λ point. done (with_new r point)) base (λ point f. each r point e f)))
-
-  pub reserve_segments : (world_from after (act_reserve judged after name head)).segments ≡ after.segments
-  reserve_segments = reserved_so (λ v. v.segments ≡ after.segments) refl (λ r point e f. refl)
-
--- in the world in which it is judged and its collection, with its own segment
-pub reserve_keeps : (x : Collecting) → Running x → (judged after : World) (name : Name) (head : ℕ) → judged.graph ≡ x.world.graph
-    → MayOwn x.world after
-    → AreOrdered 1 (world_from after (act_reserve judged after name head)).segments
-    → Running (record x { world = world_from after (act_reserve judged after name head) })
-reserve_keeps x run judged after name head same owned fine =
-    reserved_so judged after name head (λ v. Running (record x { world = v })) now (λ r point e f.
-    let checked = is_checked judged name head r e in
-    let it = same_Ok r.point point (sym checked.point ∙ (ap (λ g. point_in g name) (same ∙ sym (owned_graph x.world after owned)) ∙ f)) in
-    with_reserved_keeps (record x { world = after }) now point (point_found after name point f)
-    (subst (λ (p : Numbered Point). is_some p.value.reservation ≡ false) it checked.closed)
-    (record { head = head; cells = r.cells; is_doomed = false })
-    (address_of_placement (placement_of after (ForReserve point.number (length r.cells)))) checked.nothing)
-  where
-    now : Running (record x { world = after })
-    now = owned_keeps x run after owned (subst (λ ss. AreOrdered 1 ss) (reserve_segments judged after name head) fine)

@@ -1,26 +1,18 @@
 -- The calls that make chains, pools and dependencies, and those on the arena itself.
-use Rattle.std.proofs.Common.{◌≡◌, ◌∙◌, ℕ, zero, suc, Bool, true, false, refl, sym, ap, List, [], ◌∷◌, length, Option, Some, None, subst, inl}
+use Rattle.std.proofs.Common.{◌≡◌, ◌∙◌, ℕ, zero, suc, Bool, true, false, refl, sym, ap, List, [], ◌∷◌, Option, Some, None, subst, inl}
 use Rattle.std.proofs.lemmas.Bool.{false≢true, and_parts}
 use Rattle.std.proofs.lemmas.Option.{none-some, same_Some}
-use Rattle.std.specs.Prelude.{slice_get, slice_set, take, nat_lt, not}
+use Rattle.std.specs.Prelude.{slice_get}
 use Rattle.std.specs.List.{list_all}
 use Rattle.std.specs.Option.{option_map_or}
 use Rattle.mps_base.specs.Address.{Id}
-use Rattle.mps_base.specs.declared.names.Kind.{Kind}
 use Rattle.mps_base.specs.declared.names.Name.{Name}
-use Rattle.mps_base.specs.declared.names.Slot.{Slot}
-use Rattle.mps_base.specs.declared.refusal.Refusal.TheVariants as refusal
-use Rattle.mps_model.specs.Graph.{Object, NamedThing, Slots, ChainThing, DependencyThing, with_last, object_at}
-use Rattle.mps_model.specs.World.{World, Pool, PoolKind, Collected, OneSize, AnySize, ArenaState, Dependency, is_automatic_kind, is_copying_kind, is_copying_pool, is_copying_object, committed}
-use Rattle.mps_model.specs.Checked.{◌>>=◌, ◌>>◌, refuse_when, done, tells, chain_named, dependency_named, slot_in, object_in, named}
-use Rattle.mps_model.specs.Making.{act_arena, act_limit, act_chain, act_pool, act_pool_on_chain, act_pool_mfs, act_pool_mvff, with_pool, make_pool, refuse_taken, refuse_at_limit, most_chains, most_pools, is_block_size, most_dependencies}
-use Rattle.mps_model.specs.Dependency.{act_dependency, act_dependency_reset, act_dependency_add, act_dependency_merge, act_dependency_stale, with_dependency, with_added, merged}
-use Rattle.mps_model.specs.Accessing.{address_or_null}
-use Rattle.mps_model.specs.Reply.{world_from}
+use Rattle.mps_model.specs.Graph.{Object, NamedThing, Slots, with_last, object_at}
+use Rattle.mps_model.specs.World.{World, Pool, PoolKind, ArenaState, Dependency, is_automatic_kind, is_copying_kind, is_copying_pool, is_copying_object}
+use Rattle.mps_model.specs.Making.{with_pool}
 use Rattle.mps_model.specs.WellFormed.{IsWellFormed, is_right_object, is_right_body}
 use Rattle.mps_colours.specs.Collecting.{Collecting, Running}
-use Rattle.mps_colours.proofs.ClientBeside.{beside_keeps, bind_keeps, then_keeps}
-use Rattle.mps_base.specs.Staleness.{is_stale}
+use Rattle.mps_colours.proofs.ClientBeside.{beside_keeps}
 
 -- ---- lists
 
@@ -95,83 +87,7 @@ module _ (x : Collecting) (run : Running x) where
     holds = λ base h. h;
   })
 
-  pub state_keeps : (state : ArenaState) → P (record w { state = state })
-  state_keeps state = aside_keeps w.grains w.limit w.chains w.graph.names w.graph.blocks state w.dependencies
-
-  dependencies_keep : (names : List NamedThing) (dependencies : List Dependency)
-      → P (record w { graph = record w.graph { names = names }; dependencies = dependencies })
-  dependencies_keep names dependencies = aside_keeps w.grains w.limit w.chains names w.graph.blocks w.state dependencies
-
-  pub arena_keeps : (grains limit : ℕ) → P (world_from w (act_arena w grains limit))
-  arena_keeps grains limit = aside_keeps grains limit w.chains w.graph.names w.graph.blocks w.state w.dependencies
-
-  pub limit_keeps : (limit : ℕ) → P (world_from w (act_limit w limit))
-  limit_keeps limit = then_keeps P w (refuse_when (nat_lt limit (committed w)) refusal.BelowCommitted)
-      (done (record w { limit = limit })) run
-      (aside_keeps w.grains limit w.chains w.graph.names w.graph.blocks w.state w.dependencies)
-
-  pub chain_keeps : (name : Name) (count : ℕ) (capacities : List ℕ) → P (world_from w (act_chain w name count capacities))
-  chain_keeps name count capacities =
-      then_keeps P w (refuse_taken w name) (refuse_at_limit (length w.chains) most_chains >> done (record w {
-        graph = named w.graph name (ChainThing (length w.chains));
-        chains = with_last w.chains (take count capacities);
-      })) run
-      (then_keeps P w (refuse_at_limit (length w.chains) most_chains) (done (record w {
-        graph = named w.graph name (ChainThing (length w.chains));
-        chains = with_last w.chains (take count capacities);
-      })) run
-      (aside_keeps w.grains w.limit (with_last w.chains (take count capacities))
-      (with_last w.graph.names (record { name = name; thing = ChainThing (length w.chains) })) w.graph.blocks w.state w.dependencies))
-
   -- ---- dependencies
-
-  pub dependency_keeps : (name : Name) → P (world_from w (act_dependency w name))
-  dependency_keeps name =
-      then_keeps P w (refuse_taken w name) (refuse_at_limit (length w.dependencies) most_dependencies >> done (record w {
-        graph = named w.graph name (DependencyThing (length w.dependencies));
-        dependencies = with_last w.dependencies (record { epoch = length w.flips; zones = 0; blocks = [] });
-      })) run
-      (then_keeps P w (refuse_at_limit (length w.dependencies) most_dependencies) (done (record w {
-        graph = named w.graph name (DependencyThing (length w.dependencies));
-        dependencies = with_last w.dependencies (record { epoch = length w.flips; zones = 0; blocks = [] });
-      })) run
-      (dependencies_keep (with_last w.graph.names (record { name = name; thing = DependencyThing (length w.dependencies) }))
-      (with_last w.dependencies (record { epoch = length w.flips; zones = 0; blocks = [] }))))
-
-  with_dependency_keeps : (number : ℕ) (d : Dependency) → P (with_dependency w number d)
-  with_dependency_keeps number d = dependencies_keep w.graph.names (slice_set w.dependencies number d)
-
-  pub dependency_reset_keeps : (name : Name) → P (world_from w (act_dependency_reset w name))
-  dependency_reset_keeps name =
-      bind_keeps P w (dependency_named w name)
-      (λ d. done (with_dependency w d.number (record { epoch = length w.flips; zones = 0; blocks = [] }))) run
-      (λ d e. with_dependency_keeps d.number (record { epoch = length w.flips; zones = 0; blocks = [] }))
-
-  pub dependency_add_keeps : (name : Name) (slot : Slot) → P (world_from w (act_dependency_add w name slot))
-  dependency_add_keeps name slot =
-      bind_keeps P w (dependency_named w name) (λ d. slot_in w slot >>= (λ from. object_in w from.value
-      >>= (λ object. done (with_dependency w d.number (with_added d.value object.number (address_or_null w object.number)))))) run
-      (λ d e. bind_keeps P w (slot_in w slot) (λ from. object_in w from.value
-      >>= (λ object. done (with_dependency w d.number (with_added d.value object.number (address_or_null w object.number))))) run
-      (λ from f. bind_keeps P w (object_in w from.value)
-      (λ object. done (with_dependency w d.number (with_added d.value object.number (address_or_null w object.number)))) run
-      (λ object g. with_dependency_keeps d.number (with_added d.value object.number (address_or_null w object.number)))))
-
-  pub dependency_merge_keeps : (name source : Name) → P (world_from w (act_dependency_merge w name source))
-  dependency_merge_keeps name source =
-      bind_keeps P w (dependency_named w name)
-      (λ d. dependency_named w source >>= (λ e. done (with_dependency w d.number (merged d.value e.value)))) run
-      (λ d f. bind_keeps P w (dependency_named w source) (λ e. done (with_dependency w d.number (merged d.value e.value))) run
-      (λ e g. with_dependency_keeps d.number (merged d.value e.value)))
-
-  pub tells_keeps : (b : Bool) → P (world_from w (tells b w))
-  tells_keeps true = run
-  tells_keeps false = run
-
-  pub dependency_stale_keeps : (name : Name) → P (world_from w (act_dependency_stale w name))
-  dependency_stale_keeps name = bind_keeps P w (dependency_named w name)
-      (λ d. tells (is_stale w.flips d.value.epoch d.value.zones) w) run
-      (λ d e. tells_keeps (is_stale w.flips d.value.epoch d.value.zones))
 
   -- ---- pools
 
@@ -196,34 +112,3 @@ module _ (x : Collecting) (run : Running x) where
       held = λ id h. inl h;
       holds = λ base h. h;
     })
-
-    make_pool_keeps : (name : Name) (p : Pool) → P (world_from w (make_pool w name p))
-    make_pool_keeps name p = then_keeps P w (refuse_at_limit (length w.pools) most_pools) (done (with_pool w name p)) run
-        (with_pool_keeps name p)
-
-    pub pool_keeps : (name : Name) (kind : Kind) (format : ℕ) → P (world_from w (act_pool w name kind format))
-    pool_keeps name kind format =
-        then_keeps P w (refuse_taken w name) (make_pool w name (record { kind = Collected kind; format = format; chain = None })) run
-        (make_pool_keeps name (record { kind = Collected kind; format = format; chain = None }))
-
-    pub pool_on_chain_keeps : (name : Name) (kind : Kind) (format : ℕ) (chain : Name)
-        → P (world_from w (act_pool_on_chain w name kind format chain))
-    pool_on_chain_keeps name kind format chain =
-        then_keeps P w (refuse_taken w name)
-        (chain_named w chain >>= (λ on. make_pool w name (record { kind = Collected kind; format = format; chain = Some on.number }))) run
-        (bind_keeps P w (chain_named w chain) (λ on. make_pool w name
-        (record { kind = Collected kind; format = format; chain = Some on.number })) run
-        (λ on e. make_pool_keeps name (record { kind = Collected kind; format = format; chain = Some on.number })))
-
-    pub pool_mfs_keeps : (name : Name) (words : ℕ) → P (world_from w (act_pool_mfs w name words))
-    pool_mfs_keeps name words =
-        then_keeps P w (refuse_taken w name) (refuse_when (not (is_block_size words)) refusal.BadSize
-        >> make_pool w name (record { kind = OneSize words; format = 0; chain = None })) run
-        (then_keeps P w (refuse_when (not (is_block_size words)) refusal.BadSize)
-        (make_pool w name (record { kind = OneSize words; format = 0; chain = None })) run
-        (make_pool_keeps name (record { kind = OneSize words; format = 0; chain = None })))
-
-    pub pool_mvff_keeps : (name : Name) → P (world_from w (act_pool_mvff w name))
-    pool_mvff_keeps name =
-        then_keeps P w (refuse_taken w name) (make_pool w name (record { kind = AnySize; format = 0; chain = None })) run
-        (make_pool_keeps name (record { kind = AnySize; format = 0; chain = None }))

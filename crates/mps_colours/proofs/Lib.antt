@@ -5,6 +5,7 @@ pub mod WholeBegins
 pub mod Homes
 pub mod WholeUnits
 pub mod WholePaths
+pub mod ClientByChanges
 pub mod ClientCalls
 pub mod ClientReads
 pub mod ClientReserves

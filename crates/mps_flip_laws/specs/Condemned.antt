@@ -15,9 +15,10 @@ use Rattle.mps_model.specs.Flip.{flip_of}
 use Rattle.mps_seg.specs.Segs.{SegsState}
 use Rattle.mps_trace.specs.Flip.{is_automatic, automatic_of, zones_of, at_flip}
 use Rattle.mps_trace.specs.Trace.{Traced}
+use Rattle.mps_trace.specs.declared.trace.Policy.{Policy}
 
 -- a collector has the format of a pool exactly where the pool is automatic
-abbrev pub AreFormatsOf : {F : Type 0} → (formats : List (Option F)) → (is_automatic_pool : ℕ → Bool) → Type 0
+abbrev pub AreFormatsOf : {F : Type 0} → (formats : List (Option (Policy F))) → (is_automatic_pool : ℕ → Bool) → Type 0
 AreFormatsOf formats is_automatic_pool = (pool : ℕ) → is_automatic formats pool ≡ is_automatic_pool pool
 
 -- all automatic pools move blocks
@@ -41,7 +42,7 @@ pub record IsFlipOfEverything (ts : List Segment) (w : World) : Type 0 where
 -- where segments are those of a world, formats are of its automatic pools alone, and all of these move blocks
 abbrev pub AFlipIsTheModels : (F : Type 0) → Type 0
 AFlipIsTheModels F =
-    (formats : List (Option F)) (ts : List Segment) (w : World) → ts ≡ w.segments → AreFormatsOf formats (pool_is is_automatic_kind w)
+    (formats : List (Option (Policy F))) (ts : List Segment) (w : World) → ts ≡ w.segments → AreFormatsOf formats (pool_is is_automatic_kind w)
     → AllCopying (pool_is is_automatic_kind w) (is_copying_pool w) → IsFlipOfEverything (automatic_of formats ts) w
 
 -- ---- the segments after a flip
@@ -64,13 +65,13 @@ pub record AreCondemnedToo (s after : SegsState) (bases : List Address) : Type 0
 
 abbrev pub AFlipCondemns : (F : Type 0) → Type 0
 AFlipCondemns F =
-    (formats : List (Option F)) (points : PointsState) (x : Traced) → BeginInTable x.segs.segments (length x.segs.condemned)
+    (formats : List (Option (Policy F))) (points : PointsState) (x : Traced) → BeginInTable x.segs.segments (length x.segs.condemned)
     → AreCondemnedToo x.segs (at_flip formats points x).segs (bases_of (automatic_of formats x.segs.segments))
 
 -- ---- vectors: pool 1 alone is automatic
 
-abbrev pub known_formats : List (Option ℕ)
-known_formats = None ∷ Some 0 ∷ []
+abbrev pub known_formats : List (Option (Policy ℕ))
+known_formats = None ∷ Some (record { format = 0; moves = true }) ∷ []
 
 abbrev pub segment_at : (base pool : ℕ) → Segment
 segment_at base pool = record { base = base; grains = 2; pool = pool; generation = 0; rank = Exact }

@@ -13,6 +13,7 @@ use Rattle.mps_trace.specs.Condemned.{AreAscending}
 use Rattle.mps_trace.specs.Flip.{is_automatic, at_flip}
 use Rattle.mps_trace.specs.Trace.{Traced}
 use Rattle.mps_flip_laws.specs.Condemned.{BeginInTable, known_formats, segment_at}
+use Rattle.mps_trace.specs.declared.trace.Policy.{Policy}
 
 -- segments in which nothing is condemned yet, in ascending order
 pub record AreReadyToCondemn (s : SegsState) : Type 0 where
@@ -21,7 +22,7 @@ pub record AreReadyToCondemn (s : SegsState) : Type 0 where
   pub none : (t : Segment) → Contains s.segments t → bit s.condemned (grain_of t.base) ≡ false
 
 -- words are condemned where their segment is of an automatic pool
-pub record AreWordsCondemned {F : Type 0} (formats : List (Option F)) (s after : SegsState) : Type 0 where
+pub record AreWordsCondemned {F : Type 0} (formats : List (Option (Policy F))) (s after : SegsState) : Type 0 where
   pub words : (n : Word) (pool : ℕ) → pool_over_word s n ≡ Some pool → is_condemned_word after n ≡ is_automatic formats pool
   pub pools : (n : Word) → pool_over_word after n ≡ pool_over_word s n
   -- so where objects lie in segments of their pools, each word of an object is condemned where its pool is automatic
@@ -31,7 +32,7 @@ pub record AreWordsCondemned {F : Type 0} (formats : List (Option F)) (s after :
 
 abbrev pub AFlipCondemnsWords : (F : Type 0) → Type 0
 AFlipCondemnsWords F =
-    (formats : List (Option F)) (points : PointsState) (x : Traced) → AreReadyToCondemn x.segs
+    (formats : List (Option (Policy F))) (points : PointsState) (x : Traced) → AreReadyToCondemn x.segs
     → AreWordsCondemned formats x.segs (at_flip formats points x).segs
 
 -- ---- vectors: one segment, of pool 1, which alone is automatic

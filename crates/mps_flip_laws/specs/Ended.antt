@@ -14,6 +14,7 @@ use Rattle.mps_model.specs.World.{extents_of, reserved_extents}
 use Rattle.mps_seg.specs.Segs.{SegsState, new_segments}
 use Rattle.mps_trace.specs.Flip.{at_flip}
 use Rattle.mps_trace.specs.Trace.{Traced}
+use Rattle.mps_trace.specs.declared.trace.Policy.{Policy}
 
 -- the run of a reservation that still covers its words
 abbrev pub open_run : (flips : ℕ) → Option Held → List Run
@@ -43,7 +44,7 @@ pub record AreCovered (s : SegsState) (extents reserved : List Run) : Type 0 whe
 
 abbrev pub AFlipEndsReservations : (F : Type 0) → Type 0
 AFlipEndsReservations F =
-    (formats : List (Option F)) (points : PointsState) (x : Traced) (blocks : List Run)
+    (formats : List (Option (Policy F))) (points : PointsState) (x : Traced) (blocks : List Run)
     → AreCovered x.segs blocks (open_runs points.flips points.points) → BeginApart blocks (open_runs points.flips points.points)
     → AreCovered (at_flip formats points x).segs blocks []
 
@@ -51,7 +52,7 @@ AFlipEndsReservations F =
 -- ended, in whatever order these are, runs stand after it
 abbrev pub AFlipLeavesRuns : (F : Type 0) → Type 0
 AFlipLeavesRuns F =
-    (formats : List (Option F)) (points : PointsState) (x : Traced) (s : Setting) (addresses : List (Option Address))
+    (formats : List (Option (Policy F))) (points : PointsState) (x : Traced) (s : Setting) (addresses : List (Option Address))
     (condemned : List Id) (is_condemned_over : Word → Bool) (high : ℕ) → RunsStand s (memory_in x.segs) addresses
     → IsAscending 0 high x.segs.covered → x.segs.reservations ≡ in_order (open_runs points.flips points.points)
     → RunsStand

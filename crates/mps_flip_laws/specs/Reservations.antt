@@ -9,6 +9,7 @@ use Rattle.mps_model.specs.Effect.{doomed, without_buffer}
 use Rattle.mps_seg.specs.Segs.{SegsState}
 use Rattle.mps_trace.specs.Flip.{at_flip}
 use Rattle.mps_trace.specs.Trace.{Traced}
+use Rattle.mps_trace.specs.declared.trace.Policy.{Policy}
 
 -- no reservation of these points is live, so none covers words
 pub record AreNoneLive (points : List (Option Point)) (memories : List PointMemory) : Type 0 where
@@ -31,7 +32,7 @@ pub record IsNothingMoved (s after : SegsState) : Type 0 where
 
 abbrev pub AFlipMovesNothing : (F : Type 0) → Type 0
 AFlipMovesNothing F =
-    (formats : List (Option F)) (points : PointsState) (x : Traced) → IsNothingMoved x.segs (at_flip formats points x).segs
+    (formats : List (Option (Policy F))) (points : PointsState) (x : Traced) → IsNothingMoved x.segs (at_flip formats points x).segs
 
 -- ---- vectors: a point with an open reservation
 

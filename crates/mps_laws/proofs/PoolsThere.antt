@@ -2,33 +2,29 @@
 use Rattle.std.proofs.Common.{◌≡◌, ◌∙◌, ℕ, zero, suc, ◌+◌, ◌<◌, ◌≤◌, Bool, true, false, refl, sym, ap, subst, List, [], ◌∷◌, ◌++◌, map, length, length-append, Option, Some, None, Ok, Err, arith}
 use Rattle.std.proofs.lemmas.List.{map-append}
 use Rattle.std.proofs.lemmas.Option.{none-some, same_Some, slice_get_within}
-use Rattle.std.specs.Prelude.{if◌then◌else◌, not, is_some, slice_get, slice_set, replicate}
+use Rattle.std.specs.Prelude.{if◌then◌else◌, slice_get, slice_set, replicate}
 use Rattle.std.specs.List.{AllByRecursion}
 use Rattle.mps_base.specs.Segment.{Segment, words_of_segment}
 use Rattle.mps_base.specs.declared.moves.Move.{Move}
 use Rattle.mps_base.specs.declared.moves.Move.TheVariants as moves
 use Rattle.mps_base.specs.declared.names.Name.{Name}
-use Rattle.mps_base.specs.declared.names.Rank.{Rank}
-use Rattle.mps_base.specs.declared.names.Slot.{Slot}
-use Rattle.mps_base.specs.declared.refusal.Refusal.TheVariants as refusal
 use Rattle.mps_model.specs.declared.call.Call.{Call}
 use Rattle.mps_model.specs.declared.call.Call.TheVariants as call
-use Rattle.mps_model.specs.declared.reply.Reply.TheVariants as reply
 use Rattle.mps_model.specs.Answer.{is_block}
 use Rattle.mps_model.specs.Step.{Step}
-use Rattle.mps_model.specs.Graph.{Object, Manual, Point, Reservation, Cell, NumberCell, entry_at, is_automatic, with_last, with_target_cell}
-use Rattle.mps_model.specs.World.{World, Pool, id_at, is_copying_pool, is_automatic_kind, object_is, with_tail}
-use Rattle.mps_model.specs.Checked.{Act, Checked, Found, Numbered, required, refuse_when, done, says, number_named, as_point, pool_named, point_named, slot_in, block_place_in, number_at, reference_at, with_graph}
-use Rattle.mps_model.specs.Making.{act_point, act_drop_point, live_points, may_have_point, most_points, refuse_at_limit, refuse_taken}
-use Rattle.mps_model.specs.Placement.{ForReserve, ForAlloc, placement_of}
-use Rattle.mps_model.specs.Allocating.{act_alloc, act_commit, act_init_number, act_init_reference, act_reserve, allows_size, check_reserve, committed_object, refuse_without_place, with_reservation, with_reserved_cells, world_committed}
+use Rattle.mps_model.specs.Graph.{Object, Manual, Point, entry_at, is_automatic, with_last, with_target_cell}
+use Rattle.mps_model.specs.World.{World, Pool, id_at, is_copying_pool, object_is, with_tail}
+use Rattle.mps_model.specs.Checked.{Act, Checked, Numbered, number_named, as_point, pool_named, point_named}
+use Rattle.mps_model.specs.Allocating.{committed_object, with_object}
 use Rattle.mps_model.specs.Effect.{where_one, world_after_move, world_after_moves, after_splat, doomed, holding, segment_of_move, with_address, with_collection, reclaiming, segment_base_of}
 use Rattle.mps_model.specs.Reply.{act, world_from}
 use Rattle.mps_model.specs.History.{after_its_moves, after_own_segment, asking, judged_world, moved_world, moves_of_poll, own_segment, with_client_remembered, world_after}
 use Rattle.mps_model.specs.Policy.{units_asked}
 use Rattle.mps_laws.proofs.Entries.{GoesOn}
-use Rattle.mps_laws.proofs.Acts.{pool_named-is, point_named-is, ForAct, accepted, refused, with_value, after_check}
-use Rattle.mps_laws.proofs.LeftByActs.{andthen, Leaves, owners, owners-graph_with_cells, act_leaves, changes_points, makes_objects}
+use Rattle.mps_changes.specs.Change.{Change, Unchanged, CellsAre, BlockWordIs, Allocated, PoolMade, PointMade, PointDropped, Opened, Written, Closed, Committed}
+use Rattle.mps_changes.proofs.ActChanges.{of_changes}
+use Rattle.mps_laws.proofs.Acts.{pool_named-is, point_named-is, ForAct, accepted, refused}
+use Rattle.mps_laws.proofs.LeftByActs.{owners, owners-graph_with_cells, owners-graph_with_word}
 use Rattle.mps_laws.proofs.LegalHistories.{IsAnswered}
 use Rattle.mps_laws.proofs.OwnSegments.{own_segment_taken}
 
@@ -187,120 +183,56 @@ named_point : (w : World) (name : Name) (p : Numbered Point) → HasPools w → 
 named_point w name p h e = point-at w.pools w.graph.points p.number p.value h.of_points (point_named-is w name p e).1
 
 module _ (v : World) (h : HasPools v) where
-  -- a point has another reservation, or none
-  reservation_has_pools : (p : Numbered Point) (r : Option Reservation) → IsPoolThere v.pools p.value.pool
-      → HasPools (with_graph v (with_reservation v.graph p r))
-  reservation_has_pools p r there = record {
-    of_objects = h.of_objects;
-    of_points = all-set (IsPointPoolThere v.pools) v.graph.points p.number (Some (record p.value { reservation = r })) h.of_points there;
+  points_there : (n : ℕ) (o : Option Point) → IsPointPoolThere v.pools o
+      → AllByRecursion (IsPointPoolThere v.pools) (slice_set v.graph.points n o)
+  points_there n o there = all-set (IsPointPoolThere v.pools) v.graph.points n o h.of_points there
+
+  object_there : (o : Object) → IsPoolThere v.pools o.pool → AllByRecursion (IsPoolThere v.pools) (owners (with_object v.graph o))
+  object_there o there =
+      subst (AllByRecursion (IsPoolThere v.pools)) (sym (map-append (λ (o : Object). o.pool) v.graph.objects (o ∷ [])))
+      (all-last (IsPoolThere v.pools) (owners v.graph) o.pool h.of_objects there)
+
+  change_has_pools : {marked : Bool} {judged u : World} {c : Call} → v.pools ≡ judged.pools → Change marked c judged v u → HasPools u
+  change_has_pools same (CellsAre object change held write) = record {
+    of_objects = subst (AllByRecursion (IsPoolThere v.pools)) (sym (owners-graph_with_cells v.graph object.number change)) h.of_objects;
+    of_points = h.of_points;
   }
-
-  reserved_has_pools : (p : Numbered Point) (r : Reservation) (cells : List Cell) → IsPoolThere v.pools p.value.pool
-      → HasPools (with_reserved_cells v p r cells)
-  reserved_has_pools p r cells there = by_case r.is_doomed
-    where
-      by_case : (b : Bool) → HasPools (if b then v else with_graph v (with_reservation v.graph p (Some (record r { cells = cells }))))
-      by_case true = h
-      by_case false = reservation_has_pools p (Some (record r { cells = cells })) there
-
-  point_has_pools : (name pool : Name) (rank : Rank) → ForAct HasPools (act_point v name pool rank)
-  point_has_pools name pool rank =
-      after_check (refuse_taken v name) (with_value (pool_named v pool) (λ of e.
-      after_check (refuse_when (not (may_have_point of.value.kind rank)) refusal.WrongPool)
-      (after_check (refuse_at_limit (live_points v.graph) most_points) (accepted (record {
-        of_objects = h.of_objects;
-        of_points = all-last (IsPointPoolThere v.pools) v.graph.points (Some (record { pool = of.number; rank = rank; reservation = None }))
-            h.of_points (named_pool v pool of e);
-      })))))
-
-  drop_has_pools : (name : Name) → ForAct HasPools (act_drop_point v name)
-  drop_has_pools name =
-      andthen (point_named v name) (λ p. after_check (refuse_when (is_some p.value.reservation) refusal.Open) (accepted (record {
-        of_objects = h.of_objects;
-        of_points = all-set (IsPointPoolThere v.pools) v.graph.points p.number None h.of_points tt;
-      })))
-
-  reserve_has_pools : (judged : World) (name : Name) (head : ℕ) → ForAct HasPools (act_reserve judged v name head)
-  reserve_has_pools judged name head =
-      andthen (check_reserve judged name head) (λ r.
-      after_check (refuse_without_place (placement_of judged (ForReserve r.point.number (length r.cells))))
-      (with_value (point_named v name) (λ p e. accepted (record {
-        of_objects = h.of_objects;
-        of_points = all-set (IsPointPoolThere v.pools) v.graph.points p.number
-            (Some (record p.value { reservation = Some (record { head = head; cells = r.cells; is_doomed = false }) })) h.of_points
-            (named_point v name p h e);
-      }))))
-
-  number_has_pools : (name : Name) (k value : ℕ) → ForAct HasPools (act_init_number v name k value)
-  number_has_pools name k value =
-      with_value (point_named v name) (λ p e. andthen (required p.value.reservation refusal.NotOpen) (λ r.
-      after_check (number_at r.cells k)
-      (accepted (reserved_has_pools p r (slice_set r.cells k (NumberCell value)) (named_point v name p h e)))))
-
-  reference_has_pools : (name : Name) (k : ℕ) (source : Slot) → ForAct HasPools (act_init_reference v name k source)
-  reference_has_pools name k source =
-      with_value (point_named v name)
-      (λ p e. andthen (slot_in v source) (λ from. andthen (required p.value.reservation refusal.NotOpen) (λ r.
-      after_check (reference_at r.cells k)
-      (accepted (reserved_has_pools p r (with_target_cell r.cells k from.value) (named_point v name p h e))))))
-
-  commit_has_pools : (name : Name) (target : Slot) → ForAct HasPools (act_commit v name target)
-  commit_has_pools name target =
-      with_value (point_named v name)
-      (λ p e. andthen (slot_in v target) (λ slot. andthen (required p.value.reservation refusal.NotOpen) (λ r.
-      by_case p slot r (named_point v name p h e) r.is_doomed)))
-    where
-      by_case : (p : Numbered Point) (slot : Found (Option ℕ)) (r : Reservation) → IsPoolThere v.pools p.value.pool → (b : Bool)
-          → ForAct HasPools (if b then says reply.Flipped (with_graph v (with_reservation v.graph p None)) else done
-          (world_committed v p r slot))
-      by_case p slot r there true = accepted (reservation_has_pools p None there)
-      by_case p slot r there false = accepted (record {
-        of_objects = subst (AllByRecursion (IsPoolThere v.pools))
-            (sym (map-append (λ (o : Object). o.pool) v.graph.objects (committed_object p.value r ∷ [])))
-            (all-last (IsPoolThere v.pools) (owners v.graph) p.value.pool h.of_objects there);
-        of_points = all-set (IsPointPoolThere v.pools) v.graph.points p.number
-            (Some (record p.value { reservation = None })) h.of_points there;
-      })
-
-  alloc_has_pools : (judged : World) (name : Name) (words : ℕ) (place : Slot) → v.pools ≡ judged.pools
-      → ForAct HasPools (act_alloc judged v name words place)
-  alloc_has_pools judged name words place same =
-      with_value (pool_named judged name) (λ p e. after_check (refuse_when (is_automatic_kind p.value.kind) refusal.WrongPool)
-      (andthen (block_place_in judged place) (λ at. after_check (refuse_when (not (allows_size p.value.kind words)) refusal.BadSize)
-      (after_check (refuse_when (is_some at.value) refusal.NameTaken)
-      (after_check (refuse_without_place (placement_of judged (ForAlloc p.number words)))
-      (accepted (record {
-        of_objects = subst (AllByRecursion (IsPoolThere v.pools))
-            (sym (map-append (λ (o : Object). o.pool) v.graph.objects (record { pool = p.number; body = Manual (replicate words 0) } ∷ [])))
-            (all-last (IsPoolThere v.pools) (owners v.graph) p.number h.of_objects
-            (subst (λ (pools : List Pool). p.number < length pools) (sym same) (named_pool judged name p e)));
-        of_points = h.of_points;
-      })))))))
-
-  left_has_pools : (c : Call) (u : World) → changes_points c ≡ false → makes_objects c ≡ false → Leaves c v u → HasPools u
-  left_has_pools c u points objects leaves =
-      let grows = grown v.pools u.pools leaves.pools in
+  change_has_pools same (BlockWordIs id k value) = record {
+    of_objects = subst (AllByRecursion (IsPoolThere v.pools)) (sym (owners-graph_with_word v.graph id k value)) h.of_objects;
+    of_points = h.of_points;
+  }
+  change_has_pools {judged = judged} same (Allocated pool p words into place at e is kind size found) = record {
+    of_objects = object_there (record { pool = p.number; body = Manual (replicate words 0) })
+        (subst (λ (pools : List Pool). p.number < length pools) (sym same) (named_pool judged pool p is));
+    of_points = h.of_points;
+  }
+  change_has_pools same (PoolMade name p e made) =
+      let grows = grown v.pools (with_last v.pools p) (p ∷ [], refl) in
       record {
-        of_objects = subst (AllByRecursion (IsPoolThere u.pools)) (sym (leaves.objects objects))
-            (more_pools v.pools u.pools grows (owners v.graph) h.of_objects);
-        of_points = subst (AllByRecursion (IsPointPoolThere u.pools)) (sym (leaves.points points))
-            (more_for_points v.pools u.pools grows v.graph.points h.of_points);
+        of_objects = more_pools v.pools (with_last v.pools p) grows (owners v.graph) h.of_objects;
+        of_points = more_for_points v.pools (with_last v.pools p) grows v.graph.points h.of_points;
       }
-
-  others_have_pools : (c : Call) (result : Checked Act) → changes_points c ≡ false → makes_objects c ≡ false → ForAct (Leaves c v) result
-      → ForAct HasPools result
-  others_have_pools c (Ok a) points objects (accepted leaves) = accepted (left_has_pools c a.world points objects leaves)
-  others_have_pools c (Err why) points objects refused = refused
+  change_has_pools same (PointMade name pool of at_rank e is may) = record {
+    of_objects = h.of_objects;
+    of_points = all-last (IsPointPoolThere v.pools) v.graph.points (Some (record { pool = of.number; rank = at_rank; reservation = None }))
+        h.of_points (named_pool v pool of is);
+  }
+  change_has_pools same (PointDropped name p e is none) = record { of_objects = h.of_objects; of_points = points_there p.number None tt }
+  change_has_pools same (Opened name head r p at e is there) =
+      record { of_objects = h.of_objects; of_points = points_there p.number _ (named_point v name p h there) }
+  change_has_pools same (Written name p r change e there has lives write) =
+      record { of_objects = h.of_objects; of_points = points_there p.number _ (named_point v name p h there) }
+  change_has_pools same (Closed name target p r e there has ended) =
+      record { of_objects = h.of_objects; of_points = points_there p.number _ (named_point v name p h there) }
+  change_has_pools same (Committed name target p r slot e there found has lives) = record {
+    of_objects = object_there (committed_object p.value r) (named_point v name p h there);
+    of_points = points_there p.number (Some (record p.value { reservation = None })) (named_point v name p h there);
+  }
+  change_has_pools same Unchanged = h
+  change_has_pools same _ = record { of_objects = h.of_objects; of_points = h.of_points }
 
   act_has_pools : (marked : Bool) (judged : World) (c : Call) → v.pools ≡ judged.pools → ForAct HasPools (act marked judged v c)
-  act_has_pools marked judged (call.Point point pool rank) same = point_has_pools point pool rank
-  act_has_pools marked judged (call.DropPoint point) same = drop_has_pools point
-  act_has_pools marked judged (call.Reserve point head) same = reserve_has_pools judged point head
-  act_has_pools marked judged (call.InitNumber point cell value) same = number_has_pools point cell value
-  act_has_pools marked judged (call.InitReference point cell source) same = reference_has_pools point cell source
-  act_has_pools marked judged (call.Commit point target) same = commit_has_pools point target
-  act_has_pools marked judged (call.Alloc pool words place) same = alloc_has_pools judged pool words place same
-  act_has_pools marked judged c same = others_have_pools c (act marked judged v c) refl refl (act_leaves marked judged v c)
+  act_has_pools marked judged c same = of_changes marked judged v c (λ u change. change_has_pools same change)
 
 -- ---- a step
 

@@ -1,25 +1,20 @@
 -- Moves, and the acts of calls with moves, change neither the arena's grains nor what the numbers of formats mean.
-use Rattle.std.proofs.Common.{◌≡◌, ◌∙◌, ℕ, true, false, refl, length, List, [], ◌∷◌, Option, Some, None}
-use Rattle.std.specs.Prelude.{if◌then◌else◌, is_some, not}
+use Rattle.std.proofs.Common.{◌≡◌, Bool, false, ◌∙◌, ℕ, true, false, refl, List, [], ◌∷◌, Option, Some, None}
+use Rattle.std.specs.Prelude.{if◌then◌else◌}
 use Rattle.mps_base.specs.Segment.{Segment, words_of_segment}
 use Rattle.mps_base.specs.declared.moves.Move.{Move}
 use Rattle.mps_base.specs.declared.moves.Move.TheVariants as moves
-use Rattle.mps_base.specs.declared.names.Name.{Name}
-use Rattle.mps_base.specs.declared.names.Slot.{Slot}
-use Rattle.mps_base.specs.declared.refusal.Refusal.TheVariants as refusal
 use Rattle.mps_model.specs.declared.call.Call.{Call}
 use Rattle.mps_model.specs.declared.call.Call.TheVariants as call
-use Rattle.mps_model.specs.declared.reply.Reply.TheVariants as reply
-use Rattle.mps_model.specs.Graph.{Reservation, is_automatic}
-use Rattle.mps_model.specs.World.{World, id_at, is_automatic_kind, is_copying_pool, object_is, with_tail}
-use Rattle.mps_model.specs.Checked.{Found, Numbered, as_point, block_place_in, done, number_named, point_named, pool_named, refuse_when, required, says, slot_in, with_graph}
-use Rattle.mps_model.specs.World.{Pool}
-use Rattle.mps_model.specs.Allocating.{Reserving, act_alloc, act_commit, act_reserve, allows_size, check_reserve, refuse_without_place, with_reservation, world_committed}
-use Rattle.mps_model.specs.Placement.{ForAlloc, ForReserve, placement_of}
+use Rattle.mps_model.specs.Graph.{is_automatic}
+use Rattle.mps_model.specs.World.{World, id_at, is_copying_pool, object_is, with_tail}
+use Rattle.mps_model.specs.Checked.{as_point, number_named}
 use Rattle.mps_model.specs.Effect.{world_after_move, world_after_moves, after_segment, after_free, after_moved, after_post, after_splat, holding, where_one, with_collection, with_address, reclaiming, segment_base_of, segment_of_move, placing}
 use Rattle.mps_model.specs.Policy.{units_asked}
 use Rattle.mps_model.specs.History.{after_own_segment, asking, moved_world, moves_of_poll, own_segment}
-use Rattle.mps_laws.proofs.Acts.{ForAct, accepted, after_check, with_value}
+use Rattle.mps_model.specs.Reply.{act}
+use Rattle.mps_changes.specs.Change.{ForAct, makes_arena, Change, Aside}
+use Rattle.mps_changes.proofs.ActChanges.{of_changes}
 use Rattle.mps_laws.proofs.OwnSegments.{own_segment_taken}
 
 pub record IsSameArena (before after : World) : Type 0 where
@@ -97,31 +92,11 @@ moved_same w (call.Step units) ms =
     (asked_same (units_asked w (call.Step units)) (world_after_moves w ms))
 moved_same w _ ms = moves_same w ms
 
--- ---- acts of calls with moves
+-- ---- acts
 
-pub reserve_same : (judged v : World) (name : Name) (head : ℕ) → ForAct (IsSameArena v) (act_reserve judged v name head)
-reserve_same judged v name head =
-    with_value (check_reserve judged name head) (λ (r : Reserving) e.
-    after_check (refuse_without_place (placement_of judged (ForReserve r.point.number (length r.cells))))
-    (with_value (point_named v name) (λ p f. accepted (record { grains = refl; formats = refl }))))
+change_same : {marked : Bool} {c : Call} {judged v u : World} → makes_arena c ≡ false → Change marked c judged v u → IsSameArena v u
+change_same h (Aside names grains limit chains state dependencies same _) = record { grains = same h; formats = refl }
+change_same h _ = record { grains = refl; formats = refl }
 
-pub commit_same : (v : World) (name : Name) (target : Slot) → ForAct (IsSameArena v) (act_commit v name target)
-commit_same v name target =
-    with_value (point_named v name) (λ p e.
-    with_value (slot_in v target) (λ slot e'.
-    with_value (required p.value.reservation refusal.NotOpen) (λ (r : Reservation) f.
-    elim (r.is_doomed) as (λ b. ForAct (IsSameArena v) (if b then says reply.Flipped (with_graph v (with_reservation v.graph p None))
-    else done (world_committed v p r slot))) [
-      | true ↦ accepted (record { grains = refl; formats = refl })
-      | false ↦ accepted (record { grains = refl; formats = refl })
-    ])))
-
-pub alloc_same : (judged v : World) (pool : Name) (words : ℕ) (place : Slot) → ForAct (IsSameArena v) (act_alloc judged v pool words place)
-alloc_same judged v pool words place =
-    with_value (pool_named judged pool) (λ (p : Numbered Pool) e.
-    after_check (refuse_when (is_automatic_kind p.value.kind) refusal.WrongPool)
-    (with_value (block_place_in judged place) (λ (into : Found (Option ℕ)) e'.
-    after_check (refuse_when (not (allows_size p.value.kind words)) refusal.BadSize)
-    (after_check (refuse_when (is_some into.value) refusal.NameTaken)
-    (after_check (refuse_without_place (placement_of judged (ForAlloc p.number words)))
-    (accepted (record { grains = refl; formats = refl })))))))
+pub act_same : (marked : Bool) (judged v : World) (c : Call) → makes_arena c ≡ false → ForAct (IsSameArena v) (act marked judged v c)
+act_same marked judged v c h = of_changes marked judged v c (λ u change. change_same h change)

@@ -2,25 +2,22 @@
 use Rattle.std.proofs.Common.{◌≡◌, ◌∙◌, ◌⊎◌, ℕ, ◌+◌, ◌-◌, ◌<◌, Bool, true, false, refl, sym, ap, List, [], ◌∷◌, ◌++◌, length, Option, Some, None, Ok, Err, subst, inl, inr, arith}
 use Rattle.std.proofs.lemmas.Bool.{false≢true, true≢false, and_parts, and_from, cases_Bool}
 use Rattle.std.proofs.lemmas.Option.{none-some, same_Some}
-use Rattle.std.specs.Prelude.{slice_set, ◌&&◌, if◌then◌else◌, replicate}
+use Rattle.std.specs.Prelude.{◌&&◌, if◌then◌else◌, replicate}
 use Rattle.std.specs.Option.{option_map_or}
 use Rattle.std.specs.List.{list_all}
 use Rattle.mps_base.specs.declared.names.Name.{Name}
 use Rattle.mps_base.specs.declared.names.Rank.{Rank}
 use Rattle.mps_base.specs.declared.names.Slot.{Slot}
 use Rattle.mps_format.specs.Layout.{Layout}
-use Rattle.mps_model.specs.Graph.{Graph, Object, Cell, NumberCell, ReferenceCell, Point, Reservation, AreaWord, PlainWord, Hold, Thing, entries, entry_at, object_at, slots_of, ids_in_slots, targets_of_cells, with_last, without_name, new_cells, new_cells_from}
-use Rattle.mps_model.specs.World.{World, Pool, block_of_word, is_live, pool_at}
+use Rattle.mps_model.specs.Graph.{Object, Cell, NumberCell, ReferenceCell, Point, Reservation, AreaWord, PlainWord, Hold, entries, entry_at, object_at, slots_of, ids_in_slots, targets_of_cells, with_last, new_cells, new_cells_from}
+use Rattle.mps_model.specs.World.{World, Pool, is_live, pool_at}
 use Rattle.mps_model.specs.WellFormed.{are_shaped, are_right_cells}
-use Rattle.mps_model.specs.Checked.{Found, Numbered, done, tells, point_named, slot_in, word_in, object_in, with_graph}
-use Rattle.mps_model.specs.Making.{graph_without_root, graph_with_table, graph_with_area, graph_with_blocks, make_pool, with_point, without_point, is_block_size, is_weak_rank, live_points, may_have_point, most_chains, most_dependencies, most_points, most_pools, refuse_at_limit, refuse_root, refuse_taken}
-use Rattle.mps_model.specs.Allocating.{with_reservation, with_reserved_cells, with_slot}
-use Rattle.mps_model.specs.Accessing.{Poked, AsBlock, AsMarked, AsNumber, act_poke_in, act_poked, held_in, hold_of, poked}
-use Rattle.mps_model.specs.Collecting.{act_message_in}
-use Rattle.mps_laws.proofs.Lookups.{slice_get-kept, entry_at-last, entry_at-at_last, entry_at-after_last, entry_within_set}
-use Rattle.mps_laws.proofs.Acts.{ForAct, accepted, after_check, point_named-is, without_root}
-use Rattle.mps_laws.proofs.SoundGraph.{All, PassesOrNull, AreRight, IsSoundGraph, IsRightPoint, auto, manual, is_sound_word, is_sound_reservation, all-written, all-last, entries-written, entry-passes, entries-none, each-replicated, edited, grows_alike, untouched}
-use Rattle.mps_laws.proofs.SoundActs.{table_passes, slot_passes, held_written, word_written, reservation_written, block_lies, hold_is_sound}
+use Rattle.mps_model.specs.Checked.{Found, Numbered, slot_in, object_in, with_graph}
+use Rattle.mps_model.specs.Making.{graph_with_table, graph_with_area, graph_with_blocks, with_point, without_point}
+use Rattle.mps_model.specs.Accessing.{held_in}
+use Rattle.mps_laws.proofs.Lookups.{entry_at-last, entry_at-at_last, entry_at-after_last, entry_within_set}
+use Rattle.mps_laws.proofs.SoundGraph.{All, PassesOrNull, AreRight, IsSoundGraph, IsRightPoint, auto, manual, is_sound_word, is_sound_reservation, all-last, entry-passes, entries-none, each-replicated, edited, grows_alike}
+use Rattle.mps_laws.proofs.SoundActs.{table_passes, slot_passes, held_written}
 use Rattle.mps_laws.proofs.FoundBy.{slot_found, object_found}
 
 -- ---- reservations
@@ -71,46 +68,7 @@ module _ (v : World) (s : IsSoundGraph v) where
           and_from (f.is_valid r.head && are_shaped (new_cells f r.head) cells) (list_all (auto v) (targets_of_cells cells))
           (and_from (f.is_valid r.head) (are_shaped (new_cells f r.head) cells) first.0 now.0) now.1
 
-  pub init_sound : (name : Name) (p : Numbered Point) (r : Reservation) (cells : List Cell) → point_named v name ≡ Ok p
-      → p.value.reservation ≡ Some r
-      → ((likes : List Cell) → AreRight (auto v) likes r.cells → AreRight (auto v) likes cells)
-      → ForAct IsSoundGraph (done (with_reserved_cells v p r cells))
-  init_sound name p r cells e f each =
-      let there = (point_named-is v name p e).1 in
-      elim (r.is_doomed) as (λ b. ForAct IsSoundGraph (done (if b then v else with_graph v
-      (with_reservation v.graph p (Some (record r { cells = cells })))))) [
-        | true ↦ accepted s
-        | false ↦
-            accepted (reservation_written v s p (Some (record r { cells = cells })) there (λ x k.
-            subst (λ (z : Reservation). is_sound_reservation v p.value.pool z ≡ true) (same_Some (record r { cells = cells }) x k)
-            (cells_sound p.value.pool r cells each (s.reservations p.number p.value r there f))))
-      ]
-
-  pub told : (b : Bool) → ForAct IsSoundGraph (tells b v)
-  told true = accepted s
-  told false = accepted s
-
   -- ---- roots
-
-  pub dropped : (name : Name) (o : Option Thing) (g : Graph) → graph_without_root v.graph name o ≡ Some g → IsSoundGraph (with_graph v g)
-  dropped name o g e =
-      without_root (λ x. IsSoundGraph (with_graph v x)) v.graph name o g e
-      (λ n. held_written v s (record v.graph {
-        tables = slice_set v.graph.tables n None;
-        names = without_name v.graph.names name;
-      }) refl refl
-      (inr (all-written (auto v) slots_of v.graph.tables n None s.slots refl)) (inl refl) (inl refl) (inl refl) (inl refl))
-      (λ n. held_written v s (record v.graph {
-        areas = slice_set v.graph.areas n None;
-        names = without_name v.graph.names name;
-      }) refl refl
-      (inl refl)
-      (inr (λ k area h.
-      elim (entry_within_set v.graph.areas n k area None h) [
-        | inl here ↦ absurd (none-some area here.1)
-        | inr other ↦ s.words k area other.1
-      ]))
-      (inl refl) (inl refl) (inl refl))
 
   pub new_table : (name : Name) (n : ℕ) → IsSoundGraph (with_graph v (graph_with_table v.graph name n))
   new_table name n =
@@ -138,12 +96,6 @@ module _ (v : World) (s : IsSoundGraph v) where
         | inr (inr high) ↦ absurd (none-some area (sym (entry_at-after_last v.graph.areas (Some (replicate n (PlainWord 0))) k high) ∙ h))
       ]))
       (inl refl) (inl refl) (inl refl)
-
-  pub new_pool : (name : Name) (p : Pool) → ForAct IsSoundGraph (make_pool v name p)
-  new_pool name p =
-      after_check (refuse_at_limit (length v.pools) most_pools)
-      (accepted (untouched v (Rattle.mps_model.specs.Making.with_pool v name p) s refl
-      (λ n q e. slice_get-kept v.pools p q n e) refl refl refl refl refl refl refl refl))
 
   -- ---- points
 
@@ -205,32 +157,6 @@ module _ (v : World) (s : IsSoundGraph v) where
       })
 
   -- ---- areas, messages and registrations
-
-  pub poked_sound : (place : Slot) (at : Found AreaWord) (id word : ℕ) (p : Poked) (marked : Bool) → word_in v place ≡ Ok at
-      → is_sound_word v (hold_of v id word) ≡ true → ForAct IsSoundGraph (act_poked v at id word p marked)
-  poked_sound place at id word AsBlock marked e sound = accepted (word_written v s place at (hold_of v id word) e sound)
-  poked_sound place at id word AsNumber marked e sound = accepted (word_written v s place at (PlainWord word) e refl)
-  poked_sound place at id word AsMarked true e sound = accepted (word_written v s place at (hold_of v id word) e sound)
-  poked_sound place at id word AsMarked false e sound = accepted (word_written v s place at (PlainWord word) e refl)
-
-  pub poke_sound : (place : Slot) (at : Found AreaWord) (word : ℕ) (marked : Bool) (o : Option ℕ) → word_in v place ≡ Ok at
-      → block_of_word v word ≡ o
-      → ForAct IsSoundGraph (act_poke_in v at word marked o)
-  poke_sound place at word marked None e f = accepted (word_written v s place at (PlainWord word) e refl)
-  poke_sound place at word marked (Some id) e f =
-      poked_sound place at id word (poked v id) marked e (hold_is_sound v s id word (block_lies v s word id f))
-
-  pub message_sound : (slot : Slot) (into : Found (Option ℕ)) (ids : List ℕ) → slot_in v slot ≡ Ok into → v.graph.messages ≡ ids
-      → ForAct IsSoundGraph (act_message_in v into ids)
-  message_sound slot into [] e f = accepted s
-  message_sound slot into (id ∷ ids) e f =
-      let parts = and_parts (auto v id) (list_all (auto v) ids) (subst (λ (xs : List ℕ). All (auto v) xs) f s.messages) in
-      let g = with_slot (record v.graph { messages = ids }) into (Some id) in
-      accepted (held_written v s g refl refl
-      (inr (all-written (auto v) slots_of v.graph.tables into.number (Some (slice_set into.list into.index (Some id))) s.slots
-      (entries-written (auto v) into.list into.index (Some id)
-      (table_passes (auto v) v.graph.tables into.number into.list s.slots (slot_found v slot into e).0) parts.0)))
-      (inl refl) (inl refl) (inl refl) (inr parts.1))
 
   pub object_of_slot : (slot : Slot) (from : Found (Option ℕ)) (object : Numbered Object) → slot_in v slot ≡ Ok from
       → object_in v from.value ≡ Ok object

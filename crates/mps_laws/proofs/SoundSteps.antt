@@ -1,45 +1,41 @@
--- Each call but a reserve leaves a sound graph.
-use Rattle.std.proofs.Common.{◌≡◌, ◌∙◌, ℕ, ◌+◌, Bool, true, false, refl, sym, ap, List, length, Option, Some, None, Ok, Err, inl, inr}
+-- Each change but a reservation leaves a sound graph, and so does each call but a reserve.
+use Rattle.std.proofs.Common.{◌≡◌, ◌∙◌, ℕ, Bool, true, false, refl, sym, ap, subst, List, length, Option, Some, None, Ok, inl, inr}
 use Rattle.std.proofs.lemmas.Bool.{false≢true, true≢false, and_parts, and_from}
-use Rattle.std.proofs.lemmas.Option.{none-some}
+use Rattle.std.proofs.lemmas.Option.{none-some, same_Some}
 use Rattle.std.proofs.lemmas.List.{length-replicate}
-use Rattle.std.specs.Prelude.{slice_get, slice_set, option_map, not, ◌&&◌, ◌||◌, ◌==◌, nat_lt, nat_le, if◌then◌else◌, is_some, is_none, replicate}
+use Rattle.std.specs.Prelude.{slice_get, slice_set, option_map, not, ◌&&◌, ◌||◌, ◌==◌, replicate}
 use Rattle.std.specs.Option.{option_map_or}
-use Rattle.mps_base.specs.Staleness.{is_stale}
+use Rattle.std.specs.List.{list_all}
 use Rattle.mps_base.specs.declared.names.Name.{Name}
 use Rattle.mps_base.specs.declared.names.Rank.{Rank}
 use Rattle.mps_base.specs.declared.names.Slot.{Slot}
-use Rattle.mps_base.specs.declared.refusal.Refusal.TheVariants as refusal
 use Rattle.mps_model.specs.declared.call.Call.{Call}
 use Rattle.mps_model.specs.declared.call.Call.TheVariants as call
-use Rattle.mps_model.specs.Graph.{Graph, Object, Automatic, Manual, NumberCell, Point, Reservation, AreaWord, Hold, entries, entry_at, is_automatic, ids_in_slots, thing_named, with_last, without_first, with_target_cell, position_of_first}
-use Rattle.mps_model.specs.World.{World, Pool, PoolKind, Collected, OneSize, AnySize, Dependency, block_of_word, committed, id_at, is_live, is_running, is_automatic_kind, is_weak_kind, pool_at}
+use Rattle.mps_model.specs.Graph.{Object, Automatic, Manual, Point, Reservation, AreaWord, entries, entry_at, is_automatic, ids_in_slots, slots_of, Cell, without_name, with_last, without_first}
+use Rattle.mps_model.specs.World.{World, Pool, PoolKind, Collected, OneSize, AnySize, is_live, is_automatic_kind, is_weak_kind, pool_at}
 use Rattle.mps_model.specs.WellFormed.{is_shaped, are_shaped, are_right_cells, is_right_object, is_live_automatic}
-use Rattle.mps_model.specs.Checked.{Act, Checked, Found, Numbered, ◌>>◌, required, refuse_when, says, done, chain_named, pool_named, point_named, dependency_named, slot_in, word_in, block_place_in, object_in, cells_of_body, number_at, reference_at, number_named, as_blocks, with_graph}
-use Rattle.mps_model.specs.Making.{graph_without_root, is_block_size, is_weak_rank, live_points, may_have_point, most_chains, most_dependencies, most_points, refuse_at_limit, refuse_root, refuse_taken}
-use Rattle.mps_model.specs.Placement.{ForAlloc, placement_of}
-use Rattle.mps_model.specs.Allocating.{allows_size, block_in, committed_object, graph_allocated, refuse_without_place, reserved_address, with_reservation, words_at, world_committed, address_of_placement}
-use Rattle.mps_model.specs.Accessing.{held_in, same_target}
-use Rattle.mps_model.specs.Collecting.{most_registrations, without_registration}
+use Rattle.mps_model.specs.Checked.{Found, Numbered, point_named, slot_in, block_place_in, object_in, cells_of_body, number_named, as_blocks, with_graph}
+use Rattle.mps_model.specs.Making.{with_pool, is_block_size, is_weak_rank, may_have_point}
+use Rattle.mps_model.specs.Allocating.{with_slot, allows_size, committed_object, graph_allocated, reserved_address, with_reservation, world_committed}
+use Rattle.mps_model.specs.Collecting.{without_registration}
 use Rattle.mps_model.specs.Reply.{act}
-use Rattle.mps_laws.proofs.Lookups.{slice_get-set_other, slice_get-kept, entry_at-last, entry_at-at_last, entry_at-after_last, entry_within_set, entry_is_there, slice_get-at_last}
+use Rattle.mps_laws.proofs.Lookups.{slice_get-kept, entry_within_set, slice_get-at_last}
 use Rattle.mps_laws.proofs.LaidOut.{kind_in}
-use Rattle.mps_laws.proofs.LegalMoves.{length-with_target_cell}
 use Rattle.mps_laws.proofs.PoolKinds.{kind_of_pool}
-use Rattle.mps_laws.proofs.Acts.{ForAct, accepted, refused, with_value, after_check, unless, required-is, point_named-is, pool_named-is}
+use Rattle.mps_laws.proofs.Acts.{ForAct, point_named-is, pool_named-is}
 use Rattle.mps_laws.proofs.SoundGraph.{All, PassesOrNull, AreRight, IsSoundGraph, IsRightPoint, Grows, IsEdited, auto, manual, is_sound_word, is_sound_reservation, all-weaker, all-append, all-at, all-written, all-last, all-without, all-ended, entries-written, entry-passes, entries-none, each-written, each-at, each-replicated, each-weaker, edited, grows_alike, untouched, auto_kept, manual_kept, right_target_cell, right_number_cell, reservation_kept}
-use Rattle.mps_laws.proofs.SoundActs.{table_passes, slot_passes, object_cells, reference_passes, held_written, slot_written, own_slot_written, word_written, cells_changed, reservation_written, object_added, place_written, block_word_written, pin_is_sound}
+use Rattle.mps_laws.proofs.SoundActs.{table_passes, slot_passes, object_cells, reference_passes, held_written, slot_written, word_written, cells_changed, reservation_written, object_added, place_written, block_word_written, pin_is_sound, block_lies, hold_is_sound}
+use Rattle.mps_changes.specs.Change.{IsFoundBy, Now, Before, IsGot, GotNull, FromSlot, FromCell, FromWord, FromMessage, IsShown, ShownPlain, ShownPinned, ShownPoked, IsWritten, WritesReference, WritesNumber, Change, Unchanged, Aside, SlotIs, WordIs, MessageTaken, TableMade, AreaMade, BlocksMade, TableDropped, AreaDropped, CellsAre, BlockWordIs, PlaceEmptied, Allocated, PoolMade, PointMade, PointDropped, Opened, Written, Closed, Committed, Registered, Unregistered}
+use Rattle.mps_changes.proofs.ActChanges.{but, of_changes}
+use Rattle.mps_laws.proofs.Acts.{written_length}
 use Rattle.mps_laws.proofs.FoundBy.{found_by, slot_found, word_found, object_found, number_found}
-use Rattle.mps_laws.proofs.SoundParts.{init_sound, told, dropped, new_table, new_blocks, new_area, new_pool, new_point, no_point, poke_sound, message_sound, object_of_slot, id_of_slot, taken}
+use Rattle.mps_laws.proofs.SoundParts.{cells_sound, new_table, new_blocks, new_area, new_point, no_point, object_of_slot, id_of_slot, taken}
 
 abbrev pub is_finalize : Call → Bool
 is_finalize (call.Finalize slot) = true
 is_finalize _ = false
 
-module _ (marked : Bool) (judged v : World) (j : IsSoundGraph judged) (grown : Grows judged v) (s : IsSoundGraph v) where
-  abbrev Sound : Checked Act → Type 0
-  Sound x = ForAct IsSoundGraph x
-
+module _ (judged v : World) (j : IsSoundGraph judged) (grown : Grows judged v) (s : IsSoundGraph v) where
   slot_judged : (slot : Slot) (into : Found (Option ℕ)) → slot_in judged slot ≡ Ok into → All (auto v) (entries into.list)
   slot_judged slot into e =
       all-weaker (auto judged) (auto v) (auto_kept judged v grown) (entries into.list)
@@ -79,35 +75,6 @@ module _ (marked : Bool) (judged v : World) (j : IsSoundGraph judged) (grown : G
           (and_from (is_automatic_kind q.kind) (are_right_cells v q r.head r.cells) k h)
           (weak_or (is_weak_rank p.value.rank) q (λ w. sym (ap (λ x. option_map_or (λ (y : Pool). is_weak_kind y.kind) x false) e)
           ∙ weak w))
-
-  committed_sound : (name : Name) (target : Slot) (p : Numbered Point) (slot : Found (Option ℕ)) (r : Reservation)
-      → point_named v name ≡ Ok p
-      → slot_in v target ≡ Ok slot → p.value.reservation ≡ Some r
-      → Sound (if r.is_doomed then says Rattle.mps_model.specs.declared.reply.Reply.TheVariants.Flipped
-      (with_graph v (with_reservation v.graph p None))
-      else done (world_committed v p r slot))
-  committed_sound name target p slot r e e' f =
-      let there = (point_named-is v name p e).1 in
-      let first = reservation_written v s p None there (λ x k. absurd (none-some x k)) in
-      let v1 = with_graph v (with_reservation v.graph p None) in
-      let o = committed_object p.value r in
-      let right : is_right_object v1 o ≡ true =
-      Rattle.mps_laws.proofs.SoundGraph.right_object_kept v v1 (grows_alike v v1 refl (λ n q h. h) refl) o (committed_right p r there f) in
-      let second = object_added v1 first o (Some (reserved_address v p.number)) right in
-      let v2 = record v1 {
-        graph = record v1.graph { objects = with_last v.graph.objects o };
-        addresses = with_last v.addresses (Some (reserved_address v p.number));
-      } in
-      let others = table_passes (auto v2) v2.graph.tables slot.number slot.list second.slots (slot_found v target slot e').0 in
-      let own : auto v2 (length v.graph.objects) ≡ true = ap (λ x. option_map_or is_automatic x false)
-      (slice_get-at_last v.graph.objects o) in
-      let third = slot_written v2 second slot (Some (length v.graph.objects)) others own in
-      elim (r.is_doomed) as (λ b. Sound (if b then says Rattle.mps_model.specs.declared.reply.Reply.TheVariants.Flipped
-      (with_graph v (with_reservation v.graph p None))
-      else done (world_committed v p r slot))) [
-        | true ↦ accepted first
-        | false ↦ accepted third
-      ]
 
   manual_right : (p : Numbered Pool) (words : ℕ) → slice_get v.pools p.number ≡ Some p.value → is_automatic_kind p.value.kind ≡ false
       → allows_size p.value.kind words ≡ true → is_right_object v (record { pool = p.number; body = Manual (replicate words 0) }) ≡ true
@@ -173,185 +140,114 @@ module _ (marked : Bool) (judged v : World) (j : IsSoundGraph judged) (grown : G
       → w.graph.tables ≡ v.graph.tables → w.graph.areas ≡ v.graph.areas → w.graph.blocks ≡ v.graph.blocks
       → w.graph.registered ≡ v.graph.registered
       → w.graph.messages ≡ v.graph.messages → w.addresses ≡ v.addresses → IsSoundGraph w
-  as_it_was {w} formats pools objects points tables areas blocks registered messages addresses =
+  as_it_was {w} formats pools objects points tables areas blocks listed messages addresses =
       untouched v w s formats (λ n p e. ap (λ ps. slice_get ps n) pools
-      ∙ e) objects points tables areas blocks registered messages addresses
+      ∙ e) objects points tables areas blocks listed messages addresses
 
-  with_checked : {A : Type 0} (x : Checked A) {y : Checked Act} → ((a : A) → x ≡ Ok a → Sound y) → Sound (x >> y)
-  with_checked (Ok a) next = next a refl
-  with_checked (Err why) next = refused
+  -- ---- what is written passes
 
-  pub act_sound : (c : Call) → (is_finalize c ≡ true → All (is_live v) (ids_in_slots v.graph))
-      → Rattle.mps_laws.proofs.Steps.is_reserve c ≡ false → Sound (act marked judged v c)
-  act_sound (call.Arena grains most) live plain = accepted (as_it_was refl refl refl refl refl refl refl refl refl refl)
-  act_sound (call.Limit most) live plain =
-      after_check (refuse_when (nat_lt most (committed v)) refusal.BelowCommitted)
-      (accepted (as_it_was refl refl refl refl refl refl refl refl refl refl))
-  act_sound (call.Chain chain count capacities) live plain =
-      after_check (refuse_taken v chain)
-      (after_check (refuse_at_limit (length v.chains) most_chains) (accepted (as_it_was refl refl refl refl refl refl refl refl refl refl)))
-  act_sound (call.Pool pool kind format) live plain =
-      after_check (refuse_taken v pool) (new_pool v s pool (record { kind = Collected kind; format = format; chain = None }))
-  act_sound (call.PoolOnChain pool kind format chain) live plain =
-      after_check (refuse_taken v pool)
-      (with_value (chain_named v chain) (λ (on : Numbered (List ℕ)) e.
-      new_pool v s pool (record { kind = Collected kind; format = format; chain = Some on.number })))
-  act_sound (call.PoolMfs pool words) live plain =
-      after_check (refuse_taken v pool)
-      (after_check (refuse_when (not (is_block_size words)) refusal.BadSize)
-      (new_pool v s pool (record { kind = OneSize words; format = 0; chain = None })))
-  act_sound (call.PoolMvff pool) live plain = after_check (refuse_taken v pool)
-      (new_pool v s pool (record { kind = AnySize; format = 0; chain = None }))
-  act_sound (call.Table table count) live plain = after_check (refuse_taken v table)
-      (after_check (refuse_root v count) (accepted (new_table v s table count)))
-  act_sound (call.Area area count) live plain = after_check (refuse_taken v area)
-      (after_check (refuse_root v count) (accepted (new_area v s area count)))
-  act_sound (call.Blocks blocks count) live plain = after_check (refuse_taken v blocks)
-      (after_check (refuse_root v count) (accepted (new_blocks v s blocks count)))
-  act_sound (call.DropRoot root) live plain =
-      with_value (required (graph_without_root v.graph root (thing_named v.graph root)) refusal.BadName)
-      (λ (g : Graph) e. accepted (dropped v s root (thing_named v.graph root) g
-      (required-is (graph_without_root v.graph root (thing_named v.graph root)) refusal.BadName g e)))
-  act_sound (call.Point point pool at_rank) live plain =
-      after_check (refuse_taken v point)
-      (with_value (pool_named v pool) (λ (of : Numbered Pool) e.
-      unless (not (may_have_point of.value.kind at_rank)) refusal.WrongPool (λ may.
-      after_check (refuse_at_limit (live_points v.graph) most_points)
-      (accepted (new_point v s point of.number at_rank (
-        kind_of_pool is_automatic_kind v.pools of.number of.value (pool_named-is v pool of e) (may_is_automatic of.value.kind at_rank may),
-        (λ weak. kind_of_pool is_weak_kind v.pools of.number of.value (pool_named-is v pool of e)
-            (may_is_weak of.value.kind at_rank may weak)),
-      ))))))
-  act_sound (call.DropPoint point) live plain =
-      with_value (point_named v point) (λ (p : Numbered Point) e.
-      after_check (refuse_when (is_some p.value.reservation) refusal.Open) (accepted (no_point v s point p.number)))
-  act_sound (call.Dependency dependency) live plain =
-      after_check (refuse_taken v dependency)
-      (after_check (refuse_at_limit (length v.dependencies) most_dependencies)
-      (accepted (as_it_was refl refl refl refl refl refl refl refl refl refl)))
-  act_sound (call.Reserve point head) live plain = absurd (true≢false plain)
-  act_sound (call.InitNumber point cell value) live plain =
-      with_value (point_named v point) (λ (p : Numbered Point) e.
-      with_value (required p.value.reservation refusal.NotOpen) (λ (r : Reservation) f.
-      with_checked (number_at r.cells cell) (λ n g.
-      init_sound v s point p r (slice_set r.cells cell (NumberCell value)) e (required-is p.value.reservation refusal.NotOpen r f)
-      (λ likes h. right_number_cell (auto v) likes r.cells cell n value (number_found r.cells cell n g) h))))
-  act_sound (call.InitReference point cell source) live plain =
-      with_value (point_named v point) (λ (p : Numbered Point) e.
-      with_value (slot_in v source) (λ (from : Found (Option ℕ)) e'.
-      with_value (required p.value.reservation refusal.NotOpen) (λ (r : Reservation) f.
-      after_check (reference_at r.cells cell)
-      (init_sound v s point p r (with_target_cell r.cells cell from.value) e (required-is p.value.reservation refusal.NotOpen r f)
-      (λ likes h. right_target_cell (auto v) likes r.cells cell from.value (slot_passes v s source from e') h)))))
-  act_sound (call.Commit point target) live plain =
-      with_value (point_named v point) (λ (p : Numbered Point) e.
-      with_value (slot_in v target) (λ (slot : Found (Option ℕ)) e'.
-      with_value (required p.value.reservation refusal.NotOpen) (λ (r : Reservation) f.
-      committed_sound point target p slot r e e' (required-is p.value.reservation refusal.NotOpen r f))))
-  act_sound (call.Alloc pool words place) live plain =
-      with_value (pool_named judged pool) (λ (p : Numbered Pool) e.
-      unless (is_automatic_kind p.value.kind) refusal.WrongPool (λ kind.
-      with_value (block_place_in judged place) (λ (into : Found (Option ℕ)) e'.
-      unless (not (allows_size p.value.kind words)) refusal.BadSize (λ size.
-      after_check (refuse_when (is_some into.value) refusal.NameTaken)
-      (after_check (refuse_without_place (placement_of judged (ForAlloc p.number words)))
-      (accepted (allocated_sound p words into (address_of_placement (placement_of judged (ForAlloc p.number words)))
-      (grown.pools p.number p.value (pool_named-is judged pool p e)) kind (not_not (allows_size p.value.kind words) size)
-      (place_judged place into e'))))))))
-  act_sound (call.Free place) live plain =
-      with_value (block_place_in v place) (λ (p : Found (Option ℕ)) e.
-      after_check (block_in p) (accepted (place_written v s p None (place_own place p e) tt)))
-  act_sound (call.Load place word) live plain =
-      with_value (block_place_in v place) (λ (p : Found (Option ℕ)) e.
-      with_value (block_in p) (λ (id : ℕ) e'.
-      with_value (required (slice_get (words_at v.graph id) word) refusal.BadIndex) (λ (n : ℕ) f. accepted s)))
-  act_sound (call.Store place word value) live plain =
-      with_value (block_place_in v place) (λ (p : Found (Option ℕ)) e.
-      with_value (block_in p) (λ (id : ℕ) e'.
-      after_check (required (slice_get (words_at v.graph id) word) refusal.BadIndex) (accepted (block_word_written v s id word value))))
-  act_sound (call.Get target source cell) live plain =
-      with_value (slot_in judged target) (λ (into : Found (Option ℕ)) e.
-      with_value (slot_in judged source) (λ (from : Found (Option ℕ)) e'.
-      with_value (object_in judged from.value) (λ (object : Numbered Object) f.
-      after_check (reference_at (cells_of_body object.value.body) cell)
-      (with_value (object_in v from.value) (λ (now : Numbered Object) f'.
-      with_value (reference_at (cells_of_body now.value.body) cell) (λ (reference : Option ℕ) f''.
-      accepted (slot_written v s into reference (slot_judged target into e)
-      (reference_passes v s (cells_of_body now.value.body) cell reference
-      (object_cells v s now.number now.value (object_found v from.value now f').1) f''))))))))
-  act_sound (call.Put target cell source) live plain =
-      with_value (slot_in v target) (λ (into : Found (Option ℕ)) e.
-      with_value (slot_in v source) (λ (from : Found (Option ℕ)) e'.
-      with_value (object_in v into.value) (λ (object : Numbered Object) f.
-      after_check (reference_at (cells_of_body object.value.body) cell)
-      (accepted (cells_changed v s object.number object.value (λ cells. with_target_cell cells cell from.value)
-      (object_found v into.value object f).1
-      (length-with_target_cell (cells_of_body object.value.body) cell from.value)
-      (λ likes h. right_target_cell (auto v) likes (cells_of_body object.value.body) cell from.value
-      (slot_passes v s source from e') h))))))
-  act_sound (call.Number slot cell) live plain =
-      with_value (slot_in v slot) (λ (from : Found (Option ℕ)) e.
-      with_value (object_in v from.value) (λ (object : Numbered Object) f.
-      with_value (number_at (cells_of_body object.value.body) cell) (λ (n : ℕ) f'. accepted s)))
-  act_sound (call.SetNumber slot cell value) live plain =
-      with_value (slot_in v slot) (λ (into : Found (Option ℕ)) e.
-      with_value (object_in v into.value) (λ (object : Numbered Object) f.
-      with_checked (number_at (cells_of_body object.value.body) cell) (λ n g.
-      accepted (cells_changed v s object.number object.value (λ cells. slice_set cells cell (NumberCell value))
-      (object_found v into.value object f).1
-      (Rattle.mps_laws.proofs.Lookups.length-slice_set (cells_of_body object.value.body) cell (NumberCell value))
-      (λ likes h. right_number_cell (auto v) likes (cells_of_body object.value.body) cell n value
-      (number_found (cells_of_body object.value.body) cell n g) h)))))
-  act_sound (call.Copy target source) live plain =
-      with_value (slot_in v target) (λ (into : Found (Option ℕ)) e.
-      with_value (slot_in v source) (λ (from : Found (Option ℕ)) e'.
-      accepted (own_slot_written v s target into from.value e (slot_passes v s source from e'))))
-  act_sound (call.Clear slot) live plain =
-      with_value (slot_in v slot) (λ (into : Found (Option ℕ)) e. accepted (own_slot_written v s slot into None e tt))
-  act_sound (call.Same slot other) live plain =
-      with_value (slot_in v slot) (λ (one : Found (Option ℕ)) e.
-      with_value (slot_in v other) (λ (two : Found (Option ℕ)) e'. told v s (same_target one.value two.value)))
-  act_sound (call.Null slot) live plain = with_value (slot_in v slot) (λ (from : Found (Option ℕ)) e. told v s (is_none from.value))
-  act_sound (call.Head slot) live plain =
-      with_value (slot_in v slot) (λ (from : Found (Option ℕ)) e.
-      with_value (object_in v from.value) (λ (object : Numbered Object) f. accepted s))
-  act_sound (call.Address slot) live plain =
-      with_value (slot_in v slot) (λ (from : Found (Option ℕ)) e.
-      with_value (object_in v from.value) (λ (object : Numbered Object) f. accepted s))
-  act_sound (call.Poke word value) live plain =
-      with_value (word_in v word) (λ (at : Found AreaWord) e. poke_sound v s word at value marked (block_of_word v value) e refl)
-  act_sound (call.Peek word) live plain = with_value (word_in v word) (λ (at : Found AreaWord) e. accepted s)
-  act_sound (call.Pin word slot) live plain =
-      with_value (word_in v word) (λ (at : Found AreaWord) e.
-      with_value (slot_in v slot) (λ (from : Found (Option ℕ)) e'.
-      with_value (object_in v from.value) (λ (object : Numbered Object) f.
-      let o = object_of_slot v s slot from object e' f in
-      accepted (word_written v s word at (Hold object.number 0) e (pin_is_sound v s object.number object.value o.1 o.0)))))
-  act_sound (call.Take slot word) live plain =
-      with_value (slot_in v slot) (λ (into : Found (Option ℕ)) e.
-      with_value (word_in v word) (λ (at : Found AreaWord) e'.
-      with_value (held_in at.value) (λ (id : ℕ) f.
-      let w = word_found v word at e' in
-      accepted (own_slot_written v s slot into (Some id) e
-      (taken v s at.value id f (each-at (is_sound_word v) at.list at.index at.value (s.words at.number at.list w.0) w.1))))))
-  act_sound call.Start live plain =
-      after_check (refuse_when (is_running judged) refusal.Running) (accepted (as_it_was refl refl refl refl refl refl refl refl refl refl))
-  act_sound (call.StartChain chain generation) live plain =
-      with_value (chain_named judged chain) (λ (on : Numbered (List ℕ)) e.
-      after_check (refuse_when (nat_le (length on.value) generation) refusal.BadIndex)
-      (after_check (refuse_when (is_running judged) refusal.Running)
-      (accepted (as_it_was refl refl refl refl refl refl refl refl refl refl))))
-  act_sound (call.Finalize slot) live plain =
-      with_value (slot_in v slot) (λ (from : Found (Option ℕ)) e.
-      with_value (object_in v from.value) (λ (object : Numbered Object) f.
-      after_check (refuse_when (nat_le most_registrations (length v.graph.registered + length v.graph.messages))
-      (refusal.TooMany most_registrations))
-      (accepted (registered_sound slot from object (live refl) e f))))
-  act_sound (call.Definalize slot) live plain =
-      with_value (slot_in v slot) (λ (from : Found (Option ℕ)) e.
-      with_value (object_in v from.value) (λ (object : Numbered Object) f.
-      with_value (required (position_of_first v.graph.registered object.number) refusal.NotRegistered) (λ (position : ℕ) f'.
-      accepted (untouched (with_graph v (record v.graph { registered = without_first v.graph.registered object.number }))
+  got_passes : {marked : Bool} {c : Call} {target : Option ℕ} → IsGot marked c judged v target → PassesOrNull (auto v) target
+  got_passes GotNull = tt
+  got_passes (FromSlot slot from e) = slot_passes v s slot from e
+  got_passes (FromCell target source cell from seen read e f g h) =
+      reference_passes v s (cells_of_body seen.value.body) cell read
+      (object_cells v s seen.number seen.value (object_found v from.value seen g).1) h
+  got_passes (FromWord place at id e f) =
+      let w = word_found v place at e in
+      taken v s at.value id f (each-at (is_sound_word v) at.list at.index at.value (s.words at.number at.list w.0) w.1)
+  got_passes (FromMessage id ids e) = (and_parts (auto v id) (list_all (auto v) ids) (subst (All (auto v)) e s.messages)).0
+
+  shown_sound : {marked : Bool} {c : Call} {word : AreaWord} → IsShown marked c judged v word → is_sound_word v word ≡ true
+  shown_sound (ShownPlain number) = refl
+  shown_sound (ShownPinned object held) =
+      let o = object_of_slot v s held.slot held.from object held.there held.is in pin_is_sound v s object.number object.value o.1 o.0
+  shown_sound (ShownPoked place id word e f fate) = hold_is_sound v s id word (block_lies v s word id f)
+
+  written_right : {marked : Bool} {c : Call} {cells : List Cell} {change : List Cell → List Cell} → IsWritten marked c judged v cells change → (likes : List Cell)
+      → AreRight (auto v) likes cells → AreRight (auto v) likes (change cells)
+  written_right {cells = cells} (WritesReference k source from e) likes h =
+      right_target_cell (auto v) likes cells k from.value (slot_passes v s source from e) h
+  written_right {cells = cells} (WritesNumber k was value there) likes h =
+      right_number_cell (auto v) likes cells k was value (number_found cells k was there) h
+
+  slots_pass : (into : Found (Option ℕ)) → IsFoundBy slot_in judged v into → All (auto v) (entries into.list)
+  slots_pass into (Now slot e) = table_passes (auto v) v.graph.tables into.number into.list s.slots (slot_found v slot into e).0
+  slots_pass into (Before slot e) = slot_judged slot into e
+
+  -- ---- changes
+
+  committed_sound : (name : Name) (target : Slot) (p : Numbered Point) (slot : Found (Option ℕ)) (r : Reservation)
+      → point_named v name ≡ Ok p → slot_in v target ≡ Ok slot → p.value.reservation ≡ Some r → IsSoundGraph (world_committed v p r slot)
+  committed_sound name target p slot r e e' f =
+      let there = (point_named-is v name p e).1 in
+      let first = reservation_written v s p None there (λ x k. absurd (none-some x k)) in
+      let v1 = with_graph v (with_reservation v.graph p None) in
+      let o = committed_object p.value r in
+      let right : is_right_object v1 o ≡ true =
+      Rattle.mps_laws.proofs.SoundGraph.right_object_kept v v1 (grows_alike v v1 refl (λ n q h. h) refl) o (committed_right p r there f) in
+      let second = object_added v1 first o (Some (reserved_address v p.number)) right in
+      let v2 = record v1 {
+        graph = record v1.graph { objects = with_last v.graph.objects o };
+        addresses = with_last v.addresses (Some (reserved_address v p.number));
+      } in
+      slot_written v2 second slot (Some (length v.graph.objects))
+      (table_passes (auto v2) v2.graph.tables slot.number slot.list second.slots (slot_found v target slot e').0)
+      (ap (λ x. option_map_or is_automatic x false) (slice_get-at_last v.graph.objects o))
+
+  pub change_sound : {marked : Bool} {c : Call} {u : World} → (is_finalize c ≡ true → All (is_live v) (ids_in_slots v.graph))
+      → Rattle.mps_laws.proofs.Steps.is_reserve c ≡ false → Change marked c judged v u → IsSoundGraph u
+  change_sound live other Unchanged = s
+  change_sound live other (Aside names grains limit chains state dependencies _ _) =
+      as_it_was refl refl refl refl refl refl refl refl refl refl
+  change_sound live other (SlotIs into target found got) = slot_written v s into target (slots_pass into found) (got_passes got)
+  change_sound live other (WordIs place at word e shown) = word_written v s place at word e (shown_sound shown)
+  change_sound live other (MessageTaken slot into id ids e are) =
+      let parts = and_parts (auto v id) (list_all (auto v) ids) (subst (All (auto v)) are s.messages) in
+      held_written v s (with_slot (record v.graph { messages = ids }) into (Some id)) refl refl
+      (inr (all-written (auto v) slots_of v.graph.tables into.number (Some (slice_set into.list into.index (Some id))) s.slots
+      (entries-written (auto v) into.list into.index (Some id) (slots_pass into (Now slot e)) parts.0)))
+      (inl refl) (inl refl) (inl refl) (inr parts.1)
+  change_sound live other (TableMade name slots) = new_table v s name slots
+  change_sound live other (AreaMade name words) = new_area v s name words
+  change_sound live other (BlocksMade name places e) = new_blocks v s name places
+  change_sound live other (TableDropped name n) =
+      held_written v s (record v.graph { tables = slice_set v.graph.tables n None; names = without_name v.graph.names name }) refl refl
+      (inr (all-written (auto v) slots_of v.graph.tables n None s.slots refl)) (inl refl) (inl refl) (inl refl) (inl refl)
+  change_sound live other (AreaDropped name n) =
+      held_written v s (record v.graph { areas = slice_set v.graph.areas n None; names = without_name v.graph.names name }) refl refl
+      (inl refl)
+      (inr (λ k area h. elim (entry_within_set v.graph.areas n k area None h) [
+        | inl here ↦ absurd (none-some area here.1)
+        | inr other ↦ s.words k area other.1
+      ])) (inl refl) (inl refl) (inl refl)
+  change_sound live other (CellsAre object change held write) =
+      let o = (object_found v held.from.value object held.is).1 in
+      cells_changed v s object.number object.value change o (written_length write (cells_of_body object.value.body)) (written_right write)
+  change_sound live other (BlockWordIs id k value) = block_word_written v s id k value
+  change_sound live other (PlaceEmptied from place e found) = place_written v s place None (place_own from place found) tt
+  change_sound live other (Allocated pool p words into place at e of kind size found) =
+      allocated_sound p words place at (grown.pools p.number p.value (pool_named-is judged pool p of)) kind size (place_judged into place found)
+  change_sound live other (PoolMade name p e made) =
+      untouched v (with_pool v name p) s refl (λ n q h. slice_get-kept v.pools p q n h) refl refl refl refl refl refl refl refl
+  change_sound live other (PointMade name pool of at_rank e is may) = new_point v s name of.number at_rank (
+    kind_of_pool is_automatic_kind v.pools of.number of.value (pool_named-is v pool of is) (may_is_automatic of.value.kind at_rank (ap not may)),
+    (λ weak. kind_of_pool is_weak_kind v.pools of.number of.value (pool_named-is v pool of is)
+        (may_is_weak of.value.kind at_rank (ap not may) weak)),
+  )
+  change_sound live other (PointDropped name p e is none) = no_point v s name p.number
+  change_sound live other (Opened name head reserving p at e is there) = but Rattle.mps_laws.proofs.Steps.is_reserve e refl other
+  change_sound live other (Written name p r change e there has lives write) =
+      let is = (point_named-is v name p there).1 in
+      reservation_written v s p (Some (record r { cells = change r.cells })) is (λ x k.
+      subst (λ (z : Reservation). is_sound_reservation v p.value.pool z ≡ true) (same_Some (record r { cells = change r.cells }) x k)
+      (cells_sound v s p.value.pool r (change r.cells) (written_right write) (s.reservations p.number p.value r is has)))
+  change_sound live other (Closed name target p r e there has ended) =
+      reservation_written v s p None (point_named-is v name p there).1 (λ x k. absurd (none-some x k))
+  change_sound live other (Committed name target p r slot e there found has lives) = committed_sound name target p slot r there found has
+  change_sound live other (Registered object held e) =
+      registered_sound held.slot held.from object (live (ap is_finalize e)) held.there held.is
+  change_sound live other (Unregistered slot from object position e there is at) =
+      untouched (with_graph v (record v.graph { registered = without_first v.graph.registered object.number }))
       (record v {
         graph = record v.graph { registered = without_first v.graph.registered object.number };
         collection = option_map (without_registration position) v.collection;
@@ -359,30 +255,10 @@ module _ (marked : Bool) (judged v : World) (j : IsSoundGraph judged) (grown : G
       (held_written v s (record v.graph { registered = without_first v.graph.registered object.number }) refl refl (inl refl) (inl refl)
       (inl refl)
       (inr (all-without (is_live_automatic v) v.graph.registered object.number s.registered)) (inl refl))
-      refl (λ n p h. h) refl refl refl refl refl refl refl refl))))
-  act_sound (call.Message slot) live plain =
-      with_value (slot_in v slot) (λ (into : Found (Option ℕ)) e. message_sound v s slot into v.graph.messages e refl)
-  act_sound (call.DependencyReset dependency) live plain =
-      with_value (dependency_named v dependency) (λ (d : Numbered Dependency) e.
-      accepted (as_it_was refl refl refl refl refl refl refl refl refl refl))
-  act_sound (call.DependencyAdd dependency slot) live plain =
-      with_value (dependency_named v dependency) (λ (d : Numbered Dependency) e.
-      with_value (slot_in v slot) (λ (from : Found (Option ℕ)) e'.
-      with_value (object_in v from.value) (λ (object : Numbered Object) f.
-      accepted (as_it_was refl refl refl refl refl refl refl refl refl refl))))
-  act_sound (call.DependencyMerge dependency source) live plain =
-      with_value (dependency_named v dependency) (λ (d : Numbered Dependency) e.
-      with_value (dependency_named v source) (λ (d' : Numbered Dependency) e'.
-      accepted (as_it_was refl refl refl refl refl refl refl refl refl refl)))
-  act_sound (call.DependencyStale dependency) live plain =
-      with_value (dependency_named v dependency) (λ (d : Numbered Dependency) e. told v s (is_stale v.flips d.value.epoch d.value.zones))
-  act_sound (call.Dump at) live plain =
-      after_check (refuse_when (is_running v) refusal.Running)
-      (with_value (required (id_at v at) refusal.NotABlock) (λ (id : ℕ) e. accepted s))
-  act_sound call.Committed live plain = accepted s
-  act_sound (call.Step units) live plain = accepted s
-  act_sound call.Collect live plain = accepted (as_it_was refl refl refl refl refl refl refl refl refl refl)
-  act_sound call.Clamp live plain = accepted (as_it_was refl refl refl refl refl refl refl refl refl refl)
-  act_sound call.Park live plain = accepted (as_it_was refl refl refl refl refl refl refl refl refl refl)
-  act_sound call.Release live plain = accepted (as_it_was refl refl refl refl refl refl refl refl refl refl)
-  act_sound call.Live live plain = accepted s
+      refl (λ n p h. h) refl refl refl refl refl refl refl refl
+
+pub act_sound : (marked : Bool) (judged v : World) (j : IsSoundGraph judged) (grown : Grows judged v) (s : IsSoundGraph v) (c : Call)
+    → (is_finalize c ≡ true → All (is_live v) (ids_in_slots v.graph)) → Rattle.mps_laws.proofs.Steps.is_reserve c ≡ false
+    → ForAct IsSoundGraph (act marked judged v c)
+act_sound marked judged v j grown s c live other = of_changes marked judged v c (λ u change.
+    change_sound judged v j grown s live other change)

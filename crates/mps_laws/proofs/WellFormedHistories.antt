@@ -9,41 +9,26 @@ use Rattle.mps_model.specs.declared.call.Call.{Call}
 use Rattle.mps_model.specs.declared.call.Call.TheVariants as call
 use Rattle.mps_model.specs.Answer.{Answer, is_block, is_unsupported}
 use Rattle.mps_model.specs.World.{World, empty_world_of}
-use Rattle.mps_model.specs.Allocating.{act_reserve, act_commit, act_alloc}
 use Rattle.mps_model.specs.Reply.{act, world_from}
 use Rattle.mps_model.specs.Step.{Step, History}
 use Rattle.mps_model.specs.History.{IsLegalStep, IsLegalFrom, judged_world, moved_world, world_after, world_after_call, world_after_steps}
-use Rattle.mps_laws.specs.WellFormed.{makes_arena, ReachedWorldsAreWellFormed}
-use Rattle.mps_laws.proofs.Occupancy.{Occupancy, occupancy_of}
+use Rattle.mps_changes.specs.Change.{makes_arena}
+use Rattle.mps_laws.specs.WellFormed.{ReachedWorldsAreWellFormed}
 use Rattle.mps_laws.proofs.LegalMoves.{HasLayout}
-use Rattle.mps_laws.proofs.Acts.{IsChange, nothing, a_pool, a_point, no_point, Changes, act_changes, for_world}
+use Rattle.mps_laws.proofs.Acts.{for_world}
 use Rattle.mps_laws.proofs.FreeSteps.{BlocksAreLive}
 use Rattle.mps_laws.proofs.Replay.{limit_after, legal_step_replayed, live_after, empty_layout}
-use Rattle.mps_laws.proofs.SameArena.{IsSameArena, alloc_same, commit_same, itself, moved_same, reserve_same}
+use Rattle.mps_laws.proofs.SameArena.{IsSameArena, act_same, itself, moved_same}
 use Rattle.mps_laws.proofs.SoundGraph.{IsSoundGraph}
 use Rattle.mps_laws.proofs.SoundHistories.{SlotsAreLive, step_sound}
 use Rattle.mps_laws.proofs.WellFormed.{ClientIsLive, well_formed}
 
 -- ---- grains after acts
 
-change_grains : (limit : ℕ) (g g' : Occupancy) → IsChange limit g g' → g'.grains ≡ g.grains
-change_grains limit g g' (nothing e) = ap (λ (x : Occupancy). x.grains) e
-change_grains limit g g' (a_pool p e) = ap (λ (x : Occupancy). x.grains) e
-change_grains limit g g' (a_point p m closed empty right e) = ap (λ (x : Occupancy). x.grains) e
-change_grains limit g g' (no_point n m empty e) = ap (λ (x : Occupancy). x.grains) e
-
 act_grains : (marked : Bool) (judged v : World) (c : Call) → makes_arena c ≡ false
     → (world_from v (act marked judged v c)).grains ≡ v.grains
-act_grains marked judged v (call.Arena grains most) h = absurd (true≢false h)
-act_grains marked judged v (call.Reserve name head) h =
-    (for_world (IsSameArena v) v (act_reserve judged v name head) (reserve_same judged v name head) (itself v)).grains
-act_grains marked judged v (call.Commit point target) h =
-    (for_world (IsSameArena v) v (act_commit v point target) (commit_same v point target) (itself v)).grains
-act_grains marked judged v (call.Alloc pool words place) h =
-    (for_world (IsSameArena v) v (act_alloc judged v pool words place) (alloc_same judged v pool words place) (itself v)).grains
 act_grains marked judged v c h =
-    change_grains 0 (occupancy_of v) (occupancy_of (world_from v (act marked judged v c)))
-    (for_world (Changes 0 v) v (act marked judged v c) (act_changes 0 marked judged v c refl) (nothing refl))
+    (for_world (IsSameArena v) v (act marked judged v c) (act_same marked judged v c h) (itself v)).grains
 
 -- ---- steps
 

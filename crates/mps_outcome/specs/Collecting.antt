@@ -10,7 +10,7 @@ use Rattle.mps_amc.specs.Amc.{HasTail}
 use Rattle.mps_trace.specs.Trace.{TraceState, traced}
 use Rattle.mps_trace.specs.Collect.{CanCollect, Collects, most_moves}
 use Rattle.mps_trace.specs.Flip.{automatic_of, zones_of}
-use Rattle.mps_outcome.specs.State.{HeapState, format_of_pool, is_automatic_pool, is_copying_pool}
+use Rattle.mps_outcome.specs.State.{HeapState, policy_of_pool, is_automatic_pool, is_copying_pool}
 use Rattle.mps_outcome.specs.declared.pool.ArenaState.TheVariants as arena
 use Rattle.mps_outcome.specs.declared.pool.Pool.{Pool}
 use Rattle.mps_outcome.specs.declared.pool.Pool.TheVariants as pool
@@ -32,9 +32,9 @@ module _ {F : Type 0} where
   abbrev pub can_collect : HeapState F → Bool
   can_collect h = list_all is_moved_or_manual h.pools && is_empty h.finals.registered && nat_lt h.points.flips most_flips
 
-  -- what a collector knows of pools: their formats, none is on a chain, and each has words at hand for its one generation
+  -- what a collector knows of pools: their policies, none is on a chain, and each has words at hand for its one generation
   pub record IsTraceOf (pools : List (Pool F)) (t : TraceState F) : Type 0 where
-    pub formats : t.formats ≡ map format_of_pool pools
+    pub formats : t.formats ≡ map policy_of_pool pools
     pub chains : t.chains ≡ record { chains = []; of_pool = replicate (length pools) None }
     pub tails : (number : ℕ) → number < length pools → HasTail t.amc number 0
 

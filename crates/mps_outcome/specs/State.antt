@@ -1,5 +1,5 @@
 -- The state of a heap, as the clauses of its calls see it.
-use Rattle.std.specs.Prelude.{ℕ, ◌≡◌, Bool, true, false, Option, Some, None, option_and_then, List, slice_get, Contains, refl}
+use Rattle.std.specs.Prelude.{ℕ, ◌≡◌, Bool, true, false, Option, Some, None, option_and_then, option_map, List, slice_get, Contains, refl}
 use Rattle.mps_base.specs.Address.{Address}
 use Rattle.mps_base.specs.Segment.{segment_over}
 use Rattle.mps_base.specs.declared.names.Kind.TheVariants as kind
@@ -14,6 +14,7 @@ use Rattle.mps_seg.specs.Segs.{SegsState}
 use Rattle.mps_outcome.specs.declared.pool.ArenaState.{ArenaState}
 use Rattle.mps_outcome.specs.declared.pool.Pool.{Pool}
 use Rattle.mps_outcome.specs.declared.pool.Pool.TheVariants as pool
+use Rattle.mps_trace.specs.declared.trace.Policy.{Policy}
 
 -- What a heap has, generic in the format of its objects. Slots, places, registrations and messages are addresses; 0 is null.
 pub record HeapState (F : Type 0) : Type 0 where
@@ -51,6 +52,10 @@ module _ {F : Type 0} where
   is_copying_pool (pool.Automatic kind.Amc format) = true
   is_copying_pool (pool.Automatic kind.Amcz format) = true
   is_copying_pool _ = false
+
+  -- what a collection knows of a pool, where it is automatic: the format of its objects, and whether it moves them
+  abbrev pub policy_of_pool : Pool F → Option (Policy F)
+  policy_of_pool p = option_map (λ (format : F). record { format = format; moves = is_copying_pool p }) (format_of_pool p)
 
   -- whether the objects of a pool have no references
   abbrev pub is_leaf_pool : Pool F → Bool

@@ -14,13 +14,14 @@ use Rattle.mps_gen.specs.State.{ChainsState}
 use Rattle.mps_root.specs.State.{RootsState}
 use Rattle.mps_seg.specs.Segs.{SegsState}
 use Rattle.mps_amc.specs.Amc.{AmcState, FixesAt, forwards, is_kept, keeps, emptied_row, tails_of, with_tail}
-use Rattle.mps_trace.specs.Trace.{Traced, FixesTo, passes, fixes}
+use Rattle.mps_trace.specs.Trace.{Traced, FixesTo, passes, fixes, marks}
 use Rattle.mps_trace.specs.Scan as scan
 use Rattle.mps_trace.specs.Roots as roots
 use Rattle.mps_trace.specs.Unit as units
 use Rattle.mps_trace.specs.Collect.{Collects, at_once, in_units}
 use Rattle.mps_trace.specs.declared.running.Running.{Running}
 use Rattle.mps_pools.specs.Inside.{rows_of}
+use Rattle.mps_trace.specs.declared.trace.Policy.{Policy}
 
 tail_written : (amc : AmcState) (pool generation : ℕ) (tail : Buffer) → rows_of (with_tail amc pool generation tail) ≡ rows_of amc
 tail_written amc pool generation tail =
@@ -40,10 +41,11 @@ fixed_at (is_kept unforwarded kept) = refl
 fixed_at {amc = amc} {generation = generation} (keeps t answer unforwarded kept over fixed) =
     ap rows_of fixed.tails ∙ tail_written amc t.pool generation _
 
-module _ {F : Type 0} (layout : F → Layout) (formats : List (Option F)) (chains : ChainsState) where
+module _ {F : Type 0} (layout : F → Layout) (formats : List (Option (Policy F))) (chains : ChainsState) where
   fixed : {x y : Traced} {at answer : Addr} → FixesTo layout formats chains x at y answer → rows_of y.amc ≡ rows_of x.amc
   fixed (passes calm) = refl
-  fixed (fixes t format answer condemned over listed is) = fixed_at is
+  fixed (fixes t format answer condemned over listed moves is) = fixed_at is
+  fixed {x} (marks t format condemned over listed stays is) = ap (λ (w : Traced). rows_of w.amc) is
 
   -- ---- references of blocks
 

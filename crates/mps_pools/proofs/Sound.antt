@@ -5,7 +5,7 @@ use Rattle.mps_amc.specs.Amc.{tails_of}
 use Rattle.mps_gen.specs.State.{ChainsState}
 use Rattle.mps_trace.specs.Trace.{TraceState, no_pools, with_pool}
 use Rattle.mps_outcome.specs.Collecting.{IsTraceOf}
-use Rattle.mps_outcome.specs.State.{format_of_pool}
+use Rattle.mps_outcome.specs.State.{policy_of_pool}
 use Rattle.mps_outcome.specs.declared.pool.Pool.{Pool}
 use Rattle.mps_pools.specs.Inside.{IsSoundTrace, rows_of}
 
@@ -19,11 +19,11 @@ module _ {F : Type 0} where
   pub none_is_sound : IsSoundTrace {F = F} [] no_pools
   none_is_sound = record { formats = refl; chains = refl; rows = refl }
 
-  -- a pool that the collector gets with its format
+  -- a pool that the collector gets with its policy
   pub one_more_is_sound : (pools : List (Pool F)) (t : TraceState F) (p : Pool F) → IsSoundTrace pools t
-      → IsSoundTrace (pools ++ p ∷ []) (with_pool t (format_of_pool p))
+      → IsSoundTrace (pools ++ p ∷ []) (with_pool t (policy_of_pool p))
   one_more_is_sound pools t p sound = record {
-    formats = ap (λ fs. fs ++ format_of_pool p ∷ []) sound.formats ∙ sym (map-append format_of_pool pools (p ∷ []));
+    formats = ap (λ fs. fs ++ policy_of_pool p ∷ []) sound.formats ∙ sym (map-append policy_of_pool pools (p ∷ []));
     chains =
         ap (λ (c : ChainsState). record c { of_pool = c.of_pool ++ None ∷ [] }) sound.chains
         ∙ ap (λ (of : List (Option ℕ)). record { chains = []; of_pool = of }) (one_longer pools p None);
@@ -48,7 +48,7 @@ module _ {F : Type 0} where
 
   -- the same, of what was found to be the pools and what the collector knows
   pub is_sound_with : (pools pools' : List (Pool F)) (t t' : TraceState F) (p : Pool F) → IsSoundTrace pools t → pools' ≡ pools ++ p ∷ []
-      → t' ≡ with_pool t (format_of_pool p) → IsSoundTrace pools' t'
+      → t' ≡ with_pool t (policy_of_pool p) → IsSoundTrace pools' t'
   is_sound_with pools pools' t t' p sound longer known =
       let P : List (Pool F) → Type 0 = λ ps. IsSoundTrace ps t' in
       let Q : TraceState F → Type 0 = λ u. IsSoundTrace (pools ++ p ∷ []) u in

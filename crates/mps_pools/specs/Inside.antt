@@ -3,16 +3,16 @@ use Rattle.std.specs.Prelude.{ℕ, ◌≡◌, None, List, [], ◌∷◌, length,
 use Rattle.mps_amc.specs.Amc.{AmcState}
 use Rattle.mps_buffer.specs.Points.{empty_buffer}
 use Rattle.mps_trace.specs.Trace.{TraceState}
-use Rattle.mps_outcome.specs.State.{format_of_pool}
+use Rattle.mps_outcome.specs.State.{policy_of_pool}
 use Rattle.mps_outcome.specs.declared.pool.Pool.{Pool}
 
 -- how many generations have words at hand, by pool
 abbrev pub rows_of : AmcState → List ℕ
 rows_of amc = map length amc.tails
 
--- the collector has the format of each pool, none is on a chain, and each has words at hand for its one generation
+-- the collector has the policy of each pool, none is on a chain, and each has words at hand for its one generation
 pub record IsSoundTrace {F : Type 0} (pools : List (Pool F)) (t : TraceState F) : Type 0 where
-  pub formats : t.formats ≡ map format_of_pool pools
+  pub formats : t.formats ≡ map policy_of_pool pools
   pub chains : t.chains ≡ record { chains = []; of_pool = replicate (length pools) None }
   pub rows : rows_of t.amc ≡ replicate (length pools) 1
 

@@ -2,13 +2,14 @@
 #![tactic(auto)]
 
 ghost use Rattle.std.specs.Prelude.{◌≡◌};
-ghost use Rattle.mps_outcome.specs.State.{format_of_pool, is_automatic_pool, is_copying_pool, is_leaf_pool, is_weak_pool, size_of_pool};
+ghost use Rattle.mps_outcome.specs.State.{format_of_pool, is_automatic_pool, is_copying_pool, is_leaf_pool, is_weak_pool, policy_of_pool, size_of_pool};
 ghost use Rattle.mps_outcome.specs.Making.{may_have_point};
 ghost use Rattle.mps_outcome.specs.Collecting.{is_moved_or_manual};
 
 use mps_base::{Kind, Rank};
 use mps_format::Format;
 use mps_outcome::Pool;
+use mps_trace::Policy;
 
 /// The format of the objects of a pool, where it is automatic.
 #[inline(always)]
@@ -44,6 +45,18 @@ pub fn is_copying<F: Format>(pool: Pool<F>) -> bool
         },
         Pool::OneSize { .. } => false,
         Pool::AnySize => false,
+    }
+}
+
+/// What a collection knows of a pool, where it is automatic: the format of its objects, and whether it moves them.
+pub(crate) fn policy_of_pool<F: Format>(pool: Pool<F>) -> Option<Policy<F>>
+    ensures { result ≡ policy_of_pool pool }
+{
+    let moves = is_copying(pool);
+    match pool {
+        Pool::Automatic { format, .. } => Some(Policy { format, moves }),
+        Pool::OneSize { .. } => None,
+        Pool::AnySize => None,
     }
 }
 

@@ -8,13 +8,13 @@ ghost use Rattle.mps_buffer.specs.Points as buffer;
 ghost use Rattle.mps_gen.specs.State.{max_pools};
 ghost use Rattle.mps_ld.specs.State as ld;
 ghost use Rattle.mps_outcome.specs.Collecting.{is_moved_or_manual};
-ghost use Rattle.mps_outcome.specs.State.{format_of_pool};
+ghost use Rattle.mps_outcome.specs.State.{policy_of_pool};
 ghost use Rattle.mps_trace.specs.Collect.{most_moves};
 ghost use Rattle.mps_trace.specs.Flip.{automatic_of, zones_of};
 ghost use Rattle.mps_pools.specs.Collecting.{CanCollectPools, ArePoolsCollected};
 ghost use Rattle.mps_pools.specs.State.{none_made, with_one_more};
 
-use crate::kinds::{format_of_pool, is_moved_or_manual, size_of_pool};
+use crate::kinds::{is_moved_or_manual, policy_of_pool, size_of_pool};
 use mps_base::{Trail, WORDS_OF_GRAIN};
 use mps_buffer::OpenPoints;
 use mps_final::Finals;
@@ -89,7 +89,7 @@ impl<F: Format> Pools<F> {
         let alloc = *self.pools.allocator();
         self.pools.reserve(1)?;
         self.manual.add(size_of_pool(pool))?;
-        if let Err(error) = self.trace.add_pool(alloc, format_of_pool(pool)) {
+        if let Err(error) = self.trace.add_pool(alloc, policy_of_pool(pool)) {
             self.manual.remove_last();
             return Err(error);
         }
@@ -125,7 +125,7 @@ impl<F: Format> Pools<F> {
             roots.new finals.new segs.new trail.new }
         ensures points { points.new ≡ buffer.flipped points.old }
         ensures epochs { epochs.new
-            ≡ ld.flipped epochs.old (zones_of (automatic_of (map format_of_pool self.old.pools) segs.old.segments)) }
+            ≡ ld.flipped epochs.old (zones_of (automatic_of (map policy_of_pool self.old.pools) segs.old.segments)) }
     {
         self.trace
             .collect(segs, trail, roots, points, finals, epochs, most);

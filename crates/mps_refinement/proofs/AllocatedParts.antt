@@ -45,7 +45,7 @@ use Rattle.mps_refinement.proofs.Known.{IsKnown}
 use Rattle.mps_refinement.proofs.Lookups.{IsPlaceEntry}
 use Rattle.mps_refinement.proofs.ManualBlocks.{passes_there}
 use Rattle.mps_refinement.proofs.PlacedOnce.{ArePlacedOnce}
-use Rattle.mps_refinement.proofs.PlacesByActs.{places_of}
+use Rattle.mps_refinement.proofs.PlacesByMoves.{places_of}
 use Rattle.mps_refinement.proofs.PointWritten.{none_set}
 use Rattle.mps_refinement.proofs.ReservedImage.{block_covers, none_condemned, reservation_covers}
 use Rattle.mps_refinement.proofs.StillHeld.{messages_still, registered_still, slots_still, words_still}

@@ -1,6 +1,6 @@
 -- A call that makes moves appends them: what it comes to over a trail is what it comes to over one that has no moves yet, and its moves
 -- are those. So it is right over each trail.
-use Rattle.std.proofs.Common.{◌≡◌, ◌∙◌, ℕ, Bool, true, false, refl, sym, ap, subst, List, [], ◌∷◌, ◌++◌, Result, Ok, Err}
+use Rattle.std.proofs.Common.{◌≡◌, ◌∙◌, ℕ, Bool, true, false, refl, sym, ap, subst, List, [], ◌∷◌, ◌++◌, Ok, Err}
 use Rattle.std.proofs.lemmas.List.{append-nil, append_assoc}
 use Rattle.std.specs.Prelude.{◌==◌, ◌-◌, if◌then◌else◌, not, slice_get, Option, Some, None}
 use Rattle.mps_arena.specs.Arena.{answer_of_placement}

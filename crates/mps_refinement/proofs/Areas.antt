@@ -10,8 +10,7 @@ use Rattle.mps_laws.proofs.Lookups.{entry_is_there}
 use Rattle.mps_laws.proofs.Same as same
 use Rattle.mps_laws.proofs.Same.{Same, fits, same_then}
 use Rattle.mps_model.specs.declared.call.Call.TheVariants as call
-use Rattle.mps_model.specs.declared.reply.Reply.TheVariants as reply
-use Rattle.mps_model.specs.Answer.{Answer, Replied, is_unsupported}
+use Rattle.mps_model.specs.Answer.{is_unsupported}
 use Rattle.mps_model.specs.Accessing.{act_poke_in, act_poked, held_in, hold_of, poked_in}
 use Rattle.mps_model.specs.Checked.{Checked, Found, required}
 use Rattle.mps_model.specs.Graph.{AreaWord, Hold, PlainWord, entry_at}

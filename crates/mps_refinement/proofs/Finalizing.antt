@@ -15,8 +15,7 @@ use Rattle.mps_laws.proofs.Lookups.{map-with_last}
 use Rattle.mps_laws.proofs.Same.{Same, BothOrNeither, both, neither, fits, same_next, same_refuse_when, same_required, same_then}
 use Rattle.mps_laws.proofs.SoundGraph.{All}
 use Rattle.mps_model.specs.declared.call.Call.TheVariants as call
-use Rattle.mps_model.specs.declared.reply.Reply.TheVariants as reply
-use Rattle.mps_model.specs.Answer.{Answer, Replied, is_unsupported}
+use Rattle.mps_model.specs.Answer.{is_unsupported}
 use Rattle.mps_model.specs.Checked.{Checked, Found, with_graph}
 use Rattle.mps_model.specs.Collecting as collecting
 use Rattle.mps_model.specs.Collecting.{act_message_in, most_registrations}

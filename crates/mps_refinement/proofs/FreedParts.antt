@@ -41,7 +41,7 @@ use Rattle.mps_refinement.proofs.Known.{IsKnown}
 use Rattle.mps_refinement.proofs.Lookups.{IsPlaceEntry}
 use Rattle.mps_refinement.proofs.ManualBlocks.{IsBlock, setting}
 use Rattle.mps_refinement.proofs.PlacedOnce.{ArePlacedOnce, is_sized}
-use Rattle.mps_refinement.proofs.PlacesByActs.{places_of}
+use Rattle.mps_refinement.proofs.PlacesByMoves.{places_of}
 use Rattle.mps_refinement.proofs.PointWritten.{none_set}
 use Rattle.mps_refinement.proofs.ReservedImage.{block_covers}
 use Rattle.mps_refinement.proofs.StillHeld.{messages_still, registered_still, reservation_targets, slots_still, words_still}

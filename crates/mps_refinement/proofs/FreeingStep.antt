@@ -31,7 +31,7 @@ use Rattle.mps_model.specs.Flip.{at_address}
 use Rattle.mps_model.specs.History.{free_of, give_back_empty, moves_of_free, unless_refused, with_client_remembered}
 use Rattle.mps_refinement.specs.RightStep.{step_of}
 use Rattle.mps_refinement.proofs.PlacedOnce.{ArePlacedOnce, IsIn, written_cases}
-use Rattle.mps_refinement.proofs.PlacesByActs.{places_of}
+use Rattle.mps_refinement.proofs.PlacesByMoves.{places_of}
 use Rattle.mps_refinement.proofs.RestingSteps.{done_step}
 use Rattle.mps_refinement.proofs.StillHeld.{held_others, target_others}
 use Rattle.mps_base.specs.declared.refusal.Refusal.TheVariants as refusal

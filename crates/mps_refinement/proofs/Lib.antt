@@ -34,7 +34,7 @@ pub mod BlockParts
 pub mod BlockWords
 pub mod BlockRuns
 pub mod Dumps
-pub mod PlacesByActs
+pub mod PlacesByMoves
 pub mod PlacedOnce
 pub mod ClearedWords
 pub mod PointWritten

@@ -9,12 +9,8 @@ use Rattle.mps_base.specs.Address.{Address, Word, word_of, bytes_of_word, max_bl
 use Rattle.mps_base.specs.declared.names.Slot.{Slot}
 use Rattle.mps_base.specs.declared.refusal.Refusal.TheVariants as refusal
 use Rattle.mps_format.specs.Layout.{Layout}
-use Rattle.mps_model.specs.declared.call.Call.TheVariants as call
-use Rattle.mps_model.specs.declared.reply.Reply.TheVariants as reply
-use Rattle.mps_model.specs.Answer.{Replied}
 use Rattle.mps_model.specs.Checked.{◌>>=◌, ◌>>◌, refuse_when}
-use Rattle.mps_model.specs.Step.{History}
-use Rattle.mps_model.specs.History.{IsLegalFrom, world_after_steps}
+use Rattle.mps_model.specs.History.{world_after_steps}
 use Rattle.mps_model.specs.World.{World}
 use Rattle.mps_outcome.specs.Coming.{done, answered, state_from}
 use Rattle.mps_outcome.specs.Finding.{block_place_in, with_words}
@@ -22,7 +18,6 @@ use Rattle.mps_outcome.specs.declared.found.Entry.{Entry}
 use Rattle.mps_outcome.specs.Manual.{block_in, is_block_over, word_in_block, word_stored}
 use Rattle.mps_outcome.specs.Objects.{with_word}
 use Rattle.mps_outcome.specs.State.{HeapState}
-use Rattle.mps_refinement.specs.RightStep.{step_of}
 use Rattle.mps_refinement.specs.Storing.{AreRight, stores}
 use Rattle.mps_refinement.specs.StandsFor.{StandsFor}
 use Rattle.mps_refinement.proofs.BlockWords.{store_is_right}

@@ -13,7 +13,6 @@ use Rattle.mps_image.specs.Memory.{Lies, memory_in, setting_at_rest, pool_layout
 use Rattle.mps_laws.proofs.Same.{Same, fits, same_then}
 use Rattle.mps_laws.proofs.SoundGraph.{PassesOrNull}
 use Rattle.mps_model.specs.declared.call.Call.TheVariants as call
-use Rattle.mps_model.specs.declared.reply.Reply.TheVariants as reply
 use Rattle.mps_model.specs.Allocating.{with_slot}
 use Rattle.mps_model.specs.Checked as model
 use Rattle.mps_model.specs.Checked.{Act, Checked, Found, Numbered, ◌>>=◌, ◌>>◌, cells_of_body, reference_at, with_graph}

@@ -1,5 +1,5 @@
 -- A call that appends moves to a trail keeps the trail's room.
-use Rattle.std.proofs.Common.{◌≡◌, ◌∙◌, ◌≤◌, ◌<◌, ℕ, ◌+◌, ◌-◌, Bool, true, false, refl, sym, ap, List, [], ◌∷◌, ◌++◌, length, length-append, Ok, Err, arith}
+use Rattle.std.proofs.Common.{◌∙◌, ◌≤◌, ◌<◌, ℕ, ◌+◌, ◌-◌, Bool, true, false, refl, ap, List, [], ◌∷◌, length, length-append, Ok, Err, arith}
 use Rattle.std.specs.Prelude.{◌==◌, if◌then◌else◌, not, slice_get, Option, Some, None}
 use Rattle.mps_arena.specs.Arena.{answer_of_placement}
 use Rattle.mps_base.specs.Run.{Run}
@@ -13,7 +13,7 @@ use Rattle.mps_base.specs.declared.names.Name.{Name}
 use Rattle.mps_base.specs.declared.names.Rank.TheVariants as rank
 use Rattle.mps_base.specs.declared.names.Slot.{Slot}
 use Rattle.mps_base.specs.declared.refusal.Refusal.TheVariants as refusal
-use Rattle.mps_manual.specs.Manual.{allocated, answer_of_alloc, any_size, block_removed, has_blocks_of, is_unused, moves_allocated, moves_freed, moves_given_back}
+use Rattle.mps_manual.specs.Manual.{answer_of_alloc, any_size, block_removed, has_blocks_of, is_unused, moves_allocated, moves_freed, moves_given_back}
 use Rattle.mps_buffer.specs.Points.{placement_at}
 use Rattle.mps_format.specs.Layout.{Layout}
 use Rattle.mps_model.specs.Checked.{Checked, ◌>>=◌, ◌>>◌, refuse_when, required}
@@ -22,9 +22,8 @@ use Rattle.mps_seg.specs.Segs.{SegsState, moves_after}
 use Rattle.mps_outcome.specs.Allocating.{reserved, committed, check_reserve}
 use Rattle.mps_outcome.specs.Coming.{Moved, ComesMoving, trail_moved}
 use Rattle.mps_outcome.specs.Finding.{block_place_in, point_named, pool_named, slot_in}
-use Rattle.mps_outcome.specs.Manual.{block_allocated, block_freed, block_in, with_block_place}
+use Rattle.mps_outcome.specs.Manual.{block_allocated, block_freed, block_in}
 use Rattle.mps_outcome.specs.State.{HeapState, is_automatic_pool}
-use Rattle.mps_outcome.specs.declared.found.Committed.{Committed}
 use Rattle.mps_outcome.specs.declared.found.Committed.TheVariants.{AsBlock, AsFlipped}
 use Rattle.mps_refinement.specs.RightMoving.{KeepsRoom}
 

@@ -1,9 +1,8 @@
 -- A heap goes on standing for some world, whatever the numbers of its formats are: when it is new, and after each call that is right.
-use Rattle.std.proofs.Common.{◌≡◌, ◌≢◌, ◌∙◌, ℕ, ◌≤◌, refl, sym, ap, subst, [], ◌∷◌, ◌++◌, List, length, Option, Some, None, Result, Ok, Err, inl, inr}
-use Rattle.std.proofs.lemmas.Option.{none-some, same_Some}
+use Rattle.std.proofs.Common.{◌≡◌, ◌≢◌, ◌∙◌, ℕ, refl, sym, ap, subst, [], ◌∷◌, ◌++◌, List, length, Option, Some, None, Result, Ok, Err, inl, inr}
+use Rattle.std.proofs.lemmas.Option.{none-some}
 use Rattle.std.specs.Prelude.{slice_get}
 use Rattle.std.specs.Option.{option_map_or}
-use Rattle.mps_base.specs.Address.{max_grains}
 use Rattle.mps_base.specs.declared.moves.Move.{Move}
 use Rattle.mps_base.specs.declared.names.Kind.{Kind}
 use Rattle.mps_base.specs.declared.names.Name.{Name}

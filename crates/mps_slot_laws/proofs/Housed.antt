@@ -21,6 +21,7 @@ use Rattle.mps_trace_laws.proofs.Ranks.{fix_strong}
 use Rattle.mps_slot_laws.specs.Housed.{RootsKeepHoused}
 use Rattle.mps_slot_laws.specs.Rows.{AreHeldAtFlip}
 use Rattle.mps_slot_laws.proofs.Tables.{all_of}
+use Rattle.mps_trace.specs.declared.trace.Policy.{Policy}
 
 -- ---- what is held is live
 
@@ -56,7 +57,7 @@ live_held at_flip y slots targets held = live_entries y.world targets (λ i t e.
 
 -- ---- ranks
 
-module _ {F : Type 0} (layout : F → Layout) (formats : List (Option F)) (of : ChainsState) where
+module _ {F : Type 0} (layout : F → Layout) (formats : List (Option (Policy F))) (of : ChainsState) where
   root_strong : {x z : Traced} {at answer : Address} → FixesRoot layout formats of x at z answer → IsStrong x.segs → IsStrong z.segs
   root_strong (is_null e) strong = strong
   root_strong (leads to positive fixed) strong = fix_strong layout formats of fixed strong

@@ -17,9 +17,10 @@ use Rattle.mps_trace_laws.specs.Tracing.{TracingStands, setting_of}
 use Rattle.mps_trace_laws.proofs.Found.{target_can_be_fixed}
 use Rattle.mps_trace_laws.proofs.EachFix.{fix_is_a_step}
 use Rattle.mps_slot_laws.specs.OneRoot.{AreFixed, MeansLive, RefersTo, IsRootStep, ARootCanBeFixed, ARootIsAStep}
+use Rattle.mps_trace.specs.declared.trace.Policy.{Policy}
 
 -- nothing was fixed, where the targets are null
-pub none_fixed : {F : Type 0} (layout : F → Layout) (formats : List (Option F)) (of : ChainsState) (at_flip : List (Option Address))
+pub none_fixed : {F : Type 0} (layout : F → Layout) (formats : List (Option (Policy F))) (of : ChainsState) (at_flip : List (Option Address))
     (done : CellSet) (x : Traced) (y : Collecting) (targets : List (Option Id)) → entries targets ≡ []
     → TracingStands layout formats of at_flip done x y → AreFixed layout formats of at_flip done x x y targets
 none_fixed layout formats of at_flip done x y targets null stands = record {
@@ -33,7 +34,7 @@ none_fixed layout formats of at_flip done x y targets null stands = record {
   same_condemned = refl;
 }
 
-module _ {F : Type 0} (layout : F → Layout) (formats : List (Option F)) (of : ChainsState) (at_flip : List (Option Address))
+module _ {F : Type 0} (layout : F → Layout) (formats : List (Option (Policy F))) (of : ChainsState) (at_flip : List (Option Address))
     (done : CellSet) (x : Traced) (y : Collecting) (shaped : AreShaped y.world.graph.objects (pool_layout y.world))
     (stands : TracingStands layout formats of at_flip done x y) where
   target_of : (at : Address) (t : Id) (m : MeansLive at_flip y at t)

@@ -26,6 +26,7 @@ use Rattle.mps_trace_laws.proofs.ScanRun.{both_same, shaped_still}
 use Rattle.mps_slot_laws.specs.OneRoot.{RefersTo, IsWhere, AreFixed}
 use Rattle.mps_slot_laws.specs.Rows.{HoldsAtFlip, AreHeldAtFlip, AreFixedBefore, SlotsAreSteps, SlotsAreReady, MessagesAreSteps, MessagesAreReady}
 use Rattle.mps_slot_laws.proofs.OneRoot.{can_root, none_fixed, root_step}
+use Rattle.mps_trace.specs.declared.trace.Policy.{Policy}
 
 -- ---- lists
 
@@ -78,7 +79,7 @@ still_where y y' at None leaves same null = null
 still_where y y' at (Some t) leaves same w =
     (leaves.there t at w.1 w.0, subst (λ ids. is_white ids y'.colours t ≡ false) (sym same) (leaves.not_white t w.1))
 
-module _ {F : Type 0} (layout : F → Layout) (formats : List (Option F)) (of : ChainsState) (at_flip : List (Option Address))
+module _ {F : Type 0} (layout : F → Layout) (formats : List (Option (Policy F))) (of : ChainsState) (at_flip : List (Option Address))
     (done : CellSet) where
   abbrev Fixed : Traced → Traced → Collecting → List (Option Id) → Type 0
   Fixed x z y ts = AreFixed layout formats of at_flip done x z y ts

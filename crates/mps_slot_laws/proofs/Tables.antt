@@ -23,6 +23,7 @@ use Rattle.mps_slot_laws.specs.Rows.{HoldsAtFlip, AreHeldAtFlip}
 use Rattle.mps_slot_laws.specs.Tables.{AreTablesHeld, AreTablesFixed, TablesAreSteps, TablesAreReady}
 use Rattle.mps_slot_laws.proofs.OneRoot.{none_fixed}
 use Rattle.mps_slot_laws.proofs.Rows.{joined, still_where, run_slots, ready_slots}
+use Rattle.mps_trace.specs.declared.trace.Policy.{Policy}
 
 -- ---- lists
 
@@ -93,7 +94,7 @@ still_held at_flip y y' slots targets leaves same held = record {
       still_at_flip at_flip y y' (Rattle.std.specs.Prelude.slice_index_or slots i 0) target leaves same (held.each i target e);
 }
 
-module _ {F : Type 0} (layout : F → Layout) (formats : List (Option F)) (of : ChainsState) (at_flip : List (Option Address))
+module _ {F : Type 0} (layout : F → Layout) (formats : List (Option (Policy F))) (of : ChainsState) (at_flip : List (Option Address))
     (done : CellSet) where
   other_table : (key other : ℕ) (roots : RootsState) (x : Traced) → other ≢ key → {count : ℕ} {roots' : RootsState} {z : Traced}
       → FixesSlots layout formats of key roots x count roots' z → items_of roots'.tables other ≡ items_of roots.tables other

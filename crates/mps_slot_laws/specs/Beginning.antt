@@ -19,9 +19,10 @@ use Rattle.mps_trace_laws.specs.Tracing.{TracingStands}
 use Rattle.mps_slot_laws.specs.OneRoot.{AreFixed, IsWhere}
 use Rattle.mps_slot_laws.specs.Rows.{AreHeldAtFlip}
 use Rattle.mps_slot_laws.specs.Tables.{AreTablesHeld}
+use Rattle.mps_trace.specs.declared.trace.Policy.{Policy}
 
 -- all were fixed, slots before messages, and hold where their objects are then
-pub record AreRootsFixed {F : Type 0} (layout : F → Layout) (formats : List (Option F)) (of : ChainsState)
+pub record AreRootsFixed {F : Type 0} (layout : F → Layout) (formats : List (Option (Policy F))) (of : ChainsState)
     (at_flip : List (Option Address)) (done : CellSet) (x z : Traced) (y : Collecting) (roots roots' : RootsState) (finals' : FinalsState)
     (rows : List (List (Option Id))) (ids : List Id)
     : Type 0 where
@@ -34,7 +35,7 @@ pub record AreRootsFixed {F : Type 0} (layout : F → Layout) (formats : List (O
 -- fixing all slots and then all messages is steps of the abstract collector
 abbrev pub RootsAreSteps : (F : Type 0) → Type 0
 RootsAreSteps F =
-    (layout : F → Layout) (formats : List (Option F)) (of : ChainsState) (at_flip : List (Option Address)) (done : CellSet)
+    (layout : F → Layout) (formats : List (Option (Policy F))) (of : ChainsState) (at_flip : List (Option Address)) (done : CellSet)
     (x between z : Traced) (y : Collecting) (rows : List (List (Option Id))) (ids : List Id) (roots roots' : RootsState)
     (finals finals' : FinalsState)
     → AreShaped y.world.graph.objects (pool_layout y.world) → TracingStands layout formats of at_flip done x y
@@ -54,7 +55,7 @@ RootsAreReady F =
 -- where the tables in order hold what slots of a world do, and messages are its messages, this is what a flip of that world fixes
 abbrev pub WhatIsHeldIsFixed : (F : Type 0) → Type 0
 WhatIsHeldIsFixed F =
-    (layout : F → Layout) (formats : List (Option F)) (of : ChainsState) (at_flip : List (Option Address)) (done : CellSet)
+    (layout : F → Layout) (formats : List (Option (Policy F))) (of : ChainsState) (at_flip : List (Option Address)) (done : CellSet)
     (x z : Traced) (y : Collecting) (rows : List (List (Option Id))) (ids : List Id) (roots roots' : RootsState) (finals' : FinalsState)
     (w : World) (all : AreRootsFixed layout formats of at_flip done x z y roots roots' finals' rows ids)
     → entries (flat_map (λ row. row) rows) ≡ ids_in_slots w.graph → ids ≡ w.graph.messages

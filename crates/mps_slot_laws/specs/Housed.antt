@@ -14,6 +14,7 @@ use Rattle.mps_trace_laws.specs.Tracing.{TracingStands}
 use Rattle.mps_slot_laws.specs.Beginning.{AreRootsFixed}
 use Rattle.mps_slot_laws.specs.Rows.{AreHeldAtFlip}
 use Rattle.mps_slot_laws.specs.Tables.{AreTablesHeld}
+use Rattle.mps_trace.specs.declared.trace.Policy.{Policy}
 
 -- each object lies in one segment, and neither a segment nor a grey block is weak
 pub record AreRootsHoused (z : Traced) (after : Collecting) : Type 0 where
@@ -23,7 +24,7 @@ pub record AreRootsHoused (z : Traced) (after : Collecting) : Type 0 where
 -- fixing all slots and then all messages keeps both
 abbrev pub RootsKeepHoused : (F : Type 0) → Type 0
 RootsKeepHoused F =
-    (layout : F → Layout) (formats : List (Option F)) (of : ChainsState) (at_flip : List (Option Address)) (done : CellSet)
+    (layout : F → Layout) (formats : List (Option (Policy F))) (of : ChainsState) (at_flip : List (Option Address)) (done : CellSet)
     (x between z : Traced) (y : Collecting) (rows : List (List (Option Id))) (ids : List Id) (roots roots' : RootsState)
     (finals finals' : FinalsState)
     → TracingStands layout formats of at_flip done x y → AreHoused y.world.graph.objects x.segs.segments y.world.addresses

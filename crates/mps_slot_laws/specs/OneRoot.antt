@@ -14,6 +14,7 @@ use Rattle.mps_trace.specs.Trace.{Traced}
 use Rattle.mps_trace.specs.Roots.{FixesRoot, CanFixRootAt}
 use Rattle.mps_trace_laws.specs.Tracing.{TracingStands}
 use Rattle.mps_trace_laws.specs.Steps.{IsSameGraph}
+use Rattle.mps_trace.specs.declared.trace.Policy.{Policy}
 
 -- an address that isn't null means a live automatic object: the object is there now, or was there at the flip
 pub record MeansLive (at_flip : List (Option Address)) (y : Collecting) (at : Address) (t : Id) : Type 0 where
@@ -36,7 +37,7 @@ IsWhere y at None = at ≡ 0
 IsWhere y at (Some t) = (entry_at y.world.addresses t ≡ Some at) × (is_white_in y t ≡ false)
 
 -- what these slots refer to was fixed, by steps of the abstract collector
-pub record AreFixed {F : Type 0} (layout : F → Layout) (formats : List (Option F)) (of : ChainsState)
+pub record AreFixed {F : Type 0} (layout : F → Layout) (formats : List (Option (Policy F))) (of : ChainsState)
     (at_flip : List (Option Address)) (done : CellSet) (x z : Traced) (y : Collecting) (targets : List (Option Id))
     : Type 0 where
   pub moves : List Move
@@ -50,7 +51,7 @@ pub record AreFixed {F : Type 0} (layout : F → Layout) (formats : List (Option
   pub same_condemned : after.running.condemned ≡ y.running.condemned
 
 -- one was fixed, and this is what it holds then
-pub record IsRootStep {F : Type 0} (layout : F → Layout) (formats : List (Option F)) (of : ChainsState)
+pub record IsRootStep {F : Type 0} (layout : F → Layout) (formats : List (Option (Policy F))) (of : ChainsState)
     (at_flip : List (Option Address)) (done : CellSet) (x z : Traced) (y : Collecting) (target : Option Id) (answer : Address)
     : Type 0 where
   pub fixed : AreFixed layout formats of at_flip done x z y (target ∷ [])
@@ -59,14 +60,14 @@ pub record IsRootStep {F : Type 0} (layout : F → Layout) (formats : List (Opti
 -- a slot can be fixed
 abbrev pub ARootCanBeFixed : (F : Type 0) → Type 0
 ARootCanBeFixed F =
-    (layout : F → Layout) (formats : List (Option F)) (of : ChainsState) (at_flip : List (Option Address)) (done : CellSet)
+    (layout : F → Layout) (formats : List (Option (Policy F))) (of : ChainsState) (at_flip : List (Option Address)) (done : CellSet)
     (x : Traced) (y : Collecting) (at : Address) (target : Option Id) → AreShaped y.world.graph.objects (pool_layout y.world)
     → TracingStands layout formats of at_flip done x y → RefersTo at_flip y at target → CanFixRootAt layout formats of x at
 
 -- and what the collector does with it is a step of the abstract collector
 abbrev pub ARootIsAStep : (F : Type 0) → Type 0
 ARootIsAStep F =
-    (layout : F → Layout) (formats : List (Option F)) (of : ChainsState) (at_flip : List (Option Address)) (done : CellSet)
+    (layout : F → Layout) (formats : List (Option (Policy F))) (of : ChainsState) (at_flip : List (Option Address)) (done : CellSet)
     (x z : Traced) (y : Collecting) (at answer : Address) (target : Option Id) → AreShaped y.world.graph.objects (pool_layout y.world)
     → TracingStands layout formats of at_flip done x y → RefersTo at_flip y at target
     → FixesRoot layout formats of x at z answer → IsRootStep layout formats of at_flip done x z y target answer

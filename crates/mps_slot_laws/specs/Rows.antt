@@ -13,6 +13,7 @@ use Rattle.mps_trace.specs.Trace.{Traced}
 use Rattle.mps_trace.specs.Roots.{FixesSlots, FixesMessages, CanFixRootAt, slot_of, message_of}
 use Rattle.mps_trace_laws.specs.Tracing.{TracingStands}
 use Rattle.mps_slot_laws.specs.OneRoot.{AreFixed, IsWhere}
+use Rattle.mps_trace.specs.declared.trace.Policy.{Policy}
 
 -- an address is the one that a live automatic object had at the flip, and isn't null
 pub record WasAt (at_flip : List (Option Address)) (y : Collecting) (at : Address) (t : Id) : Type 0 where
@@ -36,7 +37,7 @@ pub record AreHeldAtFlip (at_flip : List (Option Address)) (y : Collecting) (slo
   pub each : (i : ℕ) (target : Option Id) → slice_get targets i ≡ Some target → HoldsAtFlip at_flip y (slice_index_or slots i 0) target
 
 -- the slots of a row before one of them were fixed, and hold where their targets are then. The others hold what they held
-pub record AreFixedBefore {F : Type 0} (layout : F → Layout) (formats : List (Option F)) (of : ChainsState)
+pub record AreFixedBefore {F : Type 0} (layout : F → Layout) (formats : List (Option (Policy F))) (of : ChainsState)
     (at_flip : List (Option Address)) (done : CellSet) (x z : Traced) (y : Collecting) (slots slots' : List Address)
     (targets : List (Option Id)) (before : ℕ)
     : Type 0 where
@@ -49,7 +50,7 @@ pub record AreFixedBefore {F : Type 0} (layout : F → Layout) (formats : List (
 -- fixing slots of a table is steps of the abstract collector
 abbrev pub SlotsAreSteps : (F : Type 0) → Type 0
 SlotsAreSteps F =
-    (layout : F → Layout) (formats : List (Option F)) (of : ChainsState) (at_flip : List (Option Address)) (done : CellSet)
+    (layout : F → Layout) (formats : List (Option (Policy F))) (of : ChainsState) (at_flip : List (Option Address)) (done : CellSet)
     (x z : Traced) (y : Collecting) (targets : List (Option Id)) (key count : ℕ) (roots roots' : RootsState)
     → AreShaped y.world.graph.objects (pool_layout y.world) → TracingStands layout formats of at_flip done x y
     → AreHeldAtFlip at_flip y (items_of roots.tables key) targets → count ≤ length (items_of roots.tables key)
@@ -59,7 +60,7 @@ SlotsAreSteps F =
 -- and each can be fixed when its turn comes
 abbrev pub SlotsAreReady : (F : Type 0) → Type 0
 SlotsAreReady F =
-    (layout : F → Layout) (formats : List (Option F)) (of : ChainsState) (at_flip : List (Option Address)) (done : CellSet)
+    (layout : F → Layout) (formats : List (Option (Policy F))) (of : ChainsState) (at_flip : List (Option Address)) (done : CellSet)
     (x z : Traced) (y : Collecting) (targets : List (Option Id)) (key count : ℕ) (roots roots' : RootsState)
     → AreShaped y.world.graph.objects (pool_layout y.world) → TracingStands layout formats of at_flip done x y
     → AreHeldAtFlip at_flip y (items_of roots.tables key) targets → count < length (items_of roots.tables key)
@@ -68,7 +69,7 @@ SlotsAreReady F =
 -- fixing messages is steps of the abstract collector
 abbrev pub MessagesAreSteps : (F : Type 0) → Type 0
 MessagesAreSteps F =
-    (layout : F → Layout) (formats : List (Option F)) (of : ChainsState) (at_flip : List (Option Address)) (done : CellSet)
+    (layout : F → Layout) (formats : List (Option (Policy F))) (of : ChainsState) (at_flip : List (Option Address)) (done : CellSet)
     (x z : Traced) (y : Collecting) (ids : List Id) (count : ℕ) (finals finals' : FinalsState)
     → AreShaped y.world.graph.objects (pool_layout y.world) → TracingStands layout formats of at_flip done x y
     → AreHeldAtFlip at_flip y finals.messages (map Some ids) → count ≤ length finals.messages
@@ -78,7 +79,7 @@ MessagesAreSteps F =
 -- and each can be fixed when its turn comes
 abbrev pub MessagesAreReady : (F : Type 0) → Type 0
 MessagesAreReady F =
-    (layout : F → Layout) (formats : List (Option F)) (of : ChainsState) (at_flip : List (Option Address)) (done : CellSet)
+    (layout : F → Layout) (formats : List (Option (Policy F))) (of : ChainsState) (at_flip : List (Option Address)) (done : CellSet)
     (x z : Traced) (y : Collecting) (ids : List Id) (count : ℕ) (finals finals' : FinalsState)
     → AreShaped y.world.graph.objects (pool_layout y.world) → TracingStands layout formats of at_flip done x y
     → AreHeldAtFlip at_flip y finals.messages (map Some ids) → count < length finals.messages

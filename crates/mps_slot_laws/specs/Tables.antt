@@ -13,6 +13,7 @@ use Rattle.mps_trace.specs.Roots.{FixesSlots, FixesTables, CanFixRootAt, key_at,
 use Rattle.mps_trace_laws.specs.Tracing.{TracingStands}
 use Rattle.mps_slot_laws.specs.OneRoot.{AreFixed, IsWhere}
 use Rattle.mps_slot_laws.specs.Rows.{AreHeldAtFlip}
+use Rattle.mps_trace.specs.declared.trace.Policy.{Policy}
 
 -- the tables, in order, hold what they held at the flip, and no table is in that order twice
 pub record AreTablesHeld (at_flip : List (Option Address)) (y : Collecting) (roots : RootsState) (rows : List (List (Option Id)))
@@ -23,7 +24,7 @@ pub record AreTablesHeld (at_flip : List (Option Address)) (y : Collecting) (roo
   pub apart : (n m : ℕ) → n < length roots.order → m < length roots.order → key_at roots n ≡ key_at roots m → n ≡ m
 
 -- the tables before one in order were fixed, and hold where their targets are then. The others hold what they held
-pub record AreTablesFixed {F : Type 0} (layout : F → Layout) (formats : List (Option F)) (of : ChainsState)
+pub record AreTablesFixed {F : Type 0} (layout : F → Layout) (formats : List (Option (Policy F))) (of : ChainsState)
     (at_flip : List (Option Address)) (done : CellSet) (x z : Traced) (y : Collecting) (roots roots' : RootsState)
     (rows : List (List (Option Id))) (before : ℕ)
     : Type 0 where
@@ -36,7 +37,7 @@ pub record AreTablesFixed {F : Type 0} (layout : F → Layout) (formats : List (
 -- fixing tables is steps of the abstract collector
 abbrev pub TablesAreSteps : (F : Type 0) → Type 0
 TablesAreSteps F =
-    (layout : F → Layout) (formats : List (Option F)) (of : ChainsState) (at_flip : List (Option Address)) (done : CellSet)
+    (layout : F → Layout) (formats : List (Option (Policy F))) (of : ChainsState) (at_flip : List (Option Address)) (done : CellSet)
     (x z : Traced) (y : Collecting) (rows : List (List (Option Id))) (count : ℕ) (roots roots' : RootsState)
     → AreShaped y.world.graph.objects (pool_layout y.world) → TracingStands layout formats of at_flip done x y
     → AreTablesHeld at_flip y roots rows → count ≤ length roots.order → FixesTables layout formats of roots x count roots' z
@@ -45,7 +46,7 @@ TablesAreSteps F =
 -- and each slot of a table can be fixed when its turn comes
 abbrev pub TablesAreReady : (F : Type 0) → Type 0
 TablesAreReady F =
-    (layout : F → Layout) (formats : List (Option F)) (of : ChainsState) (at_flip : List (Option Address)) (done : CellSet)
+    (layout : F → Layout) (formats : List (Option (Policy F))) (of : ChainsState) (at_flip : List (Option Address)) (done : CellSet)
     (x z z' : Traced) (y : Collecting) (rows : List (List (Option Id))) (count slots : ℕ) (roots roots' roots'' : RootsState)
     → AreShaped y.world.graph.objects (pool_layout y.world) → TracingStands layout formats of at_flip done x y
     → AreTablesHeld at_flip y roots rows → count < length roots.order → FixesTables layout formats of roots x count roots' z

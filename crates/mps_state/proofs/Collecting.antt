@@ -8,9 +8,10 @@ use Rattle.mps_ld.specs.State as ld
 use Rattle.mps_trace.specs.Collect.{most_moves}
 use Rattle.mps_trace.specs.Flip.{automatic_of, zones_of}
 use Rattle.mps_outcome.specs.Collecting.{CanCollectAll, IsCollected, is_empty}
-use Rattle.mps_outcome.specs.State.{HeapState, format_of_pool}
+use Rattle.mps_outcome.specs.State.{HeapState, policy_of_pool}
 use Rattle.mps_outcome.specs.declared.pool.ArenaState.TheVariants as arena
 use Rattle.mps_pools.specs.Collecting.{CanCollectPools, ArePoolsCollected}
+use Rattle.mps_trace.specs.declared.trace.Policy.{Policy}
 
 -- a list of no entries is empty
 pub no_entries : {A : Type 0} (xs : List A) → (length xs == 0) ≡ is_empty xs
@@ -27,7 +28,7 @@ module _ {F : Type 0} (layout : F → Layout) (h : HeapState F) (m : Moves) wher
       subst Q (sym bound) (subst P (sym is) can)
 
   -- the heap after the flip of a collection, with these formats
-  abbrev parked_with : HeapState F → List (Option F) → HeapState F → HeapState F
+  abbrev parked_with : HeapState F → List (Option (Policy F)) → HeapState F → HeapState F
   parked_with seen formats h' = record seen {
     segs = h'.segs;
     roots = h'.roots;
@@ -39,7 +40,7 @@ module _ {F : Type 0} (layout : F → Layout) (h : HeapState F) (m : Moves) wher
 
   pub collected : (seen h' : HeapState F) (m' : Moves) (most : ℕ) → seen ≡ h → most ≡ most_moves seen.segs.grains
       → ArePoolsCollected layout seen.pools seen.points seen.roots seen.finals seen.segs m most h'.roots h'.finals h'.segs m'
-      → h' ≡ parked_with seen (map format_of_pool seen.pools) h' → IsCollected layout h m h' m'
+      → h' ≡ parked_with seen (map policy_of_pool seen.pools) h' → IsCollected layout h m h' m'
   collected seen h' m' most is bound of_pools state =
       let P : HeapState F → Type 0 = λ g. IsCollected layout g m h' m' in
       let Q : ℕ → Type 0 =

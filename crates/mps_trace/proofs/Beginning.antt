@@ -16,6 +16,7 @@ use Rattle.mps_trace.specs.Roots.{AreMessagesReady, FixesTables}
 use Rattle.mps_trace.specs.Trace.{TraceState, Traced}
 use Rattle.mps_trace.proofs.Ending.{blocks_stay}
 use Rattle.mps_trace.proofs.Nailing.{AreBlocksSame}
+use Rattle.mps_trace.specs.declared.trace.Policy.{Policy}
 
 condemned_same : (ts : List Segment) (s : SegsState) → AreBlocksSame s (condemning_all ts s)
 condemned_same [] s = record { blocks = refl; grains = refl }
@@ -30,7 +31,7 @@ ascending_still s s' same ascending =
     let Q : List Run → Type 0 = λ rs. IsAscending 0 (words_of_grain * (s.grains + 1)) rs in
     subst P (sym same.grains) (subst Q (sym same.blocks) ascending)
 
-pub flip_same : {F : Type 0} (formats : List (Option F)) (points : PointsState) (x y : Traced) → y ≡ at_flip formats points x
+pub flip_same : {F : Type 0} (formats : List (Option (Policy F))) (points : PointsState) (x y : Traced) → y ≡ at_flip formats points x
     → AreBlocksSame x.segs y.segs
 flip_same formats points x y is =
     let s = all_ended points.flips points.points x.segs in
@@ -41,7 +42,7 @@ flip_same formats points x y is =
       grains = ap (λ (z : Traced). z.segs.grains) is ∙ rest.grains ∙ first.grains;
     }
 
-pub nailed_is : {F : Type 0} (formats : List (Option F)) (points : PointsState) (roots : RootsState) (x y : Traced) (s : SegsState)
+pub nailed_is : {F : Type 0} (formats : List (Option (Policy F))) (points : PointsState) (roots : RootsState) (x y : Traced) (s : SegsState)
     → y ≡ at_flip formats points x → s ≡ nailed_by_areas roots.areas y.segs
     → record y { segs = s } ≡ nailed_at_flip formats points roots x
 nailed_is formats points roots x y s flipped nailed =

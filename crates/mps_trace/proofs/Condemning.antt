@@ -13,8 +13,9 @@ use Rattle.mps_trace.specs.Condemned.{AreAscending}
 use Rattle.mps_trace.specs.Flip.{is_automatic, automatic_of, condemning_all, all_condemned, zones_of}
 use Rattle.mps_trace.proofs.Ordered.{Lowest, lowest_found, rest_from, rest_low, rest_none}
 use Rattle.mps_trace.proofs.Zones.{or_assoc_below, runs_small, zones_small}
+use Rattle.mps_trace.specs.declared.trace.Policy.{Policy}
 
-module _ {F : Type 0} (formats : List (Option F)) (t : Segment) (ts : List Segment) where
+module _ {F : Type 0} (formats : List (Option (Policy F))) (t : Segment) (ts : List Segment) where
   pub automatic_here : is_automatic formats t.pool ≡ true → automatic_of formats (t ∷ ts) ≡ t ∷ automatic_of formats ts
   automatic_here is = cond-true (is_automatic formats t.pool) (t ∷ automatic_of formats ts) (automatic_of formats ts) is
 
@@ -34,7 +35,7 @@ module _ (before s : SegsState) (same : s.segments ≡ before.segments) (at : Ad
       rest_none before.segments at (is ∙ ap (λ (ts : List Segment). option_map base_address (segment_from ts at)) same)
 
 -- the segments of automatic pools that begin below an address are condemned, and the others are still to go
-pub record AreCondemnedBelow {F : Type 0} (formats : List (Option F)) (before : SegsState) (at : Address) (s : SegsState)
+pub record AreCondemnedBelow {F : Type 0} (formats : List (Option (Policy F))) (before : SegsState) (at : Address) (s : SegsState)
     (zones count : ℕ)
     : Type 0 where
   pub same : s.segments ≡ before.segments
@@ -44,7 +45,7 @@ pub record AreCondemnedBelow {F : Type 0} (formats : List (Option F)) (before : 
   pub count_to_go : count + length (automatic_of formats (rest_from at before.segments)) ≡ length (automatic_of formats before.segments)
   pub few : count ≤ at
 
-module _ {F : Type 0} (formats : List (Option F)) (before : SegsState) where
+module _ {F : Type 0} (formats : List (Option (Policy F))) (before : SegsState) where
   pub none_yet : AreAscending 0 before.segments → AreCondemnedBelow formats before 0 before 0 0
   none_yet ascending =
       let all = rest_low 0 0 before.segments ascending (omega arith) in

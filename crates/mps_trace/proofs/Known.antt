@@ -14,6 +14,7 @@ use Rattle.mps_amc.proofs.Found.{over_is_there}
 use Rattle.mps_gen.specs.State.{ChainsState, generations_of}
 use Rattle.mps_base.specs.Trail.{Moves}
 use Rattle.mps_trace.specs.Trace.{TraceState, Traced, traced, CanKeep, CanFix, target_of}
+use Rattle.mps_trace.specs.declared.trace.Policy.{Policy}
 
 pub some_over : (o : Option Segment) (base : Addr) → Some base ≡ option_map base_address o → (t : Segment) × (o ≡ Some t)
 some_over None base is = let never : Some base ≡ None = is in cc
@@ -45,15 +46,15 @@ pub same_format : {F : Type 0} (a b : F) → Some a ≡ Some b → a ≡ b
 same_format a b is = cc
 
 -- an entry that is read is the format that is listed
-pub format_read : {F : Type 0} (formats : List (Option F)) (pool : ℕ) (o : Option F) (format : F)
+pub format_read : {F : Type 0} (formats : List (Option (Policy F))) (pool : ℕ) (o : Option (Policy F)) (format : Policy F)
     → slice_get formats pool ≡ Some (Some format) → o ≡ get_or formats pool o → o ≡ Some format
 format_read formats pool o format listed read = read ∙ get_or_from_slice_get formats pool (Some format) o listed
 
 -- the format that is read is that of the pool of the segment over an address
-pub format_is : {F : Type 0} (t t' : TraceState F) → t' ≡ t → (s : SegsState) (at : Addr) (info : SegmentInfo) (seg : Segment) (format : F)
+pub format_is : {F : Type 0} (t t' : TraceState F) → t' ≡ t → (s : SegsState) (at : Addr) (info : SegmentInfo) (seg : Segment) (format : Policy F)
     → segment_over s.segments at.0 ≡ Some seg
     → ((x : Segment) → segment_over s.segments at.0 ≡ Some x → Some info ≡ Some (info_of s x))
-    → slice_get t.formats seg.pool ≡ Some (Some format) → (o : Option F) → o ≡ get_or t'.formats info.pool o → (got : F) → o ≡ Some got
+    → slice_get t.formats seg.pool ≡ Some (Some format) → (o : Option (Policy F)) → o ≡ get_or t'.formats info.pool o → (got : Policy F) → o ≡ Some got
     → got ≡ format
 format_is {F} t t' same s at info seg format over found listed o read got is =
     let pool = ap (λ (i : SegmentInfo). i.pool) (same_info info (info_of s seg) (found seg over)) in
@@ -63,7 +64,7 @@ format_is {F} t t' same s at info seg format over found listed o read got is =
     same_format got format (sym is ∙ format_read t'.formats info.pool o format there read)
 
 -- the format of a pool that is listed, as the fields of the collector have it
-module _ {F : Type 0} (t t' : TraceState F) (same : t' ≡ t) (s : SegsState) (at : Addr) (info : SegmentInfo) (seg : Segment) (format : F)
+module _ {F : Type 0} (t t' : TraceState F) (same : t' ≡ t) (s : SegsState) (at : Addr) (info : SegmentInfo) (seg : Segment) (format : Policy F)
     (over : segment_over s.segments at.0 ≡ Some seg) (begins : seg.base ≡ at.0)
     (told : (x : Segment) → Contains s.segments x → x.base ≡ at.0 → info ≡ info_of s x)
     (listed : slice_get t.formats seg.pool ≡ Some (Some format))
@@ -76,7 +77,7 @@ module _ {F : Type 0} (t t' : TraceState F) (same : t' ≡ t) (s : SegsState) (a
     pub within_at : info.pool < length t'.formats
     within_at = slice_get_within t'.formats info.pool (Some format) listed_at
 
-    pub format_at : (o : Option F) → o ≡ get_or t'.formats info.pool o → o ≡ Some format
+    pub format_at : (o : Option (Policy F)) → o ≡ get_or t'.formats info.pool o → o ≡ Some format
     format_at o read = format_read t'.formats info.pool o format listed_at read
 
 -- a block in a condemned segment can be kept, as the fields of the collector have it
@@ -87,7 +88,7 @@ keep_there {F} layout t t' s m at info same can condemned is =
     let P : TraceState F → Type 0 = λ u. CanFix layout u s m at in
     (subst P (sym same) can).condemned (sym condemned ∙ not_false info.is_condemned is)
 
-module _ {F : Type 0} (layout : F → Layout) (formats : List (Option F)) (chains : ChainsState) (x : Traced) (at : Addr)
+module _ {F : Type 0} (layout : F → Layout) (formats : List (Option (Policy F))) (chains : ChainsState) (x : Traced) (at : Addr)
     (info : SegmentInfo) (keep : CanKeep layout formats chains x at.0)
     (found : (t : Segment) → segment_over x.segs.segments at.0 ≡ Some t → Some info ≡ Some (info_of x.segs t))
   where

@@ -13,6 +13,7 @@ use Rattle.mps_trace.specs.Trace.{TraceState, Traced}
 use Rattle.mps_trace.specs.Unit.{ended}
 use Rattle.mps_trace.specs.declared.running.Running.{Running}
 use Rattle.mps_trace.specs.declared.running.Band.TheVariants.{Exact}
+use Rattle.mps_trace.specs.declared.trace.Policy.{Policy}
 
 -- the blocks in which words of an area lie are nailed
 abbrev pub nailed_by_area : Option (List Stored) → SegsState → SegsState
@@ -25,13 +26,13 @@ nailed_by_areas [] s = s
 nailed_by_areas (a ∷ areas) s = nailed_by_areas areas (nailed_by_area a s)
 
 -- what a flip leaves, with the blocks nailed in which area words lie
-abbrev pub nailed_at_flip : {F : Type 0} → (formats : List (Option F)) → PointsState → RootsState → Traced → Traced
+abbrev pub nailed_at_flip : {F : Type 0} → (formats : List (Option (Policy F))) → PointsState → RootsState → Traced → Traced
 nailed_at_flip formats points roots x = record (at_flip formats points x) {
   segs = nailed_by_areas roots.areas (at_flip formats points x).segs;
 }
 
 -- a collection begins: after the flip, slots and then messages are fixed, and no unit is done
-pub record Begins {F : Type 0} (layout : F → Layout) (formats : List (Option F)) (chains : ChainsState) (points : PointsState)
+pub record Begins {F : Type 0} (layout : F → Layout) (formats : List (Option (Policy F))) (chains : ChainsState) (points : PointsState)
     (roots : RootsState) (finals : FinalsState) (x : Traced) (roots' : RootsState) (finals' : FinalsState) (z : Traced) (run : Running)
     : Type 0 where
   pub some : 0 < length (automatic_of formats x.segs.segments)
@@ -41,7 +42,7 @@ pub record Begins {F : Type 0} (layout : F → Layout) (formats : List (Option F
   pub run_is : run ≡ record { band = Exact; cursor = record { 0 = 0 } }
 
 -- nothing is condemned: a collection is over at once
-pub record EndsAtOnce {F : Type 0} (formats : List (Option F)) (points : PointsState) (roots : RootsState) (finals : FinalsState)
+pub record EndsAtOnce {F : Type 0} (formats : List (Option (Policy F))) (points : PointsState) (roots : RootsState) (finals : FinalsState)
     (x : Traced) (roots' : RootsState) (finals' : FinalsState) (z : Traced) : Type 0 where
   pub none : length (automatic_of formats x.segs.segments) ≡ 0
   pub roots_are : roots' ≡ roots

@@ -14,9 +14,10 @@ use Rattle.mps_trace.specs.Condemned.{AreInOrder}
 use Rattle.mps_trace.specs.Trace.{TraceState, Traced, traced}
 use Rattle.mps_trace.specs.Unit.{UnitsTo, EndsWithin, AreUnitsReady}
 use Rattle.mps_trace.specs.declared.running.Running.{Running}
+use Rattle.mps_trace.specs.declared.trace.Policy.{Policy}
 
 -- a collection of everything, from its flip to its end: it ends at once where nothing is condemned, and else within n units
-pub data Collects {F : Type 0} (layout : F → Layout) (formats : List (Option F)) (chains : ChainsState) (points : PointsState)
+pub data Collects {F : Type 0} (layout : F → Layout) (formats : List (Option (Policy F))) (chains : ChainsState) (points : PointsState)
     (roots : RootsState) (finals : FinalsState) (x : Traced) (most : ℕ) (roots' : RootsState) (finals' : FinalsState) (z : Traced) : Type 0
   where
     at_once : EndsAtOnce formats points roots finals x roots' finals' z
@@ -27,7 +28,7 @@ pub data Collects {F : Type 0} (layout : F → Layout) (formats : List (Option F
         → Collects layout formats chains points roots finals x most roots' finals' z
 
 -- once it has begun, each of at most n units can be done when its turn comes, and it doesn't go on after all of them
-pub record CanEnd {F : Type 0} (layout : F → Layout) (formats : List (Option F)) (chains : ChainsState) (z : Traced) (run : Running)
+pub record CanEnd {F : Type 0} (layout : F → Layout) (formats : List (Option (Policy F))) (chains : ChainsState) (z : Traced) (run : Running)
     (most : ℕ) : Type 0 where
   pub ready : AreUnitsReady layout (record { formats = formats; amc = z.amc; chains = chains }) z.segs z.moves run most
   pub ends : (last : Traced) (run' : Running) → UnitsTo layout formats chains z run most last run' → ⊥

@@ -1,5 +1,5 @@
 -- What a flip condemns and drops, and the blocks that area words nail.
-use Rattle.std.specs.Prelude.{◌≡◌, ℕ, ◌+◌, Bool, false, is_some, if◌then◌else◌, Option, Some, None, List, [], ◌∷◌, filter, get_or, map, refl}
+use Rattle.std.specs.Prelude.{◌≡◌, ℕ, ◌+◌, Bool, true, false, is_some, if◌then◌else◌, Option, Some, None, List, [], ◌∷◌, filter, get_or, map, refl}
 use Rattle.mps_base.specs.Address.{Word, word_of, address_of_word}
 use Rattle.mps_base.specs.Segment.{Segment, grains_of_segment}
 use Rattle.mps_base.specs.Trail.{with_move}
@@ -15,15 +15,16 @@ use Rattle.mps_root.specs.declared.roots.Stored.{Stored}
 use Rattle.mps_seg.specs.Segs.{SegsState}
 use Rattle.mps_seg.specs.Collecting.{condemning, is_condemned_at}
 use Rattle.mps_trace.specs.Trace.{Traced}
+use Rattle.mps_trace.specs.declared.trace.Policy.{Policy}
 
 -- ---- what is condemned
 
 -- whether a pool is automatic: it has a format
-abbrev pub is_automatic : {F : Type 0} → (formats : List (Option F)) → (pool : ℕ) → Bool
+abbrev pub is_automatic : {F : Type 0} → (formats : List (Option (Policy F))) → (pool : ℕ) → Bool
 is_automatic formats pool = is_some (get_or formats pool None)
 
 -- the segments of automatic pools
-abbrev pub automatic_of : {F : Type 0} → (formats : List (Option F)) → List Segment → List Segment
+abbrev pub automatic_of : {F : Type 0} → (formats : List (Option (Policy F))) → List Segment → List Segment
 automatic_of formats ts = filter (λ t. is_automatic formats t.pool) ts
 
 -- these segments are condemned too
@@ -36,13 +37,13 @@ abbrev pub zones_of : List Segment → ℕ
 zones_of ts = zones_of_runs (map grains_of_segment ts)
 
 -- each segment of an automatic pool is condemned
-abbrev pub all_condemned : {F : Type 0} → (formats : List (Option F)) → SegsState → SegsState
+abbrev pub all_condemned : {F : Type 0} → (formats : List (Option (Policy F))) → SegsState → SegsState
 all_condemned formats s = condemning_all (automatic_of formats s.segments) s
 
 -- ---- a flip
 
 -- what a flip of everything leaves: reservations are ended, nothing is at hand for pools, what is condemned is so, and the flip is told
-abbrev pub at_flip : {F : Type 0} → (formats : List (Option F)) → PointsState → Traced → Traced
+abbrev pub at_flip : {F : Type 0} → (formats : List (Option (Policy F))) → PointsState → Traced → Traced
 at_flip formats points x = record {
   amc = amc.flipped x.amc;
   segs = all_condemned formats (all_ended points.flips points.points x.segs);
@@ -67,8 +68,8 @@ nailed_by_all (w ∷ ws) s = nailed_by_all ws (nailed_by s w.word)
 
 -- ---- vectors: a segment of an automatic pool, and one of a pool that isn't collected
 
-abbrev formats : List (Option ℕ)
-formats = None ∷ Some 0 ∷ []
+abbrev formats : List (Option (Policy ℕ))
+formats = None ∷ Some (record { format = 0; moves = true }) ∷ []
 
 abbrev segment_of_pool : (base pool : ℕ) → Segment
 segment_of_pool base pool = record { base = base; grains = 2; pool = pool; generation = 0; rank = Exact }

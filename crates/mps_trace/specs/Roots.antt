@@ -9,9 +9,10 @@ use Rattle.mps_gen.specs.State.{ChainsState}
 use Rattle.mps_root.specs.State.{RootsState, items_of, with_item}
 use Rattle.mps_seg.specs.Segs.{SegsState}
 use Rattle.mps_trace.specs.Trace.{TraceState, Traced, traced, CanFixAt, FixesTo}
+use Rattle.mps_trace.specs.declared.trace.Policy.{Policy}
 
 -- what is done with a root that has an address: null stays, and any other is fixed
-pub data FixesRoot {F : Type 0} (layout : F → Layout) (formats : List (Option F)) (chains : ChainsState) (x : Traced) (at : Address)
+pub data FixesRoot {F : Type 0} (layout : F → Layout) (formats : List (Option (Policy F))) (chains : ChainsState) (x : Traced) (at : Address)
     : Traced → (answer : Address) → Type 0
   where
     is_null : at ≡ 0 → FixesRoot layout formats chains x at x 0
@@ -19,7 +20,7 @@ pub data FixesRoot {F : Type 0} (layout : F → Layout) (formats : List (Option 
         → FixesRoot layout formats chains x at y to.0
 
 -- a root is null or can be fixed
-abbrev pub CanFixRootAt : {F : Type 0} → (F → Layout) → (formats : List (Option F)) → ChainsState → Traced → (at : Address) → Type 0
+abbrev pub CanFixRootAt : {F : Type 0} → (F → Layout) → (formats : List (Option (Policy F))) → ChainsState → Traced → (at : Address) → Type 0
 CanFixRootAt layout formats chains x at = 0 < at → CanFixAt layout formats chains x at
 
 abbrev pub CanFixRoot : {F : Type 0} → (F → Layout) → TraceState F → SegsState → Moves → (at : Address) → Type 0
@@ -35,7 +36,7 @@ abbrev pub with_slot : RootsState → (key index : ℕ) → Address → RootsSta
 with_slot roots key index at = record roots { tables = with_item roots.tables key index at }
 
 -- as many slots of a table as this are fixed, in ascending order
-pub data FixesSlots {F : Type 0} (layout : F → Layout) (formats : List (Option F)) (chains : ChainsState) (key : ℕ) (roots : RootsState)
+pub data FixesSlots {F : Type 0} (layout : F → Layout) (formats : List (Option (Policy F))) (chains : ChainsState) (key : ℕ) (roots : RootsState)
     (x : Traced) : (count : ℕ) → RootsState → Traced → Type 0
   where
     begins : FixesSlots layout formats chains key roots x 0 roots x
@@ -46,7 +47,7 @@ pub data FixesSlots {F : Type 0} (layout : F → Layout) (formats : List (Option
         → FixesSlots layout formats chains key roots x (count + 1) roots'' z
 
 -- all slots of a table are fixed
-abbrev pub FixesTable : {F : Type 0} → (F → Layout) → (formats : List (Option F)) → ChainsState → (key : ℕ) → RootsState → Traced
+abbrev pub FixesTable : {F : Type 0} → (F → Layout) → (formats : List (Option (Policy F))) → ChainsState → (key : ℕ) → RootsState → Traced
     → RootsState → Traced → Type 0
 FixesTable layout formats chains key roots x roots' y =
     FixesSlots layout formats chains key roots x (length (items_of roots.tables key)) roots' y
@@ -62,7 +63,7 @@ abbrev pub key_at : RootsState → (count : ℕ) → ℕ
 key_at roots count = slice_index_or roots.order count 0
 
 -- as many tables as this are fixed, in the order in which they were made
-pub data FixesTables {F : Type 0} (layout : F → Layout) (formats : List (Option F)) (chains : ChainsState) (roots : RootsState)
+pub data FixesTables {F : Type 0} (layout : F → Layout) (formats : List (Option (Policy F))) (chains : ChainsState) (roots : RootsState)
     (x : Traced) : (count : ℕ) → RootsState → Traced → Type 0
   where
     begins : FixesTables layout formats chains roots x 0 roots x
@@ -87,7 +88,7 @@ abbrev pub with_message : FinalsState → (position : ℕ) → Address → Final
 with_message finals position at = record finals { messages = slice_set finals.messages position at }
 
 -- as many messages as this are fixed, in order
-pub data FixesMessages {F : Type 0} (layout : F → Layout) (formats : List (Option F)) (chains : ChainsState) (finals : FinalsState)
+pub data FixesMessages {F : Type 0} (layout : F → Layout) (formats : List (Option (Policy F))) (chains : ChainsState) (finals : FinalsState)
     (x : Traced) : (count : ℕ) → FinalsState → Traced → Type 0
   where
     begins : FixesMessages layout formats chains finals x 0 finals x

@@ -13,6 +13,7 @@ use Rattle.mps_seg.specs.Collecting.{noting, blackening}
 use Rattle.mps_amc.specs.Amc as amc
 use Rattle.mps_gen.specs.State.{ChainsState}
 use Rattle.mps_trace.specs.Trace.{TraceState, Traced, traced, CanFixAt, FixesTo}
+use Rattle.mps_trace.specs.declared.trace.Policy.{Policy}
 
 -- the word of a cell, and the address to which it leads
 abbrev pub word_at : Traced → (at : Addr) → (cell : ℕ) → ℕ
@@ -28,7 +29,7 @@ redirected f word at cell to x = record x {
 }
 
 -- what is done with the reference of a cell
-pub data FixesCell {F : Type 0} (layout : F → Layout) (f : Layout) (formats : List (Option F)) (chains : ChainsState) (at : Addr)
+pub data FixesCell {F : Type 0} (layout : F → Layout) (f : Layout) (formats : List (Option (Policy F))) (chains : ChainsState) (at : Addr)
     (cell : ℕ) (x : Traced) : Traced → Type 0
   where
     is_null : target_at f x at cell ≡ 0 → FixesCell layout f formats chains at cell x x
@@ -38,7 +39,7 @@ pub data FixesCell {F : Type 0} (layout : F → Layout) (f : Layout) (formats : 
         → FixesCell layout f formats chains at cell x z
 
 -- the reference of a cell is null, or leads to what can be fixed
-abbrev pub CanFixCellAt : {F : Type 0} → (F → Layout) → (f : Layout) → (formats : List (Option F)) → ChainsState → Traced → (at : Addr)
+abbrev pub CanFixCellAt : {F : Type 0} → (F → Layout) → (f : Layout) → (formats : List (Option (Policy F))) → ChainsState → Traced → (at : Addr)
     → (cell : ℕ) → Type 0
 CanFixCellAt layout f formats chains x at cell = 0 < target_at f x at cell → CanFixAt layout formats chains x (target_at f x at cell)
 
@@ -46,7 +47,7 @@ abbrev pub CanFixCell : {F : Type 0} → (F → Layout) → (f : Layout) → Tra
 CanFixCell layout f t s m at cell = CanFixCellAt layout f t.formats t.chains (traced t s m) at cell
 
 -- the references of a block with this head are fixed in ascending order, up to a cell
-pub data ScansTo {F : Type 0} (layout : F → Layout) (f : Layout) (formats : List (Option F)) (chains : ChainsState) (head : ℕ)
+pub data ScansTo {F : Type 0} (layout : F → Layout) (f : Layout) (formats : List (Option (Policy F))) (chains : ChainsState) (head : ℕ)
     (at : Addr) (x : Traced) : (from : ℕ) → Traced → Type 0
   where
     begins : ScansTo layout f formats chains head at x 0 x
@@ -55,7 +56,7 @@ pub data ScansTo {F : Type 0} (layout : F → Layout) (f : Layout) (formats : Li
         → ScansTo layout f formats chains head at x (cell + 1) z
 
 -- each reference can be fixed when its turn comes
-abbrev pub AreReady : {F : Type 0} → (F → Layout) → (f : Layout) → (formats : List (Option F)) → ChainsState → (head : ℕ) → (at : Addr)
+abbrev pub AreReady : {F : Type 0} → (F → Layout) → (f : Layout) → (formats : List (Option (Policy F))) → ChainsState → (head : ℕ) → (at : Addr)
     → Traced → Type 0
 AreReady layout f formats chains head at x = (from cell : ℕ) (y : Traced) → ScansTo layout f formats chains head at x from y
     → IsFirstReference f head from cell → CanFixCellAt layout f formats chains y at cell
@@ -64,7 +65,7 @@ abbrev pub AreReadyIn : {F : Type 0} → (F → Layout) → (f : Layout) → Tra
 AreReadyIn layout f t s m head at = AreReady layout f t.formats t.chains head at (traced t s m)
 
 -- all references of a block with this head are fixed
-pub record ScansAll {F : Type 0} (layout : F → Layout) (f : Layout) (formats : List (Option F)) (chains : ChainsState) (head : ℕ)
+pub record ScansAll {F : Type 0} (layout : F → Layout) (f : Layout) (formats : List (Option (Policy F))) (chains : ChainsState) (head : ℕ)
     (at : Addr) (x y : Traced) : Type 0 where
   pub from : ℕ
   pub run : ScansTo layout f formats chains head at x from y
@@ -75,21 +76,21 @@ pub record CanScan {F : Type 0} (layout : F → Layout) (t : TraceState F) (s : 
   pub aligned : at.0 % bytes_of_word ≡ 0
   pub segment : Segment
   pub over : segment_over s.segments at.0 ≡ Some segment
-  pub format : F
+  pub format : Policy F
   pub listed : slice_get t.formats segment.pool ≡ Some (Some format)
-  pub valid : IsTrue ((layout format).is_valid (slice_index s.words (word_of at.0)))
-  pub within : word_of at.0 + (layout format).size (slice_index s.words (word_of at.0)) ≤ length s.words
-  pub ready : AreReadyIn layout (layout format) t s m (slice_index s.words (word_of at.0)) at
+  pub valid : IsTrue ((layout format.format).is_valid (slice_index s.words (word_of at.0)))
+  pub within : word_of at.0 + (layout format.format).size (slice_index s.words (word_of at.0)) ≤ length s.words
+  pub ready : AreReadyIn layout (layout format.format) t s m (slice_index s.words (word_of at.0)) at
 
 -- a block was scanned: its references are fixed, and it is grey no longer
-pub record Scanned {F : Type 0} (layout : F → Layout) (formats : List (Option F)) (chains : ChainsState) (x : Traced) (at : Addr)
+pub record Scanned {F : Type 0} (layout : F → Layout) (formats : List (Option (Policy F))) (chains : ChainsState) (x : Traced) (at : Addr)
     (z : Traced) : Type 0 where
   pub segment : Segment
   pub over : segment_over x.segs.segments at.0 ≡ Some segment
-  pub format : F
+  pub format : Policy F
   pub listed : slice_get formats segment.pool ≡ Some (Some format)
   pub before : Traced
-  pub all : ScansAll layout (layout format) formats chains (slice_index x.segs.words (word_of at.0)) at x before
+  pub all : ScansAll layout (layout format.format) formats chains (slice_index x.segs.words (word_of at.0)) at x before
   pub black : z ≡ record before { segs = blackening before.segs at.0 }
 
 -- every grey block that isn't weak can be scanned
@@ -97,7 +98,7 @@ abbrev pub CanScanGrey : {F : Type 0} → (F → Layout) → TraceState F → Se
 CanScanGrey layout t s m = (word : Word) → bit s.marks.exact word ≡ true → CanScan layout t s m (at_word word)
 
 -- one of them was scanned
-pub record ScansOne {F : Type 0} (layout : F → Layout) (formats : List (Option F)) (chains : ChainsState) (x z : Traced) : Type 0 where
+pub record ScansOne {F : Type 0} (layout : F → Layout) (formats : List (Option (Policy F))) (chains : ChainsState) (x z : Traced) : Type 0 where
   pub word : Word
   pub grey : bit x.segs.marks.exact word ≡ true
   pub scanned : Scanned layout formats chains x (at_word word) z

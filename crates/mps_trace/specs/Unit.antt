@@ -17,6 +17,7 @@ use Rattle.mps_trace.specs.Scan.{CanScanGrey, ScansOne, IsDrained}
 use Rattle.mps_trace.specs.Trace.{TraceState, Traced, traced}
 use Rattle.mps_trace.specs.declared.running.Running.{Running}
 use Rattle.mps_trace.specs.declared.running.Band.TheVariants.{Exact, Reclaim}
+use Rattle.mps_trace.specs.declared.trace.Policy.{Policy}
 
 -- a collection after the segment at an address was reclaimed
 abbrev pub reclaimed_at : (base : Addr) → Running → Running
@@ -27,7 +28,7 @@ abbrev pub ended : Traced → Traced
 ended x = record x { segs = collected x.segs; moves = with_move x.moves End }
 
 -- nothing but weak blocks is grey, and the lowest condemned segment from the cursor on is reclaimed
-pub record ReclaimsNext {F : Type 0} (layout : F → Layout) (formats : List (Option F)) (x : Traced) (run : Running) (base : Addr)
+pub record ReclaimsNext {F : Type 0} (layout : F → Layout) (formats : List (Option (Policy F))) (x : Traced) (run : Running) (base : Addr)
     (y : Traced) : Type 0 where
   pub drained : IsDrained x.segs
   pub lowest : IsNextCondemned x.segs run.cursor.0 base.0
@@ -35,7 +36,7 @@ pub record ReclaimsNext {F : Type 0} (layout : F → Layout) (formats : List (Op
   pub at_hand : y.amc ≡ x.amc
 
 -- one unit, after which the collection goes on
-pub data UnitTo {F : Type 0} (layout : F → Layout) (formats : List (Option F)) (chains : ChainsState) (x : Traced) (run : Running)
+pub data UnitTo {F : Type 0} (layout : F → Layout) (formats : List (Option (Policy F))) (chains : ChainsState) (x : Traced) (run : Running)
     : Traced → Running → Type 0
   where
     -- a grey block that isn't weak is scanned
@@ -45,7 +46,7 @@ pub data UnitTo {F : Type 0} (layout : F → Layout) (formats : List (Option F))
         → IsNextCondemned x.segs (base.0 + 1) left.0 → run' ≡ reclaimed_at base run → UnitTo layout formats chains x run y run'
 
 -- the unit in which the collection ends: the last condemned segment is reclaimed
-pub record LastUnitTo {F : Type 0} (layout : F → Layout) (formats : List (Option F)) (x : Traced) (run : Running) (z : Traced)
+pub record LastUnitTo {F : Type 0} (layout : F → Layout) (formats : List (Option (Policy F))) (x : Traced) (run : Running) (z : Traced)
     : Type 0 where
   pub base : Addr
   pub before : Traced
@@ -54,7 +55,7 @@ pub record LastUnitTo {F : Type 0} (layout : F → Layout) (formats : List (Opti
   pub over : z ≡ ended before
 
 -- n units, after each of which the collection goes on
-pub data UnitsTo {F : Type 0} (layout : F → Layout) (formats : List (Option F)) (chains : ChainsState) (x : Traced) (run : Running)
+pub data UnitsTo {F : Type 0} (layout : F → Layout) (formats : List (Option (Policy F))) (chains : ChainsState) (x : Traced) (run : Running)
     : (count : ℕ) → Traced → Running → Type 0
   where
     begins : UnitsTo layout formats chains x run 0 x run
@@ -62,7 +63,7 @@ pub data UnitsTo {F : Type 0} (layout : F → Layout) (formats : List (Option F)
         → UnitTo layout formats chains y run' z run'' → UnitsTo layout formats chains x run (count + 1) z run''
 
 -- the collection ends within n units
-pub record EndsWithin {F : Type 0} (layout : F → Layout) (formats : List (Option F)) (chains : ChainsState) (x : Traced) (run : Running)
+pub record EndsWithin {F : Type 0} (layout : F → Layout) (formats : List (Option (Policy F))) (chains : ChainsState) (x : Traced) (run : Running)
     (most : ℕ) (z : Traced) : Type 0 where
   pub count : ℕ
   pub within : count < most

@@ -11,7 +11,7 @@ mod running;
 mod trace;
 
 pub use running::{Band, Running};
-pub use trace::Trace;
+pub use trace::{Policy, Trace};
 
 #[cfg(test)]
 mod tests;

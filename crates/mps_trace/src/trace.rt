@@ -23,10 +23,17 @@ use mps_seg::Segs;
 use std::alloc::{AllocError, Global};
 use std::marker::Model;
 
-/// What a collection knows of pools: the format of each automatic pool, the words at hand of copying pools, and the chains.
+/// What a collection knows of an automatic pool: the format of its objects, and whether it moves them.
+#[derive(Clone, Copy)]
+pub struct Policy<F> {
+    pub format: F,
+    pub moves: bool,
+}
+
+/// What a collection knows of pools: the policy of each automatic pool, the words at hand of copying pools, and the chains.
 #[derive(Drop)]
 pub struct Trace<F: Format> {
-    formats: Vec<Option<F>>,
+    formats: Vec<Option<Policy<F>>>,
     amc: Amc,
     chains: Chains,
 }
@@ -52,7 +59,7 @@ impl<F: Format> Trace<F> {
     }
 
     /// One more pool, on no chain. `format` is that of its objects, None where the pool isn't collected.
-    pub fn add_pool(&mut self, alloc: Global, format: Option<F>) -> Result<(), AllocError>
+    pub fn add_pool(&mut self, alloc: Global, format: Option<Policy<F>>) -> Result<(), AllocError>
         requires { length self.old.chains.of_pool < max_pools }
         ensures { MatchResult result (λ _. self.new ≡ with_pool self.old format) (λ _. self.new ≡ self.old) }
     {
@@ -110,8 +117,13 @@ impl<F: Format> Trace<F> {
         let Some(format) = self.formats[segment.pool as usize] else {
             unreachable!()
         };
+        if !format.moves {
+            let _ = segs.grains(); // its words are those of the marks
+            self.amc.nail(segs, at);
+            return at;
+        }
         let generation = self.chains.target(segment.pool, segment.generation);
-        self.amc.fix(segs, trail, &format, at, generation)
+        self.amc.fix(segs, trail, &format.format, at, generation)
     }
 
     /// Fixes the reference in a cell of the block at `at`: the block to which it leads is fixed, and the cell leads to where that then
@@ -170,7 +182,7 @@ impl<F: Format> Trace<F> {
             unreachable!()
         };
         let head = segs.word(at);
-        self.fix_cells(segs, trail, &format, head, at);
+        self.fix_cells(segs, trail, &format.format, head, at);
         let _ = segs.grains(); // its words are those of the marks
         segs.blacken(at);
     }
@@ -202,6 +214,6 @@ impl<F: Format> Trace<F> {
         let Some(format) = self.formats[pool as usize] else {
             unreachable!()
         };
-        self.amc.reclaim_seg(segs, trail, &format, base);
+        self.amc.reclaim_seg(segs, trail, &format.format, base);
     }
 }

@@ -21,10 +21,10 @@ object_can_be_scanned {F} layout t s m at_flip done y holder at o shaped stands 
     in
     let its = found.its_segment F layout t.formats t.chains at_flip done x y shaped stands at.0 holder at.0 o target in
     let head = found.head_there F layout t.formats t.chains at_flip done x y shaped stands at.0 holder at.0 o target in
-    let copying = stands.state.all_move holder o scan.object scan.automatic in
-    let format = stands.state.pools.listed o.pool copying in
-    let format_is : layout format.0 ≡ pool_layout y.world o.pool = stands.state.pools.format_is o.pool format.0 format.1 in
-    let block : BlockStands (layout format.0) s.words at.0 (size_at (layout format.0) s.words at.0) =
+    let collected = stands.state.collected holder o scan.object scan.automatic in
+    let format = stands.state.pools.listed o.pool collected in
+    let format_is : layout format.0.format ≡ pool_layout y.world o.pool = stands.state.pools.format_is o.pool format.0 format.1 in
+    let block : BlockStands (layout format.0.format) s.words at.0 (size_at (layout format.0.format) s.words at.0) =
     subst (λ (g : Layout). BlockStands g s.words at.0 (size_at g s.words at.0)) (sym format_is)
     (found.block_stands F layout t.formats t.chains at_flip done x y shaped stands at.0 holder at.0 o target format.0 format.1 refl)
     in

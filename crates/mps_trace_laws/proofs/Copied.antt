@@ -1,8 +1,8 @@
 -- A block was copied to the first words of a tail: the state stands for the world in which its object moved.
 use Rattle.std.proofs.Common.{◌≡◌, ◌∙◌, ℕ, ◌+◌, ◌-◌, ◌*◌, ◌<◌, ◌≤◌, true, false, sym, ap, List, [], ◌∷◌, ◌++◌, length, get_or, Option, Some, subst, inl, inr, arith}
-use Rattle.std.proofs.lemmas.Bool.{cases_eq}
+use Rattle.std.proofs.lemmas.Bool.{cases_eq, true≢false}
 use Rattle.std.proofs.lemmas.List.{get_or-set_same, get_or-set_other, length-set}
-use Rattle.std.specs.Prelude.{◌≢◌, ◌==◌, slice_set, if◌then◌else◌}
+use Rattle.std.specs.Prelude.{◌≢◌, ◌==◌, slice_set, if◌then◌else◌, IsTrue, slice_get}
 use Rattle.std.specs.List.{AllByRecursion}
 use Rattle.std.specs.Option.{option_map_or}
 use Rattle.mps_base.specs.Address.{Address, Id, Word, word_of, address_of_word}
@@ -22,7 +22,7 @@ use Rattle.mps_laws.proofs.ApartRuns.{AreApart, all_in_order, ascending_with_run
 use Rattle.mps_laws.proofs.Segments.{among_aligned}
 use Rattle.mps_laws.proofs.Tails.{own_tail, other_tail}
 use Rattle.mps_model.specs.Graph.{Object, size_of}
-use Rattle.mps_model.specs.World.{pool_of, words_of, target_generation_for, tail_of, empty_run, extents_of, reserved_extents}
+use Rattle.mps_model.specs.World.{pool_of, words_of, target_generation_for, tail_of, empty_run, extents_of, reserved_extents, is_copying_pool}
 use Rattle.mps_model.specs.Effect.{after_moved, placing, words_after, rest_of_segment}
 use Rattle.mps_colours.specs.Colours.{keeping}
 use Rattle.mps_colours.specs.Collecting.{Collecting}
@@ -34,12 +34,15 @@ use Rattle.mps_image.proofs.Extents.{all_extents, all_reserved}
 use Rattle.mps_laws.proofs.InOrder.{all_append}
 use Rattle.mps_image.proofs.Runs.{runs_moved}
 use Rattle.mps_image.proofs.SegmentMarks.{moving_marks}
-use Rattle.mps_trace_laws.specs.Tracing.{StateStands, setting_of}
+use Rattle.mps_trace_laws.specs.Tracing.{StateStands, setting_of, AreStill}
 use Rattle.mps_trace_laws.proofs.Growing.{over_back}
 use Rattle.mps_trace_laws.proofs.Hands.{contains_among}
 use Rattle.mps_trace_laws.proofs.Copying.{tables_moved, has_marks}
 use Rattle.mps_trace_laws.proofs.Taking.{IsFirstTaken, rest_of, tails_after, which}
 use Rattle.mps_trace_laws.proofs.Objects.{pool_is, words_are}
+use Rattle.mps_trace.specs.declared.trace.Policy.{Policy}
+use Rattle.mps_image.proofs.Entries.{entry_at-set_other}
+use Rattle.std.proofs.lemmas.Option.{same_Some}
 
 -- ---- the collector's tails
 
@@ -93,14 +96,15 @@ abbrev pub moved_in : Collecting → Id → (to : Address) → Collecting
 moved_in y t to =
     record y { world = after_moved y.world t to; running = placing t y.running; colours = keeping y.colours t }
 
-module _ (F : Type 0) (layout : F → Layout) (formats : List (Option F)) (of : ChainsState) (at_flip : List (Option Address))
+module _ (F : Type 0) (layout : F → Layout) (formats : List (Option (Policy F))) (of : ChainsState) (at_flip : List (Option Address))
     (done : CellSet) (state : AmcState) (s : SegsState) (y : Collecting)
     (stands : StateStands layout formats of at_flip done state s y) (t : Id) (now to : Address) (o : Object) (generation : ℕ)
     (target : target_generation_for y.world t ≡ generation) (has : HasTail state o.pool generation)
     (fits : size_of o ≤ (amc.tail_of state o.pool generation).count) (positive : 0 < size_of o)
     (begins : to ≡ address_of_word (amc.tail_of state o.pool generation).from) (words' : List ℕ)
     (copied : AreCopied (pool_layout y.world o.pool) s.words words' now to (size_of o))
-    (v : copying.IsMove (setting_of s at_flip y) y.world.addresses y.colours t now to o) where
+    (v : copying.IsMove (setting_of s at_flip y) y.world.addresses y.colours t now to o)
+    (moves : IsTrue (is_copying_pool y.world o.pool)) where
   abbrev b : Buffer
   b = amc.tail_of state o.pool generation
 
@@ -229,6 +233,15 @@ module _ (F : Type 0) (layout : F → Layout) (formats : List (Option F)) (of : 
 
   -- ---- all of it
 
+  -- what moved is of a pool that moves blocks
+  still_moved : AreStill y.world.graph.objects (is_copying_pool y.world) at_flip (address_moved y.world.addresses t to)
+  still_moved id p from here object isnt was is = elim (cases_eq id t) [
+    | inl same ↦
+        let same_object : p ≡ o = same_Some p o (sym object ∙ ap (slice_get y.world.graph.objects) same ∙ v.object) in
+        absurd (true≢false (sym moves ∙ ap (λ (q : Object). is_copying_pool y.world q.pool) (sym same_object) ∙ isnt))
+    | inr other ↦ stands.still id p from here object isnt was (sym (entry_at-set_other y.world.addresses t id (Some to) other) ∙ is)
+  ]
+
   pub copied_stands : StateStands layout formats of at_flip done state_after segs_after y'
   copied_stands = record {
     segments = record {
@@ -243,7 +256,8 @@ module _ (F : Type 0) (layout : F → Layout) (formats : List (Option F)) (of : 
     condemned = record { is_bit = stands.condemned.is_bit; is_held = stands.condemned.is_held };
     image = image_after;
     pools = stands.pools;
-    all_move = stands.all_move;
+    collected = stands.collected;
+    still = still_moved;
     tails = record { has = λ p g is. has_still state o.pool generation _ has p _ (stands.tails.has p g is); same = same_tails };
     hands =
         tails_after (setting_of s at_flip y) s.segments y.world.addresses y.colours (tail_of y.world)

@@ -28,9 +28,10 @@ use Rattle.mps_trace_laws.specs.Cells.{HoldsReference, IsCellStep, ACellCanBeFix
 use Rattle.mps_trace_laws.proofs.CellLists.{image_again}
 use Rattle.mps_trace_laws.proofs.Found.{can_fix}
 use Rattle.mps_trace_laws.proofs.EachFix.{each_step}
+use Rattle.mps_trace.specs.declared.trace.Policy.{Policy}
 
 -- the state stands where only words and the zones of a segment changed, and the image does
-module _ {F : Type 0} (layout : F → Layout) (formats : List (Option F)) (of : ChainsState) (at_flip : List (Option Address))
+module _ {F : Type 0} (layout : F → Layout) (formats : List (Option (Policy F))) (of : ChainsState) (at_flip : List (Option Address))
     (done done' : CellSet) (state : AmcState) (s : SegsState) (y : Collecting)
     (stands : StateStands layout formats of at_flip done state s y) (words : List ℕ) where
   abbrev with_these : (summaries : List ℕ) → SegsState
@@ -57,7 +58,8 @@ module _ {F : Type 0} (layout : F → Layout) (formats : List (Option F)) (of : 
     condemned = record { is_bit = stands.condemned.is_bit; is_held = stands.condemned.is_held };
     image = image;
     pools = stands.pools;
-    all_move = stands.all_move;
+    collected = stands.collected;
+    still = stands.still;
     tails = stands.tails;
     hands = stands.hands;
   }
@@ -68,7 +70,7 @@ module _ {F : Type 0} (layout : F → Layout) (formats : List (Option F)) (of : 
   noted None to image = rewritten s.summaries image
   noted (Some grain) to image = rewritten (noting_in (record s { words = words }) (Some grain) to).summaries image
 
-module _ (F : Type 0) (layout : F → Layout) (formats : List (Option F)) (of : ChainsState) (at_flip : List (Option Address))
+module _ (F : Type 0) (layout : F → Layout) (formats : List (Option (Policy F))) (of : ChainsState) (at_flip : List (Option Address))
     (done : CellSet) (x : Traced) (y : Collecting) (shaped : AreShaped y.world.graph.objects (pool_layout y.world))
     (stands : TracingStands layout formats of at_flip done x y) (holder i : ℕ) (at : Addr) (o : Object) (tag : ℕ) where
   abbrev f : Layout

@@ -42,6 +42,7 @@ use Rattle.mps_trace_laws.proofs.Copied.{has_still, copied_stands}
 use Rattle.mps_trace_laws.proofs.Staying.{stayed_stands}
 use Rattle.mps_trace_laws.proofs.Grown.{buffer_of, grown_in, grown_stands}
 use Rattle.mps_trace_laws.proofs.Steps.{kept_in, stay_step, move_step, new_step}
+use Rattle.mps_trace.specs.declared.trace.Policy.{Policy}
 
 -- a tail that is written twice is what was written last
 written_twice : (state : AmcState) (pool generation : ℕ) (a c : Buffer) → HasTail state pool generation
@@ -57,12 +58,13 @@ written_twice state pool generation a c has =
     ∙ ap (λ r. record { tails = slice_set (slice_set rows pool (slice_set row generation a)) pool r }) twice
     ∙ ap (λ ts. record { tails = ts }) (set-set rows pool (slice_set row generation a) (slice_set row generation c))
 
-module _ (F : Type 0) (layout : F → Layout) (formats : List (Option F)) (of : ChainsState) (at_flip : List (Option Address))
+module _ (F : Type 0) (layout : F → Layout) (formats : List (Option (Policy F))) (of : ChainsState) (at_flip : List (Option Address))
     (done : CellSet) (x : Traced) (y : Collecting) (shaped : AreShaped y.world.graph.objects (pool_layout y.world))
     (stands : TracingStands layout formats of at_flip done x y) (t : Id) (at : Addr) (o : Object)
     (object : slice_get y.world.graph.objects t ≡ Some o) (automatic : IsTrue (Rattle.mps_model.specs.Graph.is_automatic o))
     (there : entry_at y.world.addresses t ≡ Some at.0) (s : Segment) (over : segment_over x.segs.segments at.0 ≡ Some s)
-    (pool : s.pool ≡ o.pool) (condemned : is_condemned_at x.segs at.0 ≡ true) (white : is_white_in y t ≡ true) where
+    (pool : s.pool ≡ o.pool) (condemned : is_condemned_at x.segs at.0 ≡ true) (white : is_white_in y t ≡ true)
+    (copying : IsTrue (is_copying_pool y.world o.pool)) where
   abbrev setting : Setting
   setting = setting_of x.segs at_flip y
 
@@ -77,9 +79,6 @@ module _ (F : Type 0) (layout : F → Layout) (formats : List (Option F)) (of : 
 
   positive : 0 < size
   positive = let sizes = shaped.sizes t o object automatic in omega (arith, sizes.0)
-
-  copying : IsTrue (is_copying_pool y.world o.pool)
-  copying = stands.state.all_move t o object automatic
 
   copies : is_copying_object y.world t ≡ true
   copies = objects.copies y.world t at.0 o object there copying
@@ -182,7 +181,7 @@ module _ (F : Type 0) (layout : F → Layout) (formats : List (Option F)) (of : 
         (copied_stands F layout formats of at_flip done x.amc x.segs y stands.state t at.0 to o generation target_is has fits positive refl
         words'
         (record { long = copied.long; copied = copied.copied; begins = copied.begins; leads = copied.leads; others = copied.others })
-        is_move)
+        is_move copying)
 
   -- ---- it moves into a segment that is taken
 
@@ -275,7 +274,7 @@ module _ (F : Type 0) (layout : F → Layout) (formats : List (Option F)) (of : 
         (let first : (amc.tail_of whole o.pool generation).from ≡ word_of base = ap (λ (c : Buffer). c.from) whole_tail in
         omega (arith, first)) words'
         (record { long = copied.long; copied = copied.copied; begins = copied.begins; leads = copied.leads; others = copied.others })
-        new_move)
+        new_move copying)
 
     -- nothing is there yet
     not_held : (v : Option Segment) → find (λ (w : Segment). w.base == base) y.world.segments ≡ v → v ≡ None

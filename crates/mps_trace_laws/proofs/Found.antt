@@ -1,5 +1,5 @@
 -- What the code finds at an address that means a live automatic object can be fixed.
-use Rattle.std.proofs.Common.{◌≡◌, ◌∙◌, ◌⊎◌, ℕ, zero, suc, ◌+◌, ◌-◌, ◌%◌, ◌<◌, true, refl, sym, ap, List, [], ◌∷◌, ◌++◌, length, slice_index, map, Option, Some, None, Contains, subst, inl, inr, arith}
+use Rattle.std.proofs.Common.{◌≡◌, ◌∙◌, ◌⊎◌, ℕ, zero, suc, ◌+◌, ◌-◌, ◌%◌, ◌<◌, true, refl, sym, ap, List, [], ◌∷◌, ◌++◌, length, slice_index, map, Option, Some, None, Contains, subst, inl, inr, arith, false}
 use Rattle.std.proofs.lemmas.Bool.{cases_eq}
 use Rattle.std.proofs.lemmas.Option.{none-some, same_Some}
 use Rattle.std.proofs.lemmas.List.{get_or-drop, length-drop}
@@ -15,7 +15,7 @@ use Rattle.mps_amc.specs.Moving.{IsForwarded, IsUnforwarded, BlockStands, IsBloc
 use Rattle.mps_gen.specs.State.{ChainsState}
 use Rattle.mps_model.specs.Graph.{HeadCell, Object, size_of}
 use Rattle.mps_model.specs.Checked.{head_of_body}
-use Rattle.mps_model.specs.World.{extent, extents_of, reserved_extents, is_copying_pool, tail_of}
+use Rattle.mps_model.specs.World.{extent, extents_of, reserved_extents, is_copying_pool, tail_of, pool_is, is_automatic_kind}
 use Rattle.mps_colours.specs.Collecting.{Collecting}
 use Rattle.mps_image.specs.Memory.{Setting, Lies, memory_in, pool_layout, words_of_arena}
 use Rattle.mps_image.specs.Image.{CellSet, AreShaped}
@@ -31,6 +31,7 @@ use Rattle.mps_trace.specs.Trace.{Traced, CanFixAt, CanKeep, target_of}
 use Rattle.mps_trace_laws.specs.Tracing.{setting_of, TracingStands}
 use Rattle.mps_trace_laws.specs.Fixing.{ATargetCanBeFixed}
 use Rattle.mps_trace_laws.proofs.Hands.{contains_among, in_hand}
+use Rattle.mps_trace.specs.declared.trace.Policy.{Policy}
 
 -- ---- runs
 
@@ -61,7 +62,7 @@ over_of_pool : (o : Option Segment) (pool : ℕ) → option_map (λ (t : Segment
 over_of_pool None pool is = absurd (none-some pool is)
 over_of_pool (Some t) pool is = (t, refl, same_Some t.pool pool is)
 
-module _ (F : Type 0) (layout : F → Layout) (formats : List (Option F)) (of : ChainsState) (at_flip : List (Option Address))
+module _ (F : Type 0) (layout : F → Layout) (formats : List (Option (Policy F))) (of : ChainsState) (at_flip : List (Option Address))
     (done : CellSet) (x : Traced) (y : Collecting)
     (shaped : AreShaped y.world.graph.objects (pool_layout y.world))
     (stands : TracingStands layout formats of at_flip done x y) where
@@ -133,8 +134,8 @@ module _ (F : Type 0) (layout : F → Layout) (formats : List (Option F)) (of : 
     lies : (k : ℕ) → k < size_of o → Lies y.world.graph.objects y.world.addresses t k o (word_of now + k)
     lies k lt = record { at = now; address = target.there; object = target.object; within = lt; is = refl }
 
-    pub copying : IsTrue (is_copying_pool y.world o.pool)
-    copying = stands.state.all_move t o target.object target.automatic
+    pub collected : IsTrue (pool_is is_automatic_kind y.world o.pool)
+    collected = stands.state.collected t o target.object target.automatic
 
     pub head_there : slice_index x.segs.words (word_of now) ≡ head_of_body o.body
     head_there =
@@ -154,6 +155,14 @@ module _ (F : Type 0) (layout : F → Layout) (formats : List (Option F)) (of : 
               ]
         ]
 
+    -- an object of a pool that doesn't move its blocks is there
+    pub there_if_still : is_copying_pool y.world o.pool ≡ false → at ≡ now
+    there_if_still isnt =
+        elim target.means [
+          | inl e ↦ same_Some at now (sym e ∙ target.there)
+          | inr e ↦ stands.state.still t o at now target.object isnt e target.there
+        ]
+
     pub is_aligned : at % 8 ≡ 0
     is_aligned =
         elim target.means [
@@ -161,7 +170,7 @@ module _ (F : Type 0) (layout : F → Layout) (formats : List (Option F)) (of : 
           | inr e ↦ (stands.state.image.placed.address_at_flip t at e).aligned
         ]
 
-    in_arena : word_of at < length x.segs.words
+    pub in_arena : word_of at < length x.segs.words
     in_arena =
         elim there_or_moved [
           | inl e ↦
@@ -180,7 +189,7 @@ module _ (F : Type 0) (layout : F → Layout) (formats : List (Option F)) (of : 
         (ap (λ a. option_map (λ (s : Segment). s.pool) (segment_over x.segs.segments a)) (sym begins)
         ∙ pool_at_target setting (memory_in x.segs) y.world.addresses y.colours done shaped stands.state.image t at now o target)
 
-    module _ (format : F) (listed : slice_get formats o.pool ≡ Some (Some format)) where
+    module _ (format : Policy F) (listed : slice_get formats o.pool ≡ Some (Some format)) where
       abbrev f : Layout
       f = pool_layout y.world o.pool
 
@@ -252,34 +261,39 @@ module _ (F : Type 0) (layout : F → Layout) (formats : List (Option F)) (of : 
       pub can_keep : CanKeep layout formats of x at
       can_keep =
           let s = its_segment in
-          let format_is : layout format ≡ f = stands.state.pools.format_is o.pool format listed in
-          let copies : IsTrue (is_copying_pool y.world s.0.pool) = ap (is_copying_pool y.world) s.2 ∙ copying in
           record {
             segment = s.0;
             over = s.1;
             format = format;
             listed = ap (slice_get formats) s.2 ∙ listed;
-            known = stands.state.pools.known s.0.pool copies;
-            block =
-                subst (λ (g : Layout). IsUnforwarded g x.segs.words at
-                → BlockStands g x.segs.words at (size_at g x.segs.words at) × IsBlockOf x.segs at (size_at g x.segs.words at))
-                (sym format_is)
-                (λ isnt. let e = unforwarded_there isnt in (block_stands e, block_of e));
-            leads =
-                subst (λ (g : Layout). (to : Address) → IsForwarded g x.segs.words at to → to % 8 ≡ 0) (sym format_is) leads_to;
-            tail = stands.state.tails.has s.0.pool s.0.generation copies;
-            at_hand = λ some.
-                let same = stands.state.tails.same s.0.pool (target_of of s.0) in
-                subst (IsOpenRun x.segs.grains (held_runs x.segs) x.segs.covered) (sym same)
-                (is_open s.0.pool (target_of of s.0) (omega (arith, some, ap (λ (r : Run). r.count) same)));
-            room = let room = stands.room in omega (arith, room);
+            moving = λ moves.
+                let format_is : layout format.format ≡ f = stands.state.pools.format_is o.pool format listed in
+                let copies : IsTrue (is_copying_pool y.world s.0.pool) =
+                ap (is_copying_pool y.world) s.2 ∙ sym (stands.state.pools.moves_is o.pool format listed) ∙ moves
+                in
+                record {
+                  known = stands.state.pools.known s.0.pool copies;
+                  block =
+                      subst (λ (g : Layout). IsUnforwarded g x.segs.words at
+                      → BlockStands g x.segs.words at (size_at g x.segs.words at) × IsBlockOf x.segs at (size_at g x.segs.words at))
+                      (sym format_is)
+                      (λ isnt. let e = unforwarded_there isnt in (block_stands e, block_of e));
+                  leads =
+                      subst (λ (g : Layout). (to : Address) → IsForwarded g x.segs.words at to → to % 8 ≡ 0) (sym format_is) leads_to;
+                  tail = stands.state.tails.has s.0.pool s.0.generation copies;
+                  at_hand = λ some.
+                      let same = stands.state.tails.same s.0.pool (target_of of s.0) in
+                      subst (IsOpenRun x.segs.grains (held_runs x.segs) x.segs.covered) (sym same)
+                      (is_open s.0.pool (target_of of s.0) (omega (arith, some, ap (λ (r : Run). r.count) same)));
+                  room = let room = stands.room in omega (arith, room);
+                };
           }
 
     pub can_fix : CanFixAt layout formats of x at
     can_fix = record {
       aligned = is_aligned;
       in_arena = in_arena;
-      condemned = λ is. let format = stands.state.pools.listed o.pool copying in can_keep format.0 format.1;
+      condemned = λ is. let format = stands.state.pools.listed o.pool collected in can_keep format.0 format.1;
     }
 
 pub target_can_be_fixed : {F : Type 0} → ATargetCanBeFixed F

@@ -27,6 +27,7 @@ use Rattle.mps_trace_laws.proofs.Taking.{which}
 use Rattle.mps_trace_laws.proofs.NewTail.{IsNewTail, among_contains, new_tails}
 use Rattle.mps_trace_laws.proofs.Copied.{has_still, other_buffer}
 use Rattle.mps_trace_laws.proofs.OneFix.{image_grown}
+use Rattle.mps_trace.specs.declared.trace.Policy.{Policy}
 
 -- the words of a segment
 abbrev pub buffer_of : Segment → Buffer
@@ -36,7 +37,7 @@ buffer_of u = record { from = word_of u.base; count = words_of_grain * u.grains 
 abbrev pub grown_in : Collecting → Segment → Collecting
 grown_in y u = record y { world = with_tail (holding y.world u) u.pool u.generation (words_of_segment u) }
 
-module _ (F : Type 0) (layout : F → Layout) (formats : List (Option F)) (of : ChainsState) (at_flip : List (Option Address))
+module _ (F : Type 0) (layout : F → Layout) (formats : List (Option (Policy F))) (of : ChainsState) (at_flip : List (Option Address))
     (done : CellSet) (state : AmcState) (s : SegsState) (y : Collecting)
     (stands : StateStands layout formats of at_flip done state s y) (u : Segment) (free : IsFree s u)
     (has : HasTail state u.pool u.generation) where
@@ -113,7 +114,8 @@ module _ (F : Type 0) (layout : F → Layout) (formats : List (Option F)) (of : 
         image =
             image_grown s (with_one s u) grown at_flip y (memory_in s) y.world.addresses y.colours done stands.image;
         pools = stands.pools;
-        all_move = stands.all_move;
+        collected = stands.collected;
+    still = stands.still;
         tails = record {
           has = λ p g is. has_still state u.pool u.generation (buffer_of u) has p _ (stands.tails.has p g is);
           same = same_tails;

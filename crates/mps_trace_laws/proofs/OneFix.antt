@@ -10,8 +10,7 @@ use Rattle.mps_image.specs.ArenaLaws.{AreSegmentsKept}
 use Rattle.mps_image.proofs.ArenaLaws.{segments_change}
 use Rattle.mps_image.proofs.Laws.{address_is_fixed}
 use Rattle.mps_trace_laws.specs.Tracing.{setting_of}
-use Rattle.mps_trace_laws.specs.Fixing.{Grows, AFixIsOneFix}
-use Rattle.mps_trace_laws.proofs.Fixing.{in_words}
+use Rattle.mps_trace_laws.specs.Fixing.{Grows}
 use Rattle.mps_trace_laws.proofs.Found.{can_fix}
 
 -- the image stands in segments that have grown
@@ -36,12 +35,3 @@ module _ (s s' : SegsState) (grown : Grows s s') (at_flip : List (Option Address
       (sym grown.same_grains)
       (segments_change (setting_of s at_flip y) m addresses k done (pool_over_word s') (is_condemned_word s') st
       (kept m addresses k done st))
-
-pub fix_is_one_fix : {F : Type 0} → AFixIsOneFix F
-fix_is_one_fix {F} layout formats of at_flip done x z y at answer t now o shaped stands target fixed =
-    let can = can_fix F layout formats of at_flip done x y shaped stands at.0 t now o target in
-    let words = in_words F layout formats of at_flip done x y shaped.lawful stands at can fixed in
-    address_is_fixed (setting_of z.segs at_flip y) (memory_in x.segs) y.world.addresses y.colours done t at.0 now o shaped
-    (image_grown x.segs z.segs words.grown at_flip y (memory_in x.segs) y.world.addresses y.colours done stands.state.image)
-    (record { means = target.means; there = target.there; object = target.object; automatic = target.automatic; read = target.read })
-    answer.0 (memory_in z.segs) words.fix

@@ -1,8 +1,8 @@
 -- What a fix and a scan do to ranks: they take exact segments alone, and make no block grey as a weak one.
-use Rattle.std.proofs.Common.{◌≡◌, ◌∙◌, ℕ, ◌+◌, Bool, false, refl, sym, ap, subst, List, Option, Some, None, Result, Ok, Err, inl, inr, arith}
+use Rattle.std.proofs.Common.{◌≡◌, ◌∙◌, ℕ, ◌+◌, Bool, false, refl, sym, ap, subst, List, Option, Some, None, Result, Ok, Err, inl, inr, arith, true}
 use Rattle.std.proofs.lemmas.Bool.{cases_lt, cases_eq}
 use Rattle.std.proofs.lemmas.List.{get_or-set_same, get_or-set_other, get_or_past, length-set}
-use Rattle.std.specs.Prelude.{slice_set, length}
+use Rattle.std.specs.Prelude.{slice_set, length, if◌then◌else◌}
 use Rattle.mps_base.specs.Address.{Address, Grain, Word, word_of, address_of_grain}
 use Rattle.mps_base.specs.Run.{with_run, without_run}
 use Rattle.mps_base.specs.Placement.{Placement, Place, NewSegment, OverLimit, NoFreeRun}
@@ -17,16 +17,17 @@ use Rattle.mps_format.specs.Layout.{Layout}
 use Rattle.mps_arena.specs.Arena.{answer_of_placement}
 use Rattle.mps_marks.specs.Marks.{MarkTables, with_grey, without_marks}
 use Rattle.mps_seg.specs.Segs.{SegsState, segments_after}
-use Rattle.mps_seg.specs.Collecting.{rank_of, greying, keeping, first_grain_over, noting_in}
-use Rattle.mps_amc.specs.Moving.{run_at, size_at}
+use Rattle.mps_seg.specs.Collecting.{rank_of, greying, keeping, first_grain_over, noting_in, is_kept_at}
+use Rattle.mps_amc.specs.Moving.{run_at, size_at, nailed, kept_in_place}
 use Rattle.mps_amc.specs.Amc.{AmcState, FixesAt, forwards, is_kept, keeps, IsFixed, placement_of_copy, segs_fixed, with_place}
 use Rattle.mps_gen.specs.State.{ChainsState}
 use Rattle.mps_laws.proofs.Segments.{among_cases, found_among}
-use Rattle.mps_trace.specs.Trace.{Traced, FixesTo, passes, fixes}
+use Rattle.mps_trace.specs.Trace.{Traced, FixesTo, passes, fixes, marks}
 use Rattle.mps_trace.specs.Scan.{FixesCell, is_null, leads, ScansTo, begins, goes_on, Scanned, word_at}
 use Rattle.mps_trace_laws.specs.Housed.{AreAllExact, IsStrong, AFixKeepsRanks, AScanKeepsRanks}
 use Rattle.mps_trace_laws.proofs.Hands.{contains_among}
 use Rattle.mps_trace_laws.proofs.NewTail.{among_contains}
+use Rattle.mps_trace.specs.declared.trace.Policy.{Policy}
 
 -- ---- bits
 
@@ -100,6 +101,13 @@ fixed_strong (Ok to) s at size strong =
 fixed_strong (Err why) s at size strong =
     greying_strong (keeping s at) at (record { exact = strong.exact; marks = strong.marks })
 
+nailed_strong : (s : SegsState) (at : Address) → IsStrong s → IsStrong (nailed s at)
+nailed_strong s at strong = of_test (is_kept_at s at)
+  where
+    of_test : (b : Bool) → IsStrong (if b then s else kept_in_place s at)
+    of_test true = strong
+    of_test false = greying_strong (keeping s at) at (record { exact = strong.exact; marks = strong.marks })
+
 noted_strong : (s : SegsState) (o : Option Grain) (target : Address) → IsStrong s → IsStrong (noting_in s o target)
 noted_strong s None target strong = strong
 noted_strong s (Some grain) target strong = record { exact = strong.exact; marks = strong.marks }
@@ -124,11 +132,13 @@ module _ (f : Layout) (x : Traced) (at : Addr) (strong : IsStrong x.segs) where
   fixed_at_strong {generation} (keeps {amc'} {s'} {moves'} t answer unforwarded lost over fixed) =
       kept_strong amc' s' moves' t.pool generation (size_at f x.segs.words at.0) answer fixed
 
-module _ {F : Type 0} (layout : F → Layout) (formats : List (Option F)) (of : ChainsState) where
+module _ {F : Type 0} (layout : F → Layout) (formats : List (Option (Policy F))) (of : ChainsState) where
   pub fix_strong : {x z : Traced} {at answer : Addr} → FixesTo layout formats of x at z answer → IsStrong x.segs → IsStrong z.segs
   fix_strong (passes calm) strong = strong
-  fix_strong {x} {at = at} (fixes t format answer condemned over listed fixed) strong =
-      fixed_at_strong (layout format) x at strong fixed
+  fix_strong {x} {at = at} (fixes t format answer condemned over listed moves fixed) strong =
+      fixed_at_strong (layout format.format) x at strong fixed
+  fix_strong {x} {at = at} (marks t format condemned over listed stays is) strong =
+      subst (λ (w : Traced). IsStrong w.segs) (sym is) (nailed_strong x.segs at.0 strong)
 
   -- ---- scans
 
@@ -150,7 +160,7 @@ module _ {F : Type 0} (layout : F → Layout) (formats : List (Option F)) (of : 
 
   scanned_strong : (x z : Traced) (at : Addr) → Scanned layout formats of x at z → IsStrong x.segs → IsStrong z.segs
   scanned_strong x z at is strong =
-      let now = run_strong (layout is.format) _ at is.all.run strong in
+      let now = run_strong (layout is.format.format) _ at is.all.run strong in
       subst (λ (w : Traced). IsStrong w.segs) (sym is.black)
       (record {
         exact = now.exact;

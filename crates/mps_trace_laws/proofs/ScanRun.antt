@@ -30,6 +30,7 @@ use Rattle.mps_trace_laws.specs.Cells.{HoldsReference}
 use Rattle.mps_trace_laws.specs.Scanning.{with_cells, IsToBeScanned, IsScannedTo, AScanIsReady, AScanIsOfSteps}
 use Rattle.mps_trace_laws.proofs.CellLists.{targets_more, fewer_done, image_again, next_cells, no_cells}
 use Rattle.mps_trace_laws.proofs.EachCell.{can_cell, cell_step}
+use Rattle.mps_trace.specs.declared.trace.Policy.{Policy}
 
 -- ---- a world with the same objects and pools
 
@@ -61,7 +62,7 @@ cell_cases HeadCell = is_none refl refl
 cell_cases (NumberCell number) = is_none refl refl
 cell_cases (ReferenceCell target tag) = is_one target tag refl
 
-module _ (F : Type 0) (layout : F → Layout) (formats : List (Option F)) (of : ChainsState) (at_flip : List (Option Address))
+module _ (F : Type 0) (layout : F → Layout) (formats : List (Option (Policy F))) (of : ChainsState) (at_flip : List (Option Address))
     (done : CellSet) (x : Traced) (y : Collecting) (shaped : AreShaped y.world.graph.objects (pool_layout y.world))
     (stands : TracingStands layout formats of at_flip done x y) (holder : Id) (at : Addr) (o : Object)
     (scan : IsToBeScanned y holder at.0 o) where

@@ -27,13 +27,14 @@ use Rattle.mps_trace_laws.specs.Tracing.{TracingStands, setting_of}
 use Rattle.mps_trace_laws.specs.Scanning.{with_cells, IsToBeScanned, IsScannedTo, IsScan, AScanIsAScan}
 use Rattle.mps_trace_laws.proofs.Found as found
 use Rattle.mps_trace_laws.proofs.ScanRun.{run_to, pass_all, inside}
+use Rattle.mps_trace.specs.declared.trace.Policy.{Policy}
 
 -- what all cells of a block refer to
 targets_are : (b : Body) → IsTrue (is_automatic_body b) → targets_of_cells (take (size_of_body b) (all_cells b)) ≡ targets_of_body b
 targets_are (Automatic head cells is_weak) is = ap targets_of_cells (take_all (length cells) cells (omega arith))
 targets_are (Manual words) is = absurd (false≢true is)
 
-module _ (F : Type 0) (layout : F → Layout) (formats : List (Option F)) (of : ChainsState) (at_flip : List (Option Address))
+module _ (F : Type 0) (layout : F → Layout) (formats : List (Option (Policy F))) (of : ChainsState) (at_flip : List (Option Address))
     (x : Traced) (y : Collecting) (shaped : AreShaped y.world.graph.objects (pool_layout y.world))
     (stands : TracingStands layout formats of at_flip (black_cells y.running.condemned y.colours) x y) (holder : Id) (at : Addr)
     (o : Object)
@@ -116,7 +117,8 @@ module _ (F : Type 0) (layout : F → Layout) (formats : List (Option F)) (of : 
                 (run.leaves.black j (subst (λ ids. IsTrue (is_black ids y'.colours j)) run.same_condemned is)))
                 (blackening_clears z.segs at.0);
             pools = st.pools;
-            all_move = st.all_move;
+            collected = st.collected;
+            still = st.still;
             tails = st.tails;
             hands = st.hands;
           };
@@ -132,7 +134,7 @@ module _ (F : Type 0) (layout : F → Layout) (formats : List (Option F)) (of : 
       let pool : is.segment.pool ≡ o.pool =
       ap (λ (s : Segment). s.pool) (same_Some is.segment its.0 (sym is.over ∙ its.1)) ∙ its.2
       in
-      let format_is : layout is.format ≡ f = stands.state.pools.format_is is.segment.pool is.format is.listed
+      let format_is : layout is.format.format ≡ f = stands.state.pools.format_is is.segment.pool is.format is.listed
       ∙ ap (pool_layout y.world) pool in
       let all = subst (λ h. ScansAll layout f formats of h at x is.before) head_is
       (subst (λ (g : Layout). ScansAll layout g formats of (slice_index x.segs.words (word_of at.0)) at x is.before) format_is is.all) in

@@ -1,5 +1,5 @@
 -- A block was kept where it lies: the state stands for the world in which its object stays.
-use Rattle.std.proofs.Common.{◌≡◌, ◌∙◌, ◌<◌, true, List, length, Option, Some, arith}
+use Rattle.std.proofs.Common.{◌≡◌, ◌∙◌, ◌<◌, true, List, [], ◌∷◌, length, Option, Some, arith}
 use Rattle.std.proofs.lemmas.List.{length-set}
 use Rattle.mps_base.specs.Address.{Address, Id, word_of}
 use Rattle.mps_seg.specs.Segs.{SegsState}
@@ -19,6 +19,8 @@ use Rattle.mps_image.proofs.Marked as marking
 use Rattle.mps_image.proofs.SegmentMarks.{HasMarks, keeping_marks, greying_marks, greying_keeps}
 use Rattle.mps_trace_laws.specs.Tracing.{StateStands, setting_of}
 use Rattle.mps_trace_laws.proofs.Copying.{tables_kept, has_marks}
+use Rattle.mps_trace.specs.declared.trace.Policy.{Policy}
+use Rattle.mps_colours.specs.Fixing.{kept_by}
 
 -- the abstract collector after an object that was white stays
 abbrev pub stayed_in : Collecting → Id → Collecting
@@ -28,7 +30,7 @@ stayed_in y t = record y {
   colours = colours.keeping y.colours t;
 }
 
-module _ (F : Type 0) (layout : F → Layout) (formats : List (Option F)) (of : ChainsState) (at_flip : List (Option Address))
+module _ (F : Type 0) (layout : F → Layout) (formats : List (Option (Policy F))) (of : ChainsState) (at_flip : List (Option Address))
     (done : CellSet) (state : AmcState) (s : SegsState) (y : Collecting)
     (stands : StateStands layout formats of at_flip done state s y) (t : Id) (now : Address)
     (there : entry_at y.world.addresses t ≡ Some now) (within : word_of now < words_of_arena s.grains) where
@@ -70,7 +72,29 @@ module _ (F : Type 0) (layout : F → Layout) (formats : List (Option F)) (of : 
         marking.image_marked (setting_of s at_flip y) (memory_in s) y.world.addresses y.colours done t now
         (memory_in (kept_in_place s now)).kept (memory_in (kept_in_place s now)).grey stands.image there keeps greys;
     pools = stands.pools;
-    all_move = stands.all_move;
+    collected = stands.collected;
+    still = stands.still;
     tails = stands.tails;
     hands = stands.hands;
+  }
+
+  -- and for the world as it is, where it is marked
+  pub marked_stands : StateStands layout formats of at_flip done state (kept_in_place s now) (kept_by y t [] y.running)
+  marked_stands = record {
+    segments = record {
+      same_grains = stands.segments.same_grains;
+      same_limit = stands.segments.same_limit;
+      same_segments = stands.segments.same_segments;
+    };
+    held = stayed_stands.held;
+    tables = stayed_stands.tables;
+    covered = stayed_stands.covered;
+    reserved = stayed_stands.reserved;
+    condemned = record { is_bit = stayed_stands.condemned.is_bit; is_held = stayed_stands.condemned.is_held };
+    image = stayed_stands.image;
+    pools = stayed_stands.pools;
+    collected = stayed_stands.collected;
+    still = stayed_stands.still;
+    tails = stayed_stands.tails;
+    hands = stayed_stands.hands;
   }

@@ -21,7 +21,7 @@ use Rattle.mps_model.specs.Effect.{world_after_moves, where_one, with_collection
 use Rattle.mps_model.specs.Flip.{at_address, segment_for_move}
 use Rattle.mps_colours.specs.Colours.{keeping, IsUnoccupied}
 use Rattle.mps_colours.specs.Collecting.{Collecting, is_white_in}
-use Rattle.mps_colours.specs.Fixing.{Keeps, passes, keeps, moves_to_place, moves_to_segment, stays, moved_to, stays_at, new_segment, IsUnused}
+use Rattle.mps_colours.specs.Fixing.{Keeps, passes, keeps, moves_to_place, moves_to_segment, stays, moved_to, stays_at, new_segment, IsUnused, kept_by, marks}
 use Rattle.mps_colours.proofs.Addresses.{id_at-live, live_is_listed}
 use Rattle.mps_image.specs.Image.{CellSet}
 use Rattle.mps_image.specs.Fixing.{FixesOne, address_moved}
@@ -33,12 +33,13 @@ use Rattle.mps_trace_laws.specs.Tracing.{StateStands, TracingStands, setting_of,
 use Rattle.mps_trace_laws.specs.Steps.{IsSameGraph, IsFixStep}
 use Rattle.mps_trace_laws.proofs.Objects.{different, lives, address_is}
 use Rattle.mps_trace_laws.proofs.Room.{fewer_white, same_live_moved}
+use Rattle.mps_trace.specs.declared.trace.Policy.{Policy}
 
 -- the abstract collector after an object was kept in a world
 abbrev pub kept_in : Collecting → Id → World → Collecting
 kept_in y t v = record y { world = v; running = placing t y.running; colours = keeping y.colours t }
 
-module _ {F : Type 0} (layout : F → Layout) (formats : List (Option F)) (of : ChainsState) (at_flip : List (Option Address))
+module _ {F : Type 0} (layout : F → Layout) (formats : List (Option (Policy F))) (of : ChainsState) (at_flip : List (Option Address))
     (done : CellSet) (x : Traced) (y : Collecting) (stands : TracingStands layout formats of at_flip done x y) (t : Id) (now : Address)
     (o : Object) (object : slice_get y.world.graph.objects t ≡ Some o) (there : entry_at y.world.addresses t ≡ Some now) where
   -- nothing is done with an object that isn't white
@@ -79,6 +80,31 @@ module _ {F : Type 0} (layout : F → Layout) (formats : List (Option F)) (of : 
         (live_is_listed y.world t (lives y.world t now o object there)) white in
         let room = stands.room in
         omega (arith, fewer, room, few)
+
+    -- it is marked, in a pool that doesn't move its blocks
+    pub mark_step : (z : Traced) → is_copying_object y.world t ≡ false → z.moves ≡ x.moves
+        → StateStands layout formats of at_flip done z.amc z.segs (kept_by y t [] y.running)
+        → IsFixStep layout formats of at_flip done x z y t now
+    mark_step z isnt moves state = record {
+      moves = [];
+      after = kept_by y t [] y.running;
+      fixes = λ ids rest last later. keeps white (marks isnt) later;
+      stands = record {
+        state = state;
+        room =
+            let fewer = fewer_white y.running.condemned y.colours t (live_ids y.world) (live_ids y.world) refl
+            (live_is_listed y.world t (lives y.world t now o object there)) white in
+            let room = stands.room in
+            let same = ap (λ (m : Moves). m.spare) moves in
+            omega (arith, fewer, room, same);
+      };
+      trail = ap (λ (m : Moves). m.moves) moves ∙ sym (append-nil x.moves.moves);
+      there = there;
+      not_white = kept_not_white y.running.condemned y.colours t;
+      step = fixing.kept t white;
+      same = record { graph = refl; pools = refl; formats = refl };
+      same_condemned = refl;
+    }
 
     -- where an object was kept by moves that lead to a world for which the state stands
     kept_step : (z : Traced) (answer : Address) (ms : List Move) (v : World) → world_after_moves y.world ms ≡ v

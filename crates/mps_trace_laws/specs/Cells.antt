@@ -15,6 +15,7 @@ use Rattle.mps_trace.specs.Trace.{Traced}
 use Rattle.mps_trace.specs.Scan.{FixesCell, CanFixCellAt}
 use Rattle.mps_trace_laws.specs.Tracing.{TracingStands}
 use Rattle.mps_trace_laws.specs.Steps.{IsSameGraph}
+use Rattle.mps_trace.specs.declared.trace.Policy.{Policy}
 
 -- a live object that isn't white has a reference in a cell, to null or to a live object
 pub record HoldsReference (y : Collecting) (holder i : ℕ) (at : Address) (o : Object) (target : Option Id) (tag : ℕ) : Type 0 where
@@ -26,7 +27,7 @@ pub record HoldsReference (y : Collecting) (holder i : ℕ) (at : Address) (o : 
   pub live : (t : Id) → target ≡ Some t → (now : Address) × (entry_at y.world.addresses t ≡ Some now)
 
 -- what was done with a cell is a step of the abstract collector, and the cell is fixed then
-pub record IsCellStep {F : Type 0} (layout : F → Layout) (formats : List (Option F)) (of : ChainsState)
+pub record IsCellStep {F : Type 0} (layout : F → Layout) (formats : List (Option (Policy F))) (of : ChainsState)
     (at_flip : List (Option Address)) (done : CellSet) (x z : Traced) (y : Collecting) (target : Option Id) (holder i : ℕ)
     : Type 0 where
   pub moves : List Move
@@ -42,7 +43,7 @@ pub record IsCellStep {F : Type 0} (layout : F → Layout) (formats : List (Opti
 -- a reference of an object that isn't white can be fixed, where what it refers to is live
 abbrev pub ACellCanBeFixed : (F : Type 0) → Type 0
 ACellCanBeFixed F =
-    (layout : F → Layout) (formats : List (Option F)) (of : ChainsState) (at_flip : List (Option Address)) (done : CellSet)
+    (layout : F → Layout) (formats : List (Option (Policy F))) (of : ChainsState) (at_flip : List (Option Address)) (done : CellSet)
     (x : Traced) (y : Collecting) (holder i : ℕ) (at : Addr) (o : Object) (target : Option Id) (tag : ℕ)
     → AreShaped y.world.graph.objects (pool_layout y.world) → TracingStands layout formats of at_flip done x y
     → HoldsReference y holder i at.0 o target tag → CanFixCellAt layout (pool_layout y.world o.pool) formats of x at i
@@ -50,7 +51,7 @@ ACellCanBeFixed F =
 -- and what the collector does with it is a step of the abstract collector
 abbrev pub ACellIsAStep : (F : Type 0) → Type 0
 ACellIsAStep F =
-    (layout : F → Layout) (formats : List (Option F)) (of : ChainsState) (at_flip : List (Option Address)) (done : CellSet)
+    (layout : F → Layout) (formats : List (Option (Policy F))) (of : ChainsState) (at_flip : List (Option Address)) (done : CellSet)
     (x z : Traced) (y : Collecting) (holder i : ℕ) (at : Addr) (o : Object) (target : Option Id) (tag : ℕ)
     → AreShaped y.world.graph.objects (pool_layout y.world) → TracingStands layout formats of at_flip done x y
     → HoldsReference y holder i at.0 o target tag → FixesCell layout (pool_layout y.world o.pool) formats of at i x z

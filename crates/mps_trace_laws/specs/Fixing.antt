@@ -13,6 +13,7 @@ use Rattle.mps_image.specs.Fixing.{FixAt, Target, IsFixedAt}
 use Rattle.mps_image.specs.Scanning.{HoldsMore}
 use Rattle.mps_trace.specs.Trace.{Traced, CanFixAt, FixesTo}
 use Rattle.mps_trace_laws.specs.Tracing.{AreHeld, HasTables, setting_of, TracingStands}
+use Rattle.mps_trace.specs.declared.trace.Policy.{Policy}
 
 -- segments hold what they held, and as much of it is condemned
 pub record Grows (s s' : SegsState) : Type 0 where
@@ -31,28 +32,10 @@ pub record FixedInWords (at_flip : List (Option Address)) (y : Collecting) (s s'
 abbrev pub AreLawful : (layout_of : ℕ → Layout) → Type 0
 AreLawful layout_of = (pool : ℕ) → IsLawful (layout_of pool)
 
--- whatever the collector does with an address that can be fixed, it is a fix in words
-abbrev pub AFixIsInWords : (F : Type 0) → Type 0
-AFixIsInWords F =
-    (layout : F → Layout) (formats : List (Option F)) (of : ChainsState) (at_flip : List (Option Address)) (done : CellSet)
-    (x z : Traced) (y : Collecting) (at answer : Addr) → AreLawful (pool_layout y.world) → TracingStands layout formats of at_flip done x y
-    → CanFixAt layout formats of x at.0 → FixesTo layout formats of x at z answer
-    → FixedInWords at_flip y x.segs z.segs at.0 answer.0
-
--- where the address means a live automatic object, it is one fix of that object, and the image stands in the segments then
-abbrev pub AFixIsOneFix : (F : Type 0) → Type 0
-AFixIsOneFix F =
-    (layout : F → Layout) (formats : List (Option F)) (of : ChainsState) (at_flip : List (Option Address)) (done : CellSet)
-    (x z : Traced) (y : Collecting) (at answer : Addr) (t : Id) (now : Address) (o : Object)
-    → AreShaped y.world.graph.objects (pool_layout y.world) → TracingStands layout formats of at_flip done x y
-    → Target (setting_of x.segs at_flip y) y.world.addresses t at.0 now o
-    → FixesTo layout formats of x at z answer
-    → IsFixedAt (setting_of z.segs at_flip y) (memory_in z.segs) y.world.addresses y.colours done t answer.0
-
 -- an address that means a live automatic object can be fixed
 abbrev pub ATargetCanBeFixed : (F : Type 0) → Type 0
 ATargetCanBeFixed F =
-    (layout : F → Layout) (formats : List (Option F)) (of : ChainsState) (at_flip : List (Option Address)) (done : CellSet)
+    (layout : F → Layout) (formats : List (Option (Policy F))) (of : ChainsState) (at_flip : List (Option Address)) (done : CellSet)
     (x : Traced) (y : Collecting) (at : Addr) (t : Id) (now : Address) (o : Object)
     → AreShaped y.world.graph.objects (pool_layout y.world) → TracingStands layout formats of at_flip done x y
     → Target (setting_of x.segs at_flip y) y.world.addresses t at.0 now o → CanFixAt layout formats of x at.0

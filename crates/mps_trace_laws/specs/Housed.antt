@@ -19,6 +19,7 @@ use Rattle.mps_image.specs.Image.{CellSet}
 use Rattle.mps_trace.specs.Scan.{ScansOne}
 use Rattle.mps_trace.specs.Trace.{Traced, FixesTo}
 use Rattle.mps_trace_laws.specs.Tracing.{TracingStands}
+use Rattle.mps_trace.specs.declared.trace.Policy.{Policy}
 
 -- ---- objects
 
@@ -42,7 +43,7 @@ AreLive ids w = (id : Id) → contains ids id ≡ true → is_live w id ≡ true
 -- where live objects are fixed, each object lies in one segment then, if each did before
 abbrev pub FixesKeepHoused : (F : Type 0) → Type 0
 FixesKeepHoused F =
-    (layout : F → Layout) (formats : List (Option F)) (of : ChainsState) (at_flip : List (Option Address)) (done : CellSet) (x : Traced)
+    (layout : F → Layout) (formats : List (Option (Policy F))) (of : ChainsState) (at_flip : List (Option Address)) (done : CellSet) (x : Traced)
     (y after : Collecting) (ids : List Id) (moves : List Move) → TracingStands layout formats of at_flip done x y
     → AreHoused y.world.graph.objects x.segs.segments y.world.addresses → AreLive ids y.world → Fixes y ids moves after
     → AreHoused after.world.graph.objects after.world.segments after.world.addresses
@@ -71,13 +72,13 @@ CopyingSegmentsAreExact =
 -- a fix leaves none
 abbrev pub AFixKeepsRanks : (F : Type 0) → Type 0
 AFixKeepsRanks F =
-    (layout : F → Layout) (formats : List (Option F)) (of : ChainsState) (x z : Traced) (at answer : Addr)
+    (layout : F → Layout) (formats : List (Option (Policy F))) (of : ChainsState) (x z : Traced) (at answer : Addr)
     → FixesTo layout formats of x at z answer → IsStrong x.segs → IsStrong z.segs
 
 -- and so does a scan
 abbrev pub AScanKeepsRanks : (F : Type 0) → Type 0
 AScanKeepsRanks F =
-    (layout : F → Layout) (formats : List (Option F)) (of : ChainsState) (x z : Traced) → ScansOne layout formats of x z
+    (layout : F → Layout) (formats : List (Option (Policy F))) (of : ChainsState) (x z : Traced) → ScansOne layout formats of x z
     → IsStrong x.segs → IsStrong z.segs
 
 -- ---- vectors: two segments of one grain, the second of which begins where the first ends

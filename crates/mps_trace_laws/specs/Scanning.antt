@@ -20,6 +20,7 @@ use Rattle.mps_seg.specs.Segs.{SegsState}
 use Rattle.mps_base.specs.Trail.{Moves}
 use Rattle.mps_trace_laws.specs.Tracing.{TracingStands}
 use Rattle.mps_trace_laws.specs.Steps.{IsSameGraph}
+use Rattle.mps_trace.specs.declared.trace.Policy.{Policy}
 
 -- the cells of an object before one of them are fixed too
 abbrev pub with_cells : CellSet → (id before : ℕ) → CellSet
@@ -35,7 +36,7 @@ pub record IsToBeScanned (y : Collecting) (holder : Id) (at : Address) (o : Obje
       → (now : Address) × (entry_at y.world.addresses t ≡ Some now)
 
 -- the references before a cell were fixed, by steps of the abstract collector
-pub record IsScannedTo {F : Type 0} (layout : F → Layout) (formats : List (Option F)) (of : ChainsState)
+pub record IsScannedTo {F : Type 0} (layout : F → Layout) (formats : List (Option (Policy F))) (of : ChainsState)
     (at_flip : List (Option Address)) (done : CellSet) (x z : Traced) (y : Collecting) (holder : Id) (o : Object) (before : ℕ)
     : Type 0 where
   pub moves : List Move
@@ -51,7 +52,7 @@ pub record IsScannedTo {F : Type 0} (layout : F → Layout) (formats : List (Opt
 -- while an object is scanned, each of its references can be fixed when its turn comes
 abbrev pub AScanIsReady : (F : Type 0) → Type 0
 AScanIsReady F =
-    (layout : F → Layout) (formats : List (Option F)) (of : ChainsState) (at_flip : List (Option Address)) (done : CellSet)
+    (layout : F → Layout) (formats : List (Option (Policy F))) (of : ChainsState) (at_flip : List (Option Address)) (done : CellSet)
     (x : Traced) (y : Collecting) (holder : Id) (at : Addr) (o : Object) → AreShaped y.world.graph.objects (pool_layout y.world)
     → TracingStands layout formats of at_flip done x y → IsToBeScanned y holder at.0 o
     → AreReady layout (pool_layout y.world o.pool) formats of (head_of_body o.body) at x
@@ -59,7 +60,7 @@ AScanIsReady F =
 -- and the run up to a cell is one of steps of the abstract collector
 abbrev pub AScanIsOfSteps : (F : Type 0) → Type 0
 AScanIsOfSteps F =
-    (layout : F → Layout) (formats : List (Option F)) (of : ChainsState) (at_flip : List (Option Address)) (done : CellSet)
+    (layout : F → Layout) (formats : List (Option (Policy F))) (of : ChainsState) (at_flip : List (Option Address)) (done : CellSet)
     (x z : Traced) (y : Collecting) (holder : Id) (at : Addr) (o : Object) (before : ℕ)
     → AreShaped y.world.graph.objects (pool_layout y.world) → TracingStands layout formats of at_flip done x y
     → IsToBeScanned y holder at.0 o
@@ -67,7 +68,7 @@ AScanIsOfSteps F =
     → IsScannedTo layout formats of at_flip done x z y holder o before
 
 -- all references of an object were fixed, and it is grey no longer: what a unit of the abstract collector does that scans it
-pub record IsScan {F : Type 0} (layout : F → Layout) (formats : List (Option F)) (of : ChainsState) (at_flip : List (Option Address))
+pub record IsScan {F : Type 0} (layout : F → Layout) (formats : List (Option (Policy F))) (of : ChainsState) (at_flip : List (Option Address))
     (x z : Traced) (y : Collecting) (holder : Id)
     : Type 0 where
   pub moves : List Move
@@ -80,7 +81,7 @@ pub record IsScan {F : Type 0} (layout : F → Layout) (formats : List (Option F
 -- a scan of a block is one of its object
 abbrev pub AScanIsAScan : (F : Type 0) → Type 0
 AScanIsAScan F =
-    (layout : F → Layout) (formats : List (Option F)) (of : ChainsState) (at_flip : List (Option Address)) (x z : Traced)
+    (layout : F → Layout) (formats : List (Option (Policy F))) (of : ChainsState) (at_flip : List (Option Address)) (x z : Traced)
     (y : Collecting) (holder : Id) (at : Addr) (o : Object) → AreShaped y.world.graph.objects (pool_layout y.world)
     → TracingStands layout formats of at_flip (black_cells y.running.condemned y.colours) x y → IsToBeScanned y holder at.0 o
     → Scanned layout formats of x at z → IsScan layout formats of at_flip x z y holder

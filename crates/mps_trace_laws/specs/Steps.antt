@@ -14,6 +14,7 @@ use Rattle.mps_image.specs.Image.{CellSet, AreShaped}
 use Rattle.mps_image.specs.Fixing.{FixesOne, Target}
 use Rattle.mps_trace.specs.Trace.{Traced, FixesTo}
 use Rattle.mps_trace_laws.specs.Tracing.{setting_of, TracingStands}
+use Rattle.mps_trace.specs.declared.trace.Policy.{Policy}
 
 -- what fixes leave of a world: all objects, and the pools
 pub record IsSameGraph (w w' : World) : Type 0 where
@@ -22,7 +23,7 @@ pub record IsSameGraph (w w' : World) : Type 0 where
   pub formats : w'.formats ≡ w.formats
 
 -- a fix of an object is a step of the abstract collector
-pub record IsFixStep {F : Type 0} (layout : F → Layout) (formats : List (Option F)) (of : ChainsState)
+pub record IsFixStep {F : Type 0} (layout : F → Layout) (formats : List (Option (Policy F))) (of : ChainsState)
     (at_flip : List (Option Address)) (done : CellSet) (x z : Traced) (y : Collecting) (t : Id) (answer : Address)
     : Type 0 where
   pub moves : List Move
@@ -42,7 +43,7 @@ pub record IsFixStep {F : Type 0} (layout : F → Layout) (formats : List (Optio
 -- object by the same moves
 abbrev pub AFixIsAStep : (F : Type 0) → Type 0
 AFixIsAStep F =
-    (layout : F → Layout) (formats : List (Option F)) (of : ChainsState) (at_flip : List (Option Address)) (done : CellSet)
+    (layout : F → Layout) (formats : List (Option (Policy F))) (of : ChainsState) (at_flip : List (Option Address)) (done : CellSet)
     (x z : Traced) (y : Collecting) (at answer : Addr) (t : Id) (now : Address) (o : Object)
     → AreShaped y.world.graph.objects (pool_layout y.world) → TracingStands layout formats of at_flip done x y
     → Target (setting_of x.segs at_flip y) y.world.addresses t at.0 now o

@@ -1,6 +1,6 @@
 -- When the segments, the words at hand and the moves of a tracing collector stand for the abstract collector, while objects are
 -- traced. No fact but the last takes a world.
-use Rattle.std.specs.Prelude.{◌≡◌, ℕ, ◌+◌, ◌*◌, ◌<◌, ◌≤◌, Bool, true, IsTrue, Option, Some, List, [], ◌∷◌, map, length, slice_get, count_by, Contains}
+use Rattle.std.specs.Prelude.{◌≡◌, ℕ, ◌+◌, ◌*◌, ◌<◌, ◌≤◌, Bool, true, IsTrue, Option, Some, List, [], ◌∷◌, map, length, slice_get, count_by, Contains, false}
 use Rattle.std.specs.List.{AllByRecursion}
 use Rattle.mps_base.specs.Address.{Address, Id, Word, word_of, address_of_grain, grain_of, max_grains}
 use Rattle.mps_base.specs.Generation.{target_generation}
@@ -14,14 +14,15 @@ use Rattle.mps_amc.specs.Amc.{AmcState, HasTail}
 use Rattle.mps_amc.specs.Amc as amc
 use Rattle.mps_gen.specs.State.{ChainsState}
 use Rattle.mps_gen.specs.State as chains
-use Rattle.mps_model.specs.Graph.{Object, Point, Reservation, contains, is_automatic}
-use Rattle.mps_model.specs.World.{PointMemory, is_copying_pool, generations_of, tail_of, live_ids}
+use Rattle.mps_model.specs.Graph.{Object, Point, Reservation, contains, is_automatic, entry_at}
+use Rattle.mps_model.specs.World.{PointMemory, is_copying_pool, generations_of, tail_of, live_ids, pool_is, is_automatic_kind}
 use Rattle.mps_colours.specs.Colours.{Colours, is_white}
 use Rattle.mps_colours.specs.Collecting.{Collecting, segments_left}
 use Rattle.mps_image.specs.Memory.{Setting, LiesReserved, memory_in, setting_in, words_of_arena, pool_layout, pool_over_word}
 use Rattle.mps_image.specs.Image.{CellSet, ImageStands}
 use Rattle.mps_image.specs.AtHand.{Hand, hand_in_tails, HandsStand}
 use Rattle.mps_trace.specs.Trace.{Traced}
+use Rattle.mps_trace.specs.declared.trace.Policy.{Policy}
 
 -- ---- segments
 
@@ -61,19 +62,26 @@ AreReservationsHeld s points memories =
 
 -- ---- pools
 
--- of each pool that moves blocks, the collector has the format and the generations
-pub record AreKnownPools {F : Type 0} (layout : F → Layout) (formats : List (Option F)) (of : ChainsState) (is_copying : ℕ → Bool)
-    (layout_of : ℕ → Layout) (generations : ℕ → Option ℕ)
+-- of each automatic pool the collector has the policy, and of each that moves blocks the generations
+pub record AreKnownPools {F : Type 0} (layout : F → Layout) (formats : List (Option (Policy F))) (of : ChainsState)
+    (is_automatic_pool is_copying : ℕ → Bool) (layout_of : ℕ → Layout) (generations : ℕ → Option ℕ)
     : Type 0 where
-  pub listed : (pool : ℕ) → IsTrue (is_copying pool) → (format : F) × (slice_get formats pool ≡ Some (Some format))
-  pub format_is : (pool : ℕ) (format : F) → slice_get formats pool ≡ Some (Some format) → layout format ≡ layout_of pool
+  pub listed : (pool : ℕ) → IsTrue (is_automatic_pool pool) → (format : Policy F) × (slice_get formats pool ≡ Some (Some format))
+  pub format_is : (pool : ℕ) (format : Policy F) → slice_get formats pool ≡ Some (Some format) → layout format.format ≡ layout_of pool
+  pub moves_is : (pool : ℕ) (format : Policy F) → slice_get formats pool ≡ Some (Some format) → format.moves ≡ is_copying pool
   pub known : (pool : ℕ) → IsTrue (is_copying pool) → pool < length of.of_pool
   pub generations_are : (pool : ℕ) → IsTrue (is_copying pool) → chains.generations_of of pool ≡ generations pool
 
--- objects of automatic pools are in pools that move blocks
-abbrev pub AllMove : List Object → (is_copying : ℕ → Bool) → Type 0
-AllMove objects is_copying =
-    (id : Id) (o : Object) → slice_get objects id ≡ Some o → IsTrue (is_automatic o) → IsTrue (is_copying o.pool)
+-- automatic objects are in automatic pools
+abbrev pub AreCollected : List Object → (is_automatic_pool : ℕ → Bool) → Type 0
+AreCollected objects is_automatic_pool =
+    (id : Id) (o : Object) → slice_get objects id ≡ Some o → IsTrue (is_automatic o) → IsTrue (is_automatic_pool o.pool)
+
+-- objects of pools that don't move blocks are where they were at the flip
+abbrev pub AreStill : List Object → (is_copying : ℕ → Bool) → (at_flip addresses : List (Option Address)) → Type 0
+AreStill objects is_copying at_flip addresses =
+    (id : Id) (o : Object) (from to : Address) → slice_get objects id ≡ Some o → is_copying o.pool ≡ false
+    → entry_at at_flip id ≡ Some from → entry_at addresses id ≡ Some to → from ≡ to
 
 -- ---- words at hand
 
@@ -124,7 +132,7 @@ setting_of s at_flip y =
     (λ id. true)
 
 -- words at hand and segments stand for the abstract collector, where these cells are fixed
-pub record StateStands {F : Type 0} (layout : F → Layout) (formats : List (Option F)) (of : ChainsState)
+pub record StateStands {F : Type 0} (layout : F → Layout) (formats : List (Option (Policy F))) (of : ChainsState)
     (at_flip : List (Option Address)) (done : CellSet) (state : AmcState) (s : SegsState) (y : Collecting)
     : Type 0 where
   pub segments : AreSegmentsOf s y.world.grains y.world.limit y.world.segments
@@ -134,13 +142,15 @@ pub record StateStands {F : Type 0} (layout : F → Layout) (formats : List (Opt
   pub reserved : AreReservationsHeld s y.world.graph.points y.world.point_memories
   pub condemned : AreCondemnedAt s y.running.condemned_segments
   pub image : ImageStands (setting_of s at_flip y) (memory_in s) y.world.addresses y.colours done
-  pub pools : AreKnownPools layout formats of (is_copying_pool y.world) (pool_layout y.world) (generations_of y.world)
-  pub all_move : AllMove y.world.graph.objects (is_copying_pool y.world)
+  pub pools : AreKnownPools layout formats of (pool_is is_automatic_kind y.world) (is_copying_pool y.world) (pool_layout y.world)
+      (generations_of y.world)
+  pub collected : AreCollected y.world.graph.objects (pool_is is_automatic_kind y.world)
+  pub still : AreStill y.world.graph.objects (is_copying_pool y.world) at_flip y.world.addresses
   pub tails : AreTails of state (is_copying_pool y.world) (tail_of y.world)
   pub hands : TailsStand (setting_of s at_flip y) s.segments y.world.addresses (tail_of y.world)
 
 -- a tracing collector's state in words stands for the abstract collector, and there is room for the moves that are left
-pub record TracingStands {F : Type 0} (layout : F → Layout) (formats : List (Option F)) (of : ChainsState)
+pub record TracingStands {F : Type 0} (layout : F → Layout) (formats : List (Option (Policy F))) (of : ChainsState)
     (at_flip : List (Option Address)) (done : CellSet) (x : Traced) (y : Collecting)
     : Type 0 where
   pub state : StateStands layout formats of at_flip done x.amc x.segs y

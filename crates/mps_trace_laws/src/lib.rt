@@ -3,21 +3,10 @@
 #![tactic(auto)]
 
 ghost use Rattle.mps_trace_laws.specs.Cells.{ACellCanBeFixed, ACellIsAStep};
-ghost use Rattle.mps_trace_laws.specs.Fixing.{AFixIsInWords, AFixIsOneFix, ATargetCanBeFixed};
+ghost use Rattle.mps_trace_laws.specs.Fixing.{ATargetCanBeFixed};
 ghost use Rattle.mps_trace_laws.specs.Housed.{FixesKeepHoused, CopyingSegmentsAreExact, AFixKeepsRanks, AScanKeepsRanks};
 ghost use Rattle.mps_trace_laws.specs.Scanning.{AScanIsReady, AScanIsOfSteps, AScanIsAScan, AnObjectCanBeScanned};
 ghost use Rattle.mps_trace_laws.specs.Steps.{AFixIsAStep};
-
-/// Whatever the collector does with an address is a fix in words, of the image of objects in the segments then.
-pub fn a_fix_is_in_words<F>()
-    ensures { AFixIsInWords F }
-{}
-
-/// Where an address means an object, what the collector does with it is one fix of that object, and the words stand for the objects
-/// as before.
-pub fn a_fix_is_one_fix<F>()
-    ensures { AFixIsOneFix F }
-{}
 
 /// An address that means a live automatic object can be fixed.
 pub fn a_target_can_be_fixed<F>()

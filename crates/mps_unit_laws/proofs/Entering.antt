@@ -22,6 +22,7 @@ use Rattle.mps_reclaim_laws.proofs.SegmentBounds.{segment_cases, contains_no_seg
 use Rattle.mps_reclaim_laws.proofs.LastBand.{the_last_band_begins}
 use Rattle.mps_unit_laws.specs.Standing.{StandsTracing, StandsReclaiming, tracing, reclaiming, AreInArena}
 use Rattle.mps_unit_laws.specs.Laws.{TheLastBandIsEntered}
+use Rattle.mps_trace.specs.declared.trace.Policy.{Policy}
 
 -- ---- segments
 
@@ -64,7 +65,7 @@ either_is false false first second = refl
 either_is true b first second = absurd (true≢false first)
 either_is false true first second = absurd (true≢false second)
 
-module _ {F : Type 0} (layout : F → Rattle.mps_format.specs.Layout.Layout) (formats : List (Rattle.std.specs.Prelude.Option F))
+module _ {F : Type 0} (layout : F → Rattle.mps_format.specs.Layout.Layout) (formats : List (Rattle.std.specs.Prelude.Option (Policy F)))
     (of : Rattle.mps_gen.specs.State.ChainsState) (at_flip : List (Rattle.std.specs.Prelude.Option Address)) (x : Traced)
     (y : Collecting) (run : Running y) (st : StandsTracing layout formats of at_flip x y) (drained : IsDrained x.segs) where
   none_grey : AreAllScanned y.colours

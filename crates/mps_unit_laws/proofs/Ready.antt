@@ -177,7 +177,7 @@ module _ {F : Type 0} (layout : F → Layout) (t : TraceState F) (s : SegsState)
       let aligned = aligned_in s.segments low.segment band.frees.stands.order.aligned low.listed in
       let begins = low.begins in
       let within = few base.0 low in
-      let format = stands.moving.pools.listed low.segment.pool (stands.moving.all_move low.segment.pool (automatic base.0 low)) in
+      let format = stands.moving.pools.listed low.segment.pool (automatic base.0 low) in
       let setting =
       setting_freeing_in s y.world.graph.objects y.world.graph.points y.world.point_memories (pool_layout y.world)
       y.running.condemned y.colours

@@ -39,6 +39,7 @@ use Rattle.mps_unit_laws.specs.Laws.{HasSegmentsOf, IsTracedUnitDone, AReclaimIs
 use Rattle.mps_trace_laws.specs.Tracing.{moves_left}
 use Rattle.mps_unit_laws.proofs.Entering.{the_last_band_is_entered}
 use Rattle.mps_unit_laws.proofs.RoomLeft.{moves_left_after, spare_after}
+use Rattle.mps_trace.specs.declared.trace.Policy.{Policy}
 
 -- ---- what a reclaim leaves of segments
 
@@ -79,7 +80,7 @@ are_among fm g moves base g' moves' (is_padded t found used state padded trail) 
 
 -- ---- a reclaim
 
-module _ {F : Type 0} (layout : F → Layout) (formats : List (Option F)) (of : ChainsState) (at_flip : List (Option Address))
+module _ {F : Type 0} (layout : F → Layout) (formats : List (Option (Policy F))) (of : ChainsState) (at_flip : List (Option Address))
     (x z : Traced) (run : RunningState) (y : Collecting) (base : Addr) (stands : UnitStands layout formats of at_flip x run y)
     (next : ReclaimsNext layout formats x run base z) where
   pub last_band : StandsReclaiming x y
@@ -101,7 +102,7 @@ module _ {F : Type 0} (layout : F → Layout) (formats : List (Option F)) (of : 
   unreserved = stands.unreserved t lowest.listed lowest.condemned
 
   abbrev fm : Layout
-  fm = layout next.reclaimed.format
+  fm = layout next.reclaimed.format.format
 
   pub trail_is : z.moves.moves ++ end_where (is_last_condemned y.running t.base) ≡ x.moves.moves ++ reclaim_by y t.base freed
   trail_is =
@@ -158,7 +159,6 @@ module _ {F : Type 0} (layout : F → Layout) (formats : List (Option F)) (of : 
     moving_on = record {
       shaped = stands.moving.shaped;
       pools = stands.moving.pools;
-      all_move = stands.moving.all_move;
       strong = stands.moving.strong;
     }
 
@@ -234,7 +234,7 @@ the_last_unit_is_done layout formats of at_flip x z run y stands unit =
     let low = lowest layout formats of at_flip x unit.before run y unit.base stands next in
     let last = is_last layout formats of at_flip x unit.before run y unit.base stands next unit.last in
     let there = stands.unreserved low.segment low.listed low.condemned in
-    let fm = layout next.reclaimed.format in
+    let fm = layout next.reclaimed.format.format in
     let freed = addresses_of (lost_of x.segs low.segment) in
     let shown =
     a_reclaim_is_a_unit fm y x.segs (pool_layout y.world) unit.base x.moves unit.before.segs unit.before.moves stands.running band.scanned

@@ -41,10 +41,11 @@ use Rattle.mps_reclaim_laws.proofs.HeldSegments.{found_at, found_held, same_base
 use Rattle.mps_unit_laws.proofs.Entering.{held_in_order}
 use Rattle.mps_unit_laws.specs.Standing.{AreCondemnedUnreserved, StandsTracing, UnitStands, IsMoving, tracing, reclaiming}
 use Rattle.mps_unit_laws.specs.Laws.{ScansAreDone, ScansAreReady, IsTracedUnitDone}
+use Rattle.mps_trace.specs.declared.trace.Policy.{Policy}
 
 -- ---- what fixes leave of a world
 
-pub record IsStill {F : Type 0} (layout : F → Layout) (formats : List (Option F)) (of : ChainsState) (x y : Collecting) : Type 0 where
+pub record IsStill {F : Type 0} (layout : F → Layout) (formats : List (Option (Policy F))) (of : ChainsState) (x y : Collecting) : Type 0 where
   pub moving : IsMoving layout formats of x.world → IsMoving layout formats of y.world
   pub cursor : y.cursor ≡ x.cursor
   pub next : y.next ≡ x.next
@@ -54,7 +55,7 @@ pub record IsStill {F : Type 0} (layout : F → Layout) (formats : List (Option 
   pub bases : y.running.condemned_segments ≡ x.running.condemned_segments
   pub held : (base : Address) (s : Segment) → held_in x.world.segments base ≡ Some s → held_in y.world.segments base ≡ Some s
 
-module _ {F : Type 0} (layout : F → Layout) (formats : List (Option F)) (of : ChainsState) where
+module _ {F : Type 0} (layout : F → Layout) (formats : List (Option (Policy F))) (of : ChainsState) where
   pub still : {x y : Collecting} {ids : List Id} {ms : List Move} → Fixes x ids ms y → Running x → is_tracing_band x.band ≡ true
       → MayBeFixed x ids → IsStill layout formats of x y
   still (fixes_no_more {x}) run trace may = record {
@@ -79,7 +80,6 @@ module _ {F : Type 0} (layout : F → Layout) (formats : List (Option F)) (of : 
         moving = λ m. after.moving (subst (IsMoving layout formats of) (sym r.world) (record {
           shaped = m.shaped;
           pools = m.pools;
-          all_move = m.all_move;
           strong = m.strong;
         }));
         cursor = after.cursor;
@@ -110,7 +110,7 @@ body_refers (Manual words) i t tag e automatic = absurd (false≢true automatic)
 
 -- ---- a grey object
 
-module _ {F : Type 0} (layout : F → Layout) (formats : List (Option F)) (of : ChainsState) (at_flip : List (Option Address)) (x : Traced)
+module _ {F : Type 0} (layout : F → Layout) (formats : List (Option (Policy F))) (of : ChainsState) (at_flip : List (Option Address)) (x : Traced)
     (run : RunningState) (y : Collecting) (stands : UnitStands layout formats of at_flip x run y) where
   -- where a block is grey objects are traced
   pub traced_so : (n : Word) → bit x.segs.marks.exact n ≡ true → StandsTracing layout formats of at_flip x y

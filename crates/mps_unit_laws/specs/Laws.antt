@@ -19,13 +19,14 @@ use Rattle.mps_trace.specs.Unit.{ReclaimsNext, LastUnitTo, UnitsTo, EndsWithin, 
 use Rattle.mps_trace.specs.declared.running.Running.{Running as RunningState}
 use Rattle.mps_trace_laws.specs.Tracing.{AreSegmentsOf}
 use Rattle.mps_unit_laws.specs.Standing.{StandsReclaiming, UnitStands}
+use Rattle.mps_trace.specs.declared.trace.Policy.{Policy}
 
 -- the segments are those of this world
 abbrev pub HasSegmentsOf : SegsState → World → Type 0
 HasSegmentsOf s w = AreSegmentsOf s w.grains w.limit w.segments
 
 -- a unit of the abstract collector, which tells the same moves and after which the state stands for it
-pub record IsTracedUnitDone {F : Type 0} (layout : F → Layout) (formats : List (Option F)) (of : ChainsState)
+pub record IsTracedUnitDone {F : Type 0} (layout : F → Layout) (formats : List (Option (Policy F))) (of : ChainsState)
     (at_flip : List (Option Address)) (x : Traced) (y : Collecting) (z : Traced) (run' : RunningState) : Type 0 where
   pub moves : List Move
   pub after : Collecting
@@ -45,13 +46,13 @@ pub record IsLastTracedUnitDone (x : Traced) (y : Collecting) (z : Traced) : Typ
 -- where nothing but weak blocks is grey the state stands in the last band
 abbrev pub TheLastBandIsEntered : (F : Type 0) → Type 0
 TheLastBandIsEntered F =
-    (layout : F → Layout) (formats : List (Option F)) (of : ChainsState) (at_flip : List (Option Address)) (x : Traced)
+    (layout : F → Layout) (formats : List (Option (Policy F))) (of : ChainsState) (at_flip : List (Option Address)) (x : Traced)
     (run : RunningState) (y : Collecting) → UnitStands layout formats of at_flip x run y → IsDrained x.segs → StandsReclaiming x y
 
 -- a reclaim after which others are left is a unit of the abstract collector
 abbrev pub AReclaimIsDone : (F : Type 0) → Type 0
 AReclaimIsDone F =
-    (layout : F → Layout) (formats : List (Option F)) (of : ChainsState) (at_flip : List (Option Address)) (x z : Traced)
+    (layout : F → Layout) (formats : List (Option (Policy F))) (of : ChainsState) (at_flip : List (Option Address)) (x z : Traced)
     (run : RunningState) (y : Collecting) (base left : Addr) → UnitStands layout formats of at_flip x run y
     → ReclaimsNext layout formats x run base z → IsNextCondemned x.segs (base.0 + 1) left.0
     → IsTracedUnitDone layout formats of at_flip x y z (reclaimed_at base run)
@@ -59,20 +60,20 @@ AReclaimIsDone F =
 -- the last unit is the abstract collector's
 abbrev pub TheLastUnitIsDone : (F : Type 0) → Type 0
 TheLastUnitIsDone F =
-    (layout : F → Layout) (formats : List (Option F)) (of : ChainsState) (at_flip : List (Option Address)) (x z : Traced)
+    (layout : F → Layout) (formats : List (Option (Policy F))) (of : ChainsState) (at_flip : List (Option Address)) (x z : Traced)
     (run : RunningState) (y : Collecting) → UnitStands layout formats of at_flip x run y → LastUnitTo layout formats x run z
     → IsLastTracedUnitDone x y z
 
 -- ---- rows of units
 
 -- each scan of a grey block is a unit of the abstract collector
-abbrev pub AreScansDone : {F : Type 0} → (F → Layout) → List (Option F) → ChainsState → List (Option Address) → Type 0
+abbrev pub AreScansDone : {F : Type 0} → (F → Layout) → List (Option (Policy F)) → ChainsState → List (Option Address) → Type 0
 AreScansDone layout formats of at_flip =
     (x z : Traced) (run : RunningState) (y : Collecting) → UnitStands layout formats of at_flip x run y
     → ScansOne layout formats of x z → IsTracedUnitDone layout formats of at_flip x y z run
 
 -- n units of the abstract collector, which tell the same moves and after which the state stands for it
-pub record AreTracedUnitsDone {F : Type 0} (layout : F → Layout) (formats : List (Option F)) (of : ChainsState)
+pub record AreTracedUnitsDone {F : Type 0} (layout : F → Layout) (formats : List (Option (Policy F))) (of : ChainsState)
     (at_flip : List (Option Address)) (x : Traced) (y : Collecting) (count : ℕ) (z : Traced) (run' : RunningState) : Type 0 where
   pub moves : List Move
   pub after : Collecting
@@ -92,7 +93,7 @@ pub record AreLastTracedUnitsDone (x : Traced) (y : Collecting) (count : ℕ) (z
 -- where scans are units of the abstract collector, rows of units are
 abbrev pub UnitsAreDone : (F : Type 0) → Type 0
 UnitsAreDone F =
-    (layout : F → Layout) (formats : List (Option F)) (of : ChainsState) (at_flip : List (Option Address)) (x z : Traced)
+    (layout : F → Layout) (formats : List (Option (Policy F))) (of : ChainsState) (at_flip : List (Option Address)) (x z : Traced)
     (run run' : RunningState) (y : Collecting) (count : ℕ) → AreScansDone layout formats of at_flip
     → UnitStands layout formats of at_flip x run y → UnitsTo layout formats of x run count z run'
     → AreTracedUnitsDone layout formats of at_flip x y count z run'
@@ -100,7 +101,7 @@ UnitsAreDone F =
 -- and where the collection ends the abstract one does
 abbrev pub TheEndIsDone : (F : Type 0) → Type 0
 TheEndIsDone F =
-    (layout : F → Layout) (formats : List (Option F)) (of : ChainsState) (at_flip : List (Option Address)) (x z : Traced)
+    (layout : F → Layout) (formats : List (Option (Policy F))) (of : ChainsState) (at_flip : List (Option Address)) (x z : Traced)
     (run : RunningState) (y : Collecting) (most : ℕ) → AreScansDone layout formats of at_flip
     → UnitStands layout formats of at_flip x run y → (ends : EndsWithin layout formats of x run most z)
     → AreLastTracedUnitsDone x y (suc ends.count) z
@@ -108,7 +109,7 @@ TheEndIsDone F =
 -- a collection doesn't go on after as many units as the abstract collector has left
 abbrev pub TracedUnitsRunOut : (F : Type 0) → Type 0
 TracedUnitsRunOut F =
-    (layout : F → Layout) (formats : List (Option F)) (of : ChainsState) (at_flip : List (Option Address)) (x z : Traced)
+    (layout : F → Layout) (formats : List (Option (Policy F))) (of : ChainsState) (at_flip : List (Option Address)) (x z : Traced)
     (run run' : RunningState) (y : Collecting) (count : ℕ) → AreScansDone layout formats of at_flip
     → UnitStands layout formats of at_flip x run y → UnitsTo layout formats of x run count z run' → count < units_left y
 
@@ -117,7 +118,7 @@ TracedUnitsRunOut F =
 -- each scan of a grey block is a unit of the abstract collector
 abbrev pub ScansAreDone : (F : Type 0) → Type 0
 ScansAreDone F =
-    (layout : F → Layout) (formats : List (Option F)) (of : ChainsState) (at_flip : List (Option Address))
+    (layout : F → Layout) (formats : List (Option (Policy F))) (of : ChainsState) (at_flip : List (Option Address))
     → AreScansDone layout formats of at_flip
 
 -- each grey block can be scanned

@@ -19,12 +19,12 @@ use Rattle.mps_trace_laws.specs.Housed.{AreAllExact, AreHoused, HasNoWeakMark}
 use Rattle.mps_trace_laws.specs.Tracing.{AreKnownPools, AreSegmentsOf, TracingStands, moves_left}
 use Rattle.mps_reclaim_laws.specs.Left.{IsUnreserved}
 use Rattle.mps_reclaim_laws.specs.Units.{FreesFor}
+use Rattle.mps_trace.specs.declared.trace.Policy.{Policy}
 
 -- what units leave as it is of a world: its objects, its pools, and that none is weak
-pub record IsMoving {F : Type 0} (layout : F → Layout) (formats : List (Option F)) (of : ChainsState) (w : World) : Type 0 where
+pub record IsMoving {F : Type 0} (layout : F → Layout) (formats : List (Option (Policy F))) (of : ChainsState) (w : World) : Type 0 where
   pub shaped : AreShaped w.graph.objects (pool_layout w)
-  pub pools : AreKnownPools layout formats of (is_copying_pool w) (pool_layout w) (generations_of w)
-  pub all_move : (pool : ℕ) → IsTrue (pool_is is_automatic_kind w pool) → IsTrue (is_copying_pool w pool)
+  pub pools : AreKnownPools layout formats of (pool_is is_automatic_kind w) (is_copying_pool w) (pool_layout w) (generations_of w)
   pub strong : (id : Id) → object_is is_weak_object w id ≡ false
 
 -- no live reservation lies in a condemned segment
@@ -37,7 +37,7 @@ abbrev pub AreInArena : SegsState → Type 0
 AreInArena s = (t : Segment) → Contains s.segments t → word_of (end_of_segment t) ≤ words_of_grain * (s.grains + 1)
 
 -- objects are traced: the cells of black objects are fixed, each object lies in one segment, and no segment and no mark is weak
-pub record StandsTracing {F : Type 0} (layout : F → Layout) (formats : List (Option F)) (of : ChainsState)
+pub record StandsTracing {F : Type 0} (layout : F → Layout) (formats : List (Option (Policy F))) (of : ChainsState)
     (at_flip : List (Option Address)) (x : Traced) (y : Collecting) : Type 0 where
   pub traces : TracingStands layout formats of at_flip (black_cells y.running.condemned y.colours) x y
   pub band : IsTrue (is_tracing_band y.band)
@@ -54,14 +54,14 @@ pub record StandsReclaiming (x : Traced) (y : Collecting) : Type 0 where
   pub room : moves_left y + 2 ≤ x.moves.spare
 
 -- the one or the other
-pub data StandsInBand {F : Type 0} (layout : F → Layout) (formats : List (Option F)) (of : ChainsState)
+pub data StandsInBand {F : Type 0} (layout : F → Layout) (formats : List (Option (Policy F))) (of : ChainsState)
     (at_flip : List (Option Address)) (x : Traced) (y : Collecting) : Type 0
   where
     tracing : StandsTracing layout formats of at_flip x y → StandsInBand layout formats of at_flip x y
     reclaiming : StandsReclaiming x y → StandsInBand layout formats of at_flip x y
 
 -- between two units: the abstract collector runs, its registrations are examined, and it has reclaimed as much
-pub record UnitStands {F : Type 0} (layout : F → Layout) (formats : List (Option F)) (of : ChainsState)
+pub record UnitStands {F : Type 0} (layout : F → Layout) (formats : List (Option (Policy F))) (of : ChainsState)
     (at_flip : List (Option Address)) (x : Traced) (run : RunningState) (y : Collecting) : Type 0 where
   pub running : Running y
   pub examined : AreAllExamined y

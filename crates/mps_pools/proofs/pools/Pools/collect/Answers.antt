@@ -1,4 +1,4 @@
-use Rattle.mps_pools.proofs.Collecting.{can_trace, are_collected}
+use Rattle.mps_pools.proofs.Collecting.{can_trace, are_collected, are_flipped}
 use Rattle.mps_pools.proofs.Rows.{collected}
 use Rattle.mps_pools.proofs.Sound.{still_sound}
 use Rattle.mps_pools.proofs.pools.Pools.collect.Goals as goal
@@ -18,3 +18,9 @@ returns-clause-collected g c =
     are_collected g.F.Format.layout _ c.args.self.now c.self.view_is c.self.inside.trace c.self.invariant c.args.points.now
     c.args.roots.now c.args.finals.now c.args.segs.now c.args.trail.now c.args.most c.collect.new.roots c.collect.new.finals
     c.collect.new.self c.collect.new.segs c.collect.new.trail c.collect.ensures.collected
+
+pub returns-clause-epochs : goal.returns-clause-epochs
+returns-clause-epochs g c =
+    are_flipped g.F.Format.layout _ c.args.self.now c.self.view_is c.self.inside.trace c.self.invariant c.args.points.now
+    c.args.roots.now c.args.finals.now c.args.segs.now c.args.trail.now c.args.most c.args.epochs.now c.collect.new.epochs
+    c.collect.ensures.epochs

@@ -3,6 +3,7 @@ use Rattle.mps_amc.specs.Reclaiming.{IsReclaimed}
 use Rattle.mps_amc.proofs.Found.{over_is_there}
 use Rattle.mps_trace.specs.Trace.{TraceState}
 use Rattle.mps_trace.proofs.Known.{format_at, within_at, same_format}
+use Rattle.mps_trace.specs.declared.trace.Policy.{Policy}
 use Rattle.mps_trace.proofs.trace.Trace.reclaim.Goals as goal
 
 pub segment-pool-requires : goal.segment-pool-requires
@@ -47,8 +48,8 @@ returns g c =
     c.segment-pool.ensures c.requires.listed c.index.result.now c.index.ensures
     in
     let got_is = same_format c.in-Some.format c.requires.format (sym c.in-Some.is ∙ read) in
-    let P : g.row.F.Denot → Type 0 =
-    λ q. IsReclaimed (g.F.Format.layout q) s c.args.trail.now c.args.base c.reclaim_seg.new.segs c.reclaim_seg.new.trail
+    let P : Policy g.row.F.Denot → Type 0 =
+    λ q. IsReclaimed (g.F.Format.layout q.format) s c.args.trail.now c.args.base c.reclaim_seg.new.segs c.reclaim_seg.new.trail
     in
     record {
       segment = can.segment;

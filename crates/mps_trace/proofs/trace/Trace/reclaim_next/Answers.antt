@@ -16,7 +16,7 @@ returns-in-Some-left-clause-goes_on g c =
 pub end-requires : goal.end-requires
 end-requires g c =
     let r = c.reclaim.ensures in
-    room_left (g.F.Format.layout r.format) c.args.segs.now c.reclaim.new.segs c.args.trail.now c.reclaim.new.trail c.in-Some.base
+    room_left (g.F.Format.layout r.format.format) c.args.segs.now c.reclaim.new.segs c.args.trail.now c.reclaim.new.trail c.in-Some.base
     (c.requires.can.room c.in-Some.base c.in-Some.ensures.sound) r.reclaimed
 
 pub returns-clause-ended : goal.returns-clause-ended
@@ -31,3 +31,6 @@ returns-clause-ended g c =
       last = c.in_default-left.ensures.complete;
       over = cc;
     }
+
+pub reclaim-requires : goal.reclaim-requires
+reclaim-requires g c = c.requires.can.can c.in-Some.base c.in-Some.ensures.sound

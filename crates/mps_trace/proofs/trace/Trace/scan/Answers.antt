@@ -5,6 +5,7 @@ use Rattle.mps_seg.specs.Segs.{SegsState}
 use Rattle.mps_trace.specs.Trace.{TraceState, Traced, traced}
 use Rattle.mps_trace.specs.Scan.{AreReadyIn, ScansAll}
 use Rattle.mps_trace.proofs.Known.{format_is}
+use Rattle.mps_trace.specs.declared.trace.Policy.{Policy}
 use Rattle.mps_trace.proofs.trace.Trace.scan.Goals as goal
 
 pub fix_cells-requires-clause-ready : goal.fix_cells-requires-clause-ready
@@ -17,12 +18,12 @@ fix_cells-requires-clause-ready g c =
     format_is c.args.self.now t c.self.view_is s c.args.at c.in-Some.segment c.requires.segment c.requires.format c.requires.over
     c.in-Some.ensures.found c.requires.listed c.index.result.now c.index.ensures c.in-Some-index.format c.in-Some-index.is
     in
-    let P : g.row.F.Denot → Type 0 =
-    λ q. AreReadyIn g.F.Format.layout (g.F.Format.layout q) c.args.self.now s c.args.trail.now (slice_index s.words (word_of c.args.at.0))
+    let P : Policy g.row.F.Denot → Type 0 =
+    λ q. AreReadyIn g.F.Format.layout (g.F.Format.layout q.format) c.args.self.now s c.args.trail.now (slice_index s.words (word_of c.args.at.0))
     c.args.at
     in
     let Q : ℕ → Type 0 =
-    λ h. AreReadyIn g.F.Format.layout (g.F.Format.layout c.in-Some-index.format) c.args.self.now s c.args.trail.now h c.args.at
+    λ h. AreReadyIn g.F.Format.layout (g.F.Format.layout c.in-Some-index.format.format) c.args.self.now s c.args.trail.now h c.args.at
     in
     subst Q (sym c.word-head.ensures) (subst P (sym got_is) c.requires.ready)
 
@@ -40,11 +41,11 @@ returns-clause-scanned g c =
     let y = traced c.fix_cells.new.self c.fix_cells.new.segs c.fix_cells.new.trail in
     let formats = c.args.self.now.formats in
     let chains = c.args.self.now.chains in
-    let P : g.row.F.Denot → Type 0 =
-    λ q. ScansAll g.F.Format.layout (g.F.Format.layout q) formats chains (slice_index s.words (word_of c.args.at.0)) c.args.at x y
+    let P : Policy g.row.F.Denot → Type 0 =
+    λ q. ScansAll g.F.Format.layout (g.F.Format.layout q.format) formats chains (slice_index s.words (word_of c.args.at.0)) c.args.at x y
     in
     let Q : ℕ → Type 0 =
-    λ h. ScansAll g.F.Format.layout (g.F.Format.layout c.in-Some-index.format) formats chains h c.args.at x y
+    λ h. ScansAll g.F.Format.layout (g.F.Format.layout c.in-Some-index.format.format) formats chains h c.args.at x y
     in
     record {
       segment = c.requires.segment;

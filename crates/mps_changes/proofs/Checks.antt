@@ -1,0 +1,82 @@
+-- The checks of calls, one after the other: what each found holds of what comes after it.
+use Rattle.std.proofs.Common.{◌≡◌, ℕ, Bool, true, false, refl, ap, Option, Some, None, Ok, Err, subst}
+use Rattle.std.proofs.lemmas.Option.{none-some, same_Some}
+use Rattle.std.specs.Prelude.{slice_get, slice_set}
+use Rattle.mps_base.specs.declared.names.Name.{Name}
+use Rattle.mps_base.specs.declared.refusal.Refusal.{Refusal}
+use Rattle.mps_base.specs.declared.refusal.Refusal.TheVariants as refusal
+use Rattle.mps_model.specs.Graph.{Graph, Point, Thing, ChainThing, PoolThing, TableThing, AreaThing, BlocksThing, PointThing, DependencyThing, TransformThing, CacheThing, entry_at, without_name}
+use Rattle.mps_model.specs.World.{World, Pool}
+use Rattle.mps_model.specs.Checked.{Act, Checked, Numbered, ◌>>=◌, ◌>>◌, as_point, as_pool, number_named, numbered, required, refuse_when, point_named, pool_named}
+use Rattle.mps_model.specs.Making.{graph_without_root}
+use Rattle.mps_changes.specs.Change.{ForAct, accepted, refused}
+
+-- a fact of a graph without a table, and of one without an area, holds of it without a root
+pub without_root : (Holds : Graph → Type 0) (g : Graph) (name : Name) (o : Option Thing) (left : Graph)
+    → graph_without_root g name o ≡ Some left
+    → ((n : ℕ) → Holds (record g { tables = slice_set g.tables n None; names = without_name g.names name }))
+    → ((n : ℕ) → Holds (record g { areas = slice_set g.areas n None; names = without_name g.names name })) → Holds left
+without_root Holds g name None left e table area = absurd (none-some left e)
+without_root Holds g name (Some (TableThing n)) left e table area = subst Holds (same_Some _ left e) (table n)
+without_root Holds g name (Some (AreaThing n)) left e table area = subst Holds (same_Some _ left e) (area n)
+without_root Holds g name (Some (ChainThing n)) left e table area = absurd (none-some left e)
+without_root Holds g name (Some (PoolThing n)) left e table area = absurd (none-some left e)
+without_root Holds g name (Some (BlocksThing n)) left e table area = absurd (none-some left e)
+without_root Holds g name (Some (PointThing n)) left e table area = absurd (none-some left e)
+without_root Holds g name (Some (DependencyThing n)) left e table area = absurd (none-some left e)
+without_root Holds g name (Some (TransformThing n)) left e table area = absurd (none-some left e)
+without_root Holds g name (Some (CacheThing n)) left e table area = absurd (none-some left e)
+
+pub with_value : {A : Type 0} {P : World → Type 0} (x : Checked A) {f : A → Checked Act} → ((a : A) → x ≡ Ok a → ForAct P (f a))
+    → ForAct P (x >>= f)
+with_value (Ok a) next = next a refl
+with_value (Err why) next = refused
+
+pub after_check : {A : Type 0} {P : World → Type 0} (x : Checked A) {y : Checked Act} → ForAct P y → ForAct P (x >> y)
+after_check (Ok a) next = next
+after_check (Err why) next = refused
+
+pub unless : {P : World → Type 0} (b : Bool) (why : Refusal) {y : Checked Act} → (b ≡ false → ForAct P y)
+    → ForAct P (refuse_when b why >> y)
+unless true why next = refused
+unless false why next = next refl
+
+pub for_world : (P : World → Type 0) (v : World) (x : Checked Act) → ForAct P x → P v → P (Rattle.mps_model.specs.Reply.world_from v x)
+for_world P v (Ok a) (accepted p) q = p
+for_world P v (Err why) refused q = q
+
+pub required-is : {A : Type 0} (o : Option A) (why : Refusal) (a : A) → required o why ≡ Ok a → o ≡ Some a
+required-is (Some x) why a e = let same : x ≡ a = cc in ap Some same
+required-is None why a e = absurd (cc)
+
+numbered-is : {A : Type 0} (n : ℕ) (o : Option A) (p : Numbered A) → numbered n o ≡ Ok p → (n ≡ p.number) × (o ≡ Some p.value)
+numbered-is n (Some x) p e =
+    let same : record { number = n; value = x } ≡ p = cc in (
+      ap (λ (q : Numbered _). q.number) same,
+      ap (λ (q : Numbered _). Some q.value) same,
+    )
+numbered-is n None p e = absurd (cc)
+
+pub named_by : {A : Type 0} (o : Option ℕ) (look : ℕ → Option A) (p : Numbered A)
+    → (required o refusal.BadName >>= (λ number. numbered number (look number))) ≡ Ok p
+    → (o ≡ Some p.number) × (look p.number ≡ Some p.value)
+named_by None look p e = absurd (cc)
+named_by (Some n) look p e =
+    let q = numbered-is n (look n) p e in (ap Some q.0, subst (λ (k : ℕ). look k ≡ Some p.value) q.0 q.1)
+
+pub point_named-is : (w : World) (name : Name) (p : Numbered Point) → point_named w name ≡ Ok p
+    → (number_named w name as_point ≡ Some p.number) × (entry_at w.graph.points p.number ≡ Some p.value)
+point_named-is w name p e = named_by (number_named w name as_point) (λ n. entry_at w.graph.points n) p e
+
+pub pool_named-is : (w : World) (name : Name) (p : Numbered Pool) → pool_named w name ≡ Ok p → slice_get w.pools p.number ≡ Some p.value
+pool_named-is w name p e = (named_by (number_named w name as_pool) (λ n. slice_get w.pools n) p e).1
+
+-- of an act after a check whose value it uses
+pub andthen : {A : Type 0} {Holds : World → Type 0} (x : Checked A) {f : A → Checked Act} → ((a : A) → ForAct Holds (f a))
+    → ForAct Holds (x >>= f)
+andthen x next = with_value x (λ a is. next a)
+
+-- of an act after a check whose fact it uses
+pub checked : {A : Type 0} {P : World → Type 0} (x : Checked A) {y : Checked Act} → ((a : A) → x ≡ Ok a → ForAct P y) → ForAct P (x >> y)
+checked (Ok a) next = next a refl
+checked (Err why) next = refused

@@ -1,0 +1,174 @@
+-- What a call of the client may change of a world, as data: one case for each way, with what the call's checks found. Which call makes
+-- which change is said by one walk over all calls (`ActChanges`); facts of the worlds after calls then go by cases over changes.
+use Rattle.std.specs.Prelude.{◌≡◌, ◌⊎◌, ℕ, Bool, true, false, List, ◌∷◌, Option, Some, None, option_map, Ok, Err, slice_set}
+use Rattle.mps_base.specs.declared.refusal.Refusal.{Refusal}
+use Rattle.mps_model.specs.Reply.{act}
+use Rattle.mps_base.specs.Address.{Address}
+use Rattle.mps_base.specs.declared.names.Name.{Name}
+use Rattle.mps_base.specs.declared.names.Rank.{Rank}
+use Rattle.mps_base.specs.declared.names.Slot.{Slot}
+use Rattle.mps_model.specs.declared.call.Call.{Call}
+use Rattle.mps_model.specs.declared.call.Call.TheVariants as call
+use Rattle.mps_model.specs.Graph.{Object, Cell, NumberCell, AreaWord, PlainWord, Hold, Point, Reservation, NamedThing, with_last, with_target_cell, graph_with_cells, position_of_first, without_first, without_name}
+use Rattle.mps_model.specs.World.{World, Pool, PoolKind, Collected, OneSize, AnySize, ArenaState, Dependency, is_automatic_kind, block_of_word}
+use Rattle.mps_model.specs.Checked.{Act, Checked, Found, Numbered, block_place_in, cells_of_body, number_at, object_in, point_named, pool_named, reference_at, slot_in, with_graph, word_in}
+use Rattle.mps_model.specs.Making.{graph_with_area, graph_with_blocks, graph_with_table, is_block_size, may_have_point, with_point, with_pool, without_point}
+use Rattle.mps_model.specs.Allocating.{Reserving, allows_size, check_reserve, graph_allocated, graph_with_word, with_block_place, with_reservation, with_reserved, with_slot, world_committed}
+use Rattle.mps_model.specs.Accessing.{AsBlock, held_in, hold_of, poked, with_word}
+use Rattle.mps_model.specs.Collecting.{without_registration}
+
+-- a fact of the world of an act, unless it is refused
+pub data ForAct (P : World → Type 0) : Checked Act → Type 0 where
+  accepted : {a : Act} → P a.world → ForAct P (Ok a)
+  refused : {why : Refusal} → ForAct P (Err why)
+
+-- whether a call makes the arena
+abbrev pub makes_arena : Call → Bool
+makes_arena (call.Arena grains limit) = true
+makes_arena _ = false
+
+-- whether a call may reserve, make a block, free one, or make the arena
+abbrev pub is_placing : Call → Bool
+is_placing (call.Arena grains limit) = true
+is_placing (call.Reserve point head) = true
+is_placing (call.Commit point target) = true
+is_placing (call.Alloc pool words place) = true
+is_placing _ = false
+
+abbrev pub changes_dependencies : Call → Bool
+changes_dependencies (call.Dependency dependency) = true
+changes_dependencies (call.DependencyReset dependency) = true
+changes_dependencies (call.DependencyAdd dependency slot) = true
+changes_dependencies (call.DependencyMerge dependency source) = true
+changes_dependencies _ = false
+
+-- a call that makes, drops or writes a point
+abbrev pub changes_points : Call → Bool
+changes_points (call.Point point pool rank) = true
+changes_points (call.DropPoint point) = true
+changes_points (call.Reserve point head) = true
+changes_points (call.InitNumber point cell value) = true
+changes_points (call.InitReference point cell source) = true
+changes_points (call.Commit point target) = true
+changes_points _ = false
+
+-- an entry that a call found, in the world in which it takes effect or in the one in which it was judged
+pub data IsFoundBy {A : Type 0} (look : World → Slot → Checked (Found A)) (judged v : World) (found : Found A) : Type 0 where
+  Now : (slot : Slot) → look v slot ≡ Ok found → IsFoundBy look judged v found
+  Before : (slot : Slot) → look judged slot ≡ Ok found → IsFoundBy look judged v found
+
+-- an object to which a slot refers
+pub record IsInSlot (v : World) (object : Numbered Object) : Type 0 where
+  pub slot : Slot
+  pub from : Found (Option ℕ)
+  pub there : slot_in v slot ≡ Ok from
+  pub is : object_in v from.value ≡ Ok object
+
+-- a call that makes a pool
+abbrev pub makes_pool : Call → Bool
+makes_pool (call.Pool pool kind format) = true
+makes_pool (call.PoolOnChain pool kind format chain) = true
+makes_pool (call.PoolMfs pool words) = true
+makes_pool (call.PoolMvff pool) = true
+makes_pool _ = false
+
+-- a kind of pool that calls make
+abbrev pub is_kind_made : PoolKind → Bool
+is_kind_made (Collected kind) = true
+is_kind_made (OneSize words) = is_block_size words
+is_kind_made AnySize = true
+
+module _ (marked : Bool) (c : Call) (judged v : World) where
+  -- where the client has from what it writes
+  pub data IsGot : Option ℕ → Type 0 where
+    GotNull : IsGot None
+    FromSlot : (slot : Slot) (from : Found (Option ℕ)) → slot_in v slot ≡ Ok from → IsGot from.value
+    FromCell : (target source : Slot) (cell : ℕ) (from : Found (Option ℕ)) (now : Numbered Object) (read : Option ℕ)
+        → c ≡ call.Get target source cell → slot_in judged source ≡ Ok from → object_in v from.value ≡ Ok now
+        → reference_at (cells_of_body now.value.body) cell ≡ Ok read → IsGot read
+    FromWord : (place : Slot) (at : Found AreaWord) (id : ℕ) → word_in v place ≡ Ok at → held_in at.value ≡ Ok id → IsGot (Some id)
+    FromMessage : (id : ℕ) (ids : List ℕ) → v.graph.messages ≡ id ∷ ids → IsGot (Some id)
+
+  -- what the client writes into an area
+  pub data IsShown : AreaWord → Type 0 where
+    ShownPlain : (number : ℕ) → IsShown (PlainWord number)
+    ShownPinned : (object : Numbered Object) → IsInSlot v object → IsShown (Hold object.number 0)
+    ShownPoked : (place : Slot) (id word : ℕ) → c ≡ call.Poke place word → block_of_word v word ≡ Some id
+        → (poked v id ≡ AsBlock) ⊎ (marked ≡ true) → IsShown (hold_of v id word)
+
+  -- a change of one cell
+  pub data IsWritten (cells : List Cell) : (List Cell → List Cell) → Type 0 where
+    WritesReference : (k : ℕ) (source : Slot) (from : Found (Option ℕ)) → slot_in v source ≡ Ok from
+        → IsWritten cells (λ old. with_target_cell old k from.value)
+    WritesNumber : (k was value : ℕ) → number_at cells k ≡ Ok was → IsWritten cells (λ old. slice_set old k (NumberCell value))
+
+  -- the worlds that the call may leave
+  pub data Change : World → Type 0 where
+    Unchanged : Change v
+    -- what no object, root or collection knows of
+    Aside : (names : List NamedThing) (grains limit : ℕ) (chains : List (List ℕ)) (state : ArenaState) (dependencies : List Dependency)
+        → (makes_arena c ≡ false → grains ≡ v.grains) → (changes_dependencies c ≡ false → dependencies ≡ v.dependencies)
+        → Change (record v {
+          graph = record v.graph { names = names };
+          grains = grains;
+          limit = limit;
+          chains = chains;
+          state = state;
+          dependencies = dependencies;
+        })
+    -- roots
+    SlotIs : (into : Found (Option ℕ)) (target : Option ℕ) → IsFoundBy slot_in judged v into → IsGot target
+        → Change (with_graph v (with_slot v.graph into target))
+    WordIs : (place : Slot) (at : Found AreaWord) (word : AreaWord) → word_in v place ≡ Ok at → IsShown word
+        → Change (with_graph v (with_word v.graph at word))
+    MessageTaken : (slot : Slot) (into : Found (Option ℕ)) (id : ℕ) (ids : List ℕ) → slot_in v slot ≡ Ok into
+        → v.graph.messages ≡ id ∷ ids → Change (with_graph v (with_slot (record v.graph { messages = ids }) into (Some id)))
+    TableMade : (name : Name) (slots : ℕ) → Change (with_graph v (graph_with_table v.graph name slots))
+    AreaMade : (name : Name) (words : ℕ) → Change (with_graph v (graph_with_area v.graph name words))
+    BlocksMade : (name : Name) (places : ℕ) → c ≡ call.Blocks name places → Change (with_graph v (graph_with_blocks v.graph name places))
+    TableDropped : (name : Name) (n : ℕ)
+        → Change (with_graph v (record v.graph { tables = slice_set v.graph.tables n None; names = without_name v.graph.names name }))
+    AreaDropped : (name : Name) (n : ℕ)
+        → Change (with_graph v (record v.graph { areas = slice_set v.graph.areas n None; names = without_name v.graph.names name }))
+    -- objects
+    CellsAre : (object : Numbered Object) (change : List Cell → List Cell) → IsInSlot v object
+        → IsWritten (cells_of_body object.value.body) change → Change (with_graph v (graph_with_cells v.graph object.number change))
+    BlockWordIs : (id k value : ℕ) → Change (with_graph v (graph_with_word v.graph id k value))
+    PlaceEmptied : (from : Slot) (place : Found (Option ℕ)) → c ≡ call.Free from → block_place_in v from ≡ Ok place
+        → Change (with_graph v (with_block_place v.graph place None))
+    Allocated : (pool : Name) (p : Numbered Pool) (words : ℕ) (into : Slot) (place : Found (Option ℕ)) (at : Address)
+        → c ≡ call.Alloc pool words into → pool_named judged pool ≡ Ok p → is_automatic_kind p.value.kind ≡ false
+        → allows_size p.value.kind words ≡ true → block_place_in judged into ≡ Ok place
+        → Change (record v { graph = graph_allocated v.graph p.number words place; addresses = with_last v.addresses (Some at) })
+    -- pools and points
+    PoolMade : (name : Name) (p : Pool) → makes_pool c ≡ true → is_kind_made p.kind ≡ true → Change (with_pool v name p)
+    PointMade : (name pool : Name) (of : Numbered Pool) (at_rank : Rank) → c ≡ call.Point name pool at_rank → pool_named v pool ≡ Ok of
+        → may_have_point of.value.kind at_rank ≡ true → Change (with_point v name of.number at_rank)
+    PointDropped : (name : Name) (p : Numbered Point) → c ≡ call.DropPoint name → point_named v name ≡ Ok p
+        → p.value.reservation ≡ None → Change (without_point v name p.number)
+    Opened : (name : Name) (head : ℕ) (reserving : Reserving) (p : Numbered Point) (at : Address) → c ≡ call.Reserve name head
+        → check_reserve judged name head ≡ Ok reserving → point_named v name ≡ Ok p
+        → Change (with_reserved v p (record { head = head; cells = reserving.cells; is_doomed = false }) at)
+    Written : (name : Name) (p : Numbered Point) (r : Reservation) (change : List Cell → List Cell) → changes_points c ≡ true
+        → point_named v name ≡ Ok p → p.value.reservation ≡ Some r → r.is_doomed ≡ false → IsWritten r.cells change
+        → Change (with_graph v (with_reservation v.graph p (Some (record r { cells = change r.cells }))))
+    Closed : (name : Name) (target : Slot) (p : Numbered Point) (r : Reservation) → c ≡ call.Commit name target
+        → point_named v name ≡ Ok p → p.value.reservation ≡ Some r → r.is_doomed ≡ true
+        → Change (with_graph v (with_reservation v.graph p None))
+    Committed : (name : Name) (target : Slot) (p : Numbered Point) (r : Reservation) (slot : Found (Option ℕ))
+        → c ≡ call.Commit name target → point_named v name ≡ Ok p → slot_in v target ≡ Ok slot → p.value.reservation ≡ Some r
+        → r.is_doomed ≡ false → Change (world_committed v p r slot)
+    -- finalization
+    Registered : (object : Numbered Object) (held : IsInSlot v object) → c ≡ call.Finalize held.slot
+        → Change (with_graph v (record v.graph { registered = with_last v.graph.registered object.number }))
+    Unregistered : (slot : Slot) (from : Found (Option ℕ)) (object : Numbered Object) (position : ℕ) → c ≡ call.Definalize slot
+        → slot_in v slot ≡ Ok from → object_in v from.value ≡ Ok object
+        → position_of_first v.graph.registered object.number ≡ Some position
+        → Change (record v {
+          graph = record v.graph { registered = without_first v.graph.registered object.number };
+          collection = option_map (without_registration position) v.collection;
+        })
+
+-- each call that isn't refused leaves one of these worlds
+abbrev pub EachCallChanges : Type 0
+EachCallChanges = (marked : Bool) (judged v : World) (c : Call) → ForAct (Change marked c judged v) (act marked judged v c)
